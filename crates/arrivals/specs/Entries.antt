@@ -9,7 +9,8 @@ use Rattle.arrivals.specs.declared.log.Entry.{Entry}
 use Rattle.arrivals.specs.Ids.{same_id, slot_of}
 
 -- an entry whose result was taken is left out
-abbrev pub given_by : NotificationId → Option NotificationResult → List Notification → List Notification
+abbrev pub given_by : NotificationId → Option NotificationResult → List Notification
+    → List Notification
 given_by id None ns = ns
 given_by id (Some r) ns = record { id = id; result = r } ∷ ns
 
@@ -40,7 +41,8 @@ Located slots ps (Some k) = (k < length slots) × (get_or slots k [] ≡ ps)
 -- the slots tell where the results of each id lie
 pub record Tracked (log : List Entry) (index : Index) (slots : List (List ℕ)) : Type 0 where
   pub located : (id : NotificationId) → Located slots (places id log) (slot_of index id)
-  pub apart : (a b : NotificationId) (k : ℕ) → slot_of index a ≡ Some k → slot_of index b ≡ Some k → same_id a b ≡ true
+  pub apart : (a b : NotificationId) (k : ℕ) → slot_of index a ≡ Some k → slot_of index b ≡ Some k
+      → same_id a b ≡ true
 
 -- the numbers that are less than this one
 abbrev pub under : ℕ → List ℕ → List ℕ

@@ -40,7 +40,8 @@ impl Arrivals {
 
     /// Puts a notification behind those that wait.
     pub fn enqueue(&mut self, notification: Notification) -> Result<(), AllocError>
-        ensures ok { OnOk result (self.new ≡ record self.old { queued = self.old.queued ++ notification ∷ [] }) }
+        ensures ok { OnOk result (self.new
+            ≡ record self.old { queued = self.old.queued ++ notification ∷ [] }) }
         ensures err { OnErr result (self.new ≡ self.old) }
     {
         self.log.push(notification)
@@ -67,14 +68,16 @@ impl Arrivals {
 
     /// Whether a result of an id came that was not taken, used or not.
     pub fn knows(&self, id: &NotificationId) -> bool
-        ensures { result ≡ (has_result_among id.now self.now.delivered || has_result_among id.now self.now.queued) }
+        ensures { result ≡ (has_result_among id.now self.now.delivered
+            || has_result_among id.now self.now.queued) }
     {
         self.log.has(id, self.log.len())
     }
 
     /// How many that wait must be used until there is a used result of an id, none where all are too few.
     pub fn uses_until(&self, id: &NotificationId) -> Option<usize>
-        ensures { (n : ℕ) → enough result n ≡ has_result_among id.now (self.now.delivered ++ take n self.now.queued) }
+        ensures { (n : ℕ) → enough result n
+            ≡ has_result_among id.now (self.now.delivered ++ take n self.now.queued) }
     {
         let place = self.log.front(id)?;
         prove!(place < self.log.len());
@@ -86,7 +89,9 @@ impl Arrivals {
 
     /// The oldest result of an id that was not taken, a used one before those that wait.
     pub fn first_known(&self, id: &NotificationId) -> Option<&NotificationResult>
-        ensures { option_copied result ≡ option_or (first (results_of id.now self.now.delivered)) (first (results_of id.now self.now.queued)) }
+        ensures { option_copied result
+            ≡ option_or (first (results_of id.now self.now.delivered))
+            (first (results_of id.now self.now.queued)) }
     {
         self.log.oldest(id, self.log.len())
     }
@@ -108,7 +113,8 @@ impl Arrivals {
     /// Takes the oldest used result of an id.
     pub fn take_first(&mut self, id: &NotificationId) -> Option<NotificationResult>
         ensures found { result ≡ first (results_of id.now self.old.delivered) }
-        ensures left { self.new ≡ record self.old { delivered = without_first id.now self.old.delivered } }
+        ensures left { self.new ≡ record self.old
+            { delivered = without_first id.now self.old.delivered } }
     {
         self.log.take_first(id, self.seen)
     }
@@ -116,7 +122,8 @@ impl Arrivals {
     /// Takes the newest used result of an id, and drops the older ones that it replaced.
     pub fn take_newest(&mut self, id: &NotificationId) -> Option<NotificationResult>
         ensures found { result ≡ newest (results_of id.now self.old.delivered) }
-        ensures left { self.new ≡ record self.old { delivered = without_all id.now self.old.delivered } }
+        ensures left { self.new ≡ record self.old
+            { delivered = without_all id.now self.old.delivered } }
     {
         self.log.take_newest(id, self.seen)
     }

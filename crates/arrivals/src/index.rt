@@ -39,8 +39,10 @@ impl Index {
 
     /// Gives an id its slot.
     pub fn insert(&mut self, id: &NotificationId, slot: usize) -> Result<(), AllocError>
-        ensures ok { OnOk result ((other : NotificationId) → slot_of self.new other ≡ cond (same_id id.now other) (Some slot) (slot_of self.old other)) }
-        ensures err { OnErr result ((other : NotificationId) → slot_of self.new other ≡ slot_of self.old other) }
+        ensures ok { OnOk result ((other : NotificationId) → slot_of self.new other
+            ≡ cond (same_id id.now other) (Some slot) (slot_of self.old other)) }
+        ensures err { OnErr result ((other : NotificationId) → slot_of self.new other
+            ≡ slot_of self.old other) }
     {
         match id {
             NotificationId::CompletionId(id) => {

@@ -47,7 +47,8 @@ fn slot_for(
     id: &NotificationId,
 ) -> Result<usize, AllocError>
     ensures found { IfOk result (λ slot. slot_of index.new id.now ≡ Some slot) }
-    ensures tracked { (log : List Entry) → Tracked log index.old slots.old.items → Tracked log index.new slots.new.items }
+    ensures tracked { (log : List Entry) → Tracked log index.old slots.old.items
+        → Tracked log index.new slots.new.items }
 {
     if let Some(slot) = index.find(id) {
         return Ok(slot);
@@ -67,8 +68,10 @@ fn add_entry(
 ) -> Result<(), AllocError>
     requires { slot < length slots.old.items }
     ensures ok { OnOk result ((entries.new.items ≡ entries.old.items ++ entry ∷ [])
-        × (slots.new.items ≡ slice_set slots.old.items slot (slice_index_or slots.old.items slot [] ++ length entries.old.items ∷ []))) }
-    ensures err { OnErr result ((entries.new.items ≡ entries.old.items) × (slots.new.items ≡ slots.old.items)) }
+        × (slots.new.items ≡ slice_set slots.old.items slot (slice_index_or slots.old.items slot []
+        ++ length entries.old.items ∷ []))) }
+    ensures err { OnErr result ((entries.new.items ≡ entries.old.items)
+        × (slots.new.items ≡ slots.old.items)) }
 {
     let place = entries.len();
     entries.push(entry)?;
@@ -109,7 +112,8 @@ impl Log {
 
     /// Adds a notification behind the others.
     pub fn push(&mut self, notification: Notification) -> Result<(), AllocError>
-        ensures ok { OnOk result (self.new ≡ self.old ++ record { id = notification.id; result = Some notification.result } ∷ []) }
+        ensures ok { OnOk result (self.new ≡ self.old
+            ++ record { id = notification.id; result = Some notification.result } ∷ []) }
         ensures err { OnErr result (self.new ≡ self.old) }
     {
         let Notification { id, result } = notification;
@@ -166,7 +170,8 @@ impl Log {
     /// Takes the oldest result of an id out of the first `seen` entries.
     pub fn take_first(&mut self, id: &NotificationId, seen: usize) -> Option<NotificationResult>
         ensures found { result ≡ first (results_of id.now (given (take seen self.old))) }
-        ensures left { given (take seen self.new) ≡ without_first id.now (given (take seen self.old)) }
+        ensures left { given (take seen self.new)
+            ≡ without_first id.now (given (take seen self.old)) }
         ensures rest { drop seen self.new ≡ drop seen self.old }
         ensures len { length self.new ≡ length self.old }
     {
@@ -184,7 +189,8 @@ impl Log {
     /// Takes the newest result of an id out of the first `seen` entries, and drops the older ones that it replaced.
     pub fn take_newest(&mut self, id: &NotificationId, seen: usize) -> Option<NotificationResult>
         ensures found { result ≡ newest (results_of id.now (given (take seen self.old))) }
-        ensures left { given (take seen self.new) ≡ without_all id.now (given (take seen self.old)) }
+        ensures left { given (take seen self.new)
+            ≡ without_all id.now (given (take seen self.old)) }
         ensures rest { drop seen self.new ≡ drop seen self.old }
         ensures len { length self.new ≡ length self.old }
     {

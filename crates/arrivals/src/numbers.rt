@@ -49,8 +49,10 @@ impl Numbers {
 
     /// Gives a number its slot.
     pub fn insert(&mut self, number: u32, slot: usize) -> Result<(), AllocError>
-        ensures ok { OnOk result ((n : ℕ) → slot_of_number self.new n ≡ cond (number == n) (Some slot) (slot_of_number self.old n)) }
-        ensures err { OnErr result ((n : ℕ) → slot_of_number self.new n ≡ slot_of_number self.old n) }
+        ensures ok { OnOk result ((n : ℕ) → slot_of_number self.new n
+            ≡ cond (number == n) (Some slot) (slot_of_number self.old n)) }
+        ensures err { OnErr result ((n : ℕ) → slot_of_number self.new n
+            ≡ slot_of_number self.old n) }
     {
         let place = number as usize;
         if place < self.table.len() + REACH {

@@ -17,16 +17,16 @@ abbrev pub second_handle : NotificationHandle
 second_handle = record { 0 = 18 }
 
 -- the bytes of a success
-abbrev pub bytes_of : Value → Option (List ℕ)
-bytes_of (value.Success bytes) = Some bytes
-bytes_of value.Void = None
-bytes_of (value.Failure failure) = None
-bytes_of (value.StateKeys keys) = None
-bytes_of (value.InvocationId id) = None
+abbrev pub success_bytes : Value → Option (List ℕ)
+success_bytes (value.Success bytes) = Some bytes
+success_bytes value.Void = None
+success_bytes (value.Failure failure) = None
+success_bytes (value.StateKeys keys) = None
+success_bytes (value.InvocationId id) = None
 
 -- the bytes of a success that was taken
 abbrev pub bytes_taken : Option Answer → Option (List ℕ)
-bytes_taken (Some (answer.Taken (Some value))) = bytes_of value
+bytes_taken (Some (answer.Taken (Some value))) = success_bytes value
 bytes_taken (Some (answer.Taken None)) = None
 bytes_taken (Some (answer.Input input)) = None
 bytes_taken (Some (answer.Handle handle)) = None

@@ -2,7 +2,7 @@
 //! It completes the awakeable of another, and waits for one of its own.
 ghost use Rattle.std.specs.Prelude.{◌≡◌, slice_get};
 ghost use Rattle.std.specs.Option.{option_copied};
-ghost use Rattle.attempt_bench.specs.Choosing.{bytes_of, bytes_taken};
+ghost use Rattle.attempt_bench.specs.Choosing.{success_bytes, bytes_taken};
 
 use crate::steps::{output, sleep};
 use bytes::Bytes;
@@ -23,7 +23,7 @@ pub struct Chooser {
 
 /// The bytes of a success.
 fn success(value: &Value) -> Option<&Bytes>
-    ensures { option_copied result ≡ bytes_of value.now }
+    ensures { option_copied result ≡ success_bytes value.now }
 {
     match value {
         Value::Success(bytes) => Some(bytes),

@@ -13,10 +13,13 @@ pub data Added {L : Type 0} (t : TreeOver L) : ForestOver L → ForestOver L →
 mutual
   pub data Residual (at : ℕ → Outcome) : Tree → Tree → Type 0 where
     same_leaf : {h : ℕ} → Residual at (leaf h) (leaf h)
-    same_kind : {k : FutureKind} {ts rs : Forest} → Residuals at ts rs → Residual at (node k ts) (node k rs)
+    same_kind : {k : FutureKind} {ts rs : Forest} → Residuals at ts rs
+        → Residual at (node k ts) (node k rs)
 
   -- of the children without an outcome, in any order
   pub data Residuals (at : ℕ → Outcome) : Forest → Forest → Type 0 where
     nothing : Residuals at none none
-    gone : {t : Tree} {ts rs : Forest} → is_done (outcome at t) ≡ true → Residuals at ts rs → Residuals at (more t ts) rs
-    kept : {t r : Tree} {ts rs us : Forest} → is_done (outcome at t) ≡ false → Residual at t r → Residuals at ts rs → Added r rs us → Residuals at (more t ts) us
+    gone : {t : Tree} {ts rs : Forest} → is_done (outcome at t) ≡ true → Residuals at ts rs
+        → Residuals at (more t ts) rs
+    kept : {t r : Tree} {ts rs us : Forest} → is_done (outcome at t) ≡ false → Residual at t r
+        → Residuals at ts rs → Added r rs us → Residuals at (more t ts) us

@@ -1,4 +1,5 @@
--- A tree of awaits, over leaves of any kind: handles as a handler awaits them, notification ids as they are sent.
+-- A tree of awaits, over leaves of any kind: handles as a handler awaits them, notification ids as
+-- they are sent.
 use Rattle.std.specs.Prelude.{ℕ, List, [], ◌∷◌, map}
 use Rattle.journal_attempt.specs.declared.future.FutureKind.{FutureKind}
 use Rattle.journal_attempt.specs.declared.future.FutureKind.TheVariants.{FirstCompleted as OfFirst, AllCompleted as OfAll, FirstSucceededOrAllFailed as OfAny, AllSucceededOrFirstFailed as OfEvery, Unknown as OfUnknown}

@@ -11,7 +11,8 @@ use Rattle.await_trees.specs.Tree.{TreeOver, ForestOver, Tree, Forest, leaf, nod
 
 -- ---- what is sent
 
--- a completion id stands before other completion ids; no id, and an id of another kind, leave them as they are
+-- a completion id stands before other completion ids; no id, and an id of another kind, leave them
+-- as they are
 abbrev pub completion_of : Option NotificationId → List ℕ → List ℕ
 completion_of None is = is
 completion_of (Some (CompletionId i)) is = i ∷ is
@@ -58,7 +59,13 @@ module _ (id : ℕ → Option NotificationId) where
 
   -- a node without those that nest in it
   abbrev pub head_of : FutureKind → Forest → FutureNode
-  head_of k ts = record { kind = k; waiting_completions = completions ts; waiting_signals = signals ts; waiting_named_signals = names ts; nested = inner ts }
+  head_of k ts = record {
+    kind = k;
+    waiting_completions = completions ts;
+    waiting_signals = signals ts;
+    waiting_named_signals = names ts;
+    nested = inner ts;
+  }
 
   -- those that are no leaves nest, in order, each with what nests in it
   abbrev pub nested : Forest → List FutureNode
@@ -90,14 +97,18 @@ abbrev pub leaves : {X L : Type 0} → (X → L) → List X → ForestOver L →
 leaves f [] ts = ts
 leaves f (i ∷ is) ts = more (leaf (f i)) (leaves f is ts)
 
--- a node with the trees that nest in it: its kind over a leaf for each id that it lists, and over those trees
+-- a node with the trees that nest in it: its kind over a leaf for each id that it lists, and over
+-- those trees
 abbrev pub read_node : FutureNode → ForestOver NotificationId → TreeOver NotificationId
-read_node n ts = node n.kind (leaves CompletionId n.waiting_completions (leaves SignalId n.waiting_signals (leaves SignalName n.waiting_named_signals ts)))
+read_node n ts = node n.kind
+    (leaves CompletionId n.waiting_completions
+    (leaves SignalId n.waiting_signals (leaves SignalName n.waiting_named_signals ts)))
 
 -- the trees that nodes in preorder are: in a node nest as many of those behind it as it says
 abbrev pub readings : List FutureNode → ForestOver NotificationId
 readings [] = none
-readings (n ∷ ns) = more (read_node n (first_trees n.nested (readings ns))) (other_trees n.nested (readings ns))
+readings (n ∷ ns) = more (read_node n (first_trees n.nested (readings ns)))
+    (other_trees n.nested (readings ns))
 
 abbrev pub first_tree : ForestOver NotificationId → TreeOver NotificationId
 first_tree none = node Unknown none

@@ -35,8 +35,10 @@ fn take_trees(
     trees: &mut Vec<UnresolvedFuture>,
     count: usize,
 ) -> Result<Items<UnresolvedFuture>, AllocError>
-    ensures taken { IfOk result (λ row. count ≤ length trees.old.items → row ≡ take count (reverse trees.old.items)) }
-    ensures left { IfOk result (λ _. count ≤ length trees.old.items → reverse trees.new.items ≡ drop count (reverse trees.old.items)) }
+    ensures taken { IfOk result (λ row. count ≤ length trees.old.items → row
+        ≡ take count (reverse trees.old.items)) }
+    ensures left { IfOk result (λ _. count ≤ length trees.old.items → reverse trees.new.items
+        ≡ drop count (reverse trees.old.items)) }
 {
     let mut row = Items::new(alloc);
     for i in 0..count {
@@ -50,7 +52,8 @@ fn take_trees(
 
 /// A copy of the tree that has these nodes.
 fn copy_nodes(alloc: Global, nodes: &[Node]) -> Result<Option<UnresolvedFuture>, AllocError>
-    ensures { IfOk result (λ copy. (t : Tree) → nodes.now ≡ preorder t → copy ≡ Some (future_at t)) }
+    ensures { IfOk result (λ copy. (t : Tree) → nodes.now ≡ preorder t → copy
+        ≡ Some (future_at t)) }
 {
     let mut trees = Vec::new(alloc);
     let mut i = nodes.len();

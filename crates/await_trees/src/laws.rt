@@ -12,7 +12,8 @@ ghost use Rattle.await_trees.specs.Wires.{sent, reading, by_id, Mapped};
 /// tree is, whatever the ids have come to.
 pub fn wire_futures_wake_as_trees()
     ensures whole { (id : ℕ → Option NotificationId) (t : Tree) → IsFuture (sent id t) }
-    ensures alike { (id : ℕ → Option NotificationId) (at : NotificationId → Outcome) (t : Tree) → Mapped id t → awake at (reading (sent id t)) ≡ awake (λ h. by_id at (id h)) t }
+    ensures alike { (id : ℕ → Option NotificationId) (at : NotificationId → Outcome) (t : Tree)
+        → Mapped id t → awake at (reading (sent id t)) ≡ awake (λ h. by_id at (id h)) t }
 {}
 
 /// In which order the children of a node stand, and how often, is of no account: neither for what the tree has come to,

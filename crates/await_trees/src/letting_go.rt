@@ -8,7 +8,8 @@ use wire::Items;
 
 /// The last tree of a row, where one is left.
 fn last_of(row: Option<Vec<UnresolvedFuture>>) -> Option<(UnresolvedFuture, Vec<UnresolvedFuture>)>
-    ensures { MatchOption result (in_some row ≡ 0) (λ next. Fewer 0 (in_some row) (count next.0) (in_row next.1.items)) }
+    ensures { MatchOption result (in_some row
+        ≡ 0) (λ next. Fewer 0 (in_some row) (count next.0) (in_row next.1.items)) }
 {
     let mut row = row?;
     match row.pop() {
@@ -27,7 +28,8 @@ pub fn turn(
     row: Option<Vec<UnresolvedFuture>>,
     found: Option<Vec<UnresolvedFuture>>,
 ) -> Option<(UnresolvedFuture, Vec<UnresolvedFuture>)>
-    ensures { MatchOption result (in_some found + in_some row ≡ 0) (λ next. Fewer (in_some found) (in_some row) (count next.0) (in_row next.1.items)) }
+    ensures { MatchOption result (in_some found + in_some row
+        ≡ 0) (λ next. Fewer (in_some found) (in_some row) (count next.0) (in_row next.1.items)) }
 {
     let Some(mut children) = found else {
         return last_of(row);

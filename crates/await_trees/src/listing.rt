@@ -11,7 +11,11 @@ use std::alloc::{AllocError, Global};
 use wire::Items;
 
 fn inner(kind: FutureKind, children: &Items<UnresolvedFuture>) -> (Node, &[UnresolvedFuture])
-    ensures node { result.0 ≡ record { label = Inner kind; first = 0; count = length children.now } }
+    ensures node { result.0 ≡ record {
+      label = Inner kind;
+      first = 0;
+      count = length children.now;
+    } }
     ensures children { result.1.now ≡ children.now }
 {
     (

@@ -13,7 +13,8 @@ use Rattle.await_trees.specs.Tree.{Tree}
 -- the first outcome of a leaf in a try, before its n-th notification is used
 abbrev pub earlier : SignalDelivery → Arrived → ℕ → ℕ → Outcome
 earlier delivery v zero h = Pending
-earlier delivery v (suc n) h = first_of (earlier delivery v n h) (leaf_outcome delivery (used v n) h)
+earlier delivery v (suc n) h = first_of (earlier delivery v n h)
+    (leaf_outcome delivery (used v n) h)
 
 -- and after it
 abbrev pub outcomes : SignalDelivery → Arrived → ℕ → ℕ → Outcome

@@ -29,7 +29,8 @@ course_at cs n = get_or cs n never
 -- some child fires by n notifications
 abbrev pub any_fires_by : (ℕ → Course) → FutureKind → ℕ → List ℕ → Bool
 any_fires_by at k n [] = false
-any_fires_by at k n (c ∷ cs) = (fires_on k (outcome_by (at c) n) || enough (at c).fired n) || any_fires_by at k n cs
+any_fires_by at k n (c ∷ cs) = (fires_on k (outcome_by (at c) n) || enough (at c).fired n)
+    || any_fires_by at k n cs
 
 -- each child has come to what its node waits for
 abbrev pub all_wait_by : (ℕ → Course) → FutureKind → ℕ → List ℕ → Bool

@@ -8,7 +8,13 @@ use Rattle.await_trees.specs.Wires.{completion_of, signal_of, name_of, completio
 
 -- it waits for nothing yet
 abbrev pub bare : FutureKind → FutureNode
-bare k = record { kind = k; waiting_completions = []; waiting_signals = []; waiting_named_signals = []; nested = 0 }
+bare k = record {
+  kind = k;
+  waiting_completions = [];
+  waiting_signals = [];
+  waiting_named_signals = [];
+  nested = 0;
+}
 
 -- an id stands last in the list of its kind
 abbrev pub with_id : Option NotificationId → FutureNode → FutureNode

@@ -19,20 +19,25 @@ with_later v ns = record v { queued = v.queued ++ ns }
 
 -- no present result is replaced by a later one
 abbrev pub Stays : SignalDelivery → Arrived → Type 0
-Stays delivery v = (m n h : ℕ) → m ≤ n → is_done (leaf_outcome delivery (used v m) h) ≡ true → leaf_outcome delivery (used v n) h ≡ leaf_outcome delivery (used v m) h
+Stays delivery v = (m n h : ℕ) → m ≤ n → is_done (leaf_outcome delivery (used v m) h) ≡ true
+    → leaf_outcome delivery (used v n) h ≡ leaf_outcome delivery (used v m) h
 
 -- at each number of used notifications, from all that v knows on, the two are awake alike
 abbrev pub WakesAlike : SignalDelivery → Arrived → Tree → Tree → Type 0
 WakesAlike delivery v t r =
-    (later : List Notification) → Stays delivery (with_later v later) → (n : ℕ) → length v.queued ≤ n
-    → awake (leaf_outcome delivery (used (with_later v later) n)) r ≡ awake (leaf_outcome delivery (used (with_later v later) n)) t
+    (later : List Notification) → Stays delivery (with_later v later) → (n : ℕ)
+    → length v.queued ≤ n
+    → awake (leaf_outcome delivery (used (with_later v later) n)) r
+    ≡ awake (leaf_outcome delivery (used (with_later v later) n)) t
 
--- Signals are queued, no completion has two results among the notifications and the eager reads, and only completions are
--- read eagerly.
+-- Signals are queued, no completion has two results among the notifications and the eager reads,
+-- and only completions are read eagerly.
 pub record EachOnce (delivery : SignalDelivery) (v : Arrived) : Type 0 where
   pub queued : delivery ≡ Queued
-  pub once : (i : ℕ) → length (results_of (CompletionId i) (v.ready.delivered ++ v.queued)) + length (results_of (CompletionId i) v.ready.eager) ≤ 1
-  pub completions : (id : NotificationId) → is_listed Queued id ≡ true → results_of id v.ready.eager ≡ []
+  pub once : (i : ℕ) → length (results_of (CompletionId i) (v.ready.delivered ++ v.queued)) + length
+      (results_of (CompletionId i) v.ready.eager) ≤ 1
+  pub completions : (id : NotificationId) → is_listed Queued id ≡ true → results_of id v.ready.eager
+      ≡ []
 
 -- as many notifications as wake the tree and no fewer, by what the leaves are at each number
 pub record PlainlyLeast (delivery : SignalDelivery) (v : Arrived) (t : Tree) (n : ℕ) : Type 0 where

@@ -1,4 +1,5 @@
--- What a try leaves of a tree, as contracts see it: nodes, and their children as ranges of a second list.
+-- What a try leaves of a tree, as contracts see it: nodes, and their children as ranges of a second
+-- list.
 use Rattle.std.specs.Prelude.{ℕ, zero, suc, List, map, length}
 use Rattle.await_trees.specs.declared.nodes.Node.{Node}
 use Rattle.await_trees.specs.declared.nodes.Label.{Label}
@@ -19,7 +20,8 @@ read_label (Inner k) ts = node k ts
 -- the tree at a node, at most so many nodes deep
 abbrev pub read : List Node → List ℕ → ℕ → ℕ → Tree
 read ns kids zero n = leaf 0
-read ns kids (suc f) n = read_label (node_at ns n).label (forest (map (read ns kids f) (children ns kids n)))
+read ns kids (suc f) n = read_label (node_at ns n).label
+    (forest (map (read ns kids f) (children ns kids n)))
 
 -- the tree that is left: that of the first node
 abbrev pub tree_left : Left → Tree

@@ -25,5 +25,7 @@ first_delivery ns id = result_outcome (first (results_of id ns))
 -- by the first n later arrivals the wire future of the residual r is awake where the tree t is
 abbrev pub MessageWakes : SignalDelivery → Arrived → Tree → Tree → Type 0
 MessageWakes delivery v t r =
-    (later : List Notification) → EachOnce delivery (with_later v later) → Mapped (ids v) r → (n : ℕ)
-    → awake (first_delivery (take n later)) (reading (sent (ids v) r)) ≡ awake (leaf_outcome delivery (used (with_later v later) (length v.queued + n))) t
+    (later : List Notification) → EachOnce delivery (with_later v later) → Mapped (ids v) r
+    → (n : ℕ)
+    → awake (first_delivery (take n later)) (reading (sent (ids v) r))
+    ≡ awake (leaf_outcome delivery (used (with_later v later) (length v.queued + n))) t

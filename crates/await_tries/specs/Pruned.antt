@@ -12,9 +12,11 @@ pub data Put (c : ℕ) : List ℕ → List ℕ → Type 0 where
 pub data Swept (ended : ℕ → Bool) : List ℕ → List ℕ → Type 0 where
   none_left : Swept ended [] []
   gone : {c : ℕ} {cs rs : List ℕ} → ended c ≡ true → Swept ended cs rs → Swept ended (c ∷ cs) rs
-  kept : {c : ℕ} {cs rs us : List ℕ} → ended c ≡ false → Swept ended cs rs → Put c rs us → Swept ended (c ∷ cs) us
+  kept : {c : ℕ} {cs rs us : List ℕ} → ended c ≡ false → Swept ended cs rs → Put c rs us
+      → Swept ended (c ∷ cs) us
 
 -- so of each node
 abbrev pub Pruned : (ℕ → Bool) → List Node → List ℕ → List Node → List ℕ → Type 0
 Pruned ended ns kids ms lids =
-    (n : ℕ) → n < length ns → ((node_at ms n).label ≡ (node_at ns n).label) × Swept ended (children ns kids n) (children ms lids n)
+    (n : ℕ) → n < length ns → ((node_at ms n).label ≡ (node_at ns n).label)
+    × Swept ended (children ns kids n) (children ms lids n)

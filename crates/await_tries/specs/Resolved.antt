@@ -9,8 +9,9 @@ use Rattle.await_tries.specs.Await.{LeastAwake, LeftPending}
 use Rattle.await_tries.specs.Left.{tree_left}
 use Rattle.await_tries.specs.Used.{used}
 
--- Awake by the least number of notifications, which are used, and no further one; or all are used, the tree stays pending, and
--- what is left of it is answered.
+-- Awake by the least number of notifications, which are used, and no further one; or all are used,
+-- the tree stays pending, and what is left of it is answered.
 abbrev pub Resolved : SignalDelivery → Arrived → Tree → Arrived → Resolution → Type 0
 Resolved delivery v t w AnyCompleted = (n : ℕ) × LeastAwake delivery v t n × (w ≡ used v n)
-Resolved delivery v t w (Pending left) = LeftPending delivery v t (tree_left left) × (w ≡ used v (length v.queued))
+Resolved delivery v t w (Pending left) = LeftPending delivery v t (tree_left left)
+    × (w ≡ used v (length v.queued))

@@ -24,8 +24,11 @@ mutual
   -- the node of a number spells a tree; its children have greater numbers
   pub data Spells (ns : List Node) (kids : List ℕ) : ℕ → Tree → Type 0 where
     a_leaf : {n h : ℕ} → n < length ns → (node_at ns n).label ≡ Leaf h → Spells ns kids n (leaf h)
-    a_node : {n : ℕ} {k : FutureKind} {ts : Forest} → n < length ns → (node_at ns n).label ≡ Inner k → AllAbove n (children ns kids n) → SpellAll ns kids (children ns kids n) ts → Spells ns kids n (node k ts)
+    a_node : {n : ℕ} {k : FutureKind} {ts : Forest} → n < length ns → (node_at ns n).label ≡ Inner k
+        → AllAbove n (children ns kids n) → SpellAll ns kids (children ns kids n) ts
+        → Spells ns kids n (node k ts)
 
   pub data SpellAll (ns : List Node) (kids : List ℕ) : List ℕ → Forest → Type 0 where
     no_more : SpellAll ns kids [] none
-    one_more : {c : ℕ} {cs : List ℕ} {t : Tree} {ts : Forest} → Spells ns kids c t → SpellAll ns kids cs ts → SpellAll ns kids (c ∷ cs) (more t ts)
+    one_more : {c : ℕ} {cs : List ℕ} {t : Tree} {ts : Forest} → Spells ns kids c t
+        → SpellAll ns kids cs ts → SpellAll ns kids (c ∷ cs) (more t ts)

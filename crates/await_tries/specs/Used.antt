@@ -4,4 +4,7 @@ use Rattle.vm_parts.specs.Arrived.{Arrived}
 
 -- the first n that wait are used
 abbrev pub used : Arrived → ℕ → Arrived
-used v n = record v { queued = drop n v.queued; ready = record v.ready { delivered = v.ready.delivered ++ take n v.queued } }
+used v n = record v {
+  queued = drop n v.queued;
+  ready = record v.ready { delivered = v.ready.delivered ++ take n v.queued };
+}

@@ -23,11 +23,14 @@ coming ns kids (r ∷ rs) = joined (reads ns kids (row_rest kids r)) (coming ns 
 -- rows lie within the list, and their numbers spell their trees
 abbrev pub Sound : List Node → List ℕ → List Row → Type 0
 Sound ns kids [] = Unit {0}
-Sound ns kids (r ∷ rs) = (r.end ≤ length kids) × SpellAll ns kids (row_rest kids r) (reads ns kids (row_rest kids r)) × Sound ns kids rs
+Sound ns kids (r ∷ rs) = (r.end ≤ length kids)
+    × SpellAll ns kids (row_rest kids r) (reads ns kids (row_rest kids r)) × Sound ns kids rs
 
--- the next node is the root of the first tree, and its children come next; none, where no tree is left
+-- the next node is the root of the first tree, and its children come next; none, where no tree is
+-- left
 abbrev pub Steps : List Node → List ℕ → List Row → Option ℕ → List Row → Type 0
 Steps ns kids rows None after = coming ns kids rows ≡ none
 Steps ns kids rows (Some n) after =
-    (rs : Forest) × (coming ns kids rows ≡ more (read ns kids (length ns) n) rs) × Spells ns kids n (read ns kids (length ns) n)
+    (rs : Forest) × (coming ns kids rows ≡ more (read ns kids (length ns) n) rs)
+    × Spells ns kids n (read ns kids (length ns) n)
     × (coming ns kids after ≡ next (coming ns kids rows)) × Sound ns kids after

@@ -70,8 +70,11 @@ impl Course {
     /// A node's course, with one more child before those that are in it.
     fn with_child(self, kind: FutureKind, child: Course) -> Course
         ensures outcome { result.outcome ≡ self.outcome }
-        ensures done { (n : ℕ) → enough result.done n ≡ (waits_for kind (outcome_by child n) && enough self.done n) }
-        ensures fired { (n : ℕ) → enough result.fired n ≡ ((fires_on kind (outcome_by child n) || enough child.fired n) || enough self.fired n) }
+        ensures done { (n : ℕ) → enough result.done n
+            ≡ (waits_for kind (outcome_by child n) && enough self.done n) }
+        ensures fired { (n : ℕ) → enough result.fired n
+            ≡ ((fires_on kind (outcome_by child n) || enough child.fired n)
+            || enough self.fired n) }
     {
         let waits = if waits_for(kind, child.outcome) {
             child.done
@@ -93,10 +96,13 @@ impl Course {
 
 /// The course of a node of this kind, by those of its children.
 pub fn course_of(kind: FutureKind, children: &[usize], courses: &[Course]) -> Course
-    requires { (k : ℕ) → k < length children.now → slice_index_or children.now k 0 < length courses.now }
+    requires { (k : ℕ) → k < length children.now
+        → slice_index_or children.now k 0 < length courses.now }
     ensures outcome { result.outcome ≡ outcome_of kind }
-    ensures done { (n : ℕ) → enough result.done n ≡ all_wait_by (course_at courses.now) kind n children.now }
-    ensures fired { (n : ℕ) → enough result.fired n ≡ any_fires_by (course_at courses.now) kind n children.now }
+    ensures done { (n : ℕ) → enough result.done n
+        ≡ all_wait_by (course_at courses.now) kind n children.now }
+    ensures fired { (n : ℕ) → enough result.fired n
+        ≡ any_fires_by (course_at courses.now) kind n children.now }
 {
     let mut course = Course {
         outcome: outcome_of(kind),

@@ -53,8 +53,10 @@ fn node_course(
     requires within { i < length nodes.now }
     requires ranged { Ranged nodes.now kids.now }
     requires each { length courses.now ≡ length nodes.now }
-    ensures { ((m : ℕ) (u : Tree) → i < m → Spells nodes.now kids.now m u → Follows (outcomes delivery results.now) u (course_at courses.now m))
-        → (t : Tree) → Spells nodes.now kids.now i t → Follows (outcomes delivery results.now) t result }
+    ensures { ((m : ℕ) (u : Tree) → i < m → Spells nodes.now kids.now m u
+        → Follows (outcomes delivery results.now) u (course_at courses.now m))
+        → (t : Tree) → Spells nodes.now kids.now i t
+        → Follows (outcomes delivery results.now) t result }
 {
     let Node {
         label,
@@ -91,7 +93,8 @@ pub fn list_courses(
 ) -> Result<Vec<Course>, AllocError>
     requires { Ranged nodes.now kids.now }
     ensures { IfOk result (λ courses. (length courses.items ≡ length nodes.now)
-        × ((n : ℕ) (t : Tree) → Spells nodes.now kids.now n t → Follows (outcomes delivery results.now) t (course_at courses.items n))) }
+        × ((n : ℕ) (t : Tree) → Spells nodes.now kids.now n t
+        → Follows (outcomes delivery results.now) t (course_at courses.items n))) }
 {
     let mut courses = no_courses(alloc, nodes.len())?;
     let mut i = nodes.len();

@@ -13,24 +13,30 @@ ghost use Rattle.await_tries.specs.Used.{used};
 /// and none is, where signals are queued and each completion comes once. So does what is sent of it, where each handle
 /// stands for an id.
 pub fn residuals_wake_as_trees()
-    ensures alike { (delivery : Delivery) (v : Arrived) (t r : Tree) → LeftPending delivery v t r → WakesAlike delivery v t r }
-    ensures sent { (delivery : Delivery) (v : Arrived) (t r : Tree) → LeftPending delivery v t r → MessageWakes delivery v t r }
+    ensures alike { (delivery : Delivery) (v : Arrived) (t r : Tree) → LeftPending delivery v t r
+        → WakesAlike delivery v t r }
+    ensures sent { (delivery : Delivery) (v : Arrived) (t r : Tree) → LeftPending delivery v t r
+        → MessageWakes delivery v t r }
     ensures stays { (delivery : Delivery) (v : Arrived) → EachOnce delivery v → Stays delivery v }
 {}
 
 /// No leaf of what is left has a present result.
 pub fn residuals_have_no_result()
-    ensures { (delivery : Delivery) (v : Arrived) (t r : Tree) → LeftPending delivery v t r → EachLeaf (IsAbsent delivery (used v (length v.queued))) r }
+    ensures { (delivery : Delivery) (v : Arrived) (t r : Tree) → LeftPending delivery v t r
+        → EachLeaf (IsAbsent delivery (used v (length v.queued))) r }
 {}
 
 /// Where no present result is replaced, a try ends at the least number by what the leaves are at each number.
 pub fn tries_are_plainly_least()
-    ensures { (delivery : Delivery) (v : Arrived) → Stays delivery v → (t : Tree) (n : ℕ) → LeastAwake delivery v t n → PlainlyLeast delivery v t n }
+    ensures { (delivery : Delivery) (v : Arrived) → Stays delivery v → (t : Tree) (n : ℕ)
+        → LeastAwake delivery v t n → PlainlyLeast delivery v t n }
 {}
 
 /// In which order the children of a node stand, and how often, changes neither whether an await wakes, nor after how many
 /// notifications.
 pub fn order_and_repetition_wake_alike()
-    ensures least { (delivery : Delivery) (v : Arrived) (t u : Tree) (n : ℕ) → Same t u → LeastAwake delivery v t n → LeastAwake delivery v u n }
-    ensures never { (delivery : Delivery) (v : Arrived) (t u : Tree) → Same t u → NeverAwake delivery v t → NeverAwake delivery v u }
+    ensures least { (delivery : Delivery) (v : Arrived) (t u : Tree) (n : ℕ) → Same t u
+        → LeastAwake delivery v t n → LeastAwake delivery v u n }
+    ensures never { (delivery : Delivery) (v : Arrived) (t u : Tree) → Same t u
+        → NeverAwake delivery v t → NeverAwake delivery v u }
 {}

@@ -9,8 +9,10 @@ use std::alloc::{AllocError, Global};
 
 /// Moves so many numbers from the top of a stack to the end of the children, the top first.
 fn take_roots(roots: &mut Vec<usize>, kids: &mut Vec<usize>, count: usize) -> Result<(), AllocError>
-    ensures kids { IfOk result (λ _. count ≤ length roots.old.items → kids.new.items ≡ kids.old.items ++ take count (reverse roots.old.items)) }
-    ensures roots { IfOk result (λ _. count ≤ length roots.old.items → reverse roots.new.items ≡ drop count (reverse roots.old.items)) }
+    ensures kids { IfOk result (λ _. count ≤ length roots.old.items → kids.new.items
+        ≡ kids.old.items ++ take count (reverse roots.old.items)) }
+    ensures roots { IfOk result (λ _. count ≤ length roots.old.items → reverse roots.new.items
+        ≡ drop count (reverse roots.old.items)) }
 {
     for i in 0..count {
         match roots.pop() {
@@ -23,7 +25,8 @@ fn take_roots(roots: &mut Vec<usize>, kids: &mut Vec<usize>, count: usize) -> Re
 
 /// Gives each node its range of children: on the stack are the roots of what was read, the first on top.
 pub fn link(alloc: Global, nodes: &mut Vec<Node>) -> Result<Vec<usize>, AllocError>
-    ensures { IfOk result (λ kids. (t : Tree) → nodes.old.items ≡ preorder t → Linked nodes.new.items kids.items t) }
+    ensures { IfOk result (λ kids. (t : Tree) → nodes.old.items ≡ preorder t
+        → Linked nodes.new.items kids.items t) }
 {
     let mut kids = Vec::new(alloc);
     let mut roots = Vec::new(alloc);

@@ -22,8 +22,11 @@ fn list_due(
     children: &[usize],
     courses: &[Course],
 ) -> Result<BinaryHeap<Due>, AllocError>
-    requires { (k : ℕ) → k < length children.now → slice_index_or children.now k 0 < length courses.now }
-    ensures { IfOk result (λ due. Listed (λ it. it.0) (λ child. end_of (course_at courses.now child)) (heap_items due) children.now (length children.now)) }
+    requires { (k : ℕ) → k < length children.now
+        → slice_index_or children.now k 0 < length courses.now }
+    ensures { IfOk result (λ due. Listed (λ it. it.0)
+        (λ child. end_of (course_at courses.now child)) (heap_items due) children.now
+        (length children.now)) }
 {
     let mut due = BinaryHeap::new(alloc);
     for (place, child) in children.iter().enumerate() {
@@ -37,9 +40,12 @@ fn list_due(
 /// Lets the children go that come to an outcome, each when it has it: the last child takes the place of one that goes. Tells
 /// how many are left.
 fn sweep(alloc: Global, children: &mut [usize], courses: &[Course]) -> Result<usize, AllocError>
-    requires { (k : ℕ) → k < length children.old → slice_index_or children.old k 0 < length courses.now }
-    ensures { IfOk result (λ count. (count ≤ length children.new) × Swept (ends_at courses.now) children.old (take count children.new)
-        × ((k : ℕ) → k < length children.new → slice_index_or children.new k 0 < length courses.now)) }
+    requires { (k : ℕ) → k < length children.old
+        → slice_index_or children.old k 0 < length courses.now }
+    ensures { IfOk result (λ count. (count ≤ length children.new)
+        × Swept (ends_at courses.now) children.old (take count children.new)
+        × ((k : ℕ) → k < length children.new
+        → slice_index_or children.new k 0 < length courses.now)) }
 {
     let mut due = list_due(alloc, children, courses)?;
     let mut count = children.len();
@@ -64,12 +70,18 @@ fn sweep_range(
     count: usize,
 ) -> Result<usize, AllocError>
     requires fits { first + count ≤ length kids.old.items }
-    requires numbers { (k : ℕ) → k < length kids.old.items → slice_index_or kids.old.items k 0 < length courses.now }
+    requires numbers { (k : ℕ) → k < length kids.old.items
+        → slice_index_or kids.old.items k 0 < length courses.now }
     ensures len { length kids.new.items ≡ length kids.old.items }
-    ensures before { (k : ℕ) → k < first → slice_index_or kids.new.items k 0 ≡ slice_index_or kids.old.items k 0 }
-    ensures behind { (k : ℕ) → first + count ≤ k → slice_index_or kids.new.items k 0 ≡ slice_index_or kids.old.items k 0 }
-    ensures numbers { IfOk result (λ _. (k : ℕ) → k < length kids.new.items → slice_index_or kids.new.items k 0 < length courses.now) }
-    ensures swept { IfOk result (λ left. (left ≤ count) × Swept (ends_at courses.now) (take count (drop first kids.old.items)) (take left (drop first kids.new.items))) }
+    ensures before { (k : ℕ) → k < first → slice_index_or kids.new.items k 0
+        ≡ slice_index_or kids.old.items k 0 }
+    ensures behind { (k : ℕ) → first + count ≤ k → slice_index_or kids.new.items k 0
+        ≡ slice_index_or kids.old.items k 0 }
+    ensures numbers { IfOk result (λ _. (k : ℕ) → k < length kids.new.items
+        → slice_index_or kids.new.items k 0 < length courses.now) }
+    ensures swept { IfOk result (λ left. (left ≤ count)
+        × Swept (ends_at courses.now) (take count (drop first kids.old.items))
+        (take left (drop first kids.new.items))) }
 {
     let range = &mut kids[first..first + count];
     sweep(alloc, range, courses)
@@ -88,9 +100,14 @@ fn prune_node(
     requires each { length courses.now ≡ length nodes.old.items }
     ensures len { length nodes.new.items ≡ length nodes.old.items }
     ensures ranged { IfOk result (λ _. Ranged nodes.new.items kids.new.items) }
-    ensures label { IfOk result (λ _. (node_at nodes.new.items i).label ≡ (node_at nodes.old.items i).label) }
-    ensures swept { IfOk result (λ _. Swept (ends_at courses.now) (children nodes.old.items kids.old.items i) (children nodes.new.items kids.new.items i)) }
-    ensures others { IfOk result (λ _. (m : ℕ) → m < length nodes.old.items → m ≢ i → (node_at nodes.new.items m ≡ node_at nodes.old.items m) × (children nodes.new.items kids.new.items m ≡ children nodes.old.items kids.old.items m)) }
+    ensures label { IfOk result (λ _. (node_at nodes.new.items i).label
+        ≡ (node_at nodes.old.items i).label) }
+    ensures swept { IfOk result
+        (λ _. Swept (ends_at courses.now) (children nodes.old.items kids.old.items i)
+        (children nodes.new.items kids.new.items i)) }
+    ensures others { IfOk result (λ _. (m : ℕ) → m < length nodes.old.items → m ≢ i
+        → (node_at nodes.new.items m ≡ node_at nodes.old.items m)
+        × (children nodes.new.items kids.new.items m ≡ children nodes.old.items kids.old.items m)) }
 {
     let Node { first, count, .. } = nodes[i];
     let left = sweep_range(alloc, kids, courses, first, count)?;
@@ -108,7 +125,9 @@ pub fn prune(
     requires ranged { Ranged nodes.old.items kids.old.items }
     requires each { length courses.now ≡ length nodes.old.items }
     ensures ranged { IfOk result (λ _. Ranged nodes.new.items kids.new.items) }
-    ensures pruned { IfOk result (λ _. (length nodes.new.items ≡ length nodes.old.items) × Pruned (ends_at courses.now) nodes.old.items kids.old.items nodes.new.items kids.new.items) }
+    ensures pruned { IfOk result (λ _. (length nodes.new.items ≡ length nodes.old.items)
+        × Pruned (ends_at courses.now) nodes.old.items kids.old.items nodes.new.items
+        kids.new.items) }
 {
     for i in 0..nodes.len() {
         prune_node(alloc, nodes, kids, courses, i)?;

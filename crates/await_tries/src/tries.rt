@@ -19,7 +19,8 @@ fn try_leaf(
     delivery: SignalDelivery,
     handle: u32,
 ) -> Result<Resolution, AllocError>
-    ensures ok { IfOk result (λ answer. Resolved delivery results.old (leaf handle) results.new answer) }
+    ensures ok { IfOk result
+        (λ answer. Resolved delivery results.old (leaf handle) results.new answer) }
     ensures err { OnErr result (results.new ≡ results.old) }
 {
     if let Some(enough) = results.uses_until(handle) {
@@ -44,7 +45,8 @@ pub fn try_future(
     delivery: SignalDelivery,
     future: &UnresolvedFuture,
 ) -> Result<Resolution, AllocError>
-    ensures ok { IfOk result (λ answer. Resolved delivery results.old (tree_of future.now) results.new answer) }
+    ensures ok { IfOk result
+        (λ answer. Resolved delivery results.old (tree_of future.now) results.new answer) }
     ensures err { OnErr result (results.new ≡ results.old) }
 {
     if let UnresolvedFuture::Single(handle) = future {

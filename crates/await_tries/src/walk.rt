@@ -21,7 +21,8 @@ pub fn next_node(
 ) -> Result<Option<usize>, AllocError>
     requires ranged { Ranged nodes.now kids.now }
     requires sound { Sound nodes.now kids.now (reverse rows.old.items) }
-    ensures { IfOk result (λ found. Steps nodes.now kids.now (reverse rows.old.items) found (reverse rows.new.items)) }
+    ensures { IfOk result (λ found. Steps nodes.now kids.now (reverse rows.old.items) found
+        (reverse rows.new.items)) }
 {
     while let Some(row) = rows.pop() {
         if row.place < row.end {

@@ -51,8 +51,10 @@ fn head_over(
     kind: FutureKind,
     children: &[usize],
 ) -> Result<FutureNode, AllocError>
-    requires { (k : ℕ) → k < length children.now → slice_index_or children.now k 0 < length nodes.now }
-    ensures { IfOk result (λ head. (kids : List ℕ) → head ≡ head_of (ids results.now) kind (reads nodes.now kids children.now)) }
+    requires { (k : ℕ) → k < length children.now
+        → slice_index_or children.now k 0 < length nodes.now }
+    ensures { IfOk result (λ head. (kids : List ℕ) → head
+        ≡ head_of (ids results.now) kind (reads nodes.now kids children.now)) }
 {
     let mut head = bare(alloc, kind);
     for child in children {
@@ -73,7 +75,9 @@ fn head_at(
     number: usize,
 ) -> Result<FutureNode, AllocError>
     requires { number < length left.now.nodes }
-    ensures { IfOk result (λ head. head ≡ head_of (ids results.now) kind (reads left.now.nodes left.now.kids (children left.now.nodes left.now.kids number))) }
+    ensures { IfOk result (λ head. head
+        ≡ head_of (ids results.now) kind
+        (reads left.now.nodes left.now.kids (children left.now.nodes left.now.kids number))) }
 {
     let nodes = left.nodes();
     let kids = left.kids();

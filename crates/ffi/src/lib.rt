@@ -4,8 +4,8 @@
 mod typed;
 
 ghost use Rattle.std.specs.Prelude.{◌≡◌, ◌≤◌, None};
-ghost use Rattle.sessions.specs.Sessions.{AnswerRead, InputFed, IsMade, LineSent, OutputTaken};
-ghost use Rattle.sessions.specs.Statuses.{status_of};
+ghost use Rattle.sessions.specs.Sessions.{AnswerRead, InputFed, IsNewSession, LineSent, OutputTaken};
+ghost use Rattle.sessions.specs.Statuses.{status_named};
 
 use sessions::{Told, Vm, calls};
 use std::alloc::Global;
@@ -13,7 +13,7 @@ use std::alloc::Global;
 /// Makes an empty session, where memory is found. One that was there is let go.
 #[unsafe(no_mangle)]
 pub extern "C" fn palqytun_new(alloc: Global, vm: &mut Vm) -> u32
-    ensures made { IsMade (status_of result) vm.new.value }
+    ensures made { IsNewSession (status_named result) vm.new.value }
     ensures known { result ≤ 9 }
 {
     calls::open(alloc, vm)
@@ -22,7 +22,8 @@ pub extern "C" fn palqytun_new(alloc: Global, vm: &mut Vm) -> u32
 /// Performs a line, and tells how long its answer is, which `palqytun_answer` reads.
 #[unsafe(no_mangle)]
 pub extern "C" fn palqytun_line(alloc: Global, vm: &mut Vm, line: &[u8]) -> Told
-    ensures sent { LineSent alloc line.now (status_of result.status) result.len vm.old.value vm.new.value }
+    ensures sent { LineSent alloc line.now (status_named result.status) result.len vm.old.value
+        vm.new.value }
     ensures known { result.status ≤ 9 }
 {
     calls::perform_line(alloc, vm, line)
@@ -33,7 +34,7 @@ pub extern "C" fn palqytun_line(alloc: Global, vm: &mut Vm, line: &[u8]) -> Told
 pub extern "C" fn palqytun_answer(alloc: Global, vm: &mut Vm, out: &mut [u8]) -> Told
     ensures kept { vm.new.value ≡ vm.old.value }
     ensures known { result.status ≤ 9 }
-    ensures read { AnswerRead (status_of result.status) result.len out.old out.new vm.old.value }
+    ensures read { AnswerRead (status_named result.status) result.len out.old out.new vm.old.value }
 {
     calls::read_answer(alloc, vm, out)
 }
@@ -41,7 +42,7 @@ pub extern "C" fn palqytun_answer(alloc: Global, vm: &mut Vm, out: &mut [u8]) ->
 /// Feeds the VM bytes of its input.
 #[unsafe(no_mangle)]
 pub extern "C" fn palqytun_feed(alloc: Global, vm: &mut Vm, bytes: &[u8]) -> u32
-    ensures fed { InputFed bytes.now (status_of result) vm.old.value vm.new.value }
+    ensures fed { InputFed bytes.now (status_named result) vm.old.value vm.new.value }
     ensures known { result ≤ 9 }
 {
     calls::feed(alloc, vm, bytes)
@@ -50,7 +51,8 @@ pub extern "C" fn palqytun_feed(alloc: Global, vm: &mut Vm, bytes: &[u8]) -> u32
 /// Moves all of the VM's output to the front of `out`, where there is room for it, and tells how long it is.
 #[unsafe(no_mangle)]
 pub extern "C" fn palqytun_take_output(alloc: Global, vm: &mut Vm, out: &mut [u8]) -> Told
-    ensures taken { OutputTaken (status_of result.status) result.len out.old out.new vm.old.value vm.new.value }
+    ensures taken { OutputTaken (status_named result.status) result.len out.old out.new vm.old.value
+        vm.new.value }
     ensures known { result.status ≤ 9 }
 {
     calls::take_output(alloc, vm, out)

@@ -1,9 +1,9 @@
 //! The typed calls of the VM.
 ghost use Rattle.std.specs.Prelude.{◌≡◌, ◌≤◌};
 ghost use Rattle.sessions.specs.Calls.{CalledFromC, PartRead};
-ghost use Rattle.sessions.specs.Statuses.{status_of};
+ghost use Rattle.sessions.specs.Statuses.{status_named};
 ghost use Rattle.typed_calls.specs.Making.{MakesAsGiven};
-ghost use Rattle.typed_calls.specs.Calls.{AsksCompleted, AsksIndex, AsksReady, AsksState, AttachesTo, AwaitsHandle, AwaitsNodes, CallsHandler, CallsWithDeadline, CancelsInvocation, ClearsAllState, ClearsState, ClosesInput, CompletesAwakeable, CompletesPromise, CompletesSignal, Ends, GetsOutput, GetsPromise, MakesAwakeable, MakesSignal, PeeksPromise, Proposes, ProposesRetryable, ReadsEphemerally, ReadsHead, ReadsInput, ReadsKeys, ReadsState, ReportsError, Runs, SendsTo, SetsState, Sleeps, Takes, TakesEphemeral, TakesOutputOf, WritesOutput};
+ghost use Rattle.typed_calls.specs.Calls.{AsksCompleted, AsksIndex, AsksReady, AsksState, AttachesTo, AwaitsHandle, AwaitsNodes, CallsHandler, CallsWithDeadline, CancelsInvocation, ClearsAllState, ClearsState, ClosesInput, CompletesAwakeable, CompletesPromise, CompletesSignal, EndsHandler, GetsOutput, GetsPromise, MakesAwakeable, MakesSignal, PeeksPromise, ProposesResult, ProposesRetryable, ReadsEphemerally, ReadsHead, ReadsInput, ReadsKeys, ReadsState, ReportsError, CallsARun, SendsTo, SetsState, CallsSleep, TakesResult, TakesEphemeral, TakesOutputOf, WritesOutput};
 
 use sessions::vm_call::{call, read_part};
 use sessions::{Replied, Told, Vm};
@@ -34,7 +34,7 @@ use typed_calls::values::GivenValue;
 pub extern "C" fn palqytun_part(alloc: Global, vm: &mut Vm, at: usize, out: &mut [u8]) -> Told
     ensures kept { vm.new.value ≡ vm.old.value }
     ensures known { result.status ≤ 9 }
-    ensures read { PartRead at (status_of result.status) result.len out.old out.new vm.old.value }
+    ensures read { PartRead at (status_named result.status) result.len out.old out.new vm.old.value }
 {
     read_part(alloc, vm, at, out)
 }
@@ -116,7 +116,7 @@ pub extern "C" fn palqytun_sleep(
     name: Lent,
     wake_up_millis: u64,
 ) -> Replied
-    ensures { CalledFromC (Sleeps name.entry.bytes.now wake_up_millis)
+    ensures { CalledFromC (CallsSleep name.entry.bytes.now wake_up_millis)
         result vm.old.value vm.new.value }
 {
     call(
@@ -262,7 +262,7 @@ pub extern "C" fn palqytun_write_output(
 /// The handler ends.
 #[unsafe(no_mangle)]
 pub extern "C" fn palqytun_end(alloc: Global, vm: &mut Vm) -> Replied
-    ensures { CalledFromC Ends result vm.old.value vm.new.value }
+    ensures { CalledFromC EndsHandler result vm.old.value vm.new.value }
 {
     call(alloc, vm, EndCall)
 }
@@ -362,7 +362,7 @@ pub extern "C" fn palqytun_await_tree(alloc: Global, vm: &mut Vm, nodes: &[Node]
 /// Takes the result of a handle.
 #[unsafe(no_mangle)]
 pub extern "C" fn palqytun_take(alloc: Global, vm: &mut Vm, handle: u32) -> Replied
-    ensures { CalledFromC (Takes handle) result vm.old.value vm.new.value }
+    ensures { CalledFromC (TakesResult handle) result vm.old.value vm.new.value }
 {
     call(alloc, vm, TakeCall { handle })
 }
@@ -434,7 +434,7 @@ pub extern "C" fn palqytun_input(alloc: Global, vm: &mut Vm) -> Replied
 /// Calls a run.
 #[unsafe(no_mangle)]
 pub extern "C" fn palqytun_run(alloc: Global, vm: &mut Vm, name: Lent) -> Replied
-    ensures { CalledFromC (Runs name.entry.bytes.now) result vm.old.value vm.new.value }
+    ensures { CalledFromC (CallsARun name.entry.bytes.now) result vm.old.value vm.new.value }
 {
     call(alloc, vm, RunCall { name })
 }
@@ -448,7 +448,8 @@ pub extern "C" fn palqytun_propose(
     value: &GivenValue,
     policy: &GivenPolicy,
 ) -> Replied
-    ensures { CalledFromC (Proposes handle value.now policy.now) result vm.old.value vm.new.value }
+    ensures { CalledFromC (ProposesResult handle value.now policy.now) result vm.old.value
+        vm.new.value }
 {
     call(
         alloc,

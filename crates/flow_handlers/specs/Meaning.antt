@@ -14,19 +14,19 @@ use Rattle.flows.specs.Code.{Code, Failed, Given, Next, Outcome, outcome}
 use Rattle.flows.specs.Steps.{stable}
 
 -- the failure that a handler ends with by a fault
-abbrev pub failure_of : Fault → TerminalFailure
-failure_of fault.Cancelled = record { code = 409; message = codes "cancelled"; metadata = [] }
-failure_of (fault.Failed failure) = failure
+abbrev pub fault_failure : Fault → TerminalFailure
+fault_failure fault.Cancelled = record { code = 409; message = codes "cancelled"; metadata = [] }
+fault_failure (fault.Failed failure) = failure
 
 -- the output is written, and after its answer the handler is over
-abbrev pub written : NonEmptyValue → List Answer → Step
-written output [] = step.WriteOutput output stable
-written output (answer ∷ answers) = step.End
+abbrev pub output_written : NonEmptyValue → List Answer → Step
+output_written output [] = step.WriteOutput output stable
+output_written output (answer ∷ answers) = step.End
 
 -- the step after an outcome
 abbrev pub last_step : Outcome (List ℕ) → Step
-last_step (Given output answers) = written (non_empty.Success output) answers
-last_step (Failed fault answers) = written (non_empty.Failure (failure_of fault)) answers
+last_step (Given output answers) = output_written (non_empty.Success output) answers
+last_step (Failed fault answers) = output_written (non_empty.Failure (fault_failure fault)) answers
 last_step (Next step) = step
 
 -- the step after these answers, the first of which is the input

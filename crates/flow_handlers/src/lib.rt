@@ -3,7 +3,7 @@
 #![tactic(auto)]
 
 ghost use Rattle.std.specs.Prelude.{◌≡◌, IfOk};
-ghost use Rattle.flow_handlers.specs.Meaning.{failure_of, written};
+ghost use Rattle.flow_handlers.specs.Meaning.{fault_failure, output_written};
 
 use flows::{Context, Exit, Fault, Flow};
 use std::alloc::{AllocError, Global};
@@ -19,8 +19,8 @@ pub struct Durable<F> {
 }
 
 /// The failure that a handler ends with by a fault.
-fn failure_of(alloc: Global, fault: Fault) -> Result<TerminalFailure, AllocError>
-    ensures { IfOk result (λ failure. failure ≡ failure_of fault) }
+fn fault_failure(alloc: Global, fault: Fault) -> Result<TerminalFailure, AllocError>
+    ensures { IfOk result (λ failure. failure ≡ fault_failure fault) }
 {
     match fault {
         Fault::Failed(failure) => Ok(failure),
@@ -33,8 +33,8 @@ fn failure_of(alloc: Global, fault: Fault) -> Result<TerminalFailure, AllocError
 }
 
 /// The output is written once.
-fn written(ctx: &Context<'_>, output: NonEmptyValue) -> Step
-    ensures { result ≡ written output ctx.now }
+fn output_written(ctx: &Context<'_>, output: NonEmptyValue) -> Step
+    ensures { result ≡ output_written output ctx.now }
 {
     if ctx.is_empty() {
         return Step::WriteOutput(output, PayloadOptions::stable_serialization());
@@ -54,11 +54,11 @@ impl<F: Flow> Handler for Durable<F> {
         };
         let mut ctx = Context::new(self.alloc, rest);
         match self.flow.run(&mut ctx, input) {
-            Ok(output) => Ok(written(&ctx, NonEmptyValue::Success(output))),
+            Ok(output) => Ok(output_written(&ctx, NonEmptyValue::Success(output))),
             Err(Exit::Next(step)) => Ok(step),
             Err(Exit::Fault(fault)) => {
-                let failure = failure_of(self.alloc, fault)?;
-                Ok(written(&ctx, NonEmptyValue::Failure(failure)))
+                let failure = fault_failure(self.alloc, fault)?;
+                Ok(output_written(&ctx, NonEmptyValue::Failure(failure)))
             }
             Err(Exit::Memory) => Err(AllocError),
         }

@@ -43,7 +43,8 @@ pub record IsNamed (name frame : List ℕ) : Type 0 where
 -- the words show these bytes as they are: a frame of any type, or the rest of a stream
 abbrev pub ShowAsIs : List (Bor (List ℕ)) → List ℕ → Type 0
 ShowAsIs [] shown = ⊥
-ShowAsIs (name ∷ others) shown = ((name.now ≡ codes "raw") × AreRaw others shown) ⊎ ((name.now ≡ codes "rest") × IsRest others shown)
+ShowAsIs (name ∷ others) shown = ((name.now ≡ codes "raw") × AreRaw others shown)
+    ⊎ ((name.now ≡ codes "rest") × IsRest others shown)
 
 -- the words show these bytes: as they are, or as a message
 abbrev pub Shows : List (Bor (List ℕ)) → List ℕ → Type 0
@@ -56,4 +57,5 @@ LineShows line shown = (words : List (Bor (List ℕ))) × AreWords line words ×
 
 -- the words of a line show these bytes as they are
 abbrev pub LineShowsAsIs : List ℕ → List ℕ → Type 0
-LineShowsAsIs line shown = (words : List (Bor (List ℕ))) × AreWords line words × ShowAsIs words shown
+LineShowsAsIs line shown =
+    (words : List (Bor (List ℕ))) × AreWords line words × ShowAsIs words shown

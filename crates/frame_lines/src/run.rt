@@ -33,7 +33,8 @@ fn write_rest<W: Write>(alloc: Global, rest: &[u8], writer: &mut W) -> io::Resul
 /// The next frame, if a whole one of a known type waits. An `Err` changes nothing.
 fn next_whole(decoder: &mut Decoder) -> Result<Option<RawMessage>, AllocError>
     ensures none { IfOk result (λ next. IfNone next (decoder.new ≡ decoder.old)) }
-    ensures some { IfOk result (λ next. IfSome next (λ raw. decoder.old ≡ frame raw.ty raw.body ++ decoder.new)) }
+    ensures some { IfOk result
+        (λ next. IfSome next (λ raw. decoder.old ≡ frame raw.ty raw.body ++ decoder.new)) }
     ensures err { OnErr result (decoder.new ≡ decoder.old) }
 {
     match decoder.next_frame() {

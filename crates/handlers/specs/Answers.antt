@@ -16,34 +16,34 @@ abbrev pub stable : PayloadOptions
 stable = record { unstable_serialization = false }
 
 -- the bytes of an input; none where there isn't one
-abbrev pub input_of : Option Answer → List ℕ
-input_of (Some (answer.Input input)) = input.input
-input_of (Some (answer.Handle handle)) = []
-input_of (Some (answer.Call handles)) = []
-input_of (Some (answer.CallWithDeadline handles)) = []
-input_of (Some (answer.Send handle)) = []
-input_of (Some (answer.Awakeable awakeable)) = []
-input_of (Some answer.Unit) = []
-input_of (Some answer.Awake) = []
-input_of (Some answer.Cancelled) = []
-input_of (Some (answer.Taken taken)) = []
-input_of (Some (answer.Completed is)) = []
-input_of None = []
+abbrev pub bytes_of_input : Option Answer → List ℕ
+bytes_of_input (Some (answer.Input input)) = input.input
+bytes_of_input (Some (answer.Handle handle)) = []
+bytes_of_input (Some (answer.Call handles)) = []
+bytes_of_input (Some (answer.CallWithDeadline handles)) = []
+bytes_of_input (Some (answer.Send handle)) = []
+bytes_of_input (Some (answer.Awakeable awakeable)) = []
+bytes_of_input (Some answer.Unit) = []
+bytes_of_input (Some answer.Awake) = []
+bytes_of_input (Some answer.Cancelled) = []
+bytes_of_input (Some (answer.Taken taken)) = []
+bytes_of_input (Some (answer.Completed is)) = []
+bytes_of_input None = []
 
 -- the handle of an answer; none is 0
-abbrev pub handle_of : Option Answer → NotificationHandle
-handle_of (Some (answer.Handle handle)) = handle
-handle_of (Some (answer.Input input)) = record { 0 = 0 }
-handle_of (Some (answer.Call handles)) = record { 0 = 0 }
-handle_of (Some (answer.CallWithDeadline handles)) = record { 0 = 0 }
-handle_of (Some (answer.Send handle)) = record { 0 = 0 }
-handle_of (Some (answer.Awakeable awakeable)) = record { 0 = 0 }
-handle_of (Some answer.Unit) = record { 0 = 0 }
-handle_of (Some answer.Awake) = record { 0 = 0 }
-handle_of (Some answer.Cancelled) = record { 0 = 0 }
-handle_of (Some (answer.Taken taken)) = record { 0 = 0 }
-handle_of (Some (answer.Completed is)) = record { 0 = 0 }
-handle_of None = record { 0 = 0 }
+abbrev pub answered_handle : Option Answer → NotificationHandle
+answered_handle (Some (answer.Handle handle)) = handle
+answered_handle (Some (answer.Input input)) = record { 0 = 0 }
+answered_handle (Some (answer.Call handles)) = record { 0 = 0 }
+answered_handle (Some (answer.CallWithDeadline handles)) = record { 0 = 0 }
+answered_handle (Some (answer.Send handle)) = record { 0 = 0 }
+answered_handle (Some (answer.Awakeable awakeable)) = record { 0 = 0 }
+answered_handle (Some answer.Unit) = record { 0 = 0 }
+answered_handle (Some answer.Awake) = record { 0 = 0 }
+answered_handle (Some answer.Cancelled) = record { 0 = 0 }
+answered_handle (Some (answer.Taken taken)) = record { 0 = 0 }
+answered_handle (Some (answer.Completed is)) = record { 0 = 0 }
+answered_handle None = record { 0 = 0 }
 
 -- the handle of a call's result; none is 0
 abbrev pub call_handle_of : Option Answer → NotificationHandle
@@ -76,19 +76,19 @@ deadline_handle_of (Some (answer.Completed is)) = record { 0 = 0 }
 deadline_handle_of None = record { 0 = 0 }
 
 -- the answer says that a result is there
-abbrev pub is_completed : Option Answer → Bool
-is_completed (Some (answer.Completed is)) = is
-is_completed (Some (answer.Input input)) = false
-is_completed (Some (answer.Handle handle)) = false
-is_completed (Some (answer.Call handles)) = false
-is_completed (Some (answer.CallWithDeadline handles)) = false
-is_completed (Some (answer.Send handle)) = false
-is_completed (Some (answer.Awakeable awakeable)) = false
-is_completed (Some answer.Unit) = false
-is_completed (Some answer.Awake) = false
-is_completed (Some answer.Cancelled) = false
-is_completed (Some (answer.Taken taken)) = false
-is_completed None = false
+abbrev pub says_completed : Option Answer → Bool
+says_completed (Some (answer.Completed is)) = is
+says_completed (Some (answer.Input input)) = false
+says_completed (Some (answer.Handle handle)) = false
+says_completed (Some (answer.Call handles)) = false
+says_completed (Some (answer.CallWithDeadline handles)) = false
+says_completed (Some (answer.Send handle)) = false
+says_completed (Some (answer.Awakeable awakeable)) = false
+says_completed (Some answer.Unit) = false
+says_completed (Some answer.Awake) = false
+says_completed (Some answer.Cancelled) = false
+says_completed (Some (answer.Taken taken)) = false
+says_completed None = false
 
 -- the output that hands a value on: of a success or a failure the same, of any other an empty
 -- success
@@ -116,19 +116,19 @@ output_of (Some (answer.Completed is)) = non_empty.Success []
 output_of None = non_empty.Success []
 
 -- the answer says that the invocation was cancelled
-abbrev pub is_cancelled : Option Answer → Bool
-is_cancelled (Some answer.Cancelled) = true
-is_cancelled (Some (answer.Handle handle)) = false
-is_cancelled (Some (answer.Input input)) = false
-is_cancelled (Some (answer.Call handles)) = false
-is_cancelled (Some (answer.CallWithDeadline handles)) = false
-is_cancelled (Some (answer.Send handle)) = false
-is_cancelled (Some (answer.Awakeable awakeable)) = false
-is_cancelled (Some answer.Unit) = false
-is_cancelled (Some answer.Awake) = false
-is_cancelled (Some (answer.Taken taken)) = false
-is_cancelled (Some (answer.Completed is)) = false
-is_cancelled None = false
+abbrev pub says_cancelled : Option Answer → Bool
+says_cancelled (Some answer.Cancelled) = true
+says_cancelled (Some (answer.Handle handle)) = false
+says_cancelled (Some (answer.Input input)) = false
+says_cancelled (Some (answer.Call handles)) = false
+says_cancelled (Some (answer.CallWithDeadline handles)) = false
+says_cancelled (Some (answer.Send handle)) = false
+says_cancelled (Some (answer.Awakeable awakeable)) = false
+says_cancelled (Some answer.Unit) = false
+says_cancelled (Some answer.Awake) = false
+says_cancelled (Some (answer.Taken taken)) = false
+says_cancelled (Some (answer.Completed is)) = false
+says_cancelled None = false
 
 -- the output of a handler that was cancelled
 abbrev pub cancelled_output : Step

@@ -10,8 +10,8 @@ use Rattle.vm_types.specs.declared.values.Target.{Target}
 use Rattle.handlers.specs.Answers.{stable}
 
 -- a service's handler, without a key
-abbrev pub target_of : List ℕ → List ℕ → Target
-target_of service handler =
+abbrev pub plain_target : List ℕ → List ℕ → Target
+plain_target service handler =
     record {
       service = service;
       handler = handler;
@@ -23,14 +23,14 @@ target_of service handler =
     }
 
 -- the call of a service's handler with an input
-abbrev pub call_of : List ℕ → List ℕ → List ℕ → Step
-call_of service handler input = step.Call (target_of service handler) input None stable
+abbrev pub plain_call : List ℕ → List ℕ → List ℕ → Step
+plain_call service handler input = step.Call (plain_target service handler) input None stable
 
 -- the same with a deadline, since the Unix epoch
 abbrev pub call_until : List ℕ → List ℕ → List ℕ → Duration → Step
 call_until service handler input time =
-    step.CallWithDeadline (target_of service handler) input time None stable
+    step.CallWithDeadline (plain_target service handler) input time None stable
 
 -- two handles, to be awaited together
-abbrev pub both : NotificationHandle → NotificationHandle → List UnresolvedFuture
-both first second = Single first ∷ Single second ∷ []
+abbrev pub two_awaited : NotificationHandle → NotificationHandle → List UnresolvedFuture
+two_awaited first second = Single first ∷ Single second ∷ []

@@ -5,17 +5,17 @@ use Rattle.vm_types.specs.declared.steps.Answer.{Answer}
 use Rattle.vm_types.specs.declared.steps.Step.{Step}
 use Rattle.vm_types.specs.declared.steps.Step.TheVariants as step
 use Rattle.await_trees.specs.declared.tree.UnresolvedFuture.TheVariants.{Single}
-use Rattle.handlers.specs.Answers.{handle_of, is_cancelled, cancelled_output, output_of, stable}
+use Rattle.handlers.specs.Answers.{answered_handle, says_cancelled, cancelled_output, output_of, stable}
 
 -- the step after so many answers
 abbrev pub charge_step : List Answer → Step
 charge_step answers =
     if length answers == 1 then step.Run (codes "charge")
-    else if length answers == 2 then step.Await (Single (handle_of (slice_get answers 1)))
+    else if length answers == 2 then step.Await (Single (answered_handle (slice_get answers 1)))
     else if length answers == 3 then
-    (if is_cancelled (slice_get answers 2) then cancelled_output
-    else step.Take (handle_of (slice_get answers 1)))
+    (if says_cancelled (slice_get answers 2) then cancelled_output
+    else step.Take (answered_handle (slice_get answers 1)))
     else if length answers == 4 then
-    (if is_cancelled (slice_get answers 2) then step.End
+    (if says_cancelled (slice_get answers 2) then step.End
     else step.WriteOutput (output_of (slice_get answers 3)) stable)
     else step.End

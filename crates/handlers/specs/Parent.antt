@@ -7,22 +7,22 @@ use Rattle.vm_types.specs.declared.steps.Step.{Step}
 use Rattle.vm_types.specs.declared.steps.Step.TheVariants as step
 use Rattle.await_trees.specs.declared.tree.UnresolvedFuture.TheVariants.{AllCompleted}
 use Rattle.vm_types.specs.declared.values.NonEmptyValue.TheVariants.{Success}
-use Rattle.handlers.specs.Answers.{call_handle_of, cancelled_output, is_cancelled, stable}
-use Rattle.handlers.specs.Calls.{both, call_of}
+use Rattle.handlers.specs.Answers.{call_handle_of, cancelled_output, says_cancelled, stable}
+use Rattle.handlers.specs.Calls.{two_awaited, plain_call}
 
 -- the step after so many answers
 abbrev pub parent_step : List Answer → Step
 parent_step answers =
-    if length answers == 1 then call_of (codes "Child") (codes "a") []
-    else if length answers == 2 then call_of (codes "Child") (codes "b") []
+    if length answers == 1 then plain_call (codes "Child") (codes "a") []
+    else if length answers == 2 then plain_call (codes "Child") (codes "b") []
     else if length answers == 3 then
     step.Await (AllCompleted
-    (both (call_handle_of (slice_get answers 1)) (call_handle_of (slice_get answers 2))))
+    (two_awaited (call_handle_of (slice_get answers 1)) (call_handle_of (slice_get answers 2))))
     else if length answers == 4 then
-    (if is_cancelled (slice_get answers 3) then cancelled_output
+    (if says_cancelled (slice_get answers 3) then cancelled_output
     else step.Take (call_handle_of (slice_get answers 1)))
     else if length answers == 5 then
-    (if is_cancelled (slice_get answers 3) then step.End
+    (if says_cancelled (slice_get answers 3) then step.End
     else step.Take (call_handle_of (slice_get answers 2)))
     else if length answers == 6 then step.WriteOutput (Success (codes "done")) stable
     else step.End

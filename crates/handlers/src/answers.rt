@@ -1,6 +1,6 @@
 //! What handlers read from their answers, and what they do when they are cancelled.
 ghost use Rattle.std.specs.Prelude.{◌≡◌, slice_get, IfOk};
-ghost use Rattle.handlers.specs.Answers.{call_handle_of, cancelled_output, deadline_handle_of, handle_of, input_of, is_cancelled, is_completed, output_of, output_of_value};
+ghost use Rattle.handlers.specs.Answers.{call_handle_of, cancelled_output, deadline_handle_of, answered_handle, bytes_of_input, says_cancelled, says_completed, output_of, output_of_value};
 
 use bytes::Bytes;
 use std::alloc::{AllocError, Global};
@@ -11,7 +11,7 @@ use wire::{Items, Text};
 
 /// The bytes of the input, which is the first answer.
 pub fn input_bytes(answers: &[Answer]) -> Result<Bytes, AllocError>
-    ensures { IfOk result (λ bytes. bytes ≡ input_of (slice_get answers.now 0)) }
+    ensures { IfOk result (λ bytes. bytes ≡ bytes_of_input (slice_get answers.now 0)) }
 {
     match answers.first() {
         Some(Answer::Input(input)) => input.input.clone(),
@@ -21,7 +21,7 @@ pub fn input_bytes(answers: &[Answer]) -> Result<Bytes, AllocError>
 
 /// The handle that was answered at this place.
 pub fn handle_at(answers: &[Answer], place: usize) -> NotificationHandle
-    ensures { result ≡ handle_of (slice_get answers.now place) }
+    ensures { result ≡ answered_handle (slice_get answers.now place) }
 {
     match answers.get(place) {
         Some(Answer::Handle(handle)) => *handle,
@@ -52,7 +52,7 @@ pub fn deadline_handle_at(answers: &[Answer], place: usize) -> NotificationHandl
 
 /// Whether the answer at this place says that a result is there.
 pub fn is_completed_at(answers: &[Answer], place: usize) -> bool
-    ensures { result ≡ is_completed (slice_get answers.now place) }
+    ensures { result ≡ says_completed (slice_get answers.now place) }
 {
     matches!(answers.get(place), Some(Answer::Completed(true)))
 }
@@ -80,7 +80,7 @@ pub fn output_at(answers: &[Answer], place: usize) -> Result<NonEmptyValue, Allo
 
 /// Whether the answer at this place says that the invocation was cancelled.
 pub fn is_cancelled_at(answers: &[Answer], place: usize) -> bool
-    ensures { result ≡ is_cancelled (slice_get answers.now place) }
+    ensures { result ≡ says_cancelled (slice_get answers.now place) }
 {
     matches!(answers.get(place), Some(Answer::Cancelled))
 }

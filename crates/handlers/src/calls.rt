@@ -1,6 +1,6 @@
 //! Calls of other handlers, and what a handler awaits two results by.
 ghost use Rattle.std.specs.Prelude.{◌≡◌, IfOk};
-ghost use Rattle.handlers.specs.Calls.{both, call_of, call_until, target_of};
+ghost use Rattle.handlers.specs.Calls.{two_awaited, plain_call, call_until, plain_target};
 
 use bytes::Bytes;
 use std::alloc::{AllocError, Global};
@@ -10,7 +10,7 @@ use wire::{Items, Text};
 
 /// A service's handler, without a key.
 fn target(alloc: Global, service: &str, handler: &str) -> Result<Target, AllocError>
-    ensures { IfOk result (λ target. target ≡ target_of service.now handler.now) }
+    ensures { IfOk result (λ target. target ≡ plain_target service.now handler.now) }
 {
     Ok(Target {
         service: Text::from_str(alloc, service)?,
@@ -25,7 +25,7 @@ fn target(alloc: Global, service: &str, handler: &str) -> Result<Target, AllocEr
 
 /// The call of a service's handler, without a key.
 pub fn call(alloc: Global, service: &str, handler: &str, input: Bytes) -> Result<Step, AllocError>
-    ensures { IfOk result (λ step. step ≡ call_of service.now handler.now input) }
+    ensures { IfOk result (λ step. step ≡ plain_call service.now handler.now input) }
 {
     let target = target(alloc, service, handler)?;
     Ok(Step::Call {
@@ -57,12 +57,12 @@ pub fn call_until(
 }
 
 /// Two handles, to be awaited together.
-pub fn both(
+pub fn two_awaited(
     alloc: Global,
     first: NotificationHandle,
     second: NotificationHandle,
 ) -> Result<Items<UnresolvedFuture>, AllocError>
-    ensures { IfOk result (λ row. row ≡ both first second) }
+    ensures { IfOk result (λ row. row ≡ two_awaited first second) }
 {
     let mut row = Items::new(alloc);
     row.push(UnresolvedFuture::Single(first))?;

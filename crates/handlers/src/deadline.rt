@@ -1,12 +1,12 @@
 //! The handler `deadline`: a call of another handler with a deadline, one second after the Unix epoch.
 ghost use Rattle.std.specs.Prelude.{◌≡◌, IfOk};
-ghost use Rattle.handlers.specs.Deadline.{deadline_output, earlier};
+ghost use Rattle.handlers.specs.Deadline.{deadline_output, earlier_handle};
 
 use crate::answers::{
     call_handle_at, cancelled_output, deadline_handle_at, input_bytes, is_cancelled_at,
     is_completed_at, output_at,
 };
-use crate::calls::{both, call_until};
+use crate::calls::{call_until, two_awaited};
 use bytes::Bytes;
 use std::alloc::{AllocError, Global};
 use std::time::Duration;
@@ -20,8 +20,8 @@ pub struct Deadline {
 }
 
 /// The handle of the call, where its result is there, and else of the deadline.
-fn earlier(answers: &[Answer]) -> NotificationHandle
-    ensures { result ≡ earlier answers.now }
+fn earlier_handle(answers: &[Answer]) -> NotificationHandle
+    ensures { result ≡ earlier_handle answers.now }
 {
     if is_completed_at(answers, 3) {
         return call_handle_at(answers, 1);
@@ -55,7 +55,7 @@ impl Handler for Deadline {
                     call_handle_at(answers, 1),
                     deadline_handle_at(answers, 1),
                 );
-                let children = both(self.alloc, result, deadline)?;
+                let children = two_awaited(self.alloc, result, deadline)?;
                 Ok(Step::Await(UnresolvedFuture::FirstCompleted(children)))
             }
             3 => {
@@ -68,7 +68,7 @@ impl Handler for Deadline {
                 if is_cancelled_at(answers, 2) {
                     return Ok(Step::End);
                 }
-                Ok(Step::Take(earlier(answers)))
+                Ok(Step::Take(earlier_handle(answers)))
             }
             5 => {
                 let output = deadline_output(answers)?;

@@ -1,6 +1,6 @@
 //! The handler `parent`: it calls two other handlers, and ends when both have answered.
 use crate::answers::{call_handle_at, cancelled_output, is_cancelled_at};
-use crate::calls::{both, call};
+use crate::calls::{call, two_awaited};
 use bytes::Bytes;
 use std::alloc::{AllocError, Global};
 use vm_attempt::Handler;
@@ -23,7 +23,7 @@ impl Handler for Parent {
             2 => call(self.alloc, "Child", "b", Bytes::new()),
             3 => {
                 let (first, second) = (call_handle_at(answers, 1), call_handle_at(answers, 2));
-                let children = both(self.alloc, first, second)?;
+                let children = two_awaited(self.alloc, first, second)?;
                 Ok(Step::Await(UnresolvedFuture::AllCompleted(children)))
             }
             4 => {

@@ -6,7 +6,7 @@ use crate::answers::{
     call_handle_at, cancelled_output, handle_at, input_bytes, is_cancelled_at, is_completed_at,
     output_at,
 };
-use crate::calls::{both, call};
+use crate::calls::{call, two_awaited};
 use bytes::Bytes;
 use std::alloc::{AllocError, Global};
 use std::time::Duration;
@@ -55,7 +55,7 @@ impl Handler for Race {
             2 => call(self.alloc, "Greeter", "greet", input_bytes(answers)?),
             3 => {
                 let (sleep, result) = (handle_at(answers, 1), call_handle_at(answers, 2));
-                let children = both(self.alloc, sleep, result)?;
+                let children = two_awaited(self.alloc, sleep, result)?;
                 Ok(Step::Await(UnresolvedFuture::FirstCompleted(children)))
             }
             4 => {

@@ -29,13 +29,17 @@ use Rattle.vm_machine.specs.Skips.{skips_replay}
 use Rattle.await_trees.specs.Tree.{tree_of}
 use Rattle.invocation_vm.specs.Views.{View, Calls, CallsBy}
 
--- A call that has a command: it is answered by its first handle; what it wrote can be read back, and its handles fit.
+-- A call that has a command: it is answered by its first handle; what it wrote can be read back,
+-- and its handles fit.
 abbrev pub CallsCommand : Command → Result NotificationHandle Error → View → View → Type 0
-CallsCommand c r old new = Calls (commanded c) r old new × OnOk r (CanBeRead c.message old.machine) × IfOk r (Fits c.message)
+CallsCommand c r old new = Calls (commanded c) r old new × OnOk r (CanBeRead c.message old.machine)
+    × IfOk r (Fits c.message)
 
 -- A call that has a command, answered by this of its first handle.
-abbrev pub CallsFor : {A : Type 0} → (NotificationHandle → A) → Command → Result A Error → View → View → Type 0
-CallsFor f c r old new = Calls (λ v. answered_by f (commanded c v)) r old new × OnOk r (CanBeRead c.message old.machine)
+abbrev pub CallsFor : {A : Type 0} → (NotificationHandle → A) → Command → Result A Error → View
+    → View → Type 0
+CallsFor f c r old new =
+    Calls (λ v. answered_by f (commanded c v)) r old new × OnOk r (CanBeRead c.message old.machine)
 
 -- A call that has a command and answers nothing.
 abbrev pub CallsUnit : Command → Result Unit Error → View → View → Type 0
@@ -46,21 +50,31 @@ abbrev pub result_by : {A B : Type 0} → (A → B) → Result A Error → Resul
 result_by f (Ok a) = Ok (f a)
 result_by f (Err e) = Err e
 
--- One of several commands of a call, with these behind it: what it wrote can be read back, and all handles from its first on fit.
-abbrev pub CallsBefore : Command → List Command → Result NotificationHandle Error → View → View → Type 0
-CallsBefore c cs r old new = Calls (commanded_before c cs) r old new × OnOk r (CanBeRead c.message old.machine) × IfOk r (AllFit c cs)
+-- One of several commands of a call, with these behind it: what it wrote can be read back, and all
+-- handles from its first on fit.
+abbrev pub CallsBefore : Command → List Command → Result NotificationHandle Error → View → View
+    → Type 0
+CallsBefore c cs r old new = Calls (commanded_before c cs) r old new
+    × OnOk r (CanBeRead c.message old.machine) × IfOk r (AllFit c cs)
 
--- A call that has a command and these behind it, each made by a call of its own: it is answered by its first handle, and its handles fit.
-abbrev pub CallsAll : Command → List Command → Result NotificationHandle Error → View → View → Type 0
-CallsAll c cs r old new = MakesAll c cs r old.machine new.machine × (new.undecoded ≡ old.undecoded) × IfOk r (AllFit c cs)
+-- A call that has a command and these behind it, each made by a call of its own: it is answered by
+-- its first handle, and its handles fit.
+abbrev pub CallsAll : Command → List Command → Result NotificationHandle Error → View → View
+    → Type 0
+CallsAll c cs r old new =
+    MakesAll c cs r old.machine new.machine × (new.undecoded ≡ old.undecoded) × IfOk r (AllFit c cs)
 
 -- A call that has a command and these behind it, answered by this of its first handle.
-abbrev pub CallsAllFor : {A : Type 0} → (NotificationHandle → A) → Command → List Command → Result A Error → View → View → Type 0
-CallsAllFor f c cs r old new = (given : Result NotificationHandle Error) × MakesAll c cs given old.machine new.machine × (new.undecoded ≡ old.undecoded) × (r ≡ result_by f given)
+abbrev pub CallsAllFor : {A : Type 0} → (NotificationHandle → A) → Command → List Command
+    → Result A Error → View → View → Type 0
+CallsAllFor f c cs r old new = (given : Result NotificationHandle Error)
+    × MakesAll c cs given old.machine new.machine × (new.undecoded ≡ old.undecoded)
+    × (r ≡ result_by f given)
 
 -- A state read: what it wrote can be read back.
 abbrev pub CallsRead : StateRead → Result NotificationHandle Error → View → View → Type 0
-CallsRead r result old new = Calls (read_step r) result old new × OnOk result (ReadCanBeRead r old.machine)
+CallsRead r result old new =
+    Calls (read_step r) result old new × OnOk result (ReadCanBeRead r old.machine)
 
 -- the handle of a run, and whether its result is there already
 abbrev pub run_handle : Bool → NotificationHandle → RunHandle
@@ -68,39 +82,50 @@ run_handle replayed handle = record { replayed = replayed; handle = handle }
 
 -- A run: it is replayed where the completion id that it is given has a result.
 abbrev pub CallsRun : List ℕ → Result RunHandle Error → View → View → Type 0
-CallsRun name r old new = CallsFor (run_handle (knows_next old.machine)) (run_command name) r old new
+CallsRun name r old new =
+    CallsFor (run_handle (knows_next old.machine)) (run_command name) r old new
 
 -- What executing a run came to is told.
-abbrev pub CallsProposal : NotificationHandle → RunExitResult → RetryPolicy → Result Unit Error → View → View → Type 0
+abbrev pub CallsProposal : NotificationHandle → RunExitResult → RetryPolicy → Result Unit Error
+    → View → View → Type 0
 CallsProposal handle exit policy r old new = CallsBy (Proposes handle exit policy) r old new
 
 -- An awakeable is made, where recorded commands are replayed.
 abbrev pub new_awakeable_step : Machine → Outcome AwakeableHandle
-new_awakeable_step v = if skips_replay v.options.journal_replay then refused fault.UnsupportedFeature v else awakeable_step v
+new_awakeable_step v = if skips_replay v.options.journal_replay
+    then refused fault.UnsupportedFeature v else awakeable_step v
 
 -- an absent name is empty
 abbrev pub name_or_empty : Option (String Global) → List ℕ
 name_or_empty None = []
 name_or_empty (Some name) = string_bytes name
 
--- The first part of an await of a future: notifications are used, and the ids are read of the invocations that are to be cancelled.
-abbrev pub CallsTry : UnresolvedFuture → Result (Result AwaitResponse Error) Error → View → View → Type 0
+-- The first part of an await of a future: notifications are used, and the ids are read of the
+-- invocations that are to be cancelled.
+abbrev pub CallsTry : UnresolvedFuture → Result (Result AwaitResponse Error) Error → View → View
+    → Type 0
 CallsTry future r old new = CallsBy (Awaits (tree_of future)) r old new
 
 -- An await of a future, where an error by which the VM doesn't fail is an answer.
-abbrev pub CallsAwait : UnresolvedFuture → Result (Result AwaitResponse Error) Error → View → View → Type 0
-CallsAwait future r old new = AwaitsWhole (tree_of future) r old.machine new.machine × (new.undecoded ≡ old.undecoded)
+abbrev pub CallsAwait : UnresolvedFuture → Result (Result AwaitResponse Error) Error → View → View
+    → Type 0
+CallsAwait future r old new =
+    AwaitsWhole (tree_of future) r old.machine new.machine × (new.undecoded ≡ old.undecoded)
 
 -- An await is answered by an ephemeral read whose value is there, any of them; nothing changes.
 abbrev pub AnswersReady : Result AwaitResponse Error → View → View → Type 0
-AnswersReady r old new = (id : ℕ) × (may_answer id old.machine ≡ true) × (r ≡ Ok (EphemeralNotificationReady (record { 0 = id }))) × (new ≡ old)
+AnswersReady r old new = (id : ℕ) × (may_answer id old.machine ≡ true)
+    × (r ≡ Ok (EphemeralNotificationReady (record { 0 = id }))) × (new ≡ old)
 
 -- An await of a future, where no ephemeral read's value is there.
 abbrev pub CallsAnyAwait : UnresolvedFuture → Result AwaitResponse Error → View → View → Type 0
-CallsAnyAwait future r old new = (answered : Result (Result AwaitResponse Error) Error) × CallsAwait future answered old new × (r ≡ flattened answered)
+CallsAnyAwait future r old new = (answered : Result (Result AwaitResponse Error) Error)
+    × CallsAwait future answered old new × (r ≡ flattened answered)
 
--- An await of a future, by whether the value of some ephemeral read is there: it is answered before all else, until it is taken.
-abbrev pub CallsAwaitBy : Bool → UnresolvedFuture → Result AwaitResponse Error → View → View → Type 0
+-- An await of a future, by whether the value of some ephemeral read is there: it is answered before
+-- all else, until it is taken.
+abbrev pub CallsAwaitBy : Bool → UnresolvedFuture → Result AwaitResponse Error → View → View
+    → Type 0
 CallsAwaitBy true future r old new = AnswersReady r old new
 CallsAwaitBy false future r old new = CallsAnyAwait future r old new
 

@@ -9,7 +9,8 @@ pub data Tail : Type 0 where
   Garbage : Tail
 
 -- a first frame and those behind it
-abbrev pub frames_from : NextFrame → (List ℕ → List RawMessage × Tail) → List ℕ → List RawMessage × Tail
+abbrev pub frames_from : NextFrame → (List ℕ → List RawMessage × Tail) → List ℕ → List RawMessage
+    × Tail
 frames_from (Whole raw rest) others bytes = (raw ∷ (others rest).0, (others rest).1)
 frames_from Partial others bytes = ([], Rest bytes)
 frames_from Malformed others bytes = ([], Garbage)
@@ -25,5 +26,9 @@ frames_of bytes = frames_by (length bytes) bytes
 
 -- frames of bytes, and of the bytes that follow
 abbrev pub joined : List RawMessage × Tail → List ℕ → List RawMessage × Tail
-joined (frames, Rest bytes) more = (frames ++ (frames_of (bytes ++ more)).0, (frames_of (bytes ++ more)).1)
+joined (frames, Rest bytes) more = (
+  frames
+      ++ (frames_of (bytes ++ more)).0,
+  (frames_of (bytes ++ more)).1,
+)
 joined (frames, Garbage) more = (frames, Garbage)

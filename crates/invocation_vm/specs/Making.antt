@@ -39,7 +39,8 @@ abbrev pub made : Global → VMOptions → Version → View
 made alloc options version = record { undecoded = []; machine = fresh alloc version options }
 
 -- A VM is made for the version that is asked for; else the error says why, or no memory was found.
-abbrev pub Makes : {S : Type 0} → Global → VMOptions → Result Version Error → (S → View) → Result S Error → Type 0
+abbrev pub Makes : {S : Type 0} → Global → VMOptions → Result Version Error → (S → View)
+    → Result S Error → Type 0
 Makes alloc options (Ok version) view (Ok vm) = view vm ≡ made alloc options version
 Makes alloc options (Ok version) view (Err e) = e ≡ no_memory
 Makes alloc options (Err refusal) view (Ok vm) = ⊥

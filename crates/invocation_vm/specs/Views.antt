@@ -60,7 +60,8 @@ after_closing v = record v { machine = left_by (called (close_step v.machine) v.
 
 -- an error is reported
 abbrev pub after_error : View → Error → Option CommandRelationship → View
-after_error v e relationship = record v { machine = left_by (called (report_step e relationship v.machine) v.machine) }
+after_error v e relationship =
+    record v { machine = left_by (called (report_step e relationship v.machine) v.machine) }
 
 -- the messages that bytes bring
 abbrev pub brought : View → List ℕ → List RawMessage
@@ -72,8 +73,8 @@ pub record HaveCome (raws left : List RawMessage) (old reached : Machine) : Type
   pub split : raws ≡ before ++ left
   pub machine : reached ≡ all_received before old
 
--- A machine that hasn't failed finds no memory, once the first of these messages have come, by which it hasn't failed and has
--- written nothing.
+-- A machine that hasn't failed finds no memory, once the first of these messages have come, by
+-- which it hasn't failed and has written nothing.
 pub record StarvesAmong (raws : List RawMessage) (old new : Machine) : Type 0 where
   pub lives : old.failure ≡ None
   pub reached : Machine
@@ -91,22 +92,29 @@ pub record Leaves (raws : List RawMessage) (after : View) (r : Result Unit Alloc
 -- A call: the machine does what the step says, and no byte is read.
 abbrev pub Calls : {A : Type 0} → (Machine → Outcome A) → Result A Error → View → View → Type 0
 Calls step r old new =
-    Does (called (step old.machine) old.machine) r old.machine new.machine × (new.undecoded ≡ old.undecoded)
+    Does (called (step old.machine) old.machine) r old.machine new.machine
+    × (new.undecoded ≡ old.undecoded)
 
 -- A call whose event may come to several outcomes.
-abbrev pub CallsBy : {A : Type 0} → (Machine → Outcome A → Type 0) → Result A Error → View → View → Type 0
+abbrev pub CallsBy : {A : Type 0} → (Machine → Outcome A → Type 0) → Result A Error → View → View
+    → Type 0
 CallsBy R r old new =
-    DoesBy (CalledBy (R old.machine) old.machine) r old.machine new.machine × (new.undecoded ≡ old.undecoded)
+    DoesBy (CalledBy (R old.machine) old.machine) r old.machine new.machine
+    × (new.undecoded ≡ old.undecoded)
 
 -- one frame was taken: there may be more, or this is the end
 abbrev pub Goes : Bool → View → View → Type 0
 Goes true old new =
-    (new.machine.failure ≡ None) × (length new.undecoded < length old.undecoded) × (new.machine.output ≡ old.machine.output)
-    × (consumed (frames_of new.undecoded) new.machine ≡ consumed (frames_of old.undecoded) old.machine)
-    × ((raw : RawMessage) × ((frames_of old.undecoded).0 ≡ raw ∷ (frames_of new.undecoded).0) × (new.machine ≡ received raw old.machine))
+    (new.machine.failure ≡ None) × (length new.undecoded < length old.undecoded)
+    × (new.machine.output ≡ old.machine.output)
+    × (consumed (frames_of new.undecoded) new.machine
+    ≡ consumed (frames_of old.undecoded) old.machine)
+    × ((raw : RawMessage) × ((frames_of old.undecoded).0 ≡ raw ∷ (frames_of new.undecoded).0)
+    × (new.machine ≡ received raw old.machine))
 Goes false old new = new ≡ consumed (frames_of old.undecoded) old.machine
 
--- all output is taken: whole frames, one after another, each of a message that can be read back; or nothing is changed
+-- all output is taken: whole frames, one after another, each of a message that can be read back; or
+-- nothing is changed
 pub record TakesOutput (r : Result (List ℕ) AllocError) (old new : View) : Type 0 where
   pub bytes : IfOk r (λ bytes. bytes ≡ concat old.machine.output)
   pub whole : IfOk r WholeStream

@@ -186,7 +186,8 @@ impl CoreVM {
     /// A call of another handler with a deadline.
     fn deadline_call_of(&mut self, call: Command, deadline: Command) -> VMResult<DeadlineCallHandle>
         requires { all_ids call (deadline ∷ []) ≡ 3 }
-        ensures { CallsAllFor deadline_handles call (deadline ∷ []) result (seen self.old) (seen self.new) }
+        ensures { CallsAllFor deadline_handles call (deadline ∷ []) result (seen self.old)
+            (seen self.new) }
     {
         three_handles(self.commands(call, deadline))
     }
@@ -219,7 +220,8 @@ impl CoreVM {
 
     /// The second part of a cancelled await: each of these invocations is sent the cancel signal.
     fn cancel_all(&mut self, calls: Vec<TrackedCall>) -> VMResult<Awaited>
-        ensures does { Cancels (invocation_ids calls.items) result (seen self.old).machine (seen self.new).machine }
+        ensures does { Cancels (invocation_ids calls.items) result (seen self.old).machine
+            (seen self.new).machine }
         ensures same { (seen self.new).undecoded ≡ (seen self.old).undecoded }
     {
         for call in calls {
@@ -264,7 +266,8 @@ impl CoreVM {
 
     /// Drops the bytes that wait to be sent, once they were sent.
     pub fn clear_output(&mut self)
-        ensures { seen self.new ≡ record (seen self.old) { machine = record (seen self.old).machine { output = [] } } }
+        ensures { seen self.new ≡ record (seen self.old)
+            { machine = record (seen self.old).machine { output = [] } } }
     {
         self.machine.output.clear();
     }

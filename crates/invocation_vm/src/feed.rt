@@ -64,7 +64,9 @@ impl CoreVM {
     /// Takes the whole frames.
     pub(crate) fn consume(&mut self) -> Result<(), AllocError>
         requires { self.old.machine.failure ≡ None }
-        ensures { Leaves (frames_of self.old.decoder).0 (consumed (frames_of self.old.decoder) self.old.machine) result (seen self.old) (seen self.new) }
+        ensures { Leaves (frames_of self.old.decoder).0
+            (consumed (frames_of self.old.decoder) self.old.machine) result (seen self.old)
+            (seen self.new) }
     {
         'frames: loop {
             match self.take_frame() {
@@ -79,5 +81,6 @@ impl CoreVM {
 /// Bytes that come in two pieces do what they do in one: it doesn't matter how the input is cut.
 #[tactic(auto, using(crate::proofs::Cuts::any_cut))]
 pub fn any_cut()
-    ensures { (v : View) (xs ys : List ℕ) → after_input (after_input v xs) ys ≡ after_input v (xs ++ ys) }
+    ensures { (v : View) (xs ys : List ℕ) → after_input (after_input v xs) ys
+        ≡ after_input v (xs ++ ys) }
 {}

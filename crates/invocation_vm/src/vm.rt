@@ -39,7 +39,8 @@ pub trait VM: Sized {
 
     /// A VM for the version that the header `content-type` names.
     fn new<H: HeaderMap>(alloc: Global, headers: H, options: VMOptions) -> VMResult<Self>
-        ensures { Makes alloc options (version_in (H.found headers (codes "content-type"))) view result };
+        ensures { Makes alloc options (version_in (H.found headers (codes "content-type"))) view
+            result };
 
     /// The head of the response: status 200, and the content type of the version.
     fn get_response_head(&self) -> Result<ResponseHead, AllocError>
@@ -47,11 +48,13 @@ pub trait VM: Sized {
 
     /// The next bytes of the attempt, cut anywhere. What they spell may fail the VM; the answer is Ok then too.
     fn notify_input(&mut self, bytes: Bytes) -> Result<(), AllocError>
-        ensures { Leaves (brought (view self.old) bytes) (after_input (view self.old) bytes) result (view self.old) (view self.new) };
+        ensures { Leaves (brought (view self.old) bytes) (after_input (view self.old) bytes) result
+            (view self.old) (view self.new) };
 
     /// No more bytes are to be waited for. Memory is taken only where known entries are missing, for the error.
     fn notify_input_closed(&mut self) -> Result<(), AllocError>
-        ensures does { Leaves [] (after_closing (view self.old)) result (view self.old) (view self.new) }
+        ensures does { Leaves [] (after_closing (view self.old)) result (view self.old)
+            (view self.new) }
         ensures ample { OnErr result (is_waiting (view self.old).machine.phase ≡ true) };
 
     /// The handler's runner reports an error, which fails the VM; a VM that has failed keeps its first error. Before V7
@@ -61,7 +64,8 @@ pub trait VM: Sized {
         error: Error,
         command_relationship: Option<CommandRelationship>,
     ) -> Result<(), AllocError>
-        ensures { Leaves [] (after_error (view self.old) error command_relationship) result (view self.old) (view self.new) };
+        ensures { Leaves [] (after_error (view self.old) error command_relationship) result
+            (view self.old) (view self.new) };
 
     /// Takes all bytes that wait to be sent, whole frames in order.
     fn take_output(&mut self) -> Result<Bytes, AllocError>
@@ -93,7 +97,9 @@ pub trait VM: Sized {
     /// are dropped: each has to be readable, they are counted, and the completion ids of later calls are past all that they carry.
     fn sys_input(&mut self) -> VMResult<Input>
         ensures does { Calls input_step result (view self.old) (view self.new) }
-        ensures fresh { skips_replay (view self.old).machine.options.journal_replay ≡ true → OnOk result (AreBelow (view self.new).machine.counters.completion (all_carried (view self.old).machine.commands)) };
+        ensures fresh { skips_replay (view self.old).machine.options.journal_replay ≡ true
+            → OnOk result (AreBelow (view self.new).machine.counters.completion
+            (all_carried (view self.old).machine.commands)) };
 
     /// A sleep to a time since the Unix epoch, in whole ms, rounded down. The present time has no effect.
     fn sys_sleep(
@@ -102,7 +108,8 @@ pub trait VM: Sized {
         wake_up_time_since_unix_epoch: Duration,
         now_since_unix_epoch: Option<Duration>,
     ) -> VMResult<NotificationHandle>
-        ensures { CallsCommand (sleep_command (as_nanos wake_up_time_since_unix_epoch / 1_000_000) (string_bytes name)) result (view self.old) (view self.new) };
+        ensures { CallsCommand (sleep_command (as_nanos wake_up_time_since_unix_epoch / 1_000_000)
+            (string_bytes name)) result (view self.old) (view self.new) };
 
     /// Reads the value of a state key and leaves nothing of it in the journal, for what doesn't steer the handler. Where the VM knows
     /// the key the value is there at once; else it is asked for, which closed input refuses. It needs V8, and is refused in replay.
@@ -121,15 +128,18 @@ pub trait VM: Sized {
         name: Option<String>,
         options: PayloadOptions,
     ) -> VMResult<()>
-        ensures { CallsUnit (set_state_command (string_bytes key) value (name_or_empty name) options) result (view self.old) (view self.new) };
+        ensures { CallsUnit (set_state_command (string_bytes key) value (name_or_empty name)
+            options) result (view self.old) (view self.new) };
 
     /// Takes a state key's value away.
     fn sys_state_clear(&mut self, key: String, name: Option<String>) -> VMResult<()>
-        ensures { CallsUnit (clear_state_command (string_bytes key) (name_or_empty name)) result (view self.old) (view self.new) };
+        ensures { CallsUnit (clear_state_command (string_bytes key) (name_or_empty name)) result
+            (view self.old) (view self.new) };
 
     /// Takes each state key's value away.
     fn sys_state_clear_all(&mut self, name: Option<String>) -> VMResult<()>
-        ensures { CallsUnit (clear_all_state_command (name_or_empty name)) result (view self.old) (view self.new) };
+        ensures { CallsUnit (clear_all_state_command (name_or_empty name)) result (view self.old)
+            (view self.new) };
 
     /// Calls another handler, and answers the handles of the invocation's id and of its result. Of the target's texts an empty
     /// idempotency key, scope or limit key is refused; a scope and a limit key need V7.
@@ -140,7 +150,9 @@ pub trait VM: Sized {
         name: Option<String>,
         options: PayloadOptions,
     ) -> VMResult<CallHandle>
-        ensures { CallsFor call_handles (call_command target input (name_or_empty name) options (view self.old).machine.version) result (view self.old) (view self.new) };
+        ensures { CallsFor call_handles
+            (call_command target input (name_or_empty name) options (view self.old).machine.version)
+            result (view self.old) (view self.new) };
 
     /// As `sys_call`, and behind it a sleep to a time since the Unix epoch, in whole ms, rounded down, without a name: its handle is the
     /// third. What both commands need is looked for before the first is made. A time that no `u64` holds is refused. Where the second
@@ -153,7 +165,10 @@ pub trait VM: Sized {
         name: Option<String>,
         options: PayloadOptions,
     ) -> VMResult<DeadlineCallHandle>
-        ensures { CallsAllFor deadline_handles (call_command target input (name_or_empty name) options (view self.old).machine.version) (sleep_command (as_nanos wake_up_time_since_unix_epoch / 1_000_000) [] ∷ []) result (view self.old) (view self.new) };
+        ensures { CallsAllFor deadline_handles
+            (call_command target input (name_or_empty name) options (view self.old).machine.version)
+            (sleep_command (as_nanos wake_up_time_since_unix_epoch / 1_000_000) [] ∷ []) result
+            (view self.old) (view self.new) };
 
     /// As `sys_call`, but nobody waits for the result; the handler is called at once, or at a time, in ms since the Unix epoch
     /// rounded down. A time that no `u64` holds is refused.
@@ -165,7 +180,10 @@ pub trait VM: Sized {
         name: Option<String>,
         options: PayloadOptions,
     ) -> VMResult<SendHandle>
-        ensures { CallsFor send_handle (send_command target input (millis_of execution_time_since_unix_epoch) (name_or_empty name) options (view self.old).machine.version) result (view self.old) (view self.new) };
+        ensures { CallsFor send_handle
+            (send_command target input (millis_of execution_time_since_unix_epoch)
+            (name_or_empty name) options (view self.old).machine.version) result (view self.old)
+            (view self.new) };
 
     /// Reads the value of a state key. Where the VM knows the key, the answer's result is ready at once; in replay where the recorded
     /// command has it, whatever the VM knows. The options change nothing: a recorded result is taken as it is.
@@ -175,7 +193,8 @@ pub trait VM: Sized {
         name: Option<String>,
         options: PayloadOptions,
     ) -> VMResult<NotificationHandle>
-        ensures { CallsRead (reads.Value (string_bytes key) (name_or_empty name)) result (view self.old) (view self.new) };
+        ensures { CallsRead (reads.Value (string_bytes key) (name_or_empty name)) result
+            (view self.old) (view self.new) };
 
     /// As `sys_state_get`, of the keys that have a value, sorted by their bytes.
     fn sys_state_get_keys(&mut self, name: Option<String>) -> VMResult<NotificationHandle>
@@ -189,7 +208,8 @@ pub trait VM: Sized {
     /// Gives a handle for the signal of this name. Where signals queue, each of its handles takes the next delivery. It has no
     /// command.
     fn create_signal_handle(&mut self, signal_name: String) -> VMResult<NotificationHandle>
-        ensures { Calls (signal_step (string_bytes signal_name)) result (view self.old) (view self.new) };
+        ensures { Calls (signal_step (string_bytes signal_name)) result (view self.old)
+            (view self.new) };
 
     /// Gives the awakeable of this id its result. A failure with metadata needs V6.
     fn sys_complete_awakeable(
@@ -198,7 +218,8 @@ pub trait VM: Sized {
         value: NonEmptyValue,
         options: PayloadOptions,
     ) -> VMResult<()>
-        ensures { CallsUnit (complete_awakeable_command (string_bytes id) value options (view self.old).machine.version) result (view self.old) (view self.new) };
+        ensures { CallsUnit (complete_awakeable_command (string_bytes id) value options
+            (view self.old).machine.version) result (view self.old) (view self.new) };
 
     /// Sends a named signal to another invocation. A failure with metadata needs V6.
     fn sys_complete_signal(
@@ -207,19 +228,24 @@ pub trait VM: Sized {
         signal_name: String,
         value: NonEmptyValue,
     ) -> VMResult<()>
-        ensures { CallsUnit (complete_signal_command (string_bytes target_invocation_id) (string_bytes signal_name) value (view self.old).machine.version) result (view self.old) (view self.new) };
+        ensures { CallsUnit (complete_signal_command (string_bytes target_invocation_id)
+            (string_bytes signal_name) value (view self.old).machine.version) result (view self.old)
+            (view self.new) };
 
     /// Sends the built-in cancel signal to another invocation.
     fn sys_cancel_invocation(&mut self, target_invocation_id: String) -> VMResult<()>
-        ensures { CallsUnit (cancel_invocation_command (string_bytes target_invocation_id)) result (view self.old) (view self.new) };
+        ensures { CallsUnit (cancel_invocation_command (string_bytes target_invocation_id)) result
+            (view self.old) (view self.new) };
 
     /// Awaits a promise of the workflow, and answers the handle of its value.
     fn sys_get_promise(&mut self, key: String) -> VMResult<NotificationHandle>
-        ensures { CallsCommand (get_promise_command (string_bytes key)) result (view self.old) (view self.new) };
+        ensures { CallsCommand (get_promise_command (string_bytes key)) result (view self.old)
+            (view self.new) };
 
     /// Looks whether a promise of the workflow is completed, and answers the handle of its value, or of nothing.
     fn sys_peek_promise(&mut self, key: String) -> VMResult<NotificationHandle>
-        ensures { CallsCommand (peek_promise_command (string_bytes key)) result (view self.old) (view self.new) };
+        ensures { CallsCommand (peek_promise_command (string_bytes key)) result (view self.old)
+            (view self.new) };
 
     /// Completes a promise of the workflow, and answers the handle of whether that was done: void, or a failure where it had been
     /// completed before. A failure with metadata needs V6.
@@ -229,14 +255,16 @@ pub trait VM: Sized {
         value: NonEmptyValue,
         options: PayloadOptions,
     ) -> VMResult<NotificationHandle>
-        ensures { CallsCommand (complete_promise_command (string_bytes key) value options (view self.old).machine.version) result (view self.old) (view self.new) };
+        ensures { CallsCommand (complete_promise_command (string_bytes key) value options
+            (view self.old).machine.version) result (view self.old) (view self.new) };
 
     /// Attaches to another invocation, and answers the handle of its result. An empty scope is refused; a scope needs V7.
     fn sys_attach_invocation(
         &mut self,
         target: AttachInvocationTarget,
     ) -> VMResult<NotificationHandle>
-        ensures { CallsCommand (attach_invocation_command target (view self.old).machine.version) result (view self.old) (view self.new) };
+        ensures { CallsCommand (attach_invocation_command target (view self.old).machine.version)
+            result (view self.old) (view self.new) };
 
     /// Looks whether another invocation has an output, and answers the handle of it, or of nothing. An empty scope is refused; a
     /// scope needs V7.
@@ -244,7 +272,8 @@ pub trait VM: Sized {
         &mut self,
         target: AttachInvocationTarget,
     ) -> VMResult<NotificationHandle>
-        ensures { CallsCommand (get_invocation_output_command target (view self.old).machine.version) result (view self.old) (view self.new) };
+        ensures { CallsCommand (get_invocation_output_command target
+            (view self.old).machine.version) result (view self.old) (view self.new) };
 
     /// A run: an effect that the caller executes outside the VM, once an await that waits for it answers `ExecuteRun`, and whose
     /// result it then proposes. Where the journal has the result, the run is `replayed` and isn't executed.
@@ -261,16 +290,19 @@ pub trait VM: Sized {
         run_exit_result: RunExitResult,
         retry_policy: RetryPolicy,
     ) -> VMResult<()>
-        ensures { CallsProposal notification_handle run_exit_result retry_policy result (view self.old) (view self.new) };
+        ensures { CallsProposal notification_handle run_exit_result retry_policy result
+            (view self.old) (view self.new) };
 
     /// The handler's result. A failure with metadata needs V6.
     fn sys_write_output(&mut self, value: NonEmptyValue, options: PayloadOptions) -> VMResult<()>
-        ensures { CallsUnit (output_command value options (view self.old).machine.version) result (view self.old) (view self.new) };
+        ensures { CallsUnit (output_command value options (view self.old).machine.version) result
+            (view self.old) (view self.new) };
 
     /// The handler ends; its last call. A closed VM takes no memory for it.
     fn sys_end(&mut self) -> VMResult<()>
         ensures does { Calls end_step result (view self.old) (view self.new) }
-        ensures ample { (view self.old).machine.failure ≡ None → (view self.old).machine.phase ≡ Closed → result ≡ Ok tt };
+        ensures ample { (view self.old).machine.failure ≡ None → (view self.old).machine.phase
+            ≡ Closed → result ≡ Ok tt };
 
     fn state(&self) -> State
         ensures { result ≡ state_of (view self.now).machine };

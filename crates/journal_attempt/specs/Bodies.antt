@@ -19,7 +19,8 @@ use Rattle.journal_attempt.specs.declared.runs.ProposeRunCompletionAck.{ProposeR
 
 -- an input as (headers, value)
 abbrev pub input_by_parts : Format InputCommand
-input_by_parts = via (λ m. (m.headers, m.value)) (λ p. record { headers = p.0; value = p.1 }) (λ _. refl) (λ _. refl)
+input_by_parts = via (λ m. (m.headers, m.value)) (λ p. record { headers = p.0; value = p.1 })
+    (λ _. refl) (λ _. refl)
     (pair_format (list_format header_format) bytes_format)
 
 pub input_same : (m : InputCommand) → input m ≡ (input_by_parts).spelling m
@@ -34,7 +35,9 @@ input_format = spelled input input_by_parts input_same
 
 -- a sleep as (wake-up time, (completion id, name))
 abbrev pub sleep_by_parts : Format SleepCommand
-sleep_by_parts = via (λ m. (m.wake_up_time, (m.result_completion_id, m.name))) (λ p. record { wake_up_time = p.0; result_completion_id = p.1.0; name = p.1.1 }) (λ _. refl) (λ _. refl)
+sleep_by_parts = via (λ m. (m.wake_up_time, (m.result_completion_id, m.name)))
+    (λ p. record { wake_up_time = p.0; result_completion_id = p.1.0; name = p.1.1 }) (λ _. refl)
+    (λ _. refl)
     (pair_format u64_format (pair_format u32_format text_format))
 
 pub sleep_same : (m : SleepCommand) → sleep m ≡ (sleep_by_parts).spelling m
@@ -79,17 +82,75 @@ suspension_format = spelled suspension suspension_by_parts suspension_same
 
 -- a start as nested pairs of its twelve fields, in the order in which they are spelled
 abbrev pub start_by_parts : Format Start
-start_by_parts = via (λ s. (s.id, (s.debug_id, (s.key, (s.known_entries, (s.state, (s.partial, (s.retry_count, (s.duration, (s.random_seed, (s.scope, (s.limit_key, s.idempotency_key)))))))))))) (λ (id, (debug_id, (key, (known_entries, (state, (partial, (retry_count, (duration, (random_seed, (scope, (limit_key, idempotency_key))))))))))).
-    record { id = id; debug_id = debug_id; key = key; known_entries = known_entries; state = state; partial = partial; retry_count = retry_count; duration = duration; random_seed = random_seed; scope = scope; limit_key = limit_key; idempotency_key = idempotency_key }) (λ _. refl) (λ _. refl)
-    (pair_format bytes_format (pair_format text_format (pair_format text_format (pair_format u32_format (pair_format (list_format (pair_format bytes_format bytes_format)) (pair_format flag_format (pair_format u32_format
-    (pair_format u64_format (pair_format u64_format (pair_format (option_format text_format) (pair_format (option_format text_format) (option_format text_format))))))))))))
+start_by_parts = via (λ s. (
+  s.id,
+  (
+    s.debug_id,
+    (
+      s.key,
+      (
+        s.known_entries,
+        (
+          s.state,
+          (
+            s.partial,
+            (
+              s.retry_count,
+              (s.duration, (s.random_seed, (s.scope, (s.limit_key, s.idempotency_key)))),
+            ),
+          ),
+        ),
+      ),
+    ),
+  ),
+))
+    (λ (
+      id,
+      (
+        debug_id,
+        (
+          key,
+          (
+            known_entries,
+            (
+              state,
+              (partial, (retry_count, (duration, (random_seed, (scope, (limit_key, idempotency_key)))))),
+            ),
+          ),
+        ),
+      ),
+    ).
+    record {
+      id = id;
+      debug_id = debug_id;
+      key = key;
+      known_entries = known_entries;
+      state = state;
+      partial = partial;
+      retry_count = retry_count;
+      duration = duration;
+      random_seed = random_seed;
+      scope = scope;
+      limit_key = limit_key;
+      idempotency_key = idempotency_key;
+    }) (λ _. refl) (λ _. refl)
+    (pair_format bytes_format
+    (pair_format text_format
+    (pair_format text_format
+    (pair_format u32_format
+    (pair_format (list_format (pair_format bytes_format bytes_format))
+    (pair_format flag_format (pair_format u32_format
+    (pair_format u64_format (pair_format u64_format
+    (pair_format (option_format text_format)
+    (pair_format (option_format text_format) (option_format text_format))))))))))))
 
 pub start_same : (m : Start) → start m ≡ (start_by_parts).spelling m
 unfolding start
 start_same m = refl
 
--- the format of a start's body: id (bytes), debug id and key (texts), known entries (u32), state (pairs of bytes),
--- partial (a flag), retry count (u32), duration and random seed (u64), scope, limit key and idempotency key (texts or none)
+-- the format of a start's body: id (bytes), debug id and key (texts), known entries (u32), state
+-- (pairs of bytes), partial (a flag), retry count (u32), duration and random seed (u64), scope,
+-- limit key and idempotency key (texts or none)
 abbrev pub start_format : Format Start
 start_format = spelled start start_by_parts start_same
 
@@ -97,7 +158,8 @@ start_format = spelled start start_by_parts start_same
 
 -- what is awaited as (future, executing side effects)
 abbrev pub awaiting_on_by_parts : Format AwaitingOn
-awaiting_on_by_parts = via (λ m. (m.future, m.executing_side_effects)) (λ p. record { future = p.0; executing_side_effects = p.1 }) (λ _. refl) (λ _. refl)
+awaiting_on_by_parts = via (λ m. (m.future, m.executing_side_effects))
+    (λ p. record { future = p.0; executing_side_effects = p.1 }) (λ _. refl) (λ _. refl)
     (pair_format future_format flag_format)
 
 pub awaiting_on_same : (m : AwaitingOn) → awaiting_on m ≡ (awaiting_on_by_parts).spelling m
@@ -112,7 +174,8 @@ awaiting_on_format = spelled awaiting_on awaiting_on_by_parts awaiting_on_same
 
 -- a run as (name, completion id)
 abbrev pub run_by_parts : Format RunCommand
-run_by_parts = via (λ m. (m.name, m.result_completion_id)) (λ p. record { name = p.0; result_completion_id = p.1 }) (λ _. refl) (λ _. refl)
+run_by_parts = via (λ m. (m.name, m.result_completion_id))
+    (λ p. record { name = p.0; result_completion_id = p.1 }) (λ _. refl) (λ _. refl)
     (pair_format text_format u32_format)
 
 pub run_same : (m : RunCommand) → run m ≡ (run_by_parts).spelling m
@@ -127,28 +190,34 @@ run_format = spelled run run_by_parts run_same
 
 -- a proposal as (id, result)
 abbrev pub propose_run_completion_by_parts : Format ProposeRunCompletion
-propose_run_completion_by_parts = via (λ m. (m.id, m.result)) (λ p. record { id = p.0; result = p.1 }) (λ _. refl) (λ _. refl)
+propose_run_completion_by_parts =
+    via (λ m. (m.id, m.result)) (λ p. record { id = p.0; result = p.1 }) (λ _. refl) (λ _. refl)
     (pair_format u32_format value_format)
 
-pub propose_run_completion_same : (m : ProposeRunCompletion) → propose_run_completion m ≡ (propose_run_completion_by_parts).spelling m
+pub propose_run_completion_same : (m : ProposeRunCompletion) → propose_run_completion m
+    ≡ (propose_run_completion_by_parts).spelling m
 unfolding propose_run_completion
 propose_run_completion_same m = refl
 
 -- the format of the body that proposes a run's result: id (u32), a value or a failure
 abbrev pub propose_run_completion_format : Format ProposeRunCompletion
-propose_run_completion_format = spelled propose_run_completion propose_run_completion_by_parts propose_run_completion_same
+propose_run_completion_format =
+    spelled propose_run_completion propose_run_completion_by_parts propose_run_completion_same
 
 -- ---- propose run completion ack
 
 -- an acknowledgement as its id alone
 abbrev pub propose_run_completion_ack_by_parts : Format ProposeRunCompletionAck
-propose_run_completion_ack_by_parts = via (λ m. m.id) (λ p. record { id = p }) (λ _. refl) (λ _. refl)
+propose_run_completion_ack_by_parts =
+    via (λ m. m.id) (λ p. record { id = p }) (λ _. refl) (λ _. refl)
     (u32_format)
 
-pub propose_run_completion_ack_same : (m : ProposeRunCompletionAck) → propose_run_completion_ack m ≡ (propose_run_completion_ack_by_parts).spelling m
+pub propose_run_completion_ack_same : (m : ProposeRunCompletionAck) → propose_run_completion_ack m
+    ≡ (propose_run_completion_ack_by_parts).spelling m
 unfolding propose_run_completion_ack
 propose_run_completion_ack_same m = refl
 
 -- the format of the body that acknowledges a proposed result: id (u32)
 abbrev pub propose_run_completion_ack_format : Format ProposeRunCompletionAck
-propose_run_completion_ack_format = spelled propose_run_completion_ack propose_run_completion_ack_by_parts propose_run_completion_ack_same
+propose_run_completion_ack_format = spelled propose_run_completion_ack
+    propose_run_completion_ack_by_parts propose_run_completion_ack_same

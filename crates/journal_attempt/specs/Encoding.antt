@@ -13,11 +13,14 @@ use Rattle.journal_attempt.specs.declared.runs.ProposeRunCompletion.{ProposeRunC
 use Rattle.journal_attempt.specs.declared.runs.ProposeRunCompletionAck.{ProposeRunCompletionAck}
 use Rattle.journal_values.specs.Encoding.{pair_of_texts, header, value_or_failure}
 
--- a start: id (bytes), debug id and key (texts), known entries (u32), state: a count (u64) and so many pairs of bytes, partial
--- (0 or 1), retry count (u32), duration and random seed (u64); scope, limit key, idempotency key: each 0, or 1 and a text
+-- a start: id (bytes), debug id and key (texts), known entries (u32), state: a count (u64) and so
+-- many pairs of bytes, partial (0 or 1), retry count (u32), duration and random seed (u64); scope,
+-- limit key, idempotency key: each 0, or 1 and a text
 unfoldable pub start : Start → List ℕ
-start s = fields (bytes s.id ∷ bytes s.debug_id ∷ bytes s.key ∷ u32s s.known_entries ∷ list pair_of_texts s.state ∷ flag s.partial ∷ u32s s.retry_count
-    ∷ u64s s.duration ∷ u64s s.random_seed ∷ option bytes s.scope ∷ option bytes s.limit_key ∷ option bytes s.idempotency_key ∷ [])
+start s = fields (bytes s.id ∷ bytes s.debug_id ∷ bytes s.key ∷ u32s s.known_entries
+    ∷ list pair_of_texts s.state ∷ flag s.partial ∷ u32s s.retry_count
+    ∷ u64s s.duration ∷ u64s s.random_seed ∷ option bytes s.scope ∷ option bytes s.limit_key
+    ∷ option bytes s.idempotency_key ∷ [])
 
 -- an input: headers: a count (u64) and so many headers; value (bytes)
 unfoldable pub input : InputCommand → List ℕ

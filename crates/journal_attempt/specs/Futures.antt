@@ -12,7 +12,8 @@ use Rattle.journal_attempt.specs.declared.future.FutureKind.{FutureKind}
 use Rattle.journal_attempt.specs.declared.future.FutureKind.TheVariants.{FirstCompleted, AllCompleted, FirstSucceededOrAllFailed, AllSucceededOrFirstFailed, Unknown}
 use Rattle.journal_attempt.specs.declared.future.FutureNode.{FutureNode}
 
--- one byte: 0 first completed, 1 all completed, 2 first succeeded or all failed, 3 all succeeded or first failed, 4 unknown
+-- one byte: 0 first completed, 1 all completed, 2 first succeeded or all failed, 3 all succeeded or
+-- first failed, 4 unknown
 abbrev pub kind : FutureKind → List ℕ
 kind FirstCompleted = 0 ∷ []
 kind AllCompleted = 1 ∷ []
@@ -43,20 +44,29 @@ unfolding read_kind
 kind_is = cases_are kind (λ _. Unit {0}) _ (
     case_is kind (λ _. Unit {0}) 0 (λ _. FirstCompleted) nothing_format _ (λ _ v. v) (λ _. refl) (
     case_is kind (λ _. Unit {0}) 1 (λ _. AllCompleted) nothing_format _ (λ _ v. v) (λ _. refl) (
-    case_is kind (λ _. Unit {0}) 2 (λ _. FirstSucceededOrAllFailed) nothing_format _ (λ _ v. v) (λ _. refl) (
-    case_is kind (λ _. Unit {0}) 3 (λ _. AllSucceededOrFirstFailed) nothing_format _ (λ _ v. v) (λ _. refl) (
+    case_is kind (λ _. Unit {0}) 2 (λ _. FirstSucceededOrAllFailed) nothing_format _ (λ _ v. v)
+    (λ _. refl) (
+    case_is kind (λ _. Unit {0}) 3 (λ _. AllSucceededOrFirstFailed) nothing_format _ (λ _ v. v)
+    (λ _. refl) (
     case_is kind (λ _. Unit {0}) 4 (λ _. Unknown) nothing_format _ (λ _ v. v) (λ _. refl) (
     no_case_is kind (λ _. Unit {0})))))))
 
 -- a kind in one byte, 0 to 4
 abbrev pub kind_format : Format FutureKind
-kind_format = record { spelling = kind; valid = (λ _. Unit {0}); read = read_kind; reads = kind_reads; read_is = kind_is }
+kind_format = record {
+  spelling = kind;
+  valid = (λ _. Unit {0});
+  read = read_kind;
+  reads = kind_reads;
+  read_is = kind_is;
+}
 
 -- ---- a node: one future without those that nest in it
 
 -- what a future waits for itself
 abbrev pub head : FutureNode → List ℕ
-head n = fields (kind n.kind ∷ list u32s n.waiting_completions ∷ list u32s n.waiting_signals ∷ list bytes n.waiting_named_signals ∷ [])
+head n = fields (kind n.kind ∷ list u32s n.waiting_completions ∷ list u32s n.waiting_signals
+    ∷ list bytes n.waiting_named_signals ∷ [])
 
 -- a node's bytes: what it waits for itself, and how many futures nest directly in it
 abbrev pub node : FutureNode → List ℕ
@@ -68,15 +78,26 @@ NodeParts = (FutureKind × (List ℕ × (List ℕ × List (List ℕ)))) × ℕ
 
 -- a node as pairs: ((kind, (completions, (signals, named signals))), how many nest in it)
 abbrev pub parts_of : FutureNode → NodeParts
-parts_of n = ((n.kind, (n.waiting_completions, (n.waiting_signals, n.waiting_named_signals))), n.nested)
+parts_of n =
+    ((n.kind, (n.waiting_completions, (n.waiting_signals, n.waiting_named_signals))), n.nested)
 
 -- the node that these pairs are the parts of
 abbrev pub of_parts : NodeParts → FutureNode
-of_parts p = record { kind = p.0.0; waiting_completions = p.0.1.0; waiting_signals = p.0.1.1.0; waiting_named_signals = p.0.1.1.1; nested = p.1 }
+of_parts p = record {
+  kind = p.0.0;
+  waiting_completions = p.0.1.0;
+  waiting_signals = p.0.1.1.0;
+  waiting_named_signals = p.0.1.1.1;
+  nested = p.1;
+}
 
--- kind, completions (u32) and signals (u32) and named signals (texts) as three lists, and how many nest in it (u64)
+-- kind, completions (u32) and signals (u32) and named signals (texts) as three lists, and how many
+-- nest in it (u64)
 abbrev pub parts_format : Format NodeParts
-parts_format = pair_format (pair_format kind_format (pair_format (list_format u32_format) (pair_format (list_format u32_format) (list_format text_format)))) u64_format
+parts_format = pair_format
+    (pair_format kind_format
+    (pair_format (list_format u32_format)
+    (pair_format (list_format u32_format) (list_format text_format)))) u64_format
 
 -- the format of a node: spelled as its parts, one behind the other, and read back into a node
 abbrev pub node_format : Format FutureNode
@@ -84,8 +105,9 @@ node_format = spelled node (via parts_of of_parts (λ _. refl) (λ _. refl) part
 
 -- ---- a future: its nodes in preorder
 
--- Whether these nodes are so many whole futures: before each node at least one future is still awaited, and behind
--- the last node none is. A node is one of those awaited, and the futures that nest directly in it are awaited next.
+-- Whether these nodes are so many whole futures: before each node at least one future is still
+-- awaited, and behind the last node none is. A node is one of those awaited, and the futures that
+-- nest directly in it are awaited next.
 abbrev pub are_whole : ℕ → List FutureNode → Bool
 are_whole zero [] = true
 are_whole zero (n ∷ nodes) = false
@@ -100,8 +122,8 @@ IsFuture nodes = IsTrue (are_whole 1 nodes)
 unfoldable pub future : List FutureNode → List ℕ
 future nodes = flat_map node nodes
 
--- These nodes are a future of its parts: a head, and behind it the nodes of each of its children; and the bytes are
--- what the head waits for, and the list of the children's bytes.
+-- These nodes are a future of its parts: a head, and behind it the nodes of each of its children;
+-- and the bytes are what the head waits for, and the list of the children's bytes.
 pub record Layout (nodes : List FutureNode) : Type 0 where
   pub top : FutureNode
   pub children : List (List FutureNode)
@@ -120,7 +142,8 @@ future_valid nodes = AllByRecursion node_format.valid nodes × IsFuture nodes
 unfoldable pub read_nodes : ℕ → ℕ → Reading (List FutureNode)
 read_nodes n zero bs = Some ([], bs)
 read_nodes zero (suc awaited) bs = None
-read_nodes (suc n) (suc awaited) bs = read_then (node_format.read bs) (λ x mid. read_then (read_nodes n (awaited + x.nested) mid) (λ xs rest. Some (x ∷ xs, rest)))
+read_nodes (suc n) (suc awaited) bs = read_then (node_format.read bs)
+    (λ x mid. read_then (read_nodes n (awaited + x.nested) mid) (λ xs rest. Some (x ∷ xs, rest)))
 
 -- Each node takes a byte at least.
 unfoldable pub read_future : Reading (List FutureNode)
@@ -136,9 +159,17 @@ kind_long Unknown = omega arith
 pub node_long : (n : FutureNode) → 0 < length (node n)
 node_long n =
     let others = list u32s n.waiting_completions ++ (list u32s n.waiting_signals ++ list bytes n.waiting_named_signals) in
-    omega (arith, kind_long n.kind, length-append (kind n.kind) others, length-append (head n) (u64s n.nested))
+    omega (
+      arith,
+      kind_long n.kind,
+      length-append (kind n.kind) others,
+      length-append (head n)
+          (u64s n.nested),
+    )
 
-pub nodes_are : (n awaited : ℕ) (bs : List ℕ) (xs : List FutureNode) (rest : List ℕ) → read_nodes n awaited bs ≡ Some (xs, rest) → IsTrue (are_whole awaited xs) × AllByRecursion node_format.valid xs × (bs ≡ flat_map node xs ++ rest)
+pub nodes_are : (n awaited : ℕ) (bs : List ℕ) (xs : List FutureNode) (rest : List ℕ)
+    → read_nodes n awaited bs ≡ Some (xs, rest) → IsTrue (are_whole awaited xs)
+    × AllByRecursion node_format.valid xs × (bs ≡ flat_map node xs ++ rest)
 unfolding read_nodes
 nodes_are zero zero bs xs rest e =
     let s = same_some [] xs bs rest e in
@@ -156,38 +187,65 @@ nodes_are (suc n) (suc awaited) bs xs rest e =
     let b = nodes_are n (awaited + k.0.nested) k.1 q.0 q.1 q.2 in (
       rw (← s.0) b.0,
       rw (← s.0) (a.0, b.1),
-      a.1 ∙ ap (λ t. node k.0 ++ t) b.2 ∙ sym (append_assoc (node k.0) (flat_map node q.0) q.1) ∙ ap (λ t. t ++ q.1) (sym (flat_map-cons node k.0 q.0)) ∙ (λ i. flat_map node (s.0 i) ++ s.1 i),
+      a.1 ∙ ap (λ t. node k.0 ++ t) b.2 ∙ sym (append_assoc (node k.0) (flat_map node q.0) q.1)
+          ∙ ap (λ t. t ++ q.1) (sym (flat_map-cons node k.0 q.0))
+          ∙ (λ i. flat_map node (s.0 i) ++ s.1 i),
     )
 
 pub future_is : IsSpelled future future_valid read_future
 unfolding read_future future future_valid
 future_is bs nodes rest e = let h = nodes_are (length bs) 1 bs nodes rest e in ((h.1, h.0), h.2)
 
-nodes_read : (n awaited : ℕ) (xs : List FutureNode) (rest : List ℕ) → IsTrue (are_whole awaited xs) → AllByRecursion node_format.valid xs → length (flat_map node xs ++ rest) ≤ n → read_nodes n awaited (flat_map node xs ++ rest) ≡ Some (xs, rest)
+nodes_read : (n awaited : ℕ) (xs : List FutureNode) (rest : List ℕ) → IsTrue (are_whole awaited xs)
+    → AllByRecursion node_format.valid xs → length (flat_map node xs ++ rest) ≤ n
+    → read_nodes n awaited (flat_map node xs ++ rest) ≡ Some (xs, rest)
 unfolding read_nodes
 nodes_read zero zero [] rest w v l = refl
 nodes_read (suc n) zero [] rest w v l = refl
 nodes_read n zero (x ∷ xs) rest w v l = absurd cc
 nodes_read n (suc awaited) [] rest w v l = absurd cc
 nodes_read zero (suc awaited) (x ∷ xs) rest w v l =
-    absurd (omega (arith, node_long x, ap length (flat_map-cons node x xs), length-append (node x) (flat_map node xs), length-append (flat_map node (x ∷ xs)) rest))
+    absurd (omega (
+      arith,
+      node_long x,
+      ap length (flat_map-cons node x xs),
+      length-append (node x)
+          (flat_map node xs),
+      length-append (flat_map node (x ∷ xs)) rest,
+    ))
 nodes_read (suc n) (suc awaited) (x ∷ xs) rest w v l =
     let split = ap (λ t. t ++ rest) (flat_map-cons node x xs) ∙ append_assoc (node x) (flat_map node xs) rest in
     let m : length (node x ++ (flat_map node xs ++ rest)) ≤ suc n = rw (← split) l in
-    rw (split, node_format.reads x (flat_map node xs ++ rest) v.0, nodes_read n (awaited + x.nested) xs rest w v.1 (omega (arith, m, node_long x, length-append (node x) (flat_map node xs ++ rest)))) refl
+    rw (
+      split,
+      node_format.reads x (flat_map node xs
+          ++ rest) v.0,
+      nodes_read n (awaited + x.nested) xs rest w v.1
+          (omega (arith, m, node_long x, length-append (node x) (flat_map node xs ++ rest))),
+    ) refl
 
 pub future_reads : IsReadBack future future_valid read_future
 unfolding read_future future future_valid
-future_reads nodes rest v = nodes_read (length (flat_map node nodes ++ rest)) 1 nodes rest v.1 v.0 (omega arith)
+future_reads nodes rest v =
+    nodes_read (length (flat_map node nodes ++ rest)) 1 nodes rest v.1 v.0 (omega arith)
 
--- the format of a future: its nodes one behind the other, with no count in front, since the nodes say where it ends
+-- the format of a future: its nodes one behind the other, with no count in front, since the nodes
+-- say where it ends
 abbrev pub future_format : Format (List FutureNode)
-future_format = record { spelling = future; valid = future_valid; read = read_future; reads = future_reads; read_is = future_is }
+future_format = record {
+  spelling = future;
+  valid = future_valid;
+  read = read_future;
+  reads = future_reads;
+  read_is = future_is;
+}
 
 -- ---- a future of its parts
 
 -- the first of several whole futures, and the others
-first_of_whole : (a b : ℕ) (xs : List FutureNode) → IsTrue (are_whole (a + b) xs) → (p : List FutureNode) × (q : List FutureNode) × (xs ≡ p ++ q) × IsTrue (are_whole a p) × IsTrue (are_whole b q)
+first_of_whole : (a b : ℕ) (xs : List FutureNode) → IsTrue (are_whole (a + b) xs)
+    → (p : List FutureNode) × (q : List FutureNode) × (xs ≡ p ++ q) × IsTrue (are_whole a p)
+    × IsTrue (are_whole b q)
 first_of_whole zero b xs w = let e : 0 + b ≡ b = omega arith in ([], xs, refl, refl, rw e at w)
 first_of_whole (suc a) b [] w = let e : suc a + b ≡ suc (a + b) = omega arith in let h = rw e at w in absurd (false≢true h)
 first_of_whole (suc a) b (x ∷ xs) w =
@@ -197,19 +255,29 @@ first_of_whole (suc a) b (x ∷ xs) w =
     (x ∷ h.0, h.1, ap (λ t. x ∷ t) h.2, h.3, h.4)
 
 -- so many whole futures, one by one
-each_whole : (n : ℕ) (xs : List FutureNode) → IsTrue (are_whole n xs) → (children : List (List FutureNode)) × (n ≡ length children) × (xs ≡ flat_map (λ c. c) children) × AllByRecursion IsFuture children
+each_whole : (n : ℕ) (xs : List FutureNode) → IsTrue (are_whole n xs)
+    → (children : List (List FutureNode)) × (n ≡ length children)
+    × (xs ≡ flat_map (λ c. c) children) × AllByRecursion IsFuture children
 each_whole zero [] w = ([], refl, refl, tt)
 each_whole zero (x ∷ xs) w = absurd (false≢true w)
 each_whole (suc n) xs w =
     let e : suc n ≡ 1 + n = omega arith in
     let k = first_of_whole 1 n xs (rw (← e) w) in
-    let h = each_whole n k.1 k.4 in
-    (k.0 ∷ h.0, ap suc h.1, k.2 ∙ ap (λ t. k.0 ++ t) h.2 ∙ sym (flat_map-cons (λ c. c) k.0 h.0), (k.3, h.3))
+    let h = each_whole n k.1 k.4 in (
+      k.0 ∷ h.0,
+      ap suc h.1,
+      k.2 ∙ ap (λ t. k.0 ++ t) h.2
+          ∙ sym (flat_map-cons (λ c. c) k.0 h.0),
+      (k.3, h.3),
+    )
 
-bytes_joined : (cs : List (List FutureNode)) → flat_map node (flat_map (λ c. c) cs) ≡ flat_map future cs
+bytes_joined : (cs : List (List FutureNode)) → flat_map node (flat_map (λ c. c) cs)
+    ≡ flat_map future cs
 unfolding future
 bytes_joined [] = refl
-bytes_joined (c ∷ cs) = ap (flat_map node) (flat_map-cons (λ c. c) c cs) ∙ flat_map-append node c (flat_map (λ c. c) cs) ∙ ap (λ t. flat_map node c ++ t) (bytes_joined cs) ∙ sym (flat_map-cons future c cs)
+bytes_joined (c ∷ cs) = ap (flat_map node) (flat_map-cons (λ c. c) c cs)
+    ∙ flat_map-append node c (flat_map (λ c. c) cs)
+    ∙ ap (λ t. flat_map node c ++ t) (bytes_joined cs) ∙ sym (flat_map-cons future c cs)
 
 laid_out : (nodes : List FutureNode) → IsFuture nodes → Layout nodes
 unfolding future list
@@ -223,28 +291,37 @@ laid_out (x ∷ xs) w =
       counted = h.1;
       each = h.3;
       placed = ap (λ t. x ∷ t) h.2;
-      spelled_so = flat_map-cons node x xs ∙ append_assoc (head x) (u64s x.nested) (flat_map node xs) ∙ (λ i. head x ++ (u64s (h.1 i) ++ flat_map node (h.2 i))) ∙ ap (λ t. head x ++ (u64s (length h.0) ++ t)) (bytes_joined h.0);
+      spelled_so = flat_map-cons node x xs
+          ∙ append_assoc (head x) (u64s x.nested) (flat_map node xs)
+          ∙ (λ i. head x ++ (u64s (h.1 i) ++ flat_map node (h.2 i)))
+          ∙ ap (λ t. head x ++ (u64s (length h.0) ++ t)) (bytes_joined h.0);
     }
 
-whole_joined : (a b : ℕ) (p q : List FutureNode) → IsTrue (are_whole a p) → IsTrue (are_whole b q) → IsTrue (are_whole (a + b) (p ++ q))
+whole_joined : (a b : ℕ) (p q : List FutureNode) → IsTrue (are_whole a p) → IsTrue (are_whole b q)
+    → IsTrue (are_whole (a + b) (p ++ q))
 whole_joined zero b [] q v w = let e : 0 + b ≡ b = omega arith in rw e w
 whole_joined zero b (x ∷ p) q v w = absurd (false≢true v)
 whole_joined (suc a) b [] q v w = absurd (false≢true v)
 whole_joined (suc a) b (x ∷ p) q v w =
     let e : suc a + b ≡ suc (a + b) = omega arith in
     let d : (a + b) + x.nested ≡ (a + x.nested) + b = omega arith in
-    subst (λ n. IsTrue (are_whole n (x ∷ (p ++ q)))) (sym e) (subst (λ n. IsTrue (are_whole n (p ++ q))) (sym d) (whole_joined (a + x.nested) b p q v w))
+    subst (λ n. IsTrue (are_whole n (x ∷ (p ++ q)))) (sym e)
+    (subst (λ n. IsTrue (are_whole n (p ++ q))) (sym d) (whole_joined (a + x.nested) b p q v w))
 
-children_whole : (children : List (List FutureNode)) → AllByRecursion IsFuture children → IsTrue (are_whole (length children) (flat_map (λ c. c) children))
+children_whole : (children : List (List FutureNode)) → AllByRecursion IsFuture children
+    → IsTrue (are_whole (length children) (flat_map (λ c. c) children))
 children_whole [] h = refl
 children_whole (c ∷ cs) h =
     let e : 1 + length cs ≡ suc (length cs) = omega arith in
-    rw (flat_map-cons (λ (d : List FutureNode). d) c cs) (subst (λ n. IsTrue (are_whole n (c ++ flat_map (λ d. d) cs))) e (whole_joined 1 (length cs) c (flat_map (λ d. d) cs) h.0 (children_whole cs h.1)))
+    rw (flat_map-cons (λ (d : List FutureNode). d) c cs)
+    (subst (λ n. IsTrue (are_whole n (c ++ flat_map (λ d. d) cs))) e
+    (whole_joined 1 (length cs) c (flat_map (λ d. d) cs) h.0 (children_whole cs h.1)))
 
 of_parts_whole : (nodes : List FutureNode) → Layout nodes → IsFuture nodes
 of_parts_whole nodes l =
     let e : length l.children ≡ 0 + l.top.nested = omega (arith, l.counted) in
-    rw l.placed (subst (λ n. IsTrue (are_whole n (flat_map (λ c. c) l.children))) e (children_whole l.children l.each))
+    rw l.placed (subst (λ n. IsTrue (are_whole n (flat_map (λ c. c) l.children))) e
+    (children_whole l.children l.each))
 
 -- The layout is recursive: nodes are a future exactly where they are a future of its parts.
 pub layout : (nodes : List FutureNode) → IsFuture nodes ↔ Layout nodes

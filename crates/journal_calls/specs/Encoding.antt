@@ -22,11 +22,14 @@ use Rattle.journal_values.specs.Encoding.{header, failure, value_or_failure}
 
 -- ---- calls
 
--- what a call asks for: service, handler and key (texts); idempotency key, scope, limit key: each 0, or 1 and a text;
--- headers: a count (u64) and so many headers; parameter (bytes), the completion id of the invocation's id (u32), name (text)
+-- what a call asks for: service, handler and key (texts); idempotency key, scope, limit key: each
+-- 0, or 1 and a text; headers: a count (u64) and so many headers; parameter (bytes), the completion
+-- id of the invocation's id (u32), name (text)
 unfoldable pub call_request : CallRequest → List ℕ
-call_request r = fields (bytes r.service_name ∷ bytes r.handler_name ∷ bytes r.key ∷ option bytes r.idempotency_key ∷ option bytes r.scope ∷ option bytes r.limit_key
-    ∷ list header r.headers ∷ bytes r.parameter ∷ u32s r.invocation_id_notification_idx ∷ bytes r.name ∷ [])
+call_request r = fields (bytes r.service_name ∷ bytes r.handler_name ∷ bytes r.key
+    ∷ option bytes r.idempotency_key ∷ option bytes r.scope ∷ option bytes r.limit_key
+    ∷ list header r.headers ∷ bytes r.parameter ∷ u32s r.invocation_id_notification_idx
+    ∷ bytes r.name ∷ [])
 
 -- a call: its request, the completion id of its result (u32)
 unfoldable pub call : CallCommand → List ℕ
@@ -55,7 +58,8 @@ signal_result (sent.Failure f) = 2 ∷ failure f
 
 -- a signal is sent: the id of the invocation that it goes to (text), which signal, and its result
 unfoldable pub send_signal : SendSignalCommand → List ℕ
-send_signal m = fields (bytes m.target_invocation_id ∷ signal m.signal ∷ signal_result m.result ∷ [])
+send_signal m =
+    fields (bytes m.target_invocation_id ∷ signal m.signal ∷ signal_result m.result ∷ [])
 
 -- ---- promises
 
@@ -63,9 +67,11 @@ send_signal m = fields (bytes m.target_invocation_id ∷ signal m.signal ∷ sig
 unfoldable pub promise : PromiseCommand → List ℕ
 promise m = fields (bytes m.key ∷ u32s m.result_completion_id ∷ [])
 
--- a promise is completed: key (text), a value or a failure, the completion id of the command's result (u32)
+-- a promise is completed: key (text), a value or a failure, the completion id of the command's
+-- result (u32)
 unfoldable pub complete_promise : CompletePromiseCommand → List ℕ
-complete_promise m = fields (bytes m.key ∷ value_or_failure m.completion ∷ u32s m.result_completion_id ∷ [])
+complete_promise m =
+    fields (bytes m.key ∷ value_or_failure m.completion ∷ u32s m.result_completion_id ∷ [])
 
 -- ---- other invocations
 
@@ -73,10 +79,11 @@ complete_promise m = fields (bytes m.key ∷ value_or_failure m.completion ∷ u
 unfoldable pub workflow_id : WorkflowId → List ℕ
 workflow_id w = fields (bytes w.name ∷ bytes w.key ∷ option bytes w.scope ∷ [])
 
--- a call by its idempotency key: service (text), its key: 0, or 1 and a text; handler and idempotency key (texts); scope: 0, or
--- 1 and a text
+-- a call by its idempotency key: service (text), its key: 0, or 1 and a text; handler and
+-- idempotency key (texts); scope: 0, or 1 and a text
 unfoldable pub idempotency_id : IdempotencyId → List ℕ
-idempotency_id w = fields (bytes w.service_name ∷ option bytes w.service_key ∷ bytes w.handler_name ∷ bytes w.idempotency_key ∷ option bytes w.scope ∷ [])
+idempotency_id w = fields (bytes w.service_name ∷ option bytes w.service_key ∷ bytes w.handler_name
+    ∷ bytes w.idempotency_key ∷ option bytes w.scope ∷ [])
 
 -- 0 and an invocation's id (text), 1 and a workflow's run, or 2 and a call by its idempotency key
 abbrev pub invocation_target : InvocationTarget → List ℕ
@@ -84,6 +91,7 @@ invocation_target (of.InvocationId id) = 0 ∷ bytes id
 invocation_target (of.WorkflowId w) = 1 ∷ workflow_id w
 invocation_target (of.IdempotencyId w) = 2 ∷ idempotency_id w
 
--- an invocation is attached to or asked for its output: which one, the completion id of the result (u32)
+-- an invocation is attached to or asked for its output: which one, the completion id of the result
+-- (u32)
 unfoldable pub invocation : InvocationCommand → List ℕ
 invocation m = fields (invocation_target m.target ∷ u32s m.result_completion_id ∷ [])

@@ -48,16 +48,25 @@ use Rattle.journal_messages.specs.declared.message.Message.TheVariants.{Start, S
 
 -- the parameter isn't looked at where payloads are ignored
 abbrev pub request_equal : Bool → CallRequest → CallRequest → Bool
-request_equal ignore a b = pointwise nat_eq a.service_name b.service_name && pointwise nat_eq a.handler_name b.handler_name && pointwise nat_eq a.key b.key && option_eq (pointwise nat_eq) a.idempotency_key b.idempotency_key && option_eq (pointwise nat_eq) a.scope b.scope
-    && option_eq (pointwise nat_eq) a.limit_key b.limit_key && pointwise (headers_of.ghosts).eq a.headers b.headers && (ignore || pointwise nat_eq a.parameter b.parameter) && (a.invocation_id_notification_idx == b.invocation_id_notification_idx) && pointwise nat_eq a.name b.name
+request_equal ignore a b = pointwise nat_eq a.service_name b.service_name
+    && pointwise nat_eq a.handler_name b.handler_name && pointwise nat_eq a.key b.key
+    && option_eq (pointwise nat_eq) a.idempotency_key b.idempotency_key
+    && option_eq (pointwise nat_eq) a.scope b.scope
+    && option_eq (pointwise nat_eq) a.limit_key b.limit_key
+    && pointwise (headers_of.ghosts).eq a.headers b.headers
+    && (ignore || pointwise nat_eq a.parameter b.parameter)
+    && (a.invocation_id_notification_idx == b.invocation_id_notification_idx)
+    && pointwise nat_eq a.name b.name
 
 -- a get or a peek of a promise: key and completion id
 abbrev pub promise_equal : PromiseCommand → PromiseCommand → Bool
-promise_equal a b = pointwise nat_eq a.key b.key && (a.result_completion_id == b.result_completion_id)
+promise_equal a b =
+    pointwise nat_eq a.key b.key && (a.result_completion_id == b.result_completion_id)
 
 -- an attach, or a question for the output: the invocation that is meant and the completion id
 abbrev pub invocation_equal : InvocationCommand → InvocationCommand → Bool
-invocation_equal a b = (targets_of.ghosts).eq a.target b.target && (a.result_completion_id == b.result_completion_id)
+invocation_equal a b =
+    (targets_of.ghosts).eq a.target b.target && (a.result_completion_id == b.result_completion_id)
 
 -- ---- one type with another message
 
@@ -83,7 +92,8 @@ end_equal _ = false
 
 -- proposed results of runs: id, and the result unless payloads are ignored
 abbrev pub propose_run_completion_equal : Bool → proposals.ProposeRunCompletion → Message → Bool
-propose_run_completion_equal ignore a (ProposeRunCompletion b) = (a.id == b.id) && (ignore || (values_of.ghosts).eq a.result b.result)
+propose_run_completion_equal ignore a (ProposeRunCompletion b) = (a.id == b.id)
+    && (ignore || (values_of.ghosts).eq a.result b.result)
 propose_run_completion_equal ignore a _ = false
 
 -- acknowledgements of proposed results: id
@@ -93,17 +103,22 @@ propose_run_completion_ack_equal a _ = false
 
 -- what attempts await: the future, node by node, and whether side effects are executed
 abbrev pub awaiting_on_equal : awaiting.AwaitingOn → Message → Bool
-awaiting_on_equal a (AwaitingOn b) = (futures_of.ghosts).eq a.future b.future && beq a.executing_side_effects b.executing_side_effects
+awaiting_on_equal a (AwaitingOn b) = (futures_of.ghosts).eq a.future b.future
+    && beq a.executing_side_effects b.executing_side_effects
 awaiting_on_equal a _ = false
 
 -- ephemeral reads: id and key
-abbrev pub get_state_ephemeral_command_equal : ephemeral_commands.GetStateEphemeralCommand → Message → Bool
-get_state_ephemeral_command_equal a (GetStateEphemeralCommand b) = (a.id == b.id) && pointwise nat_eq a.key b.key
+abbrev pub get_state_ephemeral_command_equal : ephemeral_commands.GetStateEphemeralCommand → Message
+    → Bool
+get_state_ephemeral_command_equal a (GetStateEphemeralCommand b) = (a.id == b.id)
+    && pointwise nat_eq a.key b.key
 get_state_ephemeral_command_equal a _ = false
 
 -- what ephemeral reads found: id, and the result unless payloads are ignored
-abbrev pub get_state_ephemeral_notification_equal : Bool → ephemeral_notifications.GetStateEphemeralNotification → Message → Bool
-get_state_ephemeral_notification_equal ignore a (GetStateEphemeralNotification b) = (a.id == b.id) && (ignore || option_eq (state_of.ghosts).eq a.result b.result)
+abbrev pub get_state_ephemeral_notification_equal : Bool
+    → ephemeral_notifications.GetStateEphemeralNotification → Message → Bool
+get_state_ephemeral_notification_equal ignore a (GetStateEphemeralNotification b) = (a.id == b.id)
+    && (ignore || option_eq (state_of.ghosts).eq a.result b.result)
 get_state_ephemeral_notification_equal ignore a _ = false
 
 -- no field is looked at
@@ -113,27 +128,32 @@ input_equal _ = false
 
 -- eager reads: name and key, and what was found unless payloads are ignored
 abbrev pub get_eager_state_equal : Bool → GetEagerStateCommand → Message → Bool
-get_eager_state_equal ignore a (GetEagerState b) = pointwise nat_eq a.name b.name && pointwise nat_eq a.key b.key && (ignore || option_eq (state_of.ghosts).eq a.result b.result)
+get_eager_state_equal ignore a (GetEagerState b) = pointwise nat_eq a.name b.name
+    && pointwise nat_eq a.key b.key && (ignore || option_eq (state_of.ghosts).eq a.result b.result)
 get_eager_state_equal ignore a _ = false
 
 -- lazy reads: name, key and completion id
 abbrev pub get_lazy_state_equal : GetLazyStateCommand → Message → Bool
-get_lazy_state_equal a (GetLazyState b) = pointwise nat_eq a.name b.name && pointwise nat_eq a.key b.key && (a.result_completion_id == b.result_completion_id)
+get_lazy_state_equal a (GetLazyState b) = pointwise nat_eq a.name b.name
+    && pointwise nat_eq a.key b.key && (a.result_completion_id == b.result_completion_id)
 get_lazy_state_equal a _ = false
 
 -- eager reads of the keys: name, and the keys unless payloads are ignored
 abbrev pub get_eager_state_keys_equal : Bool → GetEagerStateKeysCommand → Message → Bool
-get_eager_state_keys_equal ignore a (GetEagerStateKeys b) = (ignore || option_eq (pointwise (pointwise nat_eq)) a.value b.value) && pointwise nat_eq a.name b.name
+get_eager_state_keys_equal ignore a (GetEagerStateKeys b) = (ignore
+    || option_eq (pointwise (pointwise nat_eq)) a.value b.value) && pointwise nat_eq a.name b.name
 get_eager_state_keys_equal ignore a _ = false
 
 -- lazy reads of the keys: completion id and name
 abbrev pub get_lazy_state_keys_equal : GetLazyStateKeysCommand → Message → Bool
-get_lazy_state_keys_equal a (GetLazyStateKeys b) = (a.result_completion_id == b.result_completion_id) && pointwise nat_eq a.name b.name
+get_lazy_state_keys_equal a (GetLazyStateKeys b) =
+    (a.result_completion_id == b.result_completion_id) && pointwise nat_eq a.name b.name
 get_lazy_state_keys_equal a _ = false
 
 -- states that are set: name and key, and the value unless payloads are ignored
 abbrev pub set_state_equal : Bool → SetStateCommand → Message → Bool
-set_state_equal ignore a (SetState b) = pointwise nat_eq a.name b.name && pointwise nat_eq a.key b.key && (ignore || pointwise nat_eq a.value b.value)
+set_state_equal ignore a (SetState b) = pointwise nat_eq a.name b.name
+    && pointwise nat_eq a.key b.key && (ignore || pointwise nat_eq a.value b.value)
 set_state_equal ignore a _ = false
 
 -- states that are cleared: name and key
@@ -148,12 +168,14 @@ clear_all_state_equal a _ = false
 
 -- the wake up time isn't looked at
 abbrev pub sleep_equal : SleepCommand → Message → Bool
-sleep_equal a (Sleep b) = (a.result_completion_id == b.result_completion_id) && pointwise nat_eq a.name b.name
+sleep_equal a (Sleep b) = (a.result_completion_id == b.result_completion_id)
+    && pointwise nat_eq a.name b.name
 sleep_equal a _ = false
 
 -- calls: the request, and the completion id of the result
 abbrev pub call_equal : Bool → CallCommand → Message → Bool
-call_equal ignore a (Call b) = request_equal ignore a.request b.request && (a.result_completion_id == b.result_completion_id)
+call_equal ignore a (Call b) = request_equal ignore a.request b.request
+    && (a.result_completion_id == b.result_completion_id)
 call_equal ignore a _ = false
 
 -- the invoke time isn't looked at
@@ -163,12 +185,16 @@ one_way_call_equal ignore a _ = false
 
 -- completions of awakeables: the awakeable's id, and the result unless payloads are ignored
 abbrev pub complete_awakeable_equal : Bool → CompleteAwakeableCommand → Message → Bool
-complete_awakeable_equal ignore a (CompleteAwakeable b) = pointwise nat_eq a.awakeable_id b.awakeable_id && (ignore || (values_of.ghosts).eq a.result b.result)
+complete_awakeable_equal ignore a (CompleteAwakeable b) = pointwise nat_eq a.awakeable_id
+    b.awakeable_id && (ignore || (values_of.ghosts).eq a.result b.result)
 complete_awakeable_equal ignore a _ = false
 
--- signals that are sent: the invocation and the signal, and what is sent unless payloads are ignored
+-- signals that are sent: the invocation and the signal, and what is sent unless payloads are
+-- ignored
 abbrev pub send_signal_equal : Bool → SendSignalCommand → Message → Bool
-send_signal_equal ignore a (SendSignal b) = pointwise nat_eq a.target_invocation_id b.target_invocation_id && (signals_of.ghosts).eq a.signal b.signal && (ignore || (sent_of.ghosts).eq a.result b.result)
+send_signal_equal ignore a (SendSignal b) = pointwise nat_eq a.target_invocation_id
+    b.target_invocation_id && (signals_of.ghosts).eq a.signal b.signal
+    && (ignore || (sent_of.ghosts).eq a.result b.result)
 send_signal_equal ignore a _ = false
 
 -- gets of promises, and no peek: key and completion id
@@ -181,14 +207,18 @@ abbrev pub peek_promise_equal : PromiseCommand → Message → Bool
 peek_promise_equal a (PeekPromise b) = promise_equal a b
 peek_promise_equal a _ = false
 
--- completions of promises: key and completion id, and what they are completed with unless payloads are ignored
+-- completions of promises: key and completion id, and what they are completed with unless payloads
+-- are ignored
 abbrev pub complete_promise_equal : Bool → CompletePromiseCommand → Message → Bool
-complete_promise_equal ignore a (CompletePromise b) = pointwise nat_eq a.key b.key && (ignore || (values_of.ghosts).eq a.completion b.completion) && (a.result_completion_id == b.result_completion_id)
+complete_promise_equal ignore a (CompletePromise b) = pointwise nat_eq a.key b.key
+    && (ignore || (values_of.ghosts).eq a.completion b.completion)
+    && (a.result_completion_id == b.result_completion_id)
 complete_promise_equal ignore a _ = false
 
 -- runs: name and completion id
 abbrev pub run_equal : RunCommand → Message → Bool
-run_equal a (Run b) = pointwise nat_eq a.name b.name && (a.result_completion_id == b.result_completion_id)
+run_equal a (Run b) = pointwise nat_eq a.name b.name
+    && (a.result_completion_id == b.result_completion_id)
 run_equal a _ = false
 
 -- attaches: the invocation that is meant and the completion id
@@ -208,7 +238,8 @@ output_equal ignore a _ = false
 
 -- notifications: id, and the result unless payloads are ignored
 abbrev pub notification_equal : Bool → notifications.Notification → Message → Bool
-notification_equal ignore a (Notification b) = (ids_of.ghosts).eq a.id b.id && (ignore || (results_of.ghosts).eq a.result b.result)
+notification_equal ignore a (Notification b) = (ids_of.ghosts).eq a.id b.id
+    && (ignore || (results_of.ghosts).eq a.result b.result)
 notification_equal ignore a _ = false
 
 -- the two are of one type, and equal in what is looked at
@@ -221,7 +252,8 @@ header_equal (ProposeRunCompletion a) m ignore = propose_run_completion_equal ig
 header_equal (ProposeRunCompletionAck a) m ignore = propose_run_completion_ack_equal a m
 header_equal (AwaitingOn a) m ignore = awaiting_on_equal a m
 header_equal (GetStateEphemeralCommand a) m ignore = get_state_ephemeral_command_equal a m
-header_equal (GetStateEphemeralNotification a) m ignore = get_state_ephemeral_notification_equal ignore a m
+header_equal (GetStateEphemeralNotification a) m ignore = get_state_ephemeral_notification_equal
+    ignore a m
 header_equal (Input _) m ignore = input_equal m
 header_equal (GetEagerState a) m ignore = get_eager_state_equal ignore a m
 header_equal (GetLazyState a) m ignore = get_lazy_state_equal a m

@@ -11,7 +11,9 @@ behavior Retry = 0 ∷ []
 behavior Pause = 1 ∷ []
 behavior Fail = 2 ∷ []
 
--- an error: code (u32), message and stacktrace (texts), behavior; then index (u32), type (u32) and name (text) of the
--- command that it relates to, and the delay of a retry in ms (u64): each of these four 0, or 1 and what it is
+-- an error: code (u32), message and stacktrace (texts), behavior; then index (u32), type (u32) and
+-- name (text) of the command that it relates to, and the delay of a retry in ms (u64): each of
+-- these four 0, or 1 and what it is
 unfoldable pub error : ErrorMessage → List ℕ
-error m = fields (u32s m.code ∷ bytes m.message ∷ bytes m.stacktrace ∷ behavior m.behavior ∷ option u32s m.index ∷ option u32s m.ty ∷ option bytes m.name ∷ option u64s m.delay ∷ [])
+error m = fields (u32s m.code ∷ bytes m.message ∷ bytes m.stacktrace ∷ behavior m.behavior
+    ∷ option u32s m.index ∷ option u32s m.ty ∷ option bytes m.name ∷ option u64s m.delay ∷ [])

@@ -16,7 +16,14 @@ use Rattle.journal_errors.specs.Types.{type_number}
 
 -- an error that is retried and has nothing else set
 abbrev pub plain_error : ℕ → List ℕ → Option RelatedCommand → Error
-plain_error code message related = record { code = code; message = message; stacktrace = []; behavior = Retry; next_retry_delay = None; related_command = related }
+plain_error code message related = record {
+  code = code;
+  message = message;
+  stacktrace = [];
+  behavior = Retry;
+  next_retry_delay = None;
+  related_command = related;
+}
 
 -- the error of a fault that has a name: its code and its text, to be retried
 abbrev pub named_error : NamedFault → Option RelatedCommand → Error
@@ -26,7 +33,8 @@ named_error f related = plain_error (code_of f) (text_of f) related
 abbrev pub no_memory : Error
 no_memory = named_error fault.Memory None
 
--- what is answered to bytes that were not read: want of memory, or, where they are malformed, BadMessage
+-- what is answered to bytes that were not read: want of memory, or, where they are malformed,
+-- BadMessage
 abbrev pub fault_error : Fault → Error
 fault_error Memory = no_memory
 fault_error Malformed = named_error fault.BadMessage None

@@ -3,8 +3,8 @@ use Rattle.std.specs.Prelude.{ℕ, List, codes}
 use Rattle.journal_errors.specs.declared.faults.NamedFault.{NamedFault}
 use Rattle.journal_errors.specs.declared.faults.NamedFault.TheVariants as fault
 
--- 400 and 415: the request is wrong; 570: replay doesn't fit; 571: the protocol was broken; 573: the version lacks the feature;
--- 598: closed; 599: suspended; 500: all else
+-- 400 and 415: the request is wrong; 570: replay doesn't fit; 571: the protocol was broken; 573:
+-- the version lacks the feature; 598: closed; 599: suspended; 500: all else
 abbrev pub code_of : NamedFault → ℕ
 code_of fault.BadRequest = 400
 code_of fault.MissingContentType = 415
@@ -56,7 +56,8 @@ text_of fault.CommandTypeMismatch = codes "CommandTypeMismatchError"
 text_of fault.CommandMismatch = codes "CommandMismatchError"
 text_of fault.UncompletedDoProgressDuringReplay = codes "UncompletedDoProgressDuringReplay"
 text_of fault.UnsupportedFeature = codes "UNSUPPORTED_FEATURE"
-text_of fault.UnsupportedFeatureForNegotiatedVersion = codes "UnsupportedFeatureForNegotiatedVersion"
+text_of fault.UnsupportedFeatureForNegotiatedVersion =
+    codes "UnsupportedFeatureForNegotiatedVersion"
 text_of fault.Closed = codes "ClosedError"
 text_of fault.Suspended = codes "SUSPENDED"
 text_of fault.Memory = codes ""
@@ -81,7 +82,8 @@ text_of fault.UnavailableEntry = codes "UnavailableEntryError"
 text_of fault.EmptyGetEagerState = codes "EMPTY_GET_EAGER_STATE"
 text_of fault.EmptyGetEagerStateKeys = codes "EMPTY_GET_EAGER_STATE_KEYS"
 text_of fault.BadProposeRunCompletionAck = codes "BadProposeRunCompletionAck"
-text_of fault.InputClosedWhileWaitingEphemeralNotifications = codes "INPUT_CLOSED_WHILE_WAITING_EPHEMERAL_NOTIFICATIONS"
+text_of fault.InputClosedWhileWaitingEphemeralNotifications =
+    codes "INPUT_CLOSED_WHILE_WAITING_EPHEMERAL_NOTIFICATIONS"
 text_of fault.EphemeralCommandDuringReplay = codes "EPHEMERAL_COMMAND_DURING_REPLAY"
 text_of fault.EphemeralStateGetWithClosedInput = codes "EphemeralStateGetWithClosedInput"
 text_of fault.EmptyGetStateEphemeralNotification = codes "EMPTY_GET_STATE_EPHEMERAL_NOTIFICATION"

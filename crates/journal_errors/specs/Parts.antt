@@ -32,4 +32,10 @@ behavior_is = cases_are behavior (λ _. Unit {0}) _ (
 
 -- the format of what is to be done after an error: one byte, 0 to 2
 abbrev pub behavior_format : Format ErrorBehavior
-behavior_format = record { spelling = behavior; valid = (λ _. Unit {0}); read = read_behavior; reads = behavior_reads; read_is = behavior_is }
+behavior_format = record {
+  spelling = behavior;
+  valid = (λ _. Unit {0});
+  read = read_behavior;
+  reads = behavior_reads;
+  read_is = behavior_is;
+}

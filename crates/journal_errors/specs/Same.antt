@@ -17,7 +17,19 @@ pub error_exact : Exact (error_messages.ghosts).eq
 error_exact = exact_on
     (λ m. (m.code, (m.message, (m.stacktrace, (m.behavior, (m.index, (m.ty, (m.name, m.delay))))))))
     (λ (code, (message, (stacktrace, (behavior, (index, (ty, (name, delay))))))).
-    record { code = code; message = message; stacktrace = stacktrace; behavior = behavior; index = index; ty = ty; name = name; delay = delay })
+    record {
+      code = code;
+      message = message;
+      stacktrace = stacktrace;
+      behavior = behavior;
+      index = index;
+      ty = ty;
+      name = name;
+      delay = delay;
+    })
     (λ _. refl)
-    (exact_pair Decides-eqb (exact_pair bytes_decides (exact_pair bytes_decides (exact_pair behavior_exact (exact_pair (exact_option Decides-eqb) (exact_pair (exact_option Decides-eqb)
+    (exact_pair Decides-eqb (exact_pair bytes_decides
+    (exact_pair bytes_decides
+    (exact_pair behavior_exact
+    (exact_pair (exact_option Decides-eqb) (exact_pair (exact_option Decides-eqb)
     (exact_pair (exact_option bytes_decides) (exact_option Decides-eqb))))))))

@@ -3,7 +3,8 @@ use Rattle.std.specs.Prelude.{ℕ, Option, Some, None, if◌then◌else◌, ◌=
 use Rattle.journal_errors.specs.declared.types.MessageType.{MessageType}
 use Rattle.journal_errors.specs.declared.types.MessageType.TheVariants as type
 
--- 10 to 29 are the commands, which a journal records; 30 are its other entries; 1 to 9 stand in no journal
+-- 10 to 29 are the commands, which a journal records; 30 are its other entries; 1 to 9 stand in no
+-- journal
 abbrev pub type_number : MessageType → ℕ
 type_number type.Start = 1
 type_number type.Suspension = 2

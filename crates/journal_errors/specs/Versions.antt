@@ -7,7 +7,8 @@ use Rattle.journal_errors.specs.declared.error.Error.{Error}
 use Rattle.journal_errors.specs.declared.faults.NamedFault.TheVariants as fault
 use Rattle.journal_errors.specs.Errors.{named_error}
 
--- the content type by which a request asks for the version; its last character is the version's number
+-- the content type by which a request asks for the version; its last character is the version's
+-- number
 unfoldable pub content_type : Version → List ℕ
 content_type V1 = codes "application/vnd.restate.invocation.v1"
 content_type V2 = codes "application/vnd.restate.invocation.v2"

@@ -10,5 +10,6 @@ pub trait HeaderMap: Drop {
     ghost found: { Self → List ℕ → Option (Option (List ℕ)) };
 
     fn extract(&self, name: &str) -> Result<Option<&str>, Self::Error>
-        ensures { MatchResult result (λ text. found self.now name.now ≡ Some (option_copied text)) (λ _. found self.now name.now ≡ None) };
+        ensures { MatchResult result (λ text. found self.now name.now
+            ≡ Some (option_copied text)) (λ _. found self.now name.now ≡ None) };
 }

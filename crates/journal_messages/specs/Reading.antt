@@ -44,29 +44,42 @@ message_in type.Start b = option_map message.Start (body_as start_format b)
 message_in type.Suspension b = option_map message.Suspension (body_as suspension_format b)
 message_in type.Error b = option_map message.Error (body_as error_format b)
 message_in type.End b = option_map (λ _. message.End) (body_as nothing_format b)
-message_in type.ProposeRunCompletion b = option_map message.ProposeRunCompletion (body_as propose_run_completion_format b)
-message_in type.ProposeRunCompletionAck b = option_map message.ProposeRunCompletionAck (body_as propose_run_completion_ack_format b)
+message_in type.ProposeRunCompletion b =
+    option_map message.ProposeRunCompletion (body_as propose_run_completion_format b)
+message_in type.ProposeRunCompletionAck b =
+    option_map message.ProposeRunCompletionAck (body_as propose_run_completion_ack_format b)
 message_in type.AwaitingOn b = option_map message.AwaitingOn (body_as awaiting_on_format b)
-message_in type.GetStateEphemeralCommand b = option_map message.GetStateEphemeralCommand (body_as get_state_ephemeral_command_format b)
-message_in type.GetStateEphemeralNotification b = option_map message.GetStateEphemeralNotification (body_as get_state_ephemeral_notification_format b)
+message_in type.GetStateEphemeralCommand b =
+    option_map message.GetStateEphemeralCommand (body_as get_state_ephemeral_command_format b)
+message_in type.GetStateEphemeralNotification b = option_map message.GetStateEphemeralNotification
+    (body_as get_state_ephemeral_notification_format b)
 message_in type.InputCommand b = option_map message.Input (body_as input_format b)
-message_in type.GetEagerStateCommand b = option_map message.GetEagerState (body_as get_eager_state_format b)
-message_in type.GetLazyStateCommand b = option_map message.GetLazyState (body_as get_lazy_state_format b)
-message_in type.GetEagerStateKeysCommand b = option_map message.GetEagerStateKeys (body_as get_eager_state_keys_format b)
-message_in type.GetLazyStateKeysCommand b = option_map message.GetLazyStateKeys (body_as get_lazy_state_keys_format b)
+message_in type.GetEagerStateCommand b =
+    option_map message.GetEagerState (body_as get_eager_state_format b)
+message_in type.GetLazyStateCommand b =
+    option_map message.GetLazyState (body_as get_lazy_state_format b)
+message_in type.GetEagerStateKeysCommand b =
+    option_map message.GetEagerStateKeys (body_as get_eager_state_keys_format b)
+message_in type.GetLazyStateKeysCommand b =
+    option_map message.GetLazyStateKeys (body_as get_lazy_state_keys_format b)
 message_in type.SetStateCommand b = option_map message.SetState (body_as set_state_format b)
 message_in type.ClearStateCommand b = option_map message.ClearState (body_as clear_state_format b)
-message_in type.ClearAllStateCommand b = option_map message.ClearAllState (body_as clear_all_state_format b)
+message_in type.ClearAllStateCommand b =
+    option_map message.ClearAllState (body_as clear_all_state_format b)
 message_in type.SleepCommand b = option_map message.Sleep (body_as sleep_format b)
 message_in type.CallCommand b = option_map message.Call (body_as call_format b)
 message_in type.OneWayCallCommand b = option_map message.OneWayCall (body_as one_way_call_format b)
-message_in type.CompleteAwakeableCommand b = option_map message.CompleteAwakeable (body_as complete_awakeable_format b)
+message_in type.CompleteAwakeableCommand b =
+    option_map message.CompleteAwakeable (body_as complete_awakeable_format b)
 message_in type.SendSignalCommand b = option_map message.SendSignal (body_as send_signal_format b)
 message_in type.GetPromiseCommand b = option_map message.GetPromise (body_as promise_format b)
 message_in type.PeekPromiseCommand b = option_map message.PeekPromise (body_as promise_format b)
-message_in type.CompletePromiseCommand b = option_map message.CompletePromise (body_as complete_promise_format b)
+message_in type.CompletePromiseCommand b =
+    option_map message.CompletePromise (body_as complete_promise_format b)
 message_in type.RunCommand b = option_map message.Run (body_as run_format b)
-message_in type.AttachInvocationCommand b = option_map message.AttachInvocation (body_as invocation_format b)
-message_in type.GetInvocationOutputCommand b = option_map message.GetInvocationOutput (body_as invocation_format b)
+message_in type.AttachInvocationCommand b =
+    option_map message.AttachInvocation (body_as invocation_format b)
+message_in type.GetInvocationOutputCommand b =
+    option_map message.GetInvocationOutput (body_as invocation_format b)
 message_in type.OutputCommand b = option_map message.Output (body_as output_format b)
 message_in type.Notification b = option_map message.Notification (body_as notification_format b)

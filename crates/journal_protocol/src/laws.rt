@@ -39,7 +39,8 @@ pub fn messages_are_read_back()
 /// A message that is read has the type of its frame.
 #[tactic(auto, using(crate::proofs::Typed::read_type))]
 pub fn read_messages_have_their_type()
-    ensures { (ty : MessageType) (b : List ℕ) (m : Message) → message_in ty b ≡ Some m → type_of m ≡ ty }
+    ensures { (ty : MessageType) (b : List ℕ) (m : Message) → message_in ty b ≡ Some m → type_of m
+        ≡ ty }
 {}
 
 /// Types with one number are one type.

@@ -13,7 +13,8 @@ abbrev pub void_or_value_valid : VoidOrValue → Type 0
 void_or_value_valid state.Void = Unit {0}
 void_or_value_valid (state.Value bs) = bytes_format.valid bs
 
--- 0 is void, 1 and bytes are a value; none where another byte stands in front or the bytes end before
+-- 0 is void, 1 and bytes are a value; none where another byte stands in front or the bytes end
+-- before
 unfoldable pub read_void_or_value : Reading VoidOrValue
 read_void_or_value = read_case (
     choose 0 (read_as (λ _. state.Void) read_nothing) (
@@ -28,10 +29,17 @@ void_or_value_reads (state.Value a) rest v = case_reads state.Value bytes_format
 pub void_or_value_is : IsSpelled void_or_value void_or_value_valid read_void_or_value
 unfolding read_void_or_value
 void_or_value_is = cases_are void_or_value void_or_value_valid _ (
-    case_is void_or_value void_or_value_valid 0 (λ _. state.Void) nothing_format _ (λ _ v. v) (λ _. refl) (
+    case_is void_or_value void_or_value_valid 0 (λ _. state.Void) nothing_format _ (λ _ v. v)
+    (λ _. refl) (
     case_is void_or_value void_or_value_valid 1 state.Value bytes_format _ (λ _ v. v) (λ _. refl) (
     no_case_is void_or_value void_or_value_valid)))
 
 -- the format of what stands under a key: 0 for void, or 1 and a value's bytes
 abbrev pub void_or_value_format : Format VoidOrValue
-void_or_value_format = record { spelling = void_or_value; valid = void_or_value_valid; read = read_void_or_value; reads = void_or_value_reads; read_is = void_or_value_is }
+void_or_value_format = record {
+  spelling = void_or_value;
+  valid = void_or_value_valid;
+  read = read_void_or_value;
+  reads = void_or_value_reads;
+  read_is = void_or_value_is;
+}

@@ -5,7 +5,8 @@ use Rattle.journal_errors.specs.Types.{type_at}
 use Rattle.journal_errors.specs.declared.types.MessageType.{MessageType}
 use Rattle.journal_messages.specs.declared.message.RawMessage.{RawMessage}
 
--- what is at the front of some bytes: a whole frame and the bytes behind it, less than a frame, or no frame
+-- what is at the front of some bytes: a whole frame and the bytes behind it, less than a frame, or
+-- no frame
 pub data NextFrame : Type 0 where
   Whole : RawMessage → List ℕ → NextFrame
   Partial : NextFrame
@@ -21,9 +22,11 @@ size_in bs = from_be_bytes w64 (take 8 (drop 2 bs))
 
 -- a frame of this type with a body of n bytes
 abbrev pub framed : MessageType → ℕ → List ℕ → NextFrame
-framed ty n bs = if nat_lt (length bs) n then Partial else Whole (record { ty = ty; body = take n bs }) (drop n bs)
+framed ty n bs = if nat_lt (length bs) n then Partial
+    else Whole (record { ty = ty; body = take n bs }) (drop n bs)
 
--- no frame where the number is no type's; else a part of one until the number, the length and all of the body are there
+-- no frame where the number is no type's; else a part of one until the number, the length and all
+-- of the body are there
 abbrev pub typed : Option MessageType → List ℕ → NextFrame
 typed None bs = Malformed
 typed (Some ty) bs = if nat_lt (length bs) 10 then Partial else framed ty (size_in bs) (drop 10 bs)

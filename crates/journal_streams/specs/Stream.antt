@@ -13,17 +13,19 @@ use Rattle.journal_messages.specs.declared.message.RawMessage.{RawMessage}
 
 -- the bytes begin with a number that is no type's
 abbrev pub IsMalformed : List ℕ → Type 0
-IsMalformed bs = (number : ℕ) × (rest : List ℕ) × (number < 2 ^ 16) × (type_at number ≡ None) × (bs ≡ u16s number ++ rest)
+IsMalformed bs = (number : ℕ) × (rest : List ℕ) × (number < 2 ^ 16) × (type_at number ≡ None)
+    × (bs ≡ u16s number ++ rest)
 
 -- less than a frame, which may still become one
 pub record IsPart (bs : List ℕ) : Type 0 where
-  pub no_frame : (ty : MessageType) (body rest : List ℕ) → length body < 2 ^ 64 → bs ≡ frame ty body ++ rest → ⊥
+  pub no_frame : (ty : MessageType) (body rest : List ℕ) → length body < 2 ^ 64 → bs ≡ frame ty body
+      ++ rest → ⊥
   pub well_formed : IsMalformed bs → ⊥
 
 -- ---- what the decoder answers: the first frame as it is spelled, and as a function
 
--- A frame was taken from the front of old, new is left; or nothing was, since only a part is there, or by want of memory, or
--- since the number at the front is no type's.
+-- A frame was taken from the front of old, new is left; or nothing was, since only a part is there,
+-- or by want of memory, or since the number at the front is no type's.
 abbrev pub Next : List ℕ → Result (Option RawMessage) Fault → List ℕ → Type 0
 Next old (Ok (Some raw)) new = (length raw.body < 2 ^ 64) × (old ≡ frame raw.ty raw.body ++ new)
 Next old (Ok None) new = (new ≡ old) × IsPart old

@@ -99,7 +99,8 @@ impl Decoder {
 /// The type's number at the front, and the bytes behind it.
 #[tactic(auto, unfolding(wire::specs::Format::u16s))]
 fn number_at(bytes: &[u8]) -> Option<(u16, &[u8])>
-    ensures { MatchOption result (length bytes.now < 2) (λ x. (x.0 < 2 ^ 16) × (bytes.now ≡ u16s x.0 ++ x.1.now)) }
+    ensures { MatchOption result (length bytes.now < 2) (λ x. (x.0 < 2 ^ 16)
+        × (bytes.now ≡ u16s x.0 ++ x.1.now)) }
 {
     if bytes.len() < 2 {
         return None;
@@ -111,7 +112,8 @@ fn number_at(bytes: &[u8]) -> Option<(u16, &[u8])>
 /// The length at the front, and the bytes behind it.
 #[tactic(auto, unfolding(wire::specs::Format::u64s))]
 fn length_at(bytes: &[u8]) -> Option<(u64, &[u8])>
-    ensures { MatchOption result (length bytes.now < 8) (λ x. (x.0 < 2 ^ 64) × (bytes.now ≡ u64s x.0 ++ x.1.now)) }
+    ensures { MatchOption result (length bytes.now < 8) (λ x. (x.0 < 2 ^ 64)
+        × (bytes.now ≡ u64s x.0 ++ x.1.now)) }
 {
     if bytes.len() < 8 {
         return None;

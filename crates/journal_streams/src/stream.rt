@@ -13,9 +13,11 @@ use wire::Fault;
 /// The messages of a stream that comes in these pieces.
 pub fn messages_of(alloc: Global, pieces: &[Bytes]) -> Result<Vec<Message>, Fault>
     // Up to a rest that is no whole frame, the stream is these messages.
-    ensures split { IfOk result (λ out. (rest : List ℕ) × Splits (flat_map (λ piece. piece) pieces.now) out.items rest) }
+    ensures split { IfOk result (λ out. (rest : List ℕ)
+        × Splits (flat_map (λ piece. piece) pieces.now) out.items rest) }
     // No other messages are, so it doesn't matter how the stream was cut.
-    ensures only { IfOk result (λ out. (others : List Message) (rest : List ℕ) → Splits (flat_map (λ piece. piece) pieces.now) others rest → out.items ≡ others) }
+    ensures only { IfOk result (λ out. (others : List Message) (rest : List ℕ)
+        → Splits (flat_map (λ piece. piece) pieces.now) others rest → out.items ≡ others) }
     // It is malformed only where it is no messages at all up to such a rest.
     ensures refused { IfErr result (IsRefused (flat_map (λ piece. piece) pieces.now)) }
 {

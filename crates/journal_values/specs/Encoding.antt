@@ -34,8 +34,8 @@ notification_id (id.CompletionId n) = 0 ∷ u32s n
 notification_id (id.SignalId n) = 1 ∷ u32s n
 notification_id (id.SignalName name) = 2 ∷ bytes name
 
--- 0 for void, 1 and a value's bytes, 2 and a failure, 3 and state keys: a count (u64) and so many of bytes,
--- or 4 and an invocation's id (text)
+-- 0 for void, 1 and a value's bytes, 2 and a failure, 3 and state keys: a count (u64) and so many
+-- of bytes, or 4 and an invocation's id (text)
 abbrev pub notification_result : NotificationResult → List ℕ
 notification_result result.Void = 0 ∷ []
 notification_result (result.Value bs) = 1 ∷ bytes bs

@@ -8,16 +8,19 @@ use Rattle.line_parts.specs.declared.trees.OpenNode.{OpenNode}
 -- these trees, with a comma behind each
 abbrev pub AreFollowed : List ℕ → List UnresolvedFuture → Type 0
 AreFollowed text [] = text ≡ []
-AreFollowed text (future ∷ futures) = (own behind : List ℕ) × (text ≡ own ++ comma ∷ behind) × SpellsTree own (tree_of future) × AreFollowed behind futures
+AreFollowed text (future ∷ futures) = (own behind : List ℕ) × (text ≡ own ++ comma ∷ behind)
+    × SpellsTree own (tree_of future) × AreFollowed behind futures
 
 -- the beginning of a node, up to the place of its next child
 abbrev pub Begins : List ℕ → OpenNode → Type 0
-Begins text first = (inside : List ℕ) × (text ≡ kind_name first.kind ++ opening ∷ inside) × AreFollowed inside first.children
+Begins text first = (inside : List ℕ) × (text ≡ kind_name first.kind ++ opening ∷ inside)
+    × AreFollowed inside first.children
 
 -- the beginnings of these nodes, the outermost first
 abbrev pub Begin : List ℕ → List OpenNode → Type 0
 Begin text [] = text ≡ []
-Begin text (first ∷ others) = (own behind : List ℕ) × (text ≡ own ++ behind) × Begins own first × Begin behind others
+Begin text (first ∷ others) = (own behind : List ℕ) × (text ≡ own ++ behind) × Begins own first
+    × Begin behind others
 
 -- a tree that was read whole, if there is one
 abbrev pub IsReadLast : List ℕ → Option UnresolvedFuture → Type 0
@@ -26,23 +29,29 @@ IsReadLast text (Some future) = SpellsTree text (tree_of future)
 
 -- the text is the beginnings of the open nodes, what was read whole behind them, and the rest
 abbrev pub StandsAt : List ℕ → List OpenNode → Option UnresolvedFuture → List ℕ → Type 0
-StandsAt text nodes last rest = (before own : List ℕ) × (text ≡ before ++ (own ++ rest)) × Begin before nodes × IsReadLast own last
+StandsAt text nodes last rest = (before own : List ℕ) × (text ≡ before ++ (own ++ rest))
+    × Begin before nodes × IsReadLast own last
 
 -- ---- what may follow
 
 -- trees behind a child, with a comma in front of each
 abbrev pub AreOthers : List ℕ → Forest → Type 0
 AreOthers text none = text ≡ []
-AreOthers text (more t ts) = (inside : List ℕ) × (text ≡ comma ∷ inside) × SpellsForest inside (more t ts)
+AreOthers text (more t ts) = (inside : List ℕ) × (text ≡ comma ∷ inside)
+    × SpellsForest inside (more t ts)
 
--- what follows a tree within so many nodes: for each, the innermost first, further trees and its bracket
+-- what follows a tree within so many nodes: for each, the innermost first, further trees and its
+-- bracket
 abbrev pub Closes : ℕ → List ℕ → Type 0
 Closes zero text = text ≡ []
-Closes (suc nodes) text = (others behind : List ℕ) × (forest : Forest) × (text ≡ others ++ closing ∷ behind) × AreOthers others forest × Closes nodes behind
+Closes (suc nodes) text = (others behind : List ℕ) × (forest : Forest)
+    × (text ≡ others ++ closing ∷ behind) × AreOthers others forest × Closes nodes behind
 
--- what follows within so many nodes, behind a tree that was read whole; where none was, a tree comes first
+-- what follows within so many nodes, behind a tree that was read whole; where none was, a tree
+-- comes first
 abbrev pub GoesOn : ℕ → Option UnresolvedFuture → List ℕ → Type 0
-GoesOn nodes None text = (own behind : List ℕ) × (t : Tree) × (text ≡ own ++ behind) × SpellsTree own t × Closes nodes behind
+GoesOn nodes None text = (own behind : List ℕ) × (t : Tree) × (text ≡ own ++ behind)
+    × SpellsTree own t × Closes nodes behind
 GoesOn nodes (Some future) text = Closes nodes text
 
 -- ---- pieces of a text

@@ -35,7 +35,8 @@ fixed_names = codes "interval=" ∷ codes "attempts=" ∷ codes "max=" ∷ []
 
 -- what one with a growing delay may have
 abbrev pub exponential_names : List (List ℕ)
-exponential_names = codes "initial=" ∷ codes "factor=" ∷ codes "interval=" ∷ codes "attempts=" ∷ codes "max=" ∷ []
+exponential_names =
+    codes "initial=" ∷ codes "factor=" ∷ codes "interval=" ∷ codes "attempts=" ∷ codes "max=" ∷ []
 
 -- the bounds in the brackets, and nothing else
 pub record IsFixed (text : List ℕ) (bounds : Bounds) : Type 0 where
@@ -61,11 +62,29 @@ pub record IsExponential (text : List ℕ) (growth : Growth) : Type 0 where
   pub are_bounds : AreBounds words growth.bounds
   pub only : are_named exponential_names (without (codes "pause") words) ≡ true
 
--- `infinite`, `none`, `fixed(..)` or `exp(..)`; where the delay grows, the interval is the longest one
+-- `infinite`, `none`, `fixed(..)` or `exp(..)`; where the delay grows, the interval is the longest
+-- one
 abbrev pub IsPolicy : List ℕ → RetryPolicy → Type 0
 IsPolicy text policy.Infinite = text ≡ codes "infinite"
 IsPolicy text policy.None = text ≡ codes "none"
 IsPolicy text (policy.FixedDelay interval attempts longest on) =
-    (inside : List ℕ) × (text_behind (codes "fixed") text ≡ Some inside) × IsFixed inside (record { interval = interval; max_attempts = attempts; max_duration = longest; on_max_attempts = on })
+    (inside : List ℕ) × (text_behind (codes "fixed") text ≡ Some inside)
+    × IsFixed inside (record {
+      interval = interval;
+      max_attempts = attempts;
+      max_duration = longest;
+      on_max_attempts = on;
+    })
 IsPolicy text (policy.Exponential initial factor interval attempts longest on) =
-    (inside : List ℕ) × (text_behind (codes "exp") text ≡ Some inside) × IsExponential inside (record { initial = initial; factor = factor; bounds = record { interval = interval; max_attempts = attempts; max_duration = longest; on_max_attempts = on } })
+    (inside : List ℕ) × (text_behind (codes "exp") text ≡ Some inside)
+    × IsExponential inside
+    (record {
+      initial = initial;
+      factor = factor;
+      bounds = record {
+        interval = interval;
+        max_attempts = attempts;
+        max_duration = longest;
+        on_max_attempts = on;
+      };
+    })

@@ -1,4 +1,5 @@
--- The names by which a script's line says what the handler's runner reports, and the error that it reports.
+-- The names by which a script's line says what the handler's runner reports, and the error that it
+-- reports.
 use Rattle.std.specs.Prelude.{◌≡◌, ℕ, true, List, [], ◌∷◌, drop, length, codes, Option, Some, None, string_bytes}
 use Rattle.std.proofs.Common.{Global}
 use Rattle.std.specs.declared.string.String.{String}
@@ -82,7 +83,8 @@ IsCommandName text (Some name) = IsText text name
 
 -- the words are a type and a name, and nothing else
 abbrev pub AreTypeAndName : List (Bor (List ℕ)) → CommandType × Option (List ℕ) → Type 0
-AreTypeAndName words command = (length words ≡ 2) × IsType (text_at 0 words) command.0 × IsCommandName (text_at 1 words) command.1
+AreTypeAndName words command = (length words ≡ 2) × IsType (text_at 0 words) command.0
+    × IsCommandName (text_at 1 words) command.1
 
 -- the words in the brackets name this type and this name
 pub record IsCommand (text : List ℕ) (command : CommandType × Option (List ℕ)) : Type 0 where
@@ -104,8 +106,10 @@ pub record IsCommandAt (text : List ℕ) (command : ℕ × CommandType × Option
 -- the command that an error relates to: `last`, `next(TYPE NAME)` or `at(N TYPE NAME)`
 abbrev pub IsRelated : List ℕ → CommandRelationship → Type 0
 IsRelated text relationship.Last = text ≡ codes "last"
-IsRelated text (relationship.Next ty name) = (command : List ℕ) × (text_behind (codes "next") text ≡ Some command) × IsCommand command (ty, name)
-IsRelated text (relationship.Specific index ty name) = (command : List ℕ) × (text_behind (codes "at") text ≡ Some command) × IsCommandAt command (index, ty, name)
+IsRelated text (relationship.Next ty name) = (command : List ℕ)
+    × (text_behind (codes "next") text ≡ Some command) × IsCommand command (ty, name)
+IsRelated text (relationship.Specific index ty name) = (command : List ℕ)
+    × (text_behind (codes "at") text ≡ Some command) × IsCommandAt command (index, ty, name)
 
 -- the names of an error's options
 abbrev pub error_names : List (List ℕ)
@@ -113,7 +117,8 @@ error_names = codes "stack=" ∷ codes "behaviour=" ∷ codes "delay=" ∷ codes
 
 -- the command that an error relates to, among options that are no others than an error's
 abbrev pub IsRelatedAlone : List (Bor (List ℕ)) → Option CommandRelationship → Type 0
-IsRelatedAlone options related = IsOptional IsRelated (texts (codes "rel=") options) related × (are_named error_names options ≡ true)
+IsRelatedAlone options related = IsOptional IsRelated (texts (codes "rel=") options) related
+    × (are_named error_names options ≡ true)
 
 -- what the options of an error say of it
 pub record AreDetails (words : List (Bor (List ℕ))) (error : Error) : Type 0 where

@@ -34,14 +34,18 @@ abbrev pub settled : NonEmptyValue → RunExitResult
 settled (value.Success bytes) = exit.Success bytes
 settled (value.Failure failure) = exit.TerminalFailure failure
 
--- the words are a result, with or without a policy: a value, in front of the policy, or `retryable` and what is told of the failure
+-- the words are a result, with or without a policy: a value, in front of the policy, or `retryable`
+-- and what is told of the failure
 abbrev pub IsResult : List (Bor (List ℕ)) → RunExitResult → Type 0
 IsResult words (exit.Success bytes) = IsValue (but_last is_policy words) (value.Success bytes)
-IsResult words (exit.TerminalFailure failure) = IsValue (but_last is_policy words) (value.Failure failure)
-IsResult words (exit.RetryableFailure duration error) = (text_at 0 words ≡ codes "retryable") × IsRetryable (behind words) (duration, error)
+IsResult words (exit.TerminalFailure failure) = IsValue (but_last is_policy words)
+    (value.Failure failure)
+IsResult words (exit.RetryableFailure duration error) = (text_at 0 words ≡ codes "retryable")
+    × IsRetryable (behind words) (duration, error)
 
 -- the handle of the run, its result, and the policy
 pub record IsProposal (words : List (Bor (List ℕ))) (proposal : Proposal) : Type 0 where
   pub handle : IsNumberOf 32 (text_at 0 words) proposal.handle.0
   pub result : IsResult (behind words) proposal.result
-  pub policy : IsSet IsPolicy policy.Infinite (texts (codes "policy=") (behind words)) proposal.policy
+  pub policy : IsSet IsPolicy policy.Infinite (texts (codes "policy=") (behind words))
+      proposal.policy

@@ -17,7 +17,8 @@ use Rattle.line_parts.specs.Words.{AreThreeTexts, AreTwoTexts, IsOneText, behind
 
 -- texts that are these headers
 abbrev pub AreHeaders : List (List ℕ) → List Header → Type 0
-AreHeaders found headers = AllZip (λ text header. IsPair text (header.key, header.value)) found headers
+AreHeaders found headers =
+    AllZip (λ text header. IsPair text (header.key, header.value)) found headers
 
 -- what the options of a call say of its target, and the call's name
 pub record HasCallOptions (words : List (Bor (List ℕ))) (called : Target × Option (List ℕ)) : Type 0 where
@@ -30,7 +31,8 @@ pub record HasCallOptions (words : List (Bor (List ℕ))) (called : Target × Op
 
 -- the names of a call's options
 abbrev pub call_names : List (List ℕ)
-call_names = codes "key=" ∷ codes "idem=" ∷ codes "scope=" ∷ codes "limit=" ∷ codes "header=" ∷ codes "name=" ∷ []
+call_names = codes "key=" ∷ codes "idem=" ∷ codes "scope=" ∷ codes "limit=" ∷ codes "header="
+    ∷ codes "name=" ∷ []
 
 -- the options of a call, and `unstable` or not
 pub record AreCallOptions (words : List (Bor (List ℕ))) (target : Target) (name : Option (List ℕ)) (options : PayloadOptions) : Type 0 where
@@ -66,10 +68,12 @@ pub record IsCallOf (words : List (Bor (List ℕ))) (call : IdempotencyId) : Typ
   pub texts : AreThreeTexts words (call.service_name, call.handler_name, call.idempotency_key)
   pub options : HasKeyAndScope (drop 3 words) (call.service_key, call.scope)
 
--- this word and those behind it name this invocation: by its id, by its workflow, or by an idempotency key
+-- this word and those behind it name this invocation: by its id, by its workflow, or by an
+-- idempotency key
 abbrev pub NamesBehind : List ℕ → List (Bor (List ℕ)) → InvocationTarget → Type 0
 NamesBehind word others (target.InvocationId id) = (word ≡ codes "id") × IsOneText others id
-NamesBehind word others (target.WorkflowId workflow) = (word ≡ codes "workflow") × IsWorkflow others workflow
+NamesBehind word others (target.WorkflowId workflow) = (word ≡ codes "workflow")
+    × IsWorkflow others workflow
 NamesBehind word others (target.IdempotencyId call) = (word ≡ codes "idem") × IsCallOf others call
 
 -- the words name this invocation

@@ -1,5 +1,6 @@
--- How a tree of awaits is spelled, in one word: a handle by its digits, and a node by its kind's name and its children
--- in round brackets, with a comma between each two. Blanks behind a comma say nothing.
+-- How a tree of awaits is spelled, in one word: a handle by its digits, and a node by its kind's
+-- name and its children in round brackets, with a comma between each two. Blanks behind a comma say
+-- nothing.
 use Rattle.std.specs.Prelude.{◌≡◌, ◌==◌, ◌&&◌, ℕ, Bool, true, false, if◌then◌else◌, List, [], ◌∷◌, ◌++◌, codes}
 use Rattle.journal_attempt.specs.declared.future.FutureKind.{FutureKind}
 use Rattle.journal_attempt.specs.declared.future.FutureKind.TheVariants.{FirstCompleted, AllCompleted, FirstSucceededOrAllFailed, AllSucceededOrFirstFailed, Unknown}
@@ -29,19 +30,22 @@ abbrev mutual
   -- the text spells a tree
   pub SpellsTree : List ℕ → Tree → Type 0
   SpellsTree text (leaf handle) = IsNumberOf 32 text handle
-  SpellsTree text (node kind children) = (inside : List ℕ) × (text ≡ kind_name kind ++ opening ∷ (inside ++ closing ∷ [])) × SpellsForest inside children
+  SpellsTree text (node kind children) = (inside : List ℕ)
+      × (text ≡ kind_name kind ++ opening ∷ (inside ++ closing ∷ [])) × SpellsForest inside children
 
   -- the text spells trees, with a comma between each two
   pub SpellsForest : List ℕ → Forest → Type 0
   SpellsForest text none = text ≡ []
   SpellsForest text (more t none) = SpellsTree text t
-  SpellsForest text (more t (more u others)) = (first behind : List ℕ) × (text ≡ first ++ comma ∷ behind) × SpellsTree first t × SpellsForest behind (more u others)
+  SpellsForest text (more t (more u others)) = (first behind : List ℕ)
+      × (text ≡ first ++ comma ∷ behind) × SpellsTree first t × SpellsForest behind (more u others)
 
 -- the word is a kind's
 abbrev pub IsKind : List ℕ → FutureKind → Type 0
 IsKind word kind = word ≡ kind_name kind
 
--- the text without blanks behind its commas; the first says whether a comma, and no more than blanks, stands in front of it
+-- the text without blanks behind its commas; the first says whether a comma, and no more than
+-- blanks, stands in front of it
 abbrev pub without_blanks : Bool → List ℕ → List ℕ
 without_blanks after_comma [] = []
 without_blanks after_comma (c ∷ cs) =

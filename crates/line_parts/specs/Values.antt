@@ -30,17 +30,20 @@ ArePairs words pairs = AllZip (λ word pair. IsPair word.now pair) words pairs
 
 -- the words begin with this code and this text
 abbrev pub HasCodeAndText : ℕ → List ℕ → List (Bor (List ℕ)) → Type 0
-HasCodeAndText code message words = IsNumberOf 16 (text_at 0 words) code × IsText (text_at 1 words) message
+HasCodeAndText code message words =
+    IsNumberOf 16 (text_at 0 words) code × IsText (text_at 1 words) message
 
 -- the words are a code, a text and pairs
 pub record IsFailure (words : List (Bor (List ℕ))) (failure : TerminalFailure) : Type 0 where
   pub first : HasCodeAndText failure.code failure.message words
   pub pairs : ArePairs (drop 2 words) failure.metadata
 
--- this word and those behind it are a value: `success` and bytes, or `failure` and what is told of it
+-- this word and those behind it are a value: `success` and bytes, or `failure` and what is told of
+-- it
 abbrev pub IsValueBehind : List ℕ → List (Bor (List ℕ)) → NonEmptyValue → Type 0
 IsValueBehind word others (value.Success bytes) = (word ≡ codes "success") × IsOneAtom others bytes
-IsValueBehind word others (value.Failure failure) = (word ≡ codes "failure") × IsFailure others failure
+IsValueBehind word others (value.Failure failure) = (word ≡ codes "failure")
+    × IsFailure others failure
 
 -- the words are a value
 abbrev pub IsValue : List (Bor (List ℕ)) → NonEmptyValue → Type 0

@@ -73,21 +73,30 @@ IsReplay text it = text ≡ replay_word it
 abbrev pub IsDelivery : List ℕ → SignalDelivery → Type 0
 IsDelivery text it = text ≡ delivery_word it
 
--- An option is what the word behind its name stands for, and as by default where it isn't named. The seed stands apart.
+-- An option is what the word behind its name stands for, and as by default where it isn't named.
+-- The seed stands apart.
 pub record ArePolicies (words : List (Bor (List ℕ))) (options : VMOptions) : Type 0 where
-  pub cancel : IsSet IsCancel default_options.implicit_cancellation (texts (codes "cancel=") words) options.implicit_cancellation
-  pub checks : IsSet IsChecks default_options.non_determinism_checks (texts (codes "checks=") words) options.non_determinism_checks
-  pub awaiting : IsSet IsAwaiting default_options.awaiting_on_policy (texts (codes "awaiting=") words) options.awaiting_on_policy
-  pub mismatch : IsSet IsMismatch default_options.journal_mismatch_retry_behavior (texts (codes "mismatch=") words) options.journal_mismatch_retry_behavior
-  pub replay : IsSet IsReplay default_options.journal_replay (texts (codes "replay=") words) options.journal_replay
-  pub delivery : IsSet IsDelivery default_options.signal_delivery (texts (codes "delivery=") words) options.signal_delivery
+  pub cancel : IsSet IsCancel default_options.implicit_cancellation (texts (codes "cancel=") words)
+      options.implicit_cancellation
+  pub checks : IsSet IsChecks default_options.non_determinism_checks (texts (codes "checks=") words)
+      options.non_determinism_checks
+  pub awaiting : IsSet IsAwaiting default_options.awaiting_on_policy
+      (texts (codes "awaiting=") words) options.awaiting_on_policy
+  pub mismatch : IsSet IsMismatch default_options.journal_mismatch_retry_behavior
+      (texts (codes "mismatch=") words) options.journal_mismatch_retry_behavior
+  pub replay : IsSet IsReplay default_options.journal_replay (texts (codes "replay=") words)
+      options.journal_replay
+  pub delivery : IsSet IsDelivery default_options.signal_delivery (texts (codes "delivery=") words)
+      options.signal_delivery
 
 -- the names of the options
 abbrev pub option_names : List (List ℕ)
-option_names = codes "cancel=" ∷ codes "checks=" ∷ codes "awaiting=" ∷ codes "mismatch=" ∷ codes "replay=" ∷ codes "delivery=" ∷ codes "seed=" ∷ []
+option_names = codes "cancel=" ∷ codes "checks=" ∷ codes "awaiting=" ∷ codes "mismatch="
+    ∷ codes "replay=" ∷ codes "delivery=" ∷ codes "seed=" ∷ []
 
 -- the options that these words name, and no others
 pub record AreOptions (words : List (Bor (List ℕ))) (options : VMOptions) : Type 0 where
   pub policies : ArePolicies words options
-  pub seed : IsSet (IsNumberOf 64) default_options.fallback_random_seed (texts (codes "seed=") words) options.fallback_random_seed
+  pub seed : IsSet (IsNumberOf 64) default_options.fallback_random_seed
+      (texts (codes "seed=") words) options.fallback_random_seed
   pub only : are_named option_names words ≡ true

@@ -19,7 +19,8 @@ behind (word ∷ words) = words
 
 -- the decimal digits of a number of so many bits
 abbrev pub IsNumberOf : ℕ → List ℕ → ℕ → Type 0
-IsNumberOf bits text number = IsNumeral 10 text × (number ≡ digits_value 10 text) × (number < 2 ^ bits)
+IsNumberOf bits text number =
+    IsNumeral 10 text × (number ≡ digits_value 10 text) × (number < 2 ^ bits)
 
 -- one atom of these bytes, and no other word
 abbrev pub IsOneAtom : List (Bor (List ℕ)) → List ℕ → Type 0
@@ -34,7 +35,8 @@ abbrev pub AreTwoTexts : List (Bor (List ℕ)) → List ℕ × List ℕ → Type
 AreTwoTexts words two = IsText (text_at 0 words) two.0 × IsText (text_at 1 words) two.1
 
 abbrev pub AreThreeTexts : List (Bor (List ℕ)) → List ℕ × List ℕ × List ℕ → Type 0
-AreThreeTexts words three = IsText (text_at 0 words) three.0 × IsText (text_at 1 words) three.1 × IsText (text_at 2 words) three.2
+AreThreeTexts words three = IsText (text_at 0 words) three.0 × IsText (text_at 1 words) three.1
+    × IsText (text_at 2 words) three.2
 
 -- the digits of this handle, and no other word
 abbrev pub IsHandle : List (Bor (List ℕ)) → NotificationHandle → Type 0

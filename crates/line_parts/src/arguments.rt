@@ -74,7 +74,8 @@ pub fn without_unstable<'a>(
     words: &[&'a [u8]],
 ) -> Result<(Vec<&'a [u8]>, PayloadOptions), Fault>
     ensures others { IfOk result (λ found. found.0.items ≡ without (codes "unstable") words.now) }
-    ensures flag { IfOk result (λ found. HasFlag (codes "unstable") words.now found.1.unstable_serialization) }
+    ensures flag { IfOk result
+        (λ found. HasFlag (codes "unstable") words.now found.1.unstable_serialization) }
     ensures none { IfErr result (Blames (HasFlag (codes "unstable") words.now)) }
 {
     let (others, unstable_serialization) = without_flag(alloc, words, "unstable")?;

@@ -73,7 +73,8 @@ pub fn u64_of(text: &[u8]) -> Result<u64, Fault>
 /// The handle of this number.
 pub fn handle_of(text: &[u8]) -> Result<NotificationHandle, Fault>
     ensures value { IfOk result (λ handle. IsNumberOf 32 text.now handle.0) }
-    ensures none { IfErr result (Blames (λ (handle : NotificationHandle). IsNumberOf 32 text.now handle.0)) }
+    ensures none { IfErr result
+        (Blames (λ (handle : NotificationHandle). IsNumberOf 32 text.now handle.0)) }
 {
     let number = u32_of(text)?;
     Ok(NotificationHandle(number))
@@ -82,7 +83,8 @@ pub fn handle_of(text: &[u8]) -> Result<NotificationHandle, Fault>
 /// The id of an ephemeral read, of this number.
 pub fn ephemeral_id_of(text: &[u8]) -> Result<EphemeralCompletionId, Fault>
     ensures value { IfOk result (λ id. IsNumberOf 32 text.now id.0) }
-    ensures none { IfErr result (Blames (λ (id : EphemeralCompletionId). IsNumberOf 32 text.now id.0)) }
+    ensures none { IfErr result
+        (Blames (λ (id : EphemeralCompletionId). IsNumberOf 32 text.now id.0)) }
 {
     let number = u32_of(text)?;
     Ok(EphemeralCompletionId(number))
@@ -125,7 +127,8 @@ fn milliseconds(number: u128) -> Option<Duration>
 fn nanoseconds_of(digits: &[u8]) -> Option<Duration>
     ensures digits { IfSome result (λ _. IsNumeral 10 digits.now) }
     ensures value { IfSome result (λ duration. as_nanos duration ≡ digits_value 10 digits.now) }
-    ensures none { IfNone result (IsNumeral 10 digits.now → max_nanos < digits_value 10 digits.now) }
+    ensures none { IfNone result (IsNumeral 10 digits.now
+        → max_nanos < digits_value 10 digits.now) }
 {
     let number = long_number_of(digits)?;
     nanoseconds(number)
@@ -134,8 +137,10 @@ fn nanoseconds_of(digits: &[u8]) -> Option<Duration>
 /// The duration of so many milliseconds, in decimal digits.
 fn milliseconds_of(digits: &[u8]) -> Option<Duration>
     ensures digits { IfSome result (λ _. IsNumeral 10 digits.now) }
-    ensures value { IfSome result (λ duration. as_nanos duration ≡ digits_value 10 digits.now * 1_000_000) }
-    ensures none { IfNone result (IsNumeral 10 digits.now → max_nanos < digits_value 10 digits.now * 1_000_000) }
+    ensures value { IfSome result (λ duration. as_nanos duration
+        ≡ digits_value 10 digits.now * 1_000_000) }
+    ensures none { IfNone result (IsNumeral 10 digits.now
+        → max_nanos < digits_value 10 digits.now * 1_000_000) }
 {
     let number = long_number_of(digits)?;
     milliseconds(number)
@@ -143,7 +148,8 @@ fn milliseconds_of(digits: &[u8]) -> Option<Duration>
 
 /// What stands in front of `ns`, where the text ends so.
 fn before_ns(text: &[u8]) -> Option<&[u8]>
-    ensures { MatchOption result ((front : List ℕ) → text.now ≢ front ++ codes "ns") (λ front. text.now ≡ front.now ++ codes "ns") }
+    ensures { MatchOption result ((front : List ℕ) → text.now ≢ front
+        ++ codes "ns") (λ front. text.now ≡ front.now ++ codes "ns") }
 {
     text.strip_suffix(b"ns")
 }

@@ -8,14 +8,17 @@ use wire::Fault;
 /// The text behind the name that a word begins with.
 #[tactic(auto, unfolding(crate::specs::Fields::text_behind))]
 pub fn text_behind<'a>(word: &'a [u8], name: &str) -> Option<&'a [u8]>
-    ensures { MatchOption result (text_behind name.now word.now ≡ None) (λ text. text_behind name.now word.now ≡ Some text.now) }
+    ensures { MatchOption result (text_behind name.now word.now
+        ≡ None) (λ text. text_behind name.now word.now ≡ Some text.now) }
 {
     word.strip_prefix(name.as_bytes())
 }
 
 /// The text behind this name, where one stands; `Malformed` where there are two.
 pub fn field_of<'a>(words: &[&'a [u8]], name: &str) -> Result<Option<&'a [u8]>, Fault>
-    ensures found { IfOk result (λ found. MatchOption found (texts name.now words.now ≡ []) (λ text. texts name.now words.now ≡ text.now ∷ [])) }
+    ensures found { IfOk result
+        (λ found. MatchOption found (texts name.now words.now
+        ≡ []) (λ text. texts name.now words.now ≡ text.now ∷ [])) }
     ensures twice { IfErr result (λ _. 1 < length (texts name.now words.now)) }
 {
     let mut found = None;
@@ -44,7 +47,8 @@ fn is_named(word: &[u8], names: &[&str]) -> bool
 
 /// Whether each word begins with one of these names.
 pub fn are_named(words: &[&[u8]], names: &[&str]) -> bool
-    ensures { result ≡ list_all (λ word. list_any (λ name. is_named name.now word.now) names.now) words.now }
+    ensures { result ≡ list_all (λ word. list_any (λ name. is_named name.now word.now) names.now)
+        words.now }
 {
     for word in words {
         if !is_named(*word, names) {

@@ -52,8 +52,11 @@ fn cancellation_of(text: &[u8]) -> Result<ImplicitCancellationOption, Fault>
 /// `[cancel=..]`, among other words.
 #[tactic(auto, using(crate::proofs::Missing::set_blamed, crate::proofs::Missing::twice_set))]
 fn cancellation_in(words: &[&[u8]]) -> Result<ImplicitCancellationOption, Fault>
-    ensures value { IfOk result (IsSet IsCancel default_options.implicit_cancellation (texts (codes "cancel=") words.now)) }
-    ensures none { IfErr result (Blames (IsSet IsCancel default_options.implicit_cancellation (texts (codes "cancel=") words.now))) }
+    ensures value { IfOk result
+        (IsSet IsCancel default_options.implicit_cancellation (texts (codes "cancel=") words.now)) }
+    ensures none { IfErr result
+        (Blames (IsSet IsCancel default_options.implicit_cancellation
+        (texts (codes "cancel=") words.now))) }
 {
     match field_of(words, "cancel=") {
         Ok(Some(text)) => cancellation_of(text),
@@ -80,8 +83,11 @@ fn checks_of(text: &[u8]) -> Result<NonDeterministicChecksOption, Fault>
 /// `[checks=..]`, among other words.
 #[tactic(auto, using(crate::proofs::Missing::set_blamed, crate::proofs::Missing::twice_set))]
 fn checks_in(words: &[&[u8]]) -> Result<NonDeterministicChecksOption, Fault>
-    ensures value { IfOk result (IsSet IsChecks default_options.non_determinism_checks (texts (codes "checks=") words.now)) }
-    ensures none { IfErr result (Blames (IsSet IsChecks default_options.non_determinism_checks (texts (codes "checks=") words.now))) }
+    ensures value { IfOk result
+        (IsSet IsChecks default_options.non_determinism_checks (texts (codes "checks=") words.now)) }
+    ensures none { IfErr result
+        (Blames (IsSet IsChecks default_options.non_determinism_checks
+        (texts (codes "checks=") words.now))) }
 {
     match field_of(words, "checks=") {
         Ok(Some(text)) => checks_of(text),
@@ -111,8 +117,11 @@ fn awaiting_of(text: &[u8]) -> Result<AwaitingOnPolicy, Fault>
 /// `[awaiting=..]`, among other words.
 #[tactic(auto, using(crate::proofs::Missing::set_blamed, crate::proofs::Missing::twice_set))]
 fn awaiting_in(words: &[&[u8]]) -> Result<AwaitingOnPolicy, Fault>
-    ensures value { IfOk result (IsSet IsAwaiting default_options.awaiting_on_policy (texts (codes "awaiting=") words.now)) }
-    ensures none { IfErr result (Blames (IsSet IsAwaiting default_options.awaiting_on_policy (texts (codes "awaiting=") words.now))) }
+    ensures value { IfOk result
+        (IsSet IsAwaiting default_options.awaiting_on_policy (texts (codes "awaiting=") words.now)) }
+    ensures none { IfErr result
+        (Blames (IsSet IsAwaiting default_options.awaiting_on_policy
+        (texts (codes "awaiting=") words.now))) }
 {
     match field_of(words, "awaiting=") {
         Ok(Some(text)) => awaiting_of(text),
@@ -142,8 +151,12 @@ fn mismatch_of(text: &[u8]) -> Result<JournalMismatchRetryBehavior, Fault>
 /// `[mismatch=..]`, among other words.
 #[tactic(auto, using(crate::proofs::Missing::set_blamed, crate::proofs::Missing::twice_set))]
 fn mismatch_in(words: &[&[u8]]) -> Result<JournalMismatchRetryBehavior, Fault>
-    ensures value { IfOk result (IsSet IsMismatch default_options.journal_mismatch_retry_behavior (texts (codes "mismatch=") words.now)) }
-    ensures none { IfErr result (Blames (IsSet IsMismatch default_options.journal_mismatch_retry_behavior (texts (codes "mismatch=") words.now))) }
+    ensures value { IfOk result
+        (IsSet IsMismatch default_options.journal_mismatch_retry_behavior
+        (texts (codes "mismatch=") words.now)) }
+    ensures none { IfErr result
+        (Blames (IsSet IsMismatch default_options.journal_mismatch_retry_behavior
+        (texts (codes "mismatch=") words.now))) }
 {
     match field_of(words, "mismatch=") {
         Ok(Some(text)) => mismatch_of(text),
@@ -170,8 +183,10 @@ fn replay_of(text: &[u8]) -> Result<JournalReplay, Fault>
 /// `[replay=..]`, among other words.
 #[tactic(auto, using(crate::proofs::Missing::set_blamed, crate::proofs::Missing::twice_set))]
 fn replay_in(words: &[&[u8]]) -> Result<JournalReplay, Fault>
-    ensures value { IfOk result (IsSet IsReplay default_options.journal_replay (texts (codes "replay=") words.now)) }
-    ensures none { IfErr result (Blames (IsSet IsReplay default_options.journal_replay (texts (codes "replay=") words.now))) }
+    ensures value { IfOk result
+        (IsSet IsReplay default_options.journal_replay (texts (codes "replay=") words.now)) }
+    ensures none { IfErr result
+        (Blames (IsSet IsReplay default_options.journal_replay (texts (codes "replay=") words.now))) }
 {
     match field_of(words, "replay=") {
         Ok(Some(text)) => replay_of(text),
@@ -198,8 +213,11 @@ fn delivery_of(text: &[u8]) -> Result<SignalDelivery, Fault>
 /// `[delivery=..]`, among other words.
 #[tactic(auto, using(crate::proofs::Missing::set_blamed, crate::proofs::Missing::twice_set))]
 fn delivery_in(words: &[&[u8]]) -> Result<SignalDelivery, Fault>
-    ensures value { IfOk result (IsSet IsDelivery default_options.signal_delivery (texts (codes "delivery=") words.now)) }
-    ensures none { IfErr result (Blames (IsSet IsDelivery default_options.signal_delivery (texts (codes "delivery=") words.now))) }
+    ensures value { IfOk result
+        (IsSet IsDelivery default_options.signal_delivery (texts (codes "delivery=") words.now)) }
+    ensures none { IfErr result
+        (Blames (IsSet IsDelivery default_options.signal_delivery
+        (texts (codes "delivery=") words.now))) }
 {
     match field_of(words, "delivery=") {
         Ok(Some(text)) => delivery_of(text),
@@ -224,7 +242,8 @@ pub fn seed_in(words: &[&[u8]]) -> Result<u64, Fault>
 /// The options that the words name, but for the seed; those that aren't named are at their default.
 pub fn policies_of(words: &[&[u8]]) -> Result<VMOptions, Fault>
     ensures policies { IfOk result (λ options. ArePolicies words.now options) }
-    ensures seed { IfOk result (λ options. options.fallback_random_seed ≡ default_options.fallback_random_seed) }
+    ensures seed { IfOk result (λ options. options.fallback_random_seed
+        ≡ default_options.fallback_random_seed) }
     ensures none { IfErr result (Blames (ArePolicies words.now)) }
 {
     let implicit_cancellation = cancellation_in(words)?;

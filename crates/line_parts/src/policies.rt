@@ -60,7 +60,8 @@ fn fraction_of(text: &[u8]) -> Result<Fraction, Fault>
 #[tactic(auto, using(crate::proofs::Missing::optional_blamed))]
 fn attempts_in(words: &[&[u8]]) -> Result<Option<u32>, Fault>
     ensures value { IfOk result (IsOptional (IsNumberOf 32) (texts (codes "attempts=") words.now)) }
-    ensures none { IfErr result (Blames (IsOptional (IsNumberOf 32) (texts (codes "attempts=") words.now))) }
+    ensures none { IfErr result
+        (Blames (IsOptional (IsNumberOf 32) (texts (codes "attempts=") words.now))) }
 {
     match field_of(words, "attempts=") {
         Ok(Some(text)) => match u32_of(text) {
@@ -191,7 +192,8 @@ fn growth_of(alloc: Global, text: &[u8]) -> Result<Growth, Fault>
 }
 
 fn fixed(bounds: Bounds) -> RetryPolicy
-    ensures { result ≡ policy.FixedDelay bounds.interval bounds.max_attempts bounds.max_duration bounds.on_max_attempts }
+    ensures { result ≡ policy.FixedDelay bounds.interval bounds.max_attempts bounds.max_duration
+        bounds.on_max_attempts }
 {
     RetryPolicy::fixed_delay(
         bounds.interval,
@@ -202,7 +204,8 @@ fn fixed(bounds: Bounds) -> RetryPolicy
 }
 
 fn exponential(growth: Growth) -> RetryPolicy
-    ensures { result ≡ policy.Exponential growth.initial growth.factor growth.bounds.interval growth.bounds.max_attempts growth.bounds.max_duration growth.bounds.on_max_attempts }
+    ensures { result ≡ policy.Exponential growth.initial growth.factor growth.bounds.interval
+        growth.bounds.max_attempts growth.bounds.max_duration growth.bounds.on_max_attempts }
 {
     let Growth {
         initial,
@@ -250,7 +253,8 @@ fn policy_of(alloc: Global, text: &[u8]) -> Result<RetryPolicy, Fault>
 #[tactic(auto, using(crate::proofs::Missing::set_blamed, crate::proofs::Missing::twice_set))]
 pub fn policy_in(alloc: Global, words: &[&[u8]]) -> Result<RetryPolicy, Fault>
     ensures value { IfOk result (IsSet IsPolicy policy.Infinite (texts (codes "policy=") words.now)) }
-    ensures none { IfErr result (Blames (IsSet IsPolicy policy.Infinite (texts (codes "policy=") words.now))) }
+    ensures none { IfErr result
+        (Blames (IsSet IsPolicy policy.Infinite (texts (codes "policy=") words.now))) }
 {
     match field_of(words, "policy=") {
         Ok(Some(text)) => policy_of(alloc, text),

@@ -205,7 +205,8 @@ fn related_in(alloc: Global, words: &[&[u8]]) -> Result<Option<CommandRelationsh
 /// `[stack=T]`, among other words.
 #[tactic(auto, using(crate::proofs::Missing::set_blamed, crate::proofs::Missing::twice_set))]
 fn stack_in(alloc: Global, words: &[&[u8]]) -> Result<Option<String>, Fault>
-    ensures value { IfOk result (λ stack. IsSet IsText [] (texts (codes "stack=") words.now) (stack_or stack [])) }
+    ensures value { IfOk result
+        (λ stack. IsSet IsText [] (texts (codes "stack=") words.now) (stack_or stack [])) }
     ensures none { IfErr result (Blames (IsSet IsText [] (texts (codes "stack=") words.now))) }
 {
     match field_of(words, "stack=") {
@@ -221,8 +222,10 @@ fn stack_in(alloc: Global, words: &[&[u8]]) -> Result<Option<String>, Fault>
 /// `[behaviour=..]`, among other words.
 #[tactic(auto, using(crate::proofs::Missing::set_blamed, crate::proofs::Missing::twice_set))]
 fn behavior_in(words: &[&[u8]]) -> Result<ErrorBehavior, Fault>
-    ensures value { IfOk result (IsSet IsBehavior behavior.Retry (texts (codes "behaviour=") words.now)) }
-    ensures none { IfErr result (Blames (IsSet IsBehavior behavior.Retry (texts (codes "behaviour=") words.now))) }
+    ensures value { IfOk result
+        (IsSet IsBehavior behavior.Retry (texts (codes "behaviour=") words.now)) }
+    ensures none { IfErr result
+        (Blames (IsSet IsBehavior behavior.Retry (texts (codes "behaviour=") words.now))) }
 {
     match field_of(words, "behaviour=") {
         Ok(Some(text)) => behavior_of(text),
@@ -233,9 +236,13 @@ fn behavior_in(words: &[&[u8]]) -> Result<ErrorBehavior, Fault>
 
 /// `[stack=T] [behaviour=..] [delay=D]`, among other words.
 fn details_in(alloc: Global, words: &[&[u8]]) -> Result<Details, Fault>
-    ensures stack { IfOk result (λ details. IsSet IsText [] (texts (codes "stack=") words.now) (stack_or details.stack [])) }
-    ensures behavior { IfOk result (λ details. IsSet IsBehavior behavior.Retry (texts (codes "behaviour=") words.now) details.behavior) }
-    ensures delay { IfOk result (λ details. IsOptional IsTime (texts (codes "delay=") words.now) details.delay) }
+    ensures stack { IfOk result
+        (λ details. IsSet IsText [] (texts (codes "stack=") words.now) (stack_or details.stack [])) }
+    ensures behavior { IfOk result
+        (λ details. IsSet IsBehavior behavior.Retry (texts (codes "behaviour=") words.now)
+        details.behavior) }
+    ensures delay { IfOk result
+        (λ details. IsOptional IsTime (texts (codes "delay=") words.now) details.delay) }
     ensures none { IfErr result (Blames (AreDetails words.now)) }
 {
     let stack = stack_in(alloc, words)?;

@@ -91,9 +91,13 @@ type Read<'a> = (Option<UnresolvedFuture>, &'a [u8]);
 /// Reads a handle, an empty node, or the beginning of a node, which is then open; and the rest behind it.
 #[tactic(auto, using(crate::proofs::TreeEnding::handle_goes_on))]
 fn begin<'a>(alloc: Global, nodes: &mut Vec<OpenNode>, text: &'a [u8]) -> Result<Read<'a>, Fault>
-    ensures stands { IfOk result (λ read. (whole : List ℕ) → StandsAt whole nodes.old.items None text.now → StandsAt whole nodes.new.items read.0 read.1.now) }
-    ensures goes_on { IfOk result (λ read. GoesOn (length nodes.old.items) None text.now → GoesOn (length nodes.new.items) read.0 read.1.now) }
-    ensures none { IfErr result (λ fault. fault ≡ Malformed → GoesOn (length nodes.old.items) None text.now → ⊥) }
+    ensures stands { IfOk result (λ read. (whole : List ℕ)
+        → StandsAt whole nodes.old.items None text.now
+        → StandsAt whole nodes.new.items read.0 read.1.now) }
+    ensures goes_on { IfOk result (λ read. GoesOn (length nodes.old.items) None text.now
+        → GoesOn (length nodes.new.items) read.0 read.1.now) }
+    ensures none { IfErr result (λ fault. fault ≡ Malformed
+        → GoesOn (length nodes.old.items) None text.now → ⊥) }
     ensures shorter { IfOk result (λ read. length read.1.now < length text.now) }
 {
     let (word, rest) = cut(text);
@@ -118,9 +122,13 @@ fn go_on<'a>(
     text: &'a [u8],
 ) -> Result<Read<'a>, Fault>
     requires { 0 < length text.now }
-    ensures stands { IfOk result (λ read. (whole : List ℕ) → StandsAt whole nodes.old.items (Some tree) text.now → StandsAt whole nodes.new.items read.0 read.1.now) }
-    ensures goes_on { IfOk result (λ read. GoesOn (length nodes.old.items) (Some tree) text.now → GoesOn (length nodes.new.items) read.0 read.1.now) }
-    ensures none { IfErr result (λ fault. fault ≡ Malformed → GoesOn (length nodes.old.items) (Some tree) text.now → ⊥) }
+    ensures stands { IfOk result (λ read. (whole : List ℕ)
+        → StandsAt whole nodes.old.items (Some tree) text.now
+        → StandsAt whole nodes.new.items read.0 read.1.now) }
+    ensures goes_on { IfOk result (λ read. GoesOn (length nodes.old.items) (Some tree) text.now
+        → GoesOn (length nodes.new.items) read.0 read.1.now) }
+    ensures none { IfErr result (λ fault. fault ≡ Malformed
+        → GoesOn (length nodes.old.items) (Some tree) text.now → ⊥) }
     ensures shorter { IfOk result (λ read. length read.1.now < length text.now) }
 {
     let Some(OpenNode { kind, mut children }) = nodes.pop() else {
@@ -143,9 +151,13 @@ fn read_on<'a>(
     text: &'a [u8],
 ) -> Result<Read<'a>, Fault>
     requires { 0 < length text.now }
-    ensures stands { IfOk result (λ read. (whole : List ℕ) → StandsAt whole nodes.old.items last text.now → StandsAt whole nodes.new.items read.0 read.1.now) }
-    ensures goes_on { IfOk result (λ read. GoesOn (length nodes.old.items) last text.now → GoesOn (length nodes.new.items) read.0 read.1.now) }
-    ensures none { IfErr result (λ fault. fault ≡ Malformed → GoesOn (length nodes.old.items) last text.now → ⊥) }
+    ensures stands { IfOk result (λ read. (whole : List ℕ)
+        → StandsAt whole nodes.old.items last text.now
+        → StandsAt whole nodes.new.items read.0 read.1.now) }
+    ensures goes_on { IfOk result (λ read. GoesOn (length nodes.old.items) last text.now
+        → GoesOn (length nodes.new.items) read.0 read.1.now) }
+    ensures none { IfErr result (λ fault. fault ≡ Malformed
+        → GoesOn (length nodes.old.items) last text.now → ⊥) }
     ensures shorter { IfOk result (λ read. length read.1.now < length text.now) }
 {
     match last {

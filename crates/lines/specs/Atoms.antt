@@ -16,7 +16,8 @@ in_hex b = digit_char (b / 16) ∷ digit_char (b % 16) ∷ []
 -- the byte of two hex digits
 unfoldable pub hex_byte : ℕ → ℕ → Option ℕ
 hex_byte high low =
-    if is_digit high 16 && is_digit low 16 then Some (digit_value high * 16 + digit_value low) else None
+    if is_digit high 16 && is_digit low 16 then Some (digit_value high * 16 + digit_value low)
+    else None
 
 -- a byte, if there is one, and what follows it
 abbrev pub before : Option ℕ → List ℕ → Option (ℕ × List ℕ)
@@ -44,11 +45,13 @@ first_char (c ∷ rest) =
 -- the text is these bytes, taken off its front one by one
 abbrev pub Spells : (List ℕ → Option (ℕ × List ℕ)) → List ℕ → List ℕ → Type 0
 Spells first text [] = text ≡ []
-Spells first text (b ∷ bytes) = (rest : List ℕ) × (first text ≡ Some (b, rest)) × Spells first rest bytes
+Spells first text (b ∷ bytes) = (rest : List ℕ) × (first text ≡ Some (b, rest))
+    × Spells first rest bytes
 
 -- bytes in quotes
 abbrev pub IsQuoted : List ℕ → List ℕ → Type 0
-IsQuoted text bytes = (inside : List ℕ) × (text ≡ 34 ∷ (inside ++ 34 ∷ [])) × Spells first_char inside bytes
+IsQuoted text bytes =
+    (inside : List ℕ) × (text ≡ 34 ∷ (inside ++ 34 ∷ [])) × Spells first_char inside bytes
 
 -- bytes as hex digits behind 0x
 abbrev pub IsHex : List ℕ → List ℕ → Type 0

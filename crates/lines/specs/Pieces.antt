@@ -14,16 +14,19 @@ opens b = b == 40 || b == 91 || b == 123
 abbrev pub closes : ℕ → Bool
 closes b = b == 41 || b == 93 || b == 125
 
--- in which quotes a place behind the byte is: " begins and ends them, and between them \ escapes the next byte
+-- in which quotes a place behind the byte is: " begins and ends them, and between them \ escapes
+-- the next byte
 abbrev pub quotes_behind : Quotes → ℕ → Quotes
 quotes_behind Outside b = if b == 34 then Inside else Outside
 quotes_behind Inside b = if b == 34 then Outside else if b == 92 then Escaped else Inside
 quotes_behind Escaped b = Inside
 
--- In how many brackets a place behind the byte is. Between quotes none is counted, and none closes that wasn't opened.
+-- In how many brackets a place behind the byte is. Between quotes none is counted, and none closes
+-- that wasn't opened.
 abbrev pub brackets_behind : Quotes → ℕ → ℕ → Option ℕ
 brackets_behind Outside n b =
-    if opens b then Some (n + 1) else if closes b then (if n == 0 then None else Some (n - 1)) else Some n
+    if opens b then Some (n + 1) else if closes b then (if n == 0 then None else Some (n - 1))
+    else Some n
 brackets_behind quotes n b = Some n
 
 -- in these brackets, if any, and in these quotes
@@ -46,20 +49,24 @@ place text = fold behind outside text
 
 -- each separator in the text stands in brackets or in quotes
 abbrev pub IsUncut : ℕ → List ℕ → Type 0
-IsUncut separator text = (k : ℕ) → k < length text → slice_index text k ≡ separator → place (take k text) ≢ outside
+IsUncut separator text =
+    (k : ℕ) → k < length text → slice_index text k ≡ separator → place (take k text) ≢ outside
 
 -- letters and digits stand in the text between two places
 abbrev pub ArePlain : ℕ → ℕ → List ℕ → Type 0
-ArePlain from to text = (k : ℕ) → from ≤ k → k < to → is_ascii_alphanumeric (slice_index text k) ≡ true
+ArePlain from to text =
+    (k : ℕ) → from ≤ k → k < to → is_ascii_alphanumeric (slice_index text k) ≡ true
 
 -- the text closes its brackets and quotes, and each separator in it stands in these
 abbrev pub IsPiece : ℕ → List ℕ → Type 0
 IsPiece separator text = (place text ≡ outside) × IsUncut separator text
 
--- The text is these pieces, with a separator between each two: with one behind each piece they are the text with one behind it.
+-- The text is these pieces, with a separator between each two: with one behind each piece they are
+-- the text with one behind it.
 abbrev pub ArePieces : ℕ → List ℕ → List (Bor (List ℕ)) → Type 0
 ArePieces separator text pieces =
-    All (λ p. IsPiece separator p.now) pieces × (text ++ separator ∷ [] ≡ flat_map (λ p. p.now ++ separator ∷ []) pieces)
+    All (λ p. IsPiece separator p.now) pieces
+    × (text ++ separator ∷ [] ≡ flat_map (λ p. p.now ++ separator ∷ []) pieces)
 
 -- the texts of pieces
 abbrev pub texts : List (Bor (List ℕ)) → List (List ℕ)
@@ -75,7 +82,8 @@ with_word words piece = words ++ filter is_word (piece ∷ [])
 
 -- the words of the text are its pieces between blanks, without those that are empty
 abbrev pub AreWords : List ℕ → List (Bor (List ℕ)) → Type 0
-AreWords text words = (pieces : List (Bor (List ℕ))) × ArePieces 32 text pieces × (words ≡ filter is_word pieces)
+AreWords text words =
+    (pieces : List (Bor (List ℕ))) × ArePieces 32 text pieces × (words ≡ filter is_word pieces)
 
 -- the text is this, between an opening and a closing byte
 abbrev pub IsWithin : ℕ → ℕ → List ℕ → List ℕ → Type 0

@@ -52,7 +52,8 @@ fn hex_byte(high: u8, low: u8) -> Option<u8>
 
 /// The byte of the first two hex digits, and what follows.
 fn first_hex(text: &[u8]) -> Option<(u8, &[u8])>
-    ensures value { MatchOption result (first_hex text.now ≡ None) (λ found. first_hex text.now ≡ Some (found.0, found.1.now)) }
+    ensures value { MatchOption result (first_hex text.now ≡ None) (λ found. first_hex text.now
+        ≡ Some (found.0, found.1.now)) }
     ensures shorter { IfSome result (λ found. length found.1.now < length text.now) }
 {
     match text {
@@ -64,7 +65,8 @@ fn first_hex(text: &[u8]) -> Option<(u8, &[u8])>
 /// The byte of an escape behind its backslash, and what follows.
 #[tactic(auto, unfolding(crate::specs::Atoms::escaped))]
 fn escape_of(text: &[u8]) -> Option<(u8, &[u8])>
-    ensures value { MatchOption result (escaped text.now ≡ None) (λ found. escaped text.now ≡ Some (found.0, found.1.now)) }
+    ensures value { MatchOption result (escaped text.now ≡ None) (λ found. escaped text.now
+        ≡ Some (found.0, found.1.now)) }
     ensures shorter { IfSome result (λ found. length found.1.now < length text.now) }
 {
     match text {
@@ -78,7 +80,8 @@ fn escape_of(text: &[u8]) -> Option<(u8, &[u8])>
 /// The byte of the first character between quotes, or of the first escape, and what follows.
 #[tactic(auto, unfolding(crate::specs::Atoms::first_char))]
 fn first_byte(text: &[u8]) -> Option<(u8, &[u8])>
-    ensures value { MatchOption result (first_char text.now ≡ None) (λ found. first_char text.now ≡ Some (found.0, found.1.now)) }
+    ensures value { MatchOption result (first_char text.now ≡ None) (λ found. first_char text.now
+        ≡ Some (found.0, found.1.now)) }
     ensures shorter { IfSome result (λ found. length found.1.now < length text.now) }
 {
     match text {

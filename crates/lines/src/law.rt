@@ -20,6 +20,8 @@ pub fn is_number_read_back(_number: u64)
 
 /// A law, which does nothing: a text determines its pieces at a separator, and its words.
 pub fn is_cut_one_way(_text: &[u8], _separator: u8)
-    ensures pieces { (some others : List (Bor (List ℕ))) → ArePieces _separator _text.now some → ArePieces _separator _text.now others → texts some ≡ texts others }
-    ensures words { (some others : List (Bor (List ℕ))) → AreWords _text.now some → AreWords _text.now others → texts some ≡ texts others }
+    ensures pieces { (some others : List (Bor (List ℕ))) → ArePieces _separator _text.now some
+        → ArePieces _separator _text.now others → texts some ≡ texts others }
+    ensures words { (some others : List (Bor (List ℕ))) → AreWords _text.now some
+        → AreWords _text.now others → texts some ≡ texts others }
 {}

@@ -15,7 +15,8 @@ planned_step (planned.StateClearAll name) = step.StateClearAll name
 planned_step (planned.StateGet key name options) = step.StateGet key name options
 planned_step (planned.StateGetKeys name) = step.StateGetKeys name
 planned_step (planned.Call target input name options) = step.Call target input name options
-planned_step (planned.CallWithDeadline target input until name options) = step.CallWithDeadline target input until name options
+planned_step (planned.CallWithDeadline target input until name options) = step.CallWithDeadline
+    target input until name options
 planned_step (planned.Send target input at name options) = step.Send target input at name options
 planned_step planned.Awakeable = step.Awakeable
 planned_step (planned.Signal name) = step.Signal name

@@ -13,8 +13,10 @@ use Rattle.plans.specs.Planned.{planned_step}
 
 -- the line asks for the call that this step is, which may be a run
 abbrev pub SaysStep : List ℕ → Step → Type 0
-SaysStep line said = Reads line (request.Call (call.Step said)) ⊎ ((name : List ℕ) × Reads line (request.Call (call.Run name)) × (said ≡ step.Run name))
+SaysStep line said = Reads line (request.Call (call.Step said))
+    ⊎ ((name : List ℕ) × Reads line (request.Call (call.Run name)) × (said ≡ step.Run name))
 
 -- the lines say these steps, one each
 abbrev pub AreSaid : List (String Global) → List Planned → Type 0
-AreSaid lines steps = AllZip (λ line planned. SaysStep (string_bytes line) (planned_step planned)) lines steps
+AreSaid lines steps =
+    AllZip (λ line planned. SaysStep (string_bytes line) (planned_step planned)) lines steps

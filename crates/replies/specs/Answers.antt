@@ -13,11 +13,14 @@ use Rattle.replies.specs.Texts.{flag_text, input_text, value_text}
 
 -- the handles of a call: the invocation's id, and the result
 abbrev pub handles_text : CallHandle → List ℕ
-handles_text handles = decimal handles.invocation_id_notification_handle.0 ++ codes " " ++ decimal handles.call_notification_handle.0
+handles_text handles = decimal handles.invocation_id_notification_handle.0 ++ codes " "
+    ++ decimal handles.call_notification_handle.0
 
 -- the handles of a call with a deadline: the invocation's id, the result, and the deadline
 abbrev pub deadline_text : DeadlineCallHandle → List ℕ
-deadline_text handles = decimal handles.invocation_id_notification_handle.0 ++ codes " " ++ decimal handles.call_notification_handle.0 ++ codes " " ++ decimal handles.deadline_notification_handle.0
+deadline_text handles = decimal handles.invocation_id_notification_handle.0 ++ codes " "
+    ++ decimal handles.call_notification_handle.0 ++ codes " "
+    ++ decimal handles.deadline_notification_handle.0
 
 -- the handle of an awakeable, and its id
 abbrev pub awakeable_text : AwakeableHandle → List ℕ

@@ -38,16 +38,18 @@ error_text e = codes "err " ++ decimal e.code ++ codes " " ++ quoted e.message
 
 -- the head of the response: its status, the version, its headers
 abbrev pub head_text : ResponseHead → List ℕ
-head_text head = decimal head.status_code ++ codes " " ++ version_text head.version ++ spaced header_text head.headers
+head_text head = decimal head.status_code ++ codes " " ++ version_text head.version
+    ++ spaced header_text head.headers
 
--- what an await answered: which run is to be executed now; which ephemeral read's value is there; whether input, and whether a run's result is
--- waited for
+-- what an await answered: which run is to be executed now; which ephemeral read's value is there;
+-- whether input, and whether a run's result is waited for
 abbrev pub awaited_text : AwaitResponse → List ℕ
 awaited_text response.AnyCompleted = codes "any"
 awaited_text response.CancelSignalReceived = codes "cancelled"
 awaited_text (response.ExecuteRun handle) = codes "run " ++ decimal handle.0
 awaited_text (response.EphemeralNotificationReady id) = codes "ephemeral " ++ decimal id.0
-awaited_text (response.WaitingExternalProgress input run) = codes "wait " ++ flag_text input ++ codes " " ++ flag_text run
+awaited_text (response.WaitingExternalProgress input run) = codes "wait " ++ flag_text input
+    ++ codes " " ++ flag_text run
 
 -- a number that may be below 0
 abbrev pub index_text : ℤ → List ℕ

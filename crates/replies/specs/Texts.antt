@@ -44,7 +44,8 @@ header_text h = pair_text (h.key, h.value)
 
 -- a failure: its code, its message, and what else is told of it
 abbrev pub failure_text : TerminalFailure → List ℕ
-failure_text f = codes "failure " ++ decimal f.code ++ codes " " ++ quoted f.message ++ spaced pair_text f.metadata
+failure_text f = codes "failure " ++ decimal f.code ++ codes " " ++ quoted f.message
+    ++ spaced pair_text f.metadata
 
 abbrev pub value_text : Value → List ℕ
 value_text value.Void = codes "void"
@@ -55,11 +56,14 @@ value_text (value.InvocationId id) = codes "invocation " ++ quoted id
 
 -- which invocation it is, and the headers, each field behind its name
 abbrev pub invocation_text : Input → List ℕ
-invocation_text i = codes "id=" ++ quoted i.invocation_id ++ codes " seed=" ++ decimal i.random_seed ++ codes " key=" ++ quoted i.key ++ codes " headers=" ++ listed header_text i.headers
+invocation_text i = codes "id=" ++ quoted i.invocation_id ++ codes " seed=" ++ decimal i.random_seed
+    ++ codes " key=" ++ quoted i.key ++ codes " headers=" ++ listed header_text i.headers
 
 -- what came with the call, in the same way
 abbrev pub payload_text : Input → List ℕ
-payload_text i = codes " value=" ++ quoted i.input ++ codes " scope=" ++ optional_text i.scope ++ codes " limit=" ++ optional_text i.limit_key ++ codes " idem=" ++ optional_text i.idempotency_key
+payload_text i = codes " value=" ++ quoted i.input ++ codes " scope=" ++ optional_text i.scope
+    ++ codes " limit=" ++ optional_text i.limit_key ++ codes " idem="
+    ++ optional_text i.idempotency_key
 
 -- what a handler was called with
 abbrev pub input_text : Input → List ℕ

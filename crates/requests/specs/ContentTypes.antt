@@ -9,4 +9,5 @@ abbrev pub found : ContentType → List ℕ → Option (Option (List ℕ))
 found Absent name = Some None
 found Unreadable name = if pointwise nat_eq name (codes "content-type") then None else Some None
 found (Named text) name =
-    if pointwise nat_eq name (codes "content-type") then Some (Some (string_bytes text)) else Some None
+    if pointwise nat_eq name (codes "content-type") then Some (Some (string_bytes text))
+    else Some None

@@ -46,7 +46,8 @@ HasNoWords text = (IsUtf8 text → ⊥) ⊎ (place text ≢ outside)
 
 -- the words of the line make a VM of this content type and these options
 abbrev pub MakesWith : List ℕ → ContentType → VMOptions → Type 0
-MakesWith text content_type options = (words : List (Bor (List ℕ))) × HasWords text words × IsMade words (content_type, options)
+MakesWith text content_type options =
+    (words : List (Bor (List ℕ))) × HasWords text words × IsMade words (content_type, options)
 
 -- these words make no VM
 pub record MakeNothing (words : List (Bor (List ℕ))) : Type 0 where
@@ -54,7 +55,8 @@ pub record MakeNothing (words : List (Bor (List ℕ))) : Type 0 where
 
 -- why a line makes no VM: it has no words, or its words make none
 abbrev pub MakesNothing : List ℕ → Type 0
-MakesNothing text = HasNoWords text ⊎ ((words : List (Bor (List ℕ))) × HasWords text words × MakeNothing words)
+MakesNothing text =
+    HasNoWords text ⊎ ((words : List (Bor (List ℕ))) × HasWords text words × MakeNothing words)
 
 -- the words of the line ask for this call
 abbrev pub AsksCall : List ℕ → Call → Type 0
@@ -66,16 +68,21 @@ pub record AskNothing (words : List (Bor (List ℕ))) : Type 0 where
 
 -- why a line asks for no call: it has no words, or its words ask for nothing
 abbrev pub AsksNothing : List ℕ → Type 0
-AsksNothing text = HasNoWords text ⊎ ((words : List (Bor (List ℕ))) × HasWords text words × AskNothing words)
+AsksNothing text =
+    HasNoWords text ⊎ ((words : List (Bor (List ℕ))) × HasWords text words × AskNothing words)
 
--- What a line without blanks at its ends asks for. One that begins with `vm` makes a VM, and any other is a call. It is bad where
--- it has no words, and where its words make or ask for nothing.
+-- What a line without blanks at its ends asks for. One that begins with `vm` makes a VM, and any
+-- other is a call. It is bad where it has no words, and where its words make or ask for nothing.
 abbrev pub Asks : List ℕ → Request → Type 0
 Asks text request.Nothing = says_nothing text ≡ true
-Asks text request.Bad = (says_nothing text ≡ false) × (begins_with_vm text ≡ false) × AsksNothing text
-Asks text request.BadMake = (says_nothing text ≡ false) × (begins_with_vm text ≡ true) × MakesNothing text
-Asks text (request.Make content_type options) = (says_nothing text ≡ false) × (begins_with_vm text ≡ true) × MakesWith text content_type options
-Asks text (request.Call call) = (says_nothing text ≡ false) × (begins_with_vm text ≡ false) × AsksCall text call
+Asks text request.Bad =
+    (says_nothing text ≡ false) × (begins_with_vm text ≡ false) × AsksNothing text
+Asks text request.BadMake =
+    (says_nothing text ≡ false) × (begins_with_vm text ≡ true) × MakesNothing text
+Asks text (request.Make content_type options) = (says_nothing text ≡ false)
+    × (begins_with_vm text ≡ true) × MakesWith text content_type options
+Asks text (request.Call call) = (says_nothing text ≡ false) × (begins_with_vm text ≡ false)
+    × AsksCall text call
 
 -- what a line asks for; blanks at its ends don't count
 abbrev pub Reads : List ℕ → Request → Type 0

@@ -63,7 +63,13 @@ verb_name verb.TakeEphemeral = codes "take_ephemeral"
 -- the verbs, those that most lines have first
 abbrev pub verbs : List Verb
 verbs =
-    verb.Take ∷ verb.Await ∷ verb.Input ∷ verb.Sleep ∷ verb.Get ∷ verb.Set ∷ verb.Call ∷ verb.Run ∷ verb.Propose ∷ verb.Signal ∷ verb.Completed ∷ verb.Send ∷ verb.Output ∷ verb.Head ∷ verb.Close ∷ verb.Ready ∷ verb.State ∷ verb.Index ∷ verb.Error ∷ verb.SysInput ∷ verb.Keys ∷ verb.Clear ∷ verb.ClearAll ∷ verb.CallWithDeadline ∷ verb.Awakeable ∷ verb.CompleteAwakeable ∷ verb.CompleteSignal ∷ verb.Cancel ∷ verb.GetPromise ∷ verb.PeekPromise ∷ verb.CompletePromise ∷ verb.Attach ∷ verb.GetOutput ∷ verb.WriteOutput ∷ verb.End ∷ verb.EphemeralGet ∷ verb.TakeEphemeral ∷ []
+    verb.Take ∷ verb.Await ∷ verb.Input ∷ verb.Sleep ∷ verb.Get ∷ verb.Set ∷ verb.Call ∷ verb.Run
+    ∷ verb.Propose ∷ verb.Signal ∷ verb.Completed ∷ verb.Send ∷ verb.Output ∷ verb.Head
+    ∷ verb.Close ∷ verb.Ready ∷ verb.State ∷ verb.Index ∷ verb.Error ∷ verb.SysInput ∷ verb.Keys
+    ∷ verb.Clear ∷ verb.ClearAll ∷ verb.CallWithDeadline ∷ verb.Awakeable
+    ∷ verb.CompleteAwakeable ∷ verb.CompleteSignal ∷ verb.Cancel ∷ verb.GetPromise
+    ∷ verb.PeekPromise ∷ verb.CompletePromise ∷ verb.Attach ∷ verb.GetOutput ∷ verb.WriteOutput
+    ∷ verb.End ∷ verb.EphemeralGet ∷ verb.TakeEphemeral ∷ []
 
 -- the verb whose name this is
 unfoldable pub verb_named : List ℕ → Option Verb
@@ -75,7 +81,8 @@ IsAwaited words future = (length words ≡ 1) × SpellsFuture (text_at 0 words) 
 
 -- the words begin with this service, this handler and this input
 abbrev pub HasCallee : List (Bor (List ℕ)) → List ℕ × List ℕ × List ℕ → Type 0
-HasCallee words callee = IsText (text_at 0 words) callee.0 × IsText (text_at 1 words) callee.1 × IsAtom (text_at 2 words) callee.2
+HasCallee words callee = IsText (text_at 0 words) callee.0 × IsText (text_at 1 words) callee.1
+    × IsAtom (text_at 2 words) callee.2
 
 -- the words name this target's options, this name and these options of a call
 abbrev pub NamesCall : List (Bor (List ℕ)) → Target × Option (List ℕ) × PayloadOptions → Type 0
@@ -115,28 +122,43 @@ IsLine verb.Await words = One (IsAwaited words) (λ future. call.Step (step.Awai
 IsLine verb.Completed words = One (IsHandle words) (λ handle. call.Step (step.Completed handle))
 IsLine verb.Take words = One (IsHandle words) (λ handle. call.Step (step.Take handle))
 IsLine verb.SysInput words = IsBare words call.SysInput
-IsLine verb.Get words = Two (IsText (text_at 0 words)) (HasExtras (drop 1 words)) (λ key extras. call.Step (step.StateGet key extras.name extras.payload))
+IsLine verb.Get words = Two (IsText (text_at 0 words)) (HasExtras (drop 1 words))
+    (λ key extras. call.Step (step.StateGet key extras.name extras.payload))
 IsLine verb.Keys words = One (HasName words) (λ name. call.Step (step.StateGetKeys name))
-IsLine verb.Set words = Three (IsText (text_at 0 words)) (IsAtom (text_at 1 words)) (HasExtras (drop 2 words)) (λ key value extras. call.Step (step.StateSet key value extras.name extras.payload))
-IsLine verb.Clear words = Two (IsText (text_at 0 words)) (HasName (drop 1 words)) (λ key name. call.Step (step.StateClear key name))
+IsLine verb.Set words = Three (IsText (text_at 0 words)) (IsAtom (text_at 1 words))
+    (HasExtras (drop 2 words))
+    (λ key value extras. call.Step (step.StateSet key value extras.name extras.payload))
+IsLine verb.Clear words = Two (IsText (text_at 0 words)) (HasName (drop 1 words))
+    (λ key name. call.Step (step.StateClear key name))
 IsLine verb.ClearAll words = One (HasName words) (λ name. call.Step (step.StateClearAll name))
-IsLine verb.Sleep words = Three (IsText (text_at 0 words)) (IsTime (text_at 1 words)) (HasNow (drop 2 words)) (λ name until now. call.Step (step.Sleep name until now))
+IsLine verb.Sleep words = Three (IsText (text_at 0 words)) (IsTime (text_at 1 words))
+    (HasNow (drop 2 words)) (λ name until now. call.Step (step.Sleep name until now))
 IsLine verb.Call words = One (IsCall words) (λ c. call.Step (step.Call c.0 c.1 c.2 c.3))
-IsLine verb.CallWithDeadline words = One (IsDeadlineCall words) (λ c. call.Step (step.CallWithDeadline c.0 c.1 c.2 c.3 c.4))
+IsLine verb.CallWithDeadline words =
+    One (IsDeadlineCall words) (λ c. call.Step (step.CallWithDeadline c.0 c.1 c.2 c.3 c.4))
 IsLine verb.Send words = One (IsSend words) (λ c. call.Step (step.Send c.0 c.1 c.2 c.3 c.4))
 IsLine verb.Awakeable words = IsBare words (call.Step step.Awakeable)
 IsLine verb.Signal words = One (IsOneText words) (λ name. call.Step (step.Signal name))
-IsLine verb.CompleteAwakeable words = Two (IsText (text_at 0 words)) (HasValue (drop 1 words)) (λ id value. call.Step (step.CompleteAwakeable id value.0 value.1))
-IsLine verb.CompleteSignal words = Three (IsText (text_at 0 words)) (IsText (text_at 1 words)) (IsValue (drop 2 words)) (λ target name value. call.Step (step.CompleteSignal target name value))
-IsLine verb.Cancel words = One (IsOneText words) (λ target. call.Step (step.CancelInvocation target))
+IsLine verb.CompleteAwakeable words = Two (IsText (text_at 0 words)) (HasValue (drop 1 words))
+    (λ id value. call.Step (step.CompleteAwakeable id value.0 value.1))
+IsLine verb.CompleteSignal words = Three (IsText (text_at 0 words)) (IsText (text_at 1 words))
+    (IsValue (drop 2 words))
+    (λ target name value. call.Step (step.CompleteSignal target name value))
+IsLine verb.Cancel words =
+    One (IsOneText words) (λ target. call.Step (step.CancelInvocation target))
 IsLine verb.GetPromise words = One (IsOneText words) (λ key. call.Step (step.GetPromise key))
 IsLine verb.PeekPromise words = One (IsOneText words) (λ key. call.Step (step.PeekPromise key))
-IsLine verb.CompletePromise words = Two (IsText (text_at 0 words)) (HasValue (drop 1 words)) (λ key value. call.Step (step.CompletePromise key value.0 value.1))
+IsLine verb.CompletePromise words = Two (IsText (text_at 0 words)) (HasValue (drop 1 words))
+    (λ key value. call.Step (step.CompletePromise key value.0 value.1))
 IsLine verb.Run words = One (IsOneText words) call.Run
-IsLine verb.Propose words = One (IsProposal words) (λ it. call.Propose it.handle it.result it.policy)
-IsLine verb.Attach words = One (NamesInvocation words) (λ target. call.Step (step.AttachInvocation target))
-IsLine verb.GetOutput words = One (NamesInvocation words) (λ target. call.Step (step.GetInvocationOutput target))
-IsLine verb.WriteOutput words = One (HasValue words) (λ value. call.Step (step.WriteOutput value.0 value.1))
+IsLine verb.Propose words =
+    One (IsProposal words) (λ it. call.Propose it.handle it.result it.policy)
+IsLine verb.Attach words =
+    One (NamesInvocation words) (λ target. call.Step (step.AttachInvocation target))
+IsLine verb.GetOutput words =
+    One (NamesInvocation words) (λ target. call.Step (step.GetInvocationOutput target))
+IsLine verb.WriteOutput words =
+    One (HasValue words) (λ value. call.Step (step.WriteOutput value.0 value.1))
 IsLine verb.End words = IsBare words (call.Step step.End)
 IsLine verb.EphemeralGet words = One (IsOneText words) call.EphemeralGet
 IsLine verb.TakeEphemeral words = One (IsEphemeralId words) call.TakeEphemeral

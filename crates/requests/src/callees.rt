@@ -78,7 +78,8 @@ fn callee_of<'w, 'a>(
     alloc: Global,
     words: &'w [&'a [u8]],
 ) -> Result<(Callee, &'w [&'a [u8]]), Fault>
-    ensures callee { IfOk result (λ found. HasCallee words.now (found.0.service, found.0.handler, found.0.input)) }
+    ensures callee { IfOk result
+        (λ found. HasCallee words.now (found.0.service, found.0.handler, found.0.input)) }
     ensures rest { IfOk result (λ found. found.1.now ≡ drop 3 words.now) }
     ensures none { IfErr result (Blames (HasCallee words.now)) }
 {

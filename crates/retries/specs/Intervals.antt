@@ -13,8 +13,8 @@ unfoldable pub multiplied : Fraction → ℕ → ℕ → ℕ
 multiplied f n zero = n
 multiplied f n (suc k) = times f (multiplied f n k)
 
--- the interval behind so many failures: the initial one behind none and behind one; behind each further one the last interval
--- times the fraction, as far as a duration goes
+-- the interval behind so many failures: the initial one behind none and behind one; behind each
+-- further one the last interval times the fraction, as far as a duration goes
 unfoldable pub interval : ℕ → Fraction → ℕ → ℕ
 interval initial f zero = initial
 interval initial f (suc zero) = initial

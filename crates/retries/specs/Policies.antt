@@ -29,7 +29,8 @@ is_reached (Some most) spent = nat_le most spent
 
 -- the bound on attempts is reached by so many, or that on the duration by so many nanoseconds
 abbrev pub is_exhausted : Option ℕ → Option Duration → ℕ → ℕ → Bool
-is_exhausted attempts duration count nanos = is_reached attempts count || is_reached (option_map as_nanos duration) nanos
+is_exhausted attempts duration count nanos =
+    is_reached attempts count || is_reached (option_map as_nanos duration) nanos
 
 abbrev pub when_exhausted : OnMaxAttempts → Verdict
 when_exhausted on_max.FailAsTerminal = failed
@@ -46,11 +47,14 @@ pauses_on_max policy.None = false
 pauses_on_max (policy.FixedDelay interval attempts duration on) = is_pause on
 pauses_on_max (policy.Exponential initial factor most attempts duration on) = is_pause on
 
--- what a policy says of an entry that failed so often, in so many nanoseconds: its bounds decide first
+-- what a policy says of an entry that failed so often, in so many nanoseconds: its bounds decide
+-- first
 abbrev pub next_retry : RetryPolicy → ℕ → ℕ → Verdict
 next_retry policy.Infinite count nanos = retried None
 next_retry policy.None count nanos = failed
 next_retry (policy.FixedDelay interval attempts duration on) count nanos =
-    if is_exhausted attempts duration count nanos then when_exhausted on else retried (option_map as_nanos interval)
+    if is_exhausted attempts duration count nanos then when_exhausted on
+    else retried (option_map as_nanos interval)
 next_retry (policy.Exponential initial factor most attempts duration on) count nanos =
-    if is_exhausted attempts duration count nanos then when_exhausted on else retried (Some (delay initial factor most count))
+    if is_exhausted attempts duration count nanos then when_exhausted on
+    else retried (Some (delay initial factor most count))

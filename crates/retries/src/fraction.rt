@@ -13,7 +13,8 @@ impl Fraction {
     /// None where the denominator is zero. It takes no memory.
     pub fn new(numerator: u32, denominator: u32) -> Option<Fraction>
         ensures none { IsNone result ↔ (denominator ≡ 0) }
-        ensures parts { IfSome result (λ f. (f.numerator ≡ numerator) × (f.denominator ≡ denominator)) }
+        ensures parts { IfSome result (λ f. (f.numerator ≡ numerator)
+            × (f.denominator ≡ denominator)) }
     {
         if denominator == 0 {
             return None;

@@ -89,7 +89,8 @@ impl OnMaxAttempts {
 impl EntryRetryInfo {
     /// Whether one of the bounds is reached.
     fn exhausts(&self, max_attempts: Option<u32>, max_duration: Option<Duration>) -> bool
-        ensures { result ≡ is_exhausted max_attempts max_duration self.now.retry_count (as_nanos self.now.retry_loop_duration) }
+        ensures { result ≡ is_exhausted max_attempts max_duration self.now.retry_count
+            (as_nanos self.now.retry_loop_duration) }
     {
         let spent = self.retry_loop_duration.as_nanos();
         max_attempts.is_some_and(|most| most <= self.retry_count)
@@ -124,7 +125,8 @@ impl RetryPolicy {
         max_duration: Option<Duration>,
         on_max_attempts: OnMaxAttempts,
     ) -> RetryPolicy
-        ensures { result ≡ policy.Exponential initial_interval factor max_interval max_attempts max_duration on_max_attempts }
+        ensures { result ≡ policy.Exponential initial_interval factor max_interval max_attempts
+            max_duration on_max_attempts }
     {
         RetryPolicy::Exponential {
             initial_interval,
@@ -155,7 +157,8 @@ impl RetryPolicy {
 
     /// What becomes of an entry that failed, where it has been tried so often and for so long.
     pub fn next_retry(&self, tried: EntryRetryInfo) -> NextRetry
-        ensures { in_nanos result ≡ next_retry self.now tried.retry_count (as_nanos tried.retry_loop_duration) }
+        ensures { in_nanos result
+            ≡ next_retry self.now tried.retry_count (as_nanos tried.retry_loop_duration) }
     {
         match self {
             RetryPolicy::Infinite => NextRetry::Retry(None),

@@ -2,7 +2,7 @@
 use Rattle.std.proofs.Common.{◌≡◌, ℕ, suc, ◌+◌, ◌<◌, ◌≤◌, List, [], ◌∷◌, ◌++◌, length, drop, slice_index_or, refl, sym, ap, subst, ◌∙◌, append_assoc, arith, codes}
 use Rattle.std.proofs.lemmas.List.{append-nil, drop_all, drop_more}
 use Rattle.vm_rounds.specs.Rounds.{ReportView}
-use Rattle.round_reports.specs.Printed.{Adds, AddsSome, AreEach, IsRoundText, answer_lines, count_text, error_text}
+use Rattle.round_reports.specs.Printed.{AddsSuch, AddsSome, AreEach, IsRoundText, answer_lines, count_text, error_line}
 
 -- ---- something is added
 
@@ -36,7 +36,7 @@ print_more holds n all i x line old now then lt is p e so_far =
       λ rest h. subst (λ l. AreEach holds n all l) (sym (append_assoc so_far.0 line rest)) (so_far.2 (line ++ rest) (subst (λ xs. AreEach holds (n + i) xs (line ++ rest)) (sym same) (line, rest, p, subst (λ m. AreEach holds m (drop (i + 1) all) rest) on h, refl))),
     )
 
-pub print_all : {A : Type 0} (holds : ℕ → A → List ℕ → Type 0) (n : ℕ) (all : List A) (i : ℕ) (old now : List ℕ) → length all ≤ i → PrintsOn holds n all i old now → Adds (AreEach holds n all) old now
+pub print_all : {A : Type 0} (holds : ℕ → A → List ℕ → Type 0) (n : ℕ) (all : List A) (i : ℕ) (old now : List ℕ) → length all ≤ i → PrintsOn holds n all i old now → AddsSuch (AreEach holds n all) old now
 print_all holds n all i old now le so_far = (
   so_far.0,
   subst (λ l. AreEach holds n all l) (append-nil so_far.0) (so_far.2 [] (subst (λ xs. AreEach holds (n + i) xs []) (sym (drop_all i all le)) refl)),
@@ -45,12 +45,12 @@ print_all holds n all i old now le so_far = (
 
 -- ---- a round
 
-pub round_printed : (n : ℕ) (r : ReportView) (old a b c d new frames : List ℕ) → a ≡ old ++ count_text (codes "round ") n → b ≡ a ++ answer_lines r.answers → c ≡ b ++ frames → d ≡ c ++ error_text r.error
-    → new ≡ d ++ count_text (codes "entries ") r.entries → Adds (IsRoundText n r) old new
+pub round_printed : (n : ℕ) (r : ReportView) (old a b c d new frames : List ℕ) → a ≡ old ++ count_text (codes "round ") n → b ≡ a ++ answer_lines r.answers → c ≡ b ++ frames → d ≡ c ++ error_line r.error
+    → new ≡ d ++ count_text (codes "entries ") r.entries → AddsSuch (IsRoundText n r) old new
 round_printed n r old a b c d new frames ea eb ec ed en =
     let answers = answer_lines r.answers in
     let x = count_text (codes "round ") n in
-    let y = error_text r.error in
+    let y = error_line r.error in
     let z = count_text (codes "entries ") r.entries in
     let all : new ≡ ((((old ++ x) ++ answers) ++ frames) ++ y) ++ z =
     en ∙ ap (λ l. l ++ z) (ed ∙ ap (λ l. l ++ y) (ec ∙ ap (λ l. l ++ frames) (eb ∙ ap (λ l. l ++ answers) ea))) in

@@ -16,8 +16,8 @@ use Rattle.vm_store.specs.declared.types.RoundFault.TheVariants as round_fault
 -- ---- texts one behind the other
 
 -- something that this holds of is added
-abbrev pub Adds : (List ℕ → Type 0) → List ℕ → List ℕ → Type 0
-Adds holds old new = (added : List ℕ) × holds added × (new ≡ old ++ added)
+abbrev pub AddsSuch : (List ℕ → Type 0) → List ℕ → List ℕ → Type 0
+AddsSuch holds old new = (added : List ℕ) × holds added × (new ≡ old ++ added)
 
 -- something is added
 abbrev pub AddsSome : List ℕ → List ℕ → Type 0
@@ -26,7 +26,8 @@ AddsSome old new = (added : List ℕ) × (new ≡ old ++ added)
 -- a text for each item, one behind the other; the items are numbered from this number on
 abbrev pub AreEach : {A : Type 0} → (ℕ → A → List ℕ → Type 0) → ℕ → List A → List ℕ → Type 0
 AreEach holds number [] text = text ≡ []
-AreEach holds number (item ∷ items) text = (first : List ℕ) × (rest : List ℕ) × holds number item first × AreEach holds (suc number) items rest × (text ≡ first ++ rest)
+AreEach holds number (item ∷ items) text = (first : List ℕ) × (rest : List ℕ)
+    × holds number item first × AreEach holds (suc number) items rest × (text ≡ first ++ rest)
 
 -- ---- answers
 
@@ -62,30 +63,35 @@ answer_lines answers = flat_map answer_line answers
 -- ---- rounds
 
 -- the line of an error, if there is one
-abbrev pub error_text : Option Error → List ℕ
-error_text None = []
-error_text (Some e) = codes "error " ++ decimal e.code ++ codes " " ++ quoted e.message ++ codes "\n"
+abbrev pub error_line : Option Error → List ℕ
+error_line None = []
+error_line (Some e) = codes "error " ++ decimal e.code ++ codes " " ++ quoted e.message
+    ++ codes "\n"
 
 -- a line of a word and a number
 abbrev pub count_text : List ℕ → ℕ → List ℕ
 count_text word count = word ++ decimal count ++ codes "\n"
 
--- what a round tells: its number, its answers, the frames that it sent, its error, and how many entries the journal has
+-- what a round tells: its number, its answers, the frames that it sent, its error, and how many
+-- entries the journal has
 pub record IsRoundText (number : ℕ) (report : ReportView) (text : List ℕ) : Type 0 where
   pub frames : List ℕ
-  pub is : text ≡ count_text (codes "round ") number ++ answer_lines report.answers ++ frames ++ error_text report.error ++ count_text (codes "entries ") report.entries
+  pub is : text ≡ count_text (codes "round ") number ++ answer_lines report.answers ++ frames
+      ++ error_line report.error ++ count_text (codes "entries ") report.entries
 
 -- what rounds tell, which are numbered from 1
 abbrev pub AreRoundTexts : List Report → List ℕ → Type 0
-AreRoundTexts reports text = AreEach (λ number report. IsRoundText number (report_view report)) 1 reports text
+AreRoundTexts reports text =
+    AreEach (λ number report. IsRoundText number (report_view report)) 1 reports text
 
 -- what stands behind the rounds: the journal
 abbrev pub IsJournalText : List ℕ → Type 0
 IsJournalText text = (entries : List ℕ) × (text ≡ codes "journal\n" ++ entries)
 
 -- what rounds tell, and the journal behind them
-abbrev pub IsReport : List Report → List ℕ → Type 0
-IsReport reports text = (rounds : List ℕ) × (journal : List ℕ) × AreRoundTexts reports rounds × IsJournalText journal × (text ≡ rounds ++ journal)
+abbrev pub IsPrinted : List Report → List ℕ → Type 0
+IsPrinted reports text = (rounds : List ℕ) × (journal : List ℕ) × AreRoundTexts reports rounds
+    × IsJournalText journal × (text ≡ rounds ++ journal)
 
 -- ---- faults
 

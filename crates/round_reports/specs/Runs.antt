@@ -1,4 +1,5 @@
--- What a run of the program does: it reads a whole script, plays its rounds, and writes their report.
+-- What a run of the program does: it reads a whole script, plays its rounds, and writes their
+-- report.
 use Rattle.std.specs.Prelude.{◌≡◌, ◌⊎◌, ℕ, List, [], ◌∷◌, map, Option, Some, None, IfSome}
 use Rattle.std.specs.Io.KnownBytes.{Appends}
 use Rattle.std.specs.declared.io.Error.{Error as IoError}
@@ -16,36 +17,49 @@ use Rattle.vm_store.specs.declared.types.RoundFault.{RoundFault}
 use Rattle.vm_store.specs.declared.types.RoundFault.TheVariants as round_fault
 use Rattle.vm_store.specs.declared.types.Setting.{Setting}
 use Rattle.streams.specs.Streams.{AppendsSome}
-use Rattle.round_scripts.specs.Scripts.{IsRead, StopsAt, nothing}
+use Rattle.round_scripts.specs.Scripts.{IsScriptRead, StopsAt, no_parts}
 use Rattle.round_scripts.specs.declared.given.Given.{Given}
 use Rattle.round_scripts.specs.declared.script.Script.{Script}
-use Rattle.round_reports.specs.Printed.{IsReport, fault_text}
+use Rattle.round_reports.specs.Printed.{IsPrinted, fault_text}
 use Rattle.round_reports.specs.declared.run_end.RunEnd.{RunEnd}
 use Rattle.round_reports.specs.declared.run_end.RunEnd.TheVariants.{UnknownHandler, UnknownContentType, ReadFailed, NoMeaning, NoMemory, WriteFailed, Stopped, Reported}
 
 -- what all attempts of a script's world are made with
 abbrev pub setting_of : Version → Given → Setting
-setting_of version given = record { identity = given.identity; options = given.options; version = version; base = pairs_given given.state.items }
+setting_of version given = record {
+  identity = given.identity;
+  options = given.options;
+  version = version;
+  base = pairs_given given.state.items;
+}
 
--- the journal with which a world begins: the entries that are given, or one Input command, without headers, if there are none
+-- the journal with which a world begins: the entries that are given, or one Input command, without
+-- headers, if there are none
 abbrev pub first_journal : List ℕ → List (List ℕ) → List (List ℕ)
 first_journal input [] = encoding (message.Input (record { headers = []; value = input })) ∷ []
 first_journal input (entry ∷ entries) = entry ∷ entries
 
--- how rounds end, and their report: all have run; or a fault has stopped them, and the report is its name
-abbrev pub RoundsEnd : Meaning → Setting → List Round → List (List ℕ) → Option RoundFault → List ℕ → Type 0
+-- how rounds end, and their report: all have run; or a fault has stopped them, and the report is
+-- its name
+abbrev pub RoundsEnd : Meaning → Setting → List Round → List (List ℕ) → Option RoundFault → List ℕ
+    → Type 0
 RoundsEnd meaning setting rounds journal None report =
-    (reports : List Report) × (after : List (List ℕ)) × RoundsDo meaning setting rounds journal (map report_view reports) after × IsReport reports report
-RoundsEnd meaning setting rounds journal (Some fault) report = RoundsFault meaning setting rounds journal fault × (report ≡ fault_text fault)
+    (reports : List Report) × (after : List (List ℕ))
+    × RoundsDo meaning setting rounds journal (map report_view reports) after
+    × IsPrinted reports report
+RoundsEnd meaning setting rounds journal (Some fault) report = RoundsFault meaning setting rounds
+    journal fault × (report ≡ fault_text fault)
 
--- why no world is made of these entries: the first of them that has a fault has this one; or there is no memory
+-- why no world is made of these entries: the first of them that has a fault has this one; or there
+-- is no memory
 abbrev pub MakeNoWorld : List (List ℕ) → RoundFault → Type 0
 MakeNoWorld entries fault = (fault ≡ round_fault.Memory) ⊎ FirstGiven [] entries fault
 
 -- No entry of the script has a fault, and its rounds end over its world.
 pub record IsPlayed (meaning : Meaning) (version : Version) (script : Script) (fault : Option RoundFault) (report : List ℕ) : Type 0 where
   pub fits : AreGiven [] script.entries.items
-  pub ends : RoundsEnd meaning (setting_of version script.given) script.rounds.items (first_journal script.given.input script.entries.items) fault report
+  pub ends : RoundsEnd meaning (setting_of version script.given) script.rounds.items
+      (first_journal script.given.input script.entries.items) fault report
 
 -- No world is made of the script's entries, and the report is the name of the fault.
 pub record HasNoWorld (script : Script) (fault : Option RoundFault) (report : List ℕ) : Type 0 where
@@ -56,12 +70,13 @@ pub record HasNoWorld (script : Script) (fault : Option RoundFault) (report : Li
 
 -- how a script ends, and its report
 abbrev pub ScriptEnds : Meaning → Version → Script → Option RoundFault → List ℕ → Type 0
-ScriptEnds meaning version script fault report = IsPlayed meaning version script fault report ⊎ HasNoWorld script fault report
+ScriptEnds meaning version script fault report =
+    IsPlayed meaning version script fault report ⊎ HasNoWorld script fault report
 
 -- a text is read as a script, and its rounds are played over its world, if there is one
 pub record Plays (meaning : Meaning) (version : Version) (text : List ℕ) (fault : Option RoundFault) (report : List ℕ) : Type 0 where
   pub script : Script
-  pub is_read : IsRead text script
+  pub is_read : IsScriptRead text script
   pub ends : ScriptEnds meaning version script fault report
 
 -- The text is all that the reader had left, where this is known, and this holds of its report.
@@ -72,28 +87,41 @@ pub record PlaysAll (meaning : Meaning) (version : Version) (left : Option (List
   pub plays : Plays meaning version text fault report
   pub is_written : written report
 
--- The text is all that the reader had left, where this is known, and its line of this number is the first that has no meaning.
+-- The text is all that the reader had left, where this is known, and its line of this number is the
+-- first that has no meaning.
 pub record StopsThere (left : Option (List ℕ)) (number : ℕ) : Type 0 where
   pub text : List ℕ
   pub all : IfSome left (λ bytes. text ≡ bytes)
-  pub stops : StopsAt text nothing number
+  pub stops : StopsAt text no_parts number
 
--- what is written of a report into a writer that held and now holds these bytes, where the rounds have ended so
-abbrev pub Ends : (IoError → Type 0) → Option (List ℕ) → Option (List ℕ) → Option RoundFault → List ℕ → RunEnd → Type 0
-Ends write_fails held holds fault report (WriteFailed e) = write_fails e × AppendsSome held holds report
-Ends write_fails held holds fault report (Stopped f) = (fault ≡ Some f) × Appends held holds report
-Ends write_fails held holds fault report Reported = (fault ≡ None) × Appends held holds report
-Ends write_fails held holds fault report other = ⊥
+-- what is written of a report into a writer that held and now holds these bytes, where the rounds
+-- have ended so
+abbrev pub ReportEnds : (IoError → Type 0) → Option (List ℕ) → Option (List ℕ) → Option RoundFault
+    → List ℕ → RunEnd → Type 0
+ReportEnds write_fails held holds fault report (WriteFailed e) = write_fails e
+    × AppendsSome held holds report
+ReportEnds write_fails held holds fault report (Stopped f) = (fault ≡ Some f)
+    × Appends held holds report
+ReportEnds write_fails held holds fault report Reported = (fault ≡ None) × Appends held holds report
+ReportEnds write_fails held holds fault report other = ⊥
 
--- What each end of a run says. `plays` says that a script was played up to such an end, and what is written of its report into a
--- writer that held and now holds these bytes; `stops` that the line of a number has no meaning; `read` that all was read, and
--- `unwritten` that nothing was written.
-abbrev pub Tells : (Option RoundFault → (List ℕ → Type 0) → Type 0) → (ℕ → Type 0) → Option (List ℕ) → Option (List ℕ) → (IoError → Type 0) → (IoError → Type 0) → Type 0 → Type 0 → RunEnd → Type 0
-Tells plays stops held holds read_fails write_fails read unwritten UnknownHandler = unwritten
-Tells plays stops held holds read_fails write_fails read unwritten UnknownContentType = unwritten
-Tells plays stops held holds read_fails write_fails read unwritten (ReadFailed e) = read_fails e × unwritten
-Tells plays stops held holds read_fails write_fails read unwritten (NoMeaning line) = stops line × read × unwritten
-Tells plays stops held holds read_fails write_fails read unwritten NoMemory = read × unwritten
-Tells plays stops held holds read_fails write_fails read unwritten (WriteFailed e) = write_fails e × read × ((fault : Option RoundFault) × plays fault (AppendsSome held holds))
-Tells plays stops held holds read_fails write_fails read unwritten (Stopped fault) = read × plays (Some fault) (Appends held holds)
-Tells plays stops held holds read_fails write_fails read unwritten Reported = read × plays None (Appends held holds)
+-- What each end of a run says. `plays` says that a script was played up to such an end, and what is
+-- written of its report into a writer that held and now holds these bytes; `stops` that the line of
+-- a number has no meaning; `read` that all was read, and `unwritten` that nothing was written.
+abbrev pub RoundsSay : (Option RoundFault → (List ℕ → Type 0) → Type 0) → (ℕ → Type 0)
+    → Option (List ℕ) → Option (List ℕ) → (IoError → Type 0) → (IoError → Type 0) → Type 0 → Type 0
+    → RunEnd → Type 0
+RoundsSay plays stops held holds read_fails write_fails read unwritten UnknownHandler = unwritten
+RoundsSay plays stops held holds read_fails write_fails read unwritten UnknownContentType =
+    unwritten
+RoundsSay plays stops held holds read_fails write_fails read unwritten (ReadFailed e) = read_fails e
+    × unwritten
+RoundsSay plays stops held holds read_fails write_fails read unwritten (NoMeaning line) = stops line
+    × read × unwritten
+RoundsSay plays stops held holds read_fails write_fails read unwritten NoMemory = read × unwritten
+RoundsSay plays stops held holds read_fails write_fails read unwritten (WriteFailed e) = write_fails
+    e × read × ((fault : Option RoundFault) × plays fault (AppendsSome held holds))
+RoundsSay plays stops held holds read_fails write_fails read unwritten (Stopped fault) = read
+    × plays (Some fault) (Appends held holds)
+RoundsSay plays stops held holds read_fails write_fails read unwritten Reported =
+    read × plays None (Appends held holds)

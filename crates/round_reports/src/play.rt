@@ -1,7 +1,7 @@
 //! A script that is played: its rounds over its world, and their report.
 ghost use Rattle.std.specs.Prelude.{◌≡◌, [], IfErr, IfOk, OnOk};
 ghost use Rattle.vm_store.specs.Given.{AreGiven};
-ghost use Rattle.round_scripts.specs.Scripts.{IsRead, IsUnreadFor, nothing};
+ghost use Rattle.round_scripts.specs.Scripts.{IsScriptRead, IsUnreadFor, no_parts};
 ghost use Rattle.round_reports.specs.Runs.{MakeNoWorld, Plays, RoundsEnd, ScriptEnds, first_journal, setting_of};
 
 use crate::report::{report_of, report_of_fault};
@@ -30,7 +30,8 @@ fn world_of(
     entries: Vec<Bytes>,
 ) -> Result<World, RoundFault>
     ensures setting { IfOk result (λ world. world.setting ≡ setting_of version given) }
-    ensures journal { IfOk result (λ world. world.journal ≡ first_journal given.input entries.items) }
+    ensures journal { IfOk result (λ world. world.journal
+        ≡ first_journal given.input entries.items) }
     ensures fits { OnOk result (AreGiven [] entries.items) }
     ensures err { IfErr result (MakeNoWorld entries.items) }
 {
@@ -59,7 +60,8 @@ fn play_rounds<H: Handler>(
     world: World,
     rounds: &[Round],
 ) -> Result<Played, AllocError>
-    ensures { IfOk result (λ played. RoundsEnd (H.meaning handler.now) world.setting rounds.now world.journal played.fault played.report) }
+    ensures { IfOk result (λ played. RoundsEnd (H.meaning handler.now) world.setting rounds.now
+        world.journal played.fault played.report) }
 {
     match run_rounds(handler, world, rounds) {
         Ok((world, reports)) => Ok(Played {
@@ -81,7 +83,8 @@ fn play<H: Handler>(
     handler: &H,
     script: Script,
 ) -> Result<Played, AllocError>
-    ensures { IfOk result (λ played. ScriptEnds (H.meaning handler.now) version script played.fault played.report) }
+    ensures { IfOk result (λ played. ScriptEnds (H.meaning handler.now) version script played.fault
+        played.report) }
 {
     let Script {
         given,
@@ -107,8 +110,9 @@ pub fn play_text<H: Handler>(
     handler: &H,
     text: &[u8],
 ) -> Result<Played, Unread>
-    ensures plays { IfOk result (λ played. Plays (H.meaning handler.now) version text.now played.fault played.report) }
-    ensures unread { IfErr result (IsUnreadFor text.now nothing) }
+    ensures plays { IfOk result
+        (λ played. Plays (H.meaning handler.now) version text.now played.fault played.report) }
+    ensures unread { IfErr result (IsUnreadFor text.now no_parts) }
 {
     match script_of(alloc, text) {
         Err(unread) => Err(unread),

@@ -2,7 +2,7 @@
 ghost use Rattle.std.specs.Prelude.{◌≡◌, ◌++◌, IfOk, IfSome, OnOk};
 ghost use Rattle.journal_messages.specs.Message.{frame};
 ghost use Rattle.vm_rounds.specs.Inside.{report_view};
-ghost use Rattle.round_reports.specs.Printed.{Adds, AddsSome, AreRoundTexts, IsJournalText, IsReport, IsRoundText, answer_line, answer_lines, answer_value, answer_word, count_text, error_text, fault_name, fault_text};
+ghost use Rattle.round_reports.specs.Printed.{AddsSuch, AddsSome, AreRoundTexts, IsJournalText, IsPrinted, IsRoundText, answer_line, answer_lines, answer_value, answer_word, count_text, error_line, fault_name, fault_text};
 
 use bytes::Bytes;
 use frame_lines::entry::{print_frame, print_rest};
@@ -94,7 +94,8 @@ fn rest_line(alloc: Global, word: &str, rest: &[u8]) -> Result<Line, AllocError>
 
 /// The next frame, if a whole one waits.
 fn next_whole(decoder: &mut Decoder) -> Result<Option<RawMessage>, AllocError>
-    ensures { IfOk result (λ next. IfSome next (λ raw. decoder.old ≡ frame raw.ty raw.body ++ decoder.new)) }
+    ensures { IfOk result (λ next. IfSome next (λ raw. decoder.old ≡ frame raw.ty raw.body
+        ++ decoder.new)) }
 {
     match decoder.next_frame() {
         Ok(frame) => Ok(frame),
@@ -140,7 +141,7 @@ fn print_bytes(
 
 /// The line of an error, if there is one.
 fn print_error(error: &Option<Error>, report: &mut Line) -> Result<(), AllocError>
-    ensures { OnOk result (report.new ≡ report.old ++ error_text error.now) }
+    ensures { OnOk result (report.new ≡ report.old ++ error_line error.now) }
 {
     if let Some(error) = error {
         report.word("error ")?;
@@ -168,7 +169,8 @@ fn print_round(
     round: &Report,
     report: &mut Line,
 ) -> Result<(), AllocError>
-    ensures { OnOk result (Adds (IsRoundText number (report_view round.now)) report.old report.new) }
+    ensures { OnOk result (AddsSuch (IsRoundText number (report_view round.now)) report.old
+        report.new) }
 {
     print_count("round ", number, report)?;
     print_answers(alloc, round.answers.as_slice(), report)?;
@@ -190,7 +192,7 @@ fn print_entries(alloc: Global, journal: &[Bytes], report: &mut Line) -> Result<
 
 /// The journal.
 fn print_journal(alloc: Global, journal: &[Bytes], report: &mut Line) -> Result<(), AllocError>
-    ensures { OnOk result (Adds IsJournalText report.old report.new) }
+    ensures { OnOk result (AddsSuch IsJournalText report.old report.new) }
 {
     report.word("journal\n")?;
     print_entries(alloc, journal, report)?;
@@ -199,7 +201,7 @@ fn print_journal(alloc: Global, journal: &[Bytes], report: &mut Line) -> Result<
 
 /// What all rounds tell.
 fn print_rounds(alloc: Global, rounds: &[Report], report: &mut Line) -> Result<(), AllocError>
-    ensures { OnOk result (Adds (AreRoundTexts rounds.now) report.old report.new) }
+    ensures { OnOk result (AddsSuch (AreRoundTexts rounds.now) report.old report.new) }
 {
     let mut number = 0u64;
     for round in rounds {
@@ -211,7 +213,7 @@ fn print_rounds(alloc: Global, rounds: &[Report], report: &mut Line) -> Result<(
 
 /// What all rounds tell, and the journal that they leave.
 pub fn report_of(alloc: Global, world: &World, rounds: &[Report]) -> Result<Line, AllocError>
-    ensures { IfOk result (λ report. IsReport rounds.now report) }
+    ensures { IfOk result (λ report. IsPrinted rounds.now report) }
 {
     let mut report = Line::new(alloc);
     print_rounds(alloc, rounds, &mut report)?;

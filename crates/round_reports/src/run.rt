@@ -3,7 +3,7 @@ ghost use Rattle.std.specs.Prelude.{◌≡◌, ◌≢◌, ◌↔◌, IfSome, Non
 ghost use Rattle.std.specs.Io.KnownBytes.{IsAtEnd};
 ghost use Rattle.handlers.specs.Named.{step_in_rounds};
 ghost use Rattle.journal_errors.specs.Versions.{version_of};
-ghost use Rattle.round_reports.specs.Runs.{Ends, PlaysAll, StopsThere, Tells};
+ghost use Rattle.round_reports.specs.Runs.{ReportEnds, PlaysAll, StopsThere, RoundsSay};
 ghost use Rattle.round_reports.specs.declared.run_end.RunEnd.TheVariants as run_end;
 
 use crate::play::{Played, play_text};
@@ -17,7 +17,8 @@ use vm_attempt::Handler;
 
 /// Writes the report.
 fn write_report<W: Sink>(played: Played, writer: &mut W) -> RunEnd
-    ensures { Ends (W.fails writer.old) (W.contents writer.old) (W.contents writer.new) played.fault played.report result }
+    ensures { ReportEnds (W.fails writer.old) (W.contents writer.old) (W.contents writer.new)
+        played.fault played.report result }
 {
     let Played { report, fault } = played;
     let written = writer.write_whole(report.as_str().as_bytes());
@@ -38,8 +39,13 @@ pub fn run_handler<H: Handler, R: Source, W: Sink>(
 ) -> RunEnd
     ensures known { result ≢ run_end.UnknownHandler }
     // A text that is no content type is found before anything is read.
-    ensures refused { version_of content_type.now ≡ None → (result ≡ run_end.UnknownContentType) × (reader.new ≡ reader.old) × (writer.new ≡ writer.old) }
-    ensures runs { IfSome (version_of content_type.now) (λ version. Tells (PlaysAll (H.meaning handler.now) version (R.remaining reader.old)) (StopsThere (R.remaining reader.old)) (W.contents writer.old) (W.contents writer.new) (R.fails reader.old) (W.fails writer.old) (IsAtEnd (R.remaining reader.new)) (writer.new ≡ writer.old) result) }
+    ensures refused { version_of content_type.now ≡ None → (result ≡ run_end.UnknownContentType)
+        × (reader.new ≡ reader.old) × (writer.new ≡ writer.old) }
+    ensures runs { IfSome (version_of content_type.now)
+        (λ version. RoundsSay (PlaysAll (H.meaning handler.now) version (R.remaining reader.old))
+        (StopsThere (R.remaining reader.old)) (W.contents writer.old) (W.contents writer.new)
+        (R.fails reader.old) (W.fails writer.old) (IsAtEnd (R.remaining reader.new)) (writer.new
+        ≡ writer.old) result) }
 {
     let Some(version) = Version::of_content_type(content_type) else {
         return RunEnd::UnknownContentType;
@@ -68,11 +74,18 @@ pub fn run<R: Source, W: Sink>(
     ensures unread { result ≡ run_end.UnknownHandler → reader.new ≡ reader.old }
     ensures unwritten { result ≡ run_end.UnknownHandler → writer.new ≡ writer.old }
     // So is a text that is no content type.
-    ensures refused { IfSome (step_in_rounds handler.now) (λ _. version_of content_type.now ≡ None → (result ≡ run_end.UnknownContentType) × (reader.new ≡ reader.old) × (writer.new ≡ writer.old)) }
+    ensures refused { IfSome (step_in_rounds handler.now) (λ _. version_of content_type.now ≡ None
+        → (result ≡ run_end.UnknownContentType) × (reader.new ≡ reader.old)
+        × (writer.new ≡ writer.old)) }
     // Each other run has read all that there was as a script and played its rounds, and all of the report is written, or a beginning
     // where writing has failed; or reading has failed, the line of the number that is told is the first without a meaning, or memory
     // was lacking, and nothing is written.
-    ensures runs { IfSome (step_in_rounds handler.now) (λ meaning. IfSome (version_of content_type.now) (λ version. Tells (PlaysAll meaning version (R.remaining reader.old)) (StopsThere (R.remaining reader.old)) (W.contents writer.old) (W.contents writer.new) (R.fails reader.old) (W.fails writer.old) (IsAtEnd (R.remaining reader.new)) (writer.new ≡ writer.old) result)) }
+    ensures runs { IfSome (step_in_rounds handler.now)
+        (λ meaning. IfSome (version_of content_type.now)
+        (λ version. RoundsSay (PlaysAll meaning version (R.remaining reader.old))
+        (StopsThere (R.remaining reader.old)) (W.contents writer.old) (W.contents writer.new)
+        (R.fails reader.old) (W.fails writer.old) (IsAtEnd (R.remaining reader.new)) (writer.new
+        ≡ writer.old) result)) }
 {
     match Named::in_rounds(alloc, handler) {
         Some(handler) => run_handler(alloc, content_type, &handler, reader, writer),

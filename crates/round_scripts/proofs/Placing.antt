@@ -6,12 +6,12 @@ use Rattle.vm_store.specs.declared.types.Event.TheVariants as event
 use Rattle.round_scripts.specs.declared.given.Given.{Given}
 use Rattle.round_scripts.specs.declared.script_line.ScriptLine.{ScriptLine}
 use Rattle.round_scripts.specs.declared.script_line.ScriptLine.TheVariants as line
-use Rattle.round_scripts.specs.Said.{IsUnread, Reads}
-use Rattle.round_scripts.specs.Scripts.{AddsLine, AddsNothing, AreAdded, Happens, HappensIn, HasNoPlace, Parts, StopsAt}
+use Rattle.round_scripts.specs.Said.{IsUnread, SaysLine}
+use Rattle.round_scripts.specs.Scripts.{AddsLine, AddsNothing, AreAdded, AddsEvents, HappensIn, HasNoPlace, Parts, StopsAt}
 
 -- ---- places
 
-nothing_happens : (events : List Event) (before after : Parts) → before.last ≡ None → Happens events before after → ⊥
+nothing_happens : (events : List Event) (before after : Parts) → before.last ≡ None → AddsEvents events before after → ⊥
 nothing_happens events before after none happens = subst (λ l. HappensIn l events after.last) none happens.last
 
 -- no round has begun
@@ -45,7 +45,7 @@ round_stands given before some = record { nothing = λ after adds. some adds.2 }
 pub unread_adds_nothing : (text : List ℕ) (before : Parts) → IsUnread text → AddsNothing text before
 unread_adds_nothing text before unread = inl unread
 
-pub read_adds_nothing : (text : List ℕ) (said : ScriptLine) (before : Parts) → Reads text said → HasNoPlace said before → AddsNothing text before
+pub read_adds_nothing : (text : List ℕ) (said : ScriptLine) (before : Parts) → SaysLine text said → HasNoPlace said before → AddsNothing text before
 read_adds_nothing text said before reads none = inr (said, reads, none)
 
 -- ---- the lines in front

@@ -6,7 +6,7 @@ use Rattle.lines.specs.Atoms.{IsAtom}
 use Rattle.lines.specs.Readings.{Blames}
 use Rattle.line_parts.specs.Fields.{IsSet, are_named, texts}
 use Rattle.line_parts.specs.VmOptions.{ArePolicies}
-use Rattle.round_scripts.specs.Worlds.{AreEntries, SaysIdentity, SaysWorld, world_names}
+use Rattle.round_scripts.specs.Worlds.{ArePairs, SaysIdentity, SaysWorld, world_names}
 
 pub others_blamed : (words : List (Bor (List ℕ))) (fault : Fault) → are_named world_names words ≡ false → Blames (SaysWorld words) fault
 others_blamed words fault other = record { nothing = λ bad given is. absurd (cc (sym other ∙ is.only)) }
@@ -20,5 +20,5 @@ identity_blamed words fault blames = record { nothing = λ bad given is. blames.
 pub input_blamed : (words : List (Bor (List ℕ))) (fault : Fault) → Blames (IsSet IsAtom [] (texts (codes "input=") words)) fault → Blames (SaysWorld words) fault
 input_blamed words fault blames = record { nothing = λ bad given is. blames.nothing bad given.input is.input }
 
-pub state_blamed : (words : List (Bor (List ℕ))) (fault : Fault) → Blames (AreEntries (texts (codes "state=") words)) fault → Blames (SaysWorld words) fault
+pub state_blamed : (words : List (Bor (List ℕ))) (fault : Fault) → Blames (ArePairs (texts (codes "state=") words)) fault → Blames (SaysWorld words) fault
 state_blamed words fault blames = record { nothing = λ bad given is. blames.nothing bad given.state.items is.state }

@@ -16,7 +16,8 @@ AreKeys found keys = AllZip (λ text key. IsText text key) found keys
 
 -- the whole milliseconds of a duration, which fit 64 bits
 abbrev pub IsWholeMilliseconds : List ℕ → ℕ → Type 0
-IsWholeMilliseconds text millis = (time : Duration) × IsTime text time × (millis ≡ as_nanos time / 1000000) × (millis < 2 ^ 64)
+IsWholeMilliseconds text millis =
+    (time : Duration) × IsTime text time × (millis ≡ as_nanos time / 1000000) × (millis < 2 ^ 64)
 
 -- what may be said of a round, beside `partial`
 abbrev pub round_names : List (List ℕ)
@@ -26,7 +27,9 @@ round_names = codes "key=" ∷ codes "retry=" ∷ codes "duration=" ∷ []
 pub record SaysRound (words : List (Bor (List ℕ))) (round : Round) : Type 0 where
   pub partial : HasFlag (codes "partial") words round.partial
   pub keys : AreKeys (texts (codes "key=") (without (codes "partial") words)) round.keys
-  pub retry_count : IsSet (IsNumberOf 32) 0 (texts (codes "retry=") (without (codes "partial") words)) round.retry_count
-  pub duration : IsSet IsWholeMilliseconds 0 (texts (codes "duration=") (without (codes "partial") words)) round.duration
+  pub retry_count : IsSet (IsNumberOf 32) 0
+      (texts (codes "retry=") (without (codes "partial") words)) round.retry_count
+  pub duration : IsSet IsWholeMilliseconds 0
+      (texts (codes "duration=") (without (codes "partial") words)) round.duration
   pub events : round.events ≡ []
   pub only : are_named round_names (without (codes "partial") words) ≡ true

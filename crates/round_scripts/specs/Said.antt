@@ -1,4 +1,5 @@
--- What a line of a script of rounds says: its first word names it, and its numbers are in their places.
+-- What a line of a script of rounds says: its first word names it, and its numbers are in their
+-- places.
 use Rattle.std.specs.Prelude.{◌≡◌, ◌≢◌, ◌⊎◌, ◌-◌, ◌^◌, ◌==◌, ◌&&◌, ◌||◌, ℕ, Bool, true, false, not, List, [], length, nat_eq, codes}
 use Rattle.std.specs.Borrow.{Bor}
 use Rattle.std.specs.Cmp.Lexicographic.{pointwise}
@@ -27,7 +28,8 @@ IsOneCount words count = (length words ≡ 1) × IsCount (text_at 0 words) count
 
 -- one, where no word says how many, or the number that is the only word
 abbrev pub AreSteps : List (Bor (List ℕ)) → ℕ → Type 0
-AreSteps words steps = ((words ≡ []) × (steps ≡ 1)) ⊎ ((length words ≡ 1) × IsNumberOf 64 (text_at 0 words) steps)
+AreSteps words steps =
+    ((words ≡ []) × (steps ≡ 1)) ⊎ ((length words ≡ 1) × IsNumberOf 64 (text_at 0 words) steps)
 
 -- whether the words after `arrive` or `entry` are the rest of a stream, which is no frame
 abbrev pub are_rest : List (Bor (List ℕ)) → Bool
@@ -40,7 +42,8 @@ are_bytes words = length words == 1 && starts_with nat_eq (text_at 0 words) (cod
 -- what arrives, or what an entry is: bytes as they are, or a frame, as the words show it
 abbrev pub ShowsBytes : List (Bor (List ℕ)) → List ℕ → Type 0
 ShowsBytes words bytes =
-    (are_rest words ≡ false) × (are_bytes words ≡ true → IsAtom (text_at 0 words) bytes) × (are_bytes words ≡ false → Shows words bytes)
+    (are_rest words ≡ false) × (are_bytes words ≡ true → IsAtom (text_at 0 words) bytes)
+    × (are_bytes words ≡ false → Shows words bytes)
 
 -- this word and those behind it say that this happens
 abbrev pub SaysEvent : List ℕ → List (Bor (List ℕ)) → Event → Type 0
@@ -49,7 +52,8 @@ SaysEvent word others event.Close = (word ≡ codes "close") × (others ≡ [])
 SaysEvent word others event.Step = ⊥
 SaysEvent word others (event.Arrive bytes) = (word ≡ codes "arrive") × ShowsBytes others bytes
 SaysEvent word others (event.Store n) = (word ≡ codes "store") × IsOneCount others n
-SaysEvent word others (event.RunResult handle result policy) = (word ≡ codes "run_result") × IsProposal others (record { handle = handle; result = result; policy = policy })
+SaysEvent word others (event.RunResult handle result policy) = (word ≡ codes "run_result")
+    × IsProposal others (record { handle = handle; result = result; policy = policy })
 
 -- this word and those behind it say this
 abbrev pub SaysBehind : List ℕ → List (Bor (List ℕ)) → ScriptLine → Type 0
@@ -67,11 +71,13 @@ SaysWords words said = SaysBehind (text_at 0 words) (behind words) said
 -- what a line without blanks at its ends says
 abbrev pub Says : List ℕ → ScriptLine → Type 0
 Says text line.Nothing = says_nothing text ≡ true
-Says text said = (says_nothing text ≡ false) × ((words : List (Bor (List ℕ))) × AreWords text words × SaysWords words said)
+Says text said = (says_nothing text ≡ false)
+    × ((words : List (Bor (List ℕ))) × AreWords text words × SaysWords words said)
 
 -- what a line says, which is UTF-8; blanks at its ends don't count
-abbrev pub Reads : List ℕ → ScriptLine → Type 0
-Reads text said = (trimmed : List ℕ) × IsTrimAscii text trimmed × IsUtf8 trimmed × Says trimmed said
+abbrev pub SaysLine : List ℕ → ScriptLine → Type 0
+SaysLine text said =
+    (trimmed : List ℕ) × IsTrimAscii text trimmed × IsUtf8 trimmed × Says trimmed said
 
 -- ---- lines without a meaning
 
@@ -81,15 +87,20 @@ are_frame words = not (are_rest words) && not (are_bytes words)
 
 -- whether this word and those after it are an arrival or an entry that is a frame
 abbrev pub is_frame : List ℕ → List (Bor (List ℕ)) → Bool
-is_frame word others = (pointwise nat_eq word (codes "arrive") || pointwise nat_eq word (codes "entry")) && are_frame others
+is_frame word others = (pointwise nat_eq word (codes "arrive")
+    || pointwise nat_eq word (codes "entry")) && are_frame others
 
--- words that say nothing, unless they are an arrival or an entry that is a frame: which fields make a message isn't said
+-- words that say nothing, unless they are an arrival or an entry that is a frame: which fields make
+-- a message isn't said
 pub record SayNothing (words : List (Bor (List ℕ))) : Type 0 where
-  pub nothing : is_frame (text_at 0 words) (behind words) ≡ false → (said : ScriptLine) → SaysWords words said → ⊥
+  pub nothing : is_frame (text_at 0 words) (behind words) ≡ false → (said : ScriptLine)
+      → SaysWords words said → ⊥
 
--- why a line that isn't empty says nothing: it isn't UTF-8, its quotes or brackets aren't closed, or its words say nothing
+-- why a line that isn't empty says nothing: it isn't UTF-8, its quotes or brackets aren't closed,
+-- or its words say nothing
 abbrev pub SaysNothing : List ℕ → Type 0
-SaysNothing text = (IsUtf8 text → ⊥) ⊎ (place text ≢ outside) ⊎ ((words : List (Bor (List ℕ))) × AreWords text words × SayNothing words)
+SaysNothing text = (IsUtf8 text → ⊥) ⊎ (place text ≢ outside)
+    ⊎ ((words : List (Bor (List ℕ))) × AreWords text words × SayNothing words)
 
 -- a line that says nothing; blanks at its ends don't count
 abbrev pub IsUnread : List ℕ → Type 0

@@ -11,10 +11,11 @@ use Rattle.round_scripts.specs.declared.script.Unread.TheVariants as unread
 use Rattle.round_scripts.specs.declared.script.SoFar.{SoFar}
 use Rattle.round_scripts.specs.declared.script_line.ScriptLine.{ScriptLine}
 use Rattle.round_scripts.specs.declared.script_line.ScriptLine.TheVariants as line
-use Rattle.round_scripts.specs.Said.{IsUnread, Reads}
+use Rattle.round_scripts.specs.Said.{IsUnread, SaysLine}
 use Rattle.round_scripts.specs.Worlds.{IsDefault}
 
--- what lines have said so far: what the world is made of, if one did, the entries of its journal, the rounds but the last, and the last
+-- what lines have said so far: what the world is made of, if one did, the entries of its journal,
+-- the rounds but the last, and the last
 pub record Parts : Type 0 where
   pub given : Option Given
   pub entries : List (List ℕ)
@@ -22,12 +23,17 @@ pub record Parts : Type 0 where
   pub last : Option Round
 
 -- what the fields say
-abbrev pub parts_of : SoFar → Parts
-parts_of so_far = record { given = so_far.given; entries = so_far.entries.items; rounds = so_far.rounds.items; last = so_far.round }
+abbrev pub said_parts : SoFar → Parts
+said_parts so_far = record {
+  given = so_far.given;
+  entries = so_far.entries.items;
+  rounds = so_far.rounds.items;
+  last = so_far.round;
+}
 
 -- nothing yet
-abbrev pub nothing : Parts
-nothing = record { given = None; entries = []; rounds = []; last = None }
+abbrev pub no_parts : Parts
+no_parts = record { given = None; entries = []; rounds = []; last = None }
 
 -- the rounds, the last one too
 abbrev pub with_last : List Round → Option Round → List Round
@@ -36,7 +42,13 @@ with_last rounds (Some round) = rounds ++ round ∷ []
 
 -- these events happen next in a round
 abbrev pub then_happen : List Event → Round → Round
-then_happen events round = record { partial = round.partial; keys = round.keys; retry_count = round.retry_count; duration = round.duration; events = round.events ++ events }
+then_happen events round = record {
+  partial = round.partial;
+  keys = round.keys;
+  retry_count = round.retry_count;
+  duration = round.duration;
+  events = round.events ++ events;
+}
 
 -- these events happen next in the last round, if there is one
 abbrev pub HappensIn : Option Round → List Event → Option Round → Type 0
@@ -44,29 +56,45 @@ HappensIn None events after = ⊥
 HappensIn (Some round) events after = after ≡ Some (then_happen events round)
 
 -- there is a last round, and these events happen next in it
-pub record Happens (events : List Event) (before after : Parts) : Type 0 where
+pub record AddsEvents (events : List Event) (before after : Parts) : Type 0 where
   pub given : after.given ≡ before.given
   pub entries : after.entries ≡ before.entries
   pub rounds : after.rounds ≡ before.rounds
   pub last : HappensIn before.last events after.last
 
--- A line more. The world stands before the entries and the rounds, once, and each entry before the rounds.
+-- A line more. The world stands before the entries and the rounds, once, and each entry before the
+-- rounds.
 abbrev pub Adds : ScriptLine → Parts → Parts → Type 0
 Adds line.Nothing before after = after ≡ before
-Adds (line.World given) before after = (before.given ≡ None) × (before.entries ≡ []) × (before.last ≡ None) × (after ≡ record { given = Some given; entries = []; rounds = before.rounds; last = None })
-Adds (line.Entry bytes) before after = (before.last ≡ None) × (after ≡ record { given = before.given; entries = before.entries ++ bytes ∷ []; rounds = before.rounds; last = None })
-Adds (line.Round round) before after = after ≡ record { given = before.given; entries = before.entries; rounds = with_last before.rounds before.last; last = Some round }
-Adds (line.Event e) before after = Happens (e ∷ []) before after
-Adds (line.Steps n) before after = Happens (replicate n event.Step) before after
+Adds (line.World given) before after = (before.given ≡ None) × (before.entries ≡ [])
+    × (before.last ≡ None)
+    × (after ≡ record { given = Some given; entries = []; rounds = before.rounds; last = None })
+Adds (line.Entry bytes) before after = (before.last ≡ None)
+    × (after ≡ record {
+      given = before.given;
+      entries = before.entries ++ bytes ∷ [];
+      rounds = before.rounds;
+      last = None;
+    })
+Adds (line.Round round) before after = after
+    ≡ record {
+      given = before.given;
+      entries = before.entries;
+      rounds = with_last before.rounds before.last;
+      last = Some round;
+    }
+Adds (line.Event e) before after = AddsEvents (e ∷ []) before after
+Adds (line.Steps n) before after = AddsEvents (replicate n event.Step) before after
 
 -- what a line says more
 abbrev pub AddsLine : List ℕ → Parts → Parts → Type 0
-AddsLine text before after = (said : ScriptLine) × Reads text said × Adds said before after
+AddsLine text before after = (said : ScriptLine) × SaysLine text said × Adds said before after
 
 -- these lines more
 abbrev pub AreAdded : List (List ℕ) → Parts → Parts → Type 0
 AreAdded [] before after = after ≡ before
-AreAdded (text ∷ texts) before after = (next : Parts) × AddsLine text before next × AreAdded texts next after
+AreAdded (text ∷ texts) before after = (next : Parts) × AddsLine text before next
+    × AreAdded texts next after
 
 -- the lines of this text more
 pub record AreLinesAdded (text : List ℕ) (before after : Parts) : Type 0 where
@@ -75,20 +103,20 @@ pub record AreLinesAdded (text : List ℕ) (before after : Parts) : Type 0 where
   pub are_added : AreAdded lines before after
 
 -- what the world is made of: as it is said, or by default
-abbrev pub IsGiven : Option Given → Given → Type 0
-IsGiven None given = IsDefault given
-IsGiven (Some said) given = given ≡ said
+abbrev pub IsWorldGiven : Option Given → Given → Type 0
+IsWorldGiven None given = IsDefault given
+IsWorldGiven (Some said) given = given ≡ said
 
 -- the script has what the lines have said
 pub record Has (parts : Parts) (script : Script) : Type 0 where
-  pub given : IsGiven parts.given script.given
+  pub given : IsWorldGiven parts.given script.given
   pub entries : script.entries.items ≡ parts.entries
   pub rounds : script.rounds.items ≡ with_last parts.rounds parts.last
 
 -- what a whole text says
-pub record IsRead (text : List ℕ) (script : Script) : Type 0 where
+pub record IsScriptRead (text : List ℕ) (script : Script) : Type 0 where
   pub parts : Parts
-  pub added : AreLinesAdded text nothing parts
+  pub added : AreLinesAdded text no_parts parts
   pub has : Has parts script
 
 -- ---- scripts that aren't read
@@ -97,11 +125,14 @@ pub record IsRead (text : List ℕ) (script : Script) : Type 0 where
 pub record HasNoPlace (said : ScriptLine) (before : Parts) : Type 0 where
   pub nothing : (after : Parts) → Adds said before after → ⊥
 
--- a line without a meaning behind what was said before: it says nothing, or what it says has no place
+-- a line without a meaning behind what was said before: it says nothing, or what it says has no
+-- place
 abbrev pub AddsNothing : List ℕ → Parts → Type 0
-AddsNothing text before = IsUnread text ⊎ ((said : ScriptLine) × Reads text said × HasNoPlace said before)
+AddsNothing text before =
+    IsUnread text ⊎ ((said : ScriptLine) × SaysLine text said × HasNoPlace said before)
 
--- The line of this number, counted from 1, has no meaning behind those before it, and each of these has one.
+-- The line of this number, counted from 1, has no meaning behind those before it, and each of these
+-- has one.
 pub record StopsAt (text : List ℕ) (before : Parts) (number : ℕ) : Type 0 where
   pub lines : List (List ℕ)
   pub rest : List ℕ

@@ -15,7 +15,15 @@ use Rattle.round_scripts.specs.declared.given.Given.{Given}
 
 -- the invocation "abc"
 abbrev pub default_identity : Identity
-default_identity = record { id = codes "abc"; debug_id = codes "abc"; key = []; random_seed = 0; scope = None; limit_key = None; idempotency_key = None }
+default_identity = record {
+  id = codes "abc";
+  debug_id = codes "abc";
+  key = [];
+  random_seed = 0;
+  scope = None;
+  limit_key = None;
+  idempotency_key = None;
+}
 
 -- the invocation "abc", with nothing in its input and its state, and the options by default
 pub record IsDefault (given : Given) : Type 0 where
@@ -27,15 +35,17 @@ pub record IsDefault (given : Given) : Type 0 where
 -- the words say this of the invocation
 pub record SaysIdentity (words : List (Bor (List ℕ))) (identity : Identity) : Type 0 where
   pub id : IsSet IsAtom default_identity.id (texts (codes "id=") words) identity.id
-  pub debug_id : IsSet IsText default_identity.debug_id (texts (codes "debug_id=") words) identity.debug_id
+  pub debug_id : IsSet IsText default_identity.debug_id (texts (codes "debug_id=") words)
+      identity.debug_id
   pub key : IsSet IsText default_identity.key (texts (codes "key=") words) identity.key
-  pub random_seed : IsSet (IsNumberOf 64) default_identity.random_seed (texts (codes "seed=") words) identity.random_seed
+  pub random_seed : IsSet (IsNumberOf 64) default_identity.random_seed (texts (codes "seed=") words)
+      identity.random_seed
   pub scope : IsOptional IsText (texts (codes "scope=") words) identity.scope
   pub limit_key : IsOptional IsText (texts (codes "limit=") words) identity.limit_key
   pub idempotency_key : IsOptional IsText (texts (codes "idem=") words) identity.idempotency_key
 
 -- a key and its value, in braces
-pub record IsEntry (text : List ℕ) (entry : List ℕ × List ℕ) : Type 0 where
+pub record IsPair (text : List ℕ) (entry : List ℕ × List ℕ) : Type 0 where
   pub words : List (Bor (List ℕ))
   pub are_words : AreWordsWithin 123 125 text words
   pub two : length words ≡ 2
@@ -43,13 +53,16 @@ pub record IsEntry (text : List ℕ) (entry : List ℕ × List ℕ) : Type 0 whe
   pub is_value : IsAtom (text_at 1 words) entry.1
 
 -- texts that are these keys with their values
-abbrev pub AreEntries : List (List ℕ) → List (String Global × List ℕ) → Type 0
-AreEntries found entries = AllZip (λ text entry. IsEntry text (string_bytes entry.0, entry.1)) found entries
+abbrev pub ArePairs : List (List ℕ) → List (String Global × List ℕ) → Type 0
+ArePairs found entries =
+    AllZip (λ text entry. IsPair text (string_bytes entry.0, entry.1)) found entries
 
 -- what may be said of a world
 abbrev pub world_names : List (List ℕ)
 world_names =
-    codes "id=" ∷ codes "debug_id=" ∷ codes "key=" ∷ codes "seed=" ∷ codes "scope=" ∷ codes "limit=" ∷ codes "idem=" ∷ codes "input=" ∷ codes "state=" ∷ codes "cancel=" ∷ codes "checks=" ∷ codes "awaiting=" ∷ codes "mismatch=" ∷ codes "replay=" ∷ codes "delivery=" ∷ []
+    codes "id=" ∷ codes "debug_id=" ∷ codes "key=" ∷ codes "seed=" ∷ codes "scope=" ∷ codes "limit="
+    ∷ codes "idem=" ∷ codes "input=" ∷ codes "state=" ∷ codes "cancel=" ∷ codes "checks="
+    ∷ codes "awaiting=" ∷ codes "mismatch=" ∷ codes "replay=" ∷ codes "delivery=" ∷ []
 
 -- the words say this of a world; the seed is the invocation's, and no option of the VM
 pub record SaysWorld (words : List (Bor (List ℕ))) (given : Given) : Type 0 where
@@ -57,5 +70,5 @@ pub record SaysWorld (words : List (Bor (List ℕ))) (given : Given) : Type 0 wh
   pub options : ArePolicies words given.options
   pub seed : given.options.fallback_random_seed ≡ default_options.fallback_random_seed
   pub input : IsSet IsAtom [] (texts (codes "input=") words) given.input
-  pub state : AreEntries (texts (codes "state=") words) given.state.items
+  pub state : ArePairs (texts (codes "state=") words) given.state.items
   pub only : are_named world_names words ≡ true

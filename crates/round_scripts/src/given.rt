@@ -3,7 +3,7 @@ ghost use Rattle.std.specs.Prelude.{◌≡◌, IfErr, IfOk, codes, string_bytes}
 ghost use Rattle.lines.specs.Atoms.{IsAtom, IsText};
 ghost use Rattle.lines.specs.Readings.{Blames};
 ghost use Rattle.line_parts.specs.Fields.{IsSet, are_named, texts};
-ghost use Rattle.round_scripts.specs.Worlds.{AreEntries, IsDefault, IsEntry, SaysIdentity, SaysWorld, default_identity, world_names};
+ghost use Rattle.round_scripts.specs.Worlds.{ArePairs, IsDefault, IsPair, SaysIdentity, SaysWorld, default_identity, world_names};
 
 use bytes::Bytes;
 use line_parts::arguments::optional_text;
@@ -107,8 +107,8 @@ fn identity_in(alloc: Global, words: &[&[u8]]) -> Result<Identity, Fault>
 /// `{T B}`.
 #[tactic(auto, using(crate::proofs::Pairing::unbraced_blamed, crate::proofs::Pairing::count_blamed, crate::proofs::Pairing::key_blamed, crate::proofs::Pairing::value_blamed))]
 fn pair_of(alloc: Global, text: &[u8]) -> Result<(String, Bytes), Fault>
-    ensures value { IfOk result (λ pair. IsEntry text.now (string_bytes pair.0, pair.1)) }
-    ensures none { IfErr result (Blames (IsEntry text.now)) }
+    ensures value { IfOk result (λ pair. IsPair text.now (string_bytes pair.0, pair.1)) }
+    ensures none { IfErr result (Blames (IsPair text.now)) }
 {
     let pair = words_within(alloc, text, b'{', b'}')?;
     let [key, value] = pair.as_slice() else {
@@ -122,8 +122,8 @@ fn pair_of(alloc: Global, text: &[u8]) -> Result<(String, Bytes), Fault>
 /// `[state={T B}]..`, among other words.
 #[tactic(auto, using(crate::proofs::Pairing::state_blamed))]
 fn state_in(alloc: Global, words: &[&[u8]]) -> Result<Vec<(String, Bytes)>, Fault>
-    ensures value { IfOk result (λ state. AreEntries (texts (codes "state=") words.now) state.items) }
-    ensures none { IfErr result (Blames (AreEntries (texts (codes "state=") words.now))) }
+    ensures value { IfOk result (λ state. ArePairs (texts (codes "state=") words.now) state.items) }
+    ensures none { IfErr result (Blames (ArePairs (texts (codes "state=") words.now))) }
 {
     let mut state = Vec::new(alloc);
     for word in words {

@@ -31,7 +31,8 @@ fn keys_in(alloc: Global, words: &[&[u8]]) -> Result<Items<Text>, Fault>
 #[tactic(auto, using(line_parts::proofs::Missing::set_blamed, line_parts::proofs::Missing::twice_set))]
 fn retry_count_in(words: &[&[u8]]) -> Result<u32, Fault>
     ensures value { IfOk result (IsSet (IsNumberOf 32) 0 (texts (codes "retry=") words.now)) }
-    ensures none { IfErr result (Blames (IsSet (IsNumberOf 32) 0 (texts (codes "retry=") words.now))) }
+    ensures none { IfErr result
+        (Blames (IsSet (IsNumberOf 32) 0 (texts (codes "retry=") words.now))) }
 {
     match field_of(words, "retry=")? {
         Some(text) => u32_of(text),
@@ -53,7 +54,8 @@ fn milliseconds_of(text: &[u8]) -> Result<u64, Fault>
 #[tactic(auto, using(line_parts::proofs::Missing::set_blamed, line_parts::proofs::Missing::twice_set))]
 fn milliseconds_in(words: &[&[u8]]) -> Result<u64, Fault>
     ensures value { IfOk result (IsSet IsWholeMilliseconds 0 (texts (codes "duration=") words.now)) }
-    ensures none { IfErr result (Blames (IsSet IsWholeMilliseconds 0 (texts (codes "duration=") words.now))) }
+    ensures none { IfErr result
+        (Blames (IsSet IsWholeMilliseconds 0 (texts (codes "duration=") words.now))) }
 {
     match field_of(words, "duration=")? {
         Some(text) => milliseconds_of(text),

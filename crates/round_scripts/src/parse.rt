@@ -3,7 +3,7 @@ ghost use Rattle.std.specs.Prelude.{◌≡◌, false, codes, IfErr, IfOk};
 ghost use Rattle.lines.specs.Readings.{Blames};
 ghost use Rattle.requests.specs.Lines.{says_nothing};
 ghost use Rattle.wire.specs.declared.fault.Fault.TheVariants.{Malformed};
-ghost use Rattle.round_scripts.specs.Said.{AreSteps, IsCount, IsOneCount, IsUnread, Reads, SayNothing, Says, SaysBehind, SaysEvent, SaysNothing, SaysWords, ShowsBytes, are_bytes, are_frame, are_rest, is_frame};
+ghost use Rattle.round_scripts.specs.Said.{AreSteps, IsCount, IsOneCount, IsUnread, SaysLine, SayNothing, Says, SaysBehind, SaysEvent, SaysNothing, SaysWords, ShowsBytes, are_bytes, are_frame, are_rest, is_frame};
 
 use crate::given::given_of;
 use crate::opening::round_of;
@@ -54,7 +54,8 @@ fn are_bytes(words: &[&[u8]]) -> bool
 #[tactic(auto, using(crate::proofs::Nothing::rest_blamed, crate::proofs::Nothing::bytes_blamed, crate::proofs::Nothing::frame_blamed))]
 fn shown_by(alloc: Global, words: &[&[u8]]) -> Result<Bytes, Fault>
     ensures value { IfOk result (ShowsBytes words.now) }
-    ensures none { IfErr result (λ fault. are_frame words.now ≡ false → Blames (ShowsBytes words.now) fault) }
+    ensures none { IfErr result (λ fault. are_frame words.now ≡ false
+        → Blames (ShowsBytes words.now) fault) }
 {
     if are_rest(words) {
         return Err(Fault::Malformed);
@@ -122,7 +123,8 @@ fn close_of(words: &[&[u8]]) -> Result<Event, Fault>
 #[tactic(auto, using(crate::proofs::Nothing::piece_row, crate::proofs::Nothing::close_row, crate::proofs::Nothing::arrive_row, crate::proofs::Nothing::store_row, crate::proofs::Nothing::run_result_row, crate::proofs::Nothing::no_row))]
 fn event_behind(alloc: Global, word: &[u8], others: &[&[u8]]) -> Result<Event, Fault>
     ensures value { IfOk result (SaysEvent word.now others.now) }
-    ensures none { IfErr result (λ fault. is_frame word.now others.now ≡ false → Blames (SaysEvent word.now others.now) fault) }
+    ensures none { IfErr result (λ fault. is_frame word.now others.now ≡ false
+        → Blames (SaysEvent word.now others.now) fault) }
 {
     if word == b"piece".as_slice() {
         let count = count_alone(others)?;
@@ -151,7 +153,8 @@ fn event_behind(alloc: Global, word: &[u8], others: &[&[u8]]) -> Result<Event, F
 #[tactic(auto, using(crate::proofs::Nothing::world_row, crate::proofs::Nothing::entry_row, crate::proofs::Nothing::round_row, crate::proofs::Nothing::step_row, crate::proofs::Nothing::event_row))]
 fn said_behind(alloc: Global, word: &[u8], others: &[&[u8]]) -> Result<ScriptLine, Fault>
     ensures value { IfOk result (SaysBehind word.now others.now) }
-    ensures none { IfErr result (λ fault. is_frame word.now others.now ≡ false → Blames (SaysBehind word.now others.now) fault) }
+    ensures none { IfErr result (λ fault. is_frame word.now others.now ≡ false
+        → Blames (SaysBehind word.now others.now) fault) }
 {
     if word == b"world".as_slice() {
         let given = given_of(alloc, others)?;
@@ -206,7 +209,7 @@ fn is_silent(line: &[u8]) -> bool
 
 /// What a line says; blanks at its ends don't count. `Malformed` where it has no meaning, as where it is no UTF-8.
 pub fn line_of(alloc: Global, line: &[u8]) -> Result<ScriptLine, Fault>
-    ensures value { IfOk result (Reads line.now) }
+    ensures value { IfOk result (SaysLine line.now) }
     ensures none { IfErr result (λ fault. fault ≡ Malformed → IsUnread line.now) }
 {
     let line = line.trim_ascii();

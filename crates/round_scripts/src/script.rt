@@ -2,7 +2,7 @@
 ghost use Rattle.std.specs.Prelude.{◌≡◌, [], ◌∷◌, IfErr, IfOk, OnOk, None, Some, replicate};
 ghost use Rattle.wire.specs.declared.fault.Fault.TheVariants.{Malformed};
 ghost use Rattle.vm_store.specs.declared.types.Event.TheVariants as event;
-ghost use Rattle.round_scripts.specs.Scripts.{Adds, AddsLine, AddsNothing, AreLinesAdded, Happens, Has, HasNoPlace, IsRead, IsUnreadFor, nothing, parts_of, then_happen, with_last};
+ghost use Rattle.round_scripts.specs.Scripts.{Adds, AddsLine, AddsNothing, AreLinesAdded, AddsEvents, Has, HasNoPlace, IsScriptRead, IsUnreadFor, no_parts, said_parts, then_happen, with_last};
 ghost use Rattle.round_scripts.specs.declared.script_line.ScriptLine.TheVariants as line;
 
 use crate::given::{Given, default_given};
@@ -44,8 +44,10 @@ pub struct SoFar {
 /// Something happens next in the last round; `Malformed` where there is none.
 #[tactic(auto, using(crate::proofs::Placing::no_round))]
 fn add_event(so_far: &mut SoFar, event: Event) -> Result<(), Fault>
-    ensures value { OnOk result (Happens (event ∷ []) (parts_of so_far.old) (parts_of so_far.new)) }
-    ensures none { IfErr result (λ fault. fault ≡ Malformed → HasNoPlace (line.Event event) (parts_of so_far.old)) }
+    ensures value { OnOk result
+        (AddsEvents (event ∷ []) (said_parts so_far.old) (said_parts so_far.new)) }
+    ensures none { IfErr result (λ fault. fault ≡ Malformed
+        → HasNoPlace (line.Event event) (said_parts so_far.old)) }
 {
     match &mut so_far.round {
         Some(round) => {
@@ -73,8 +75,10 @@ fn push_steps(round: &mut Round, steps: u64) -> Result<(), AllocError>
 /// So many steps happen next in the last round; `Malformed` where there is none.
 #[tactic(auto, using(crate::proofs::Placing::no_round_to_step))]
 fn add_steps(so_far: &mut SoFar, steps: u64) -> Result<(), Fault>
-    ensures value { OnOk result (Happens (replicate steps event.Step) (parts_of so_far.old) (parts_of so_far.new)) }
-    ensures none { IfErr result (λ fault. fault ≡ Malformed → HasNoPlace (line.Steps steps) (parts_of so_far.old)) }
+    ensures value { OnOk result
+        (AddsEvents (replicate steps event.Step) (said_parts so_far.old) (said_parts so_far.new)) }
+    ensures none { IfErr result (λ fault. fault ≡ Malformed
+        → HasNoPlace (line.Steps steps) (said_parts so_far.old)) }
 {
     match &mut so_far.round {
         Some(round) => {
@@ -88,8 +92,10 @@ fn add_steps(so_far: &mut SoFar, steps: u64) -> Result<(), Fault>
 /// The world is made of this; `Malformed` if another world, an entry or a round stands before.
 #[tactic(auto, using(crate::proofs::Placing::world_stands, crate::proofs::Placing::entries_stand, crate::proofs::Placing::no_entries, crate::proofs::Placing::round_stands))]
 fn add_world(so_far: &mut SoFar, given: Given) -> Result<(), Fault>
-    ensures value { OnOk result (Adds (line.World given) (parts_of so_far.old) (parts_of so_far.new)) }
-    ensures none { IfErr result (λ fault. fault ≡ Malformed → HasNoPlace (line.World given) (parts_of so_far.old)) }
+    ensures value { OnOk result
+        (Adds (line.World given) (said_parts so_far.old) (said_parts so_far.new)) }
+    ensures none { IfErr result (λ fault. fault ≡ Malformed
+        → HasNoPlace (line.World given) (said_parts so_far.old)) }
 {
     if so_far.given.is_some() || !so_far.entries.is_empty() || so_far.round.is_some() {
         drop(given);
@@ -102,8 +108,10 @@ fn add_world(so_far: &mut SoFar, given: Given) -> Result<(), Fault>
 /// An entry of the world's journal; `Malformed` if a round stands before.
 #[tactic(auto, using(crate::proofs::Placing::round_begun))]
 fn add_entry(so_far: &mut SoFar, bytes: Bytes) -> Result<(), Fault>
-    ensures value { OnOk result (Adds (line.Entry bytes) (parts_of so_far.old) (parts_of so_far.new)) }
-    ensures none { IfErr result (λ fault. fault ≡ Malformed → HasNoPlace (line.Entry bytes) (parts_of so_far.old)) }
+    ensures value { OnOk result
+        (Adds (line.Entry bytes) (said_parts so_far.old) (said_parts so_far.new)) }
+    ensures none { IfErr result (λ fault. fault ≡ Malformed
+        → HasNoPlace (line.Entry bytes) (said_parts so_far.old)) }
 {
     if so_far.round.is_some() {
         drop(bytes);
@@ -115,7 +123,8 @@ fn add_entry(so_far: &mut SoFar, bytes: Bytes) -> Result<(), Fault>
 
 /// The last round stands among the others.
 fn finish_round(so_far: &mut SoFar) -> Result<(), AllocError>
-    ensures rounds { OnOk result (so_far.new.rounds.items ≡ with_last so_far.old.rounds.items so_far.old.round) }
+    ensures rounds { OnOk result (so_far.new.rounds.items
+        ≡ with_last so_far.old.rounds.items so_far.old.round) }
     ensures given { so_far.new.given ≡ so_far.old.given }
     ensures entries { so_far.new.entries ≡ so_far.old.entries }
     ensures last { so_far.new.round ≡ None }
@@ -128,8 +137,10 @@ fn finish_round(so_far: &mut SoFar) -> Result<(), AllocError>
 
 /// A round begins.
 fn add_round(so_far: &mut SoFar, round: Round) -> Result<(), Fault>
-    ensures value { OnOk result (Adds (line.Round round) (parts_of so_far.old) (parts_of so_far.new)) }
-    ensures none { IfErr result (λ fault. fault ≡ Malformed → HasNoPlace (line.Round round) (parts_of so_far.old)) }
+    ensures value { OnOk result
+        (Adds (line.Round round) (said_parts so_far.old) (said_parts so_far.new)) }
+    ensures none { IfErr result (λ fault. fault ≡ Malformed
+        → HasNoPlace (line.Round round) (said_parts so_far.old)) }
 {
     if finish_round(so_far).is_err() {
         drop(round);
@@ -141,8 +152,9 @@ fn add_round(so_far: &mut SoFar, round: Round) -> Result<(), Fault>
 
 /// A line more; `Malformed` where it has no meaning behind those before.
 fn add(so_far: &mut SoFar, said: ScriptLine) -> Result<(), Fault>
-    ensures value { OnOk result (Adds said (parts_of so_far.old) (parts_of so_far.new)) }
-    ensures none { IfErr result (λ fault. fault ≡ Malformed → HasNoPlace said (parts_of so_far.old)) }
+    ensures value { OnOk result (Adds said (said_parts so_far.old) (said_parts so_far.new)) }
+    ensures none { IfErr result (λ fault. fault ≡ Malformed
+        → HasNoPlace said (said_parts so_far.old)) }
 {
     match said {
         ScriptLine::Nothing => Ok(()),
@@ -157,8 +169,9 @@ fn add(so_far: &mut SoFar, said: ScriptLine) -> Result<(), Fault>
 /// A line of the text more.
 #[tactic(auto, using(crate::proofs::Placing::unread_adds_nothing, crate::proofs::Placing::read_adds_nothing))]
 fn add_line(alloc: Global, so_far: &mut SoFar, line: &[u8]) -> Result<(), Fault>
-    ensures value { OnOk result (AddsLine line.now (parts_of so_far.old) (parts_of so_far.new)) }
-    ensures none { IfErr result (λ fault. fault ≡ Malformed → AddsNothing line.now (parts_of so_far.old)) }
+    ensures value { OnOk result (AddsLine line.now (said_parts so_far.old) (said_parts so_far.new)) }
+    ensures none { IfErr result (λ fault. fault ≡ Malformed
+        → AddsNothing line.now (said_parts so_far.old)) }
 {
     match line_of(alloc, line) {
         Ok(said) => add(so_far, said),
@@ -169,8 +182,9 @@ fn add_line(alloc: Global, so_far: &mut SoFar, line: &[u8]) -> Result<(), Fault>
 /// All lines of the text, one after another.
 #[tactic(auto, using(crate::proofs::Reading::read_none, crate::proofs::Reading::read_more, crate::proofs::Reading::read_all, crate::proofs::Placing::begun_none, crate::proofs::Placing::begun_more, crate::proofs::Placing::stops))]
 fn add_lines(alloc: Global, so_far: &mut SoFar, text: &[u8]) -> Result<(), Unread>
-    ensures value { OnOk result (AreLinesAdded text.now (parts_of so_far.old) (parts_of so_far.new)) }
-    ensures none { IfErr result (IsUnreadFor text.now (parts_of so_far.old)) }
+    ensures value { OnOk result
+        (AreLinesAdded text.now (said_parts so_far.old) (said_parts so_far.new)) }
+    ensures none { IfErr result (IsUnreadFor text.now (said_parts so_far.old)) }
 {
     let mut number = 0u64;
     let mut rest = text;
@@ -189,7 +203,7 @@ fn add_lines(alloc: Global, so_far: &mut SoFar, text: &[u8]) -> Result<(), Unrea
 
 /// The script that the lines make.
 fn script_with(alloc: Global, mut so_far: SoFar) -> Result<Script, AllocError>
-    ensures { IfOk result (λ script. Has (parts_of so_far) script) }
+    ensures { IfOk result (λ script. Has (said_parts so_far) script) }
 {
     finish_round(&mut so_far)?;
     let SoFar {
@@ -211,8 +225,8 @@ fn script_with(alloc: Global, mut so_far: SoFar) -> Result<Script, AllocError>
 
 /// What a text says, read as a whole. The last line may have no end.
 pub fn script_of(alloc: Global, text: &[u8]) -> Result<Script, Unread>
-    ensures value { IfOk result (IsRead text.now) }
-    ensures none { IfErr result (IsUnreadFor text.now nothing) }
+    ensures value { IfOk result (IsScriptRead text.now) }
+    ensures none { IfErr result (IsUnreadFor text.now no_parts) }
 {
     let mut so_far = SoFar {
         given: None,

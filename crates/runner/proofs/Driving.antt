@@ -14,7 +14,7 @@ use Rattle.vm_steps.specs.declared.progress.Progress.TheVariants as progress
 use Rattle.vm_attempt.specs.Told.{IsKeptUnder}
 use Rattle.vm_attempt.proofs.Advanced.{kept_told, made_kept}
 use Rattle.vm_attempt.proofs.Under.{close_under, feed_under, step_under}
-use Rattle.runner.specs.Runs.{SendsWhole, Stepped, Drives, IsFed, IsTold, Runs, ServesAnew, end_after}
+use Rattle.runner.specs.Runs.{SendsWhole, Stepped, Drives, IsFed, IsTold, IsDriven, ServesAnew, end_after}
 use Rattle.runner.specs.declared.run_end.AttemptEnd.{AttemptEnd}
 use Rattle.runner.specs.declared.run_end.AttemptEnd.TheVariants as attempt_end
 use Rattle.vm_attempt.specs.Fixed.{Fixed, fixed_by}
@@ -62,20 +62,20 @@ run_keeps fixed input first fed now ending k (between, a, b) d =
     drive_keeps fixed fed now ending (close_under fixed between b.0 fed (feed_under fixed input first a.0 between k a.1) b.1) d
 
 -- a run of the attempt that was made
-pub run_served : {H : Type 0} (mean : H → Meaning) (alloc : Global) (options : VMOptions) (handler : H) (version : Result Version Error) (a : AttemptView H) (input output : List ℕ) (ending : AttemptEnd) → options ≡ default_options → MakesAttempt alloc options handler version (Ok a) → Runs SendsWhole (mean a.handler) a.record_of input ending output
+pub run_served : {H : Type 0} (mean : H → Meaning) (alloc : Global) (options : VMOptions) (handler : H) (version : Result Version Error) (a : AttemptView H) (input output : List ℕ) (ending : AttemptEnd) → options ≡ default_options → MakesAttempt alloc options handler version (Ok a) → IsDriven SendsWhole (mean a.handler) a.record_of input ending output
     → ServesAnew alloc version (mean handler) (Some input) (λ written. written ≡ output) ending
 run_served mean alloc options handler (Err x) a input output ending o m s = absurd m
 run_served {H} mean alloc options handler (Ok v) a input output ending o m s =
     let meaning = mean handler in
     let fresh = fresh_record (made alloc default_options v) in
-    let t = subst (λ h. Runs SendsWhole (mean h) a.record_of input ending output) (ap (λ (x : AttemptView H). x.handler) m) s in
-    let u = subst (λ r. Runs SendsWhole meaning r input ending output) (ap (λ (x : AttemptView H). x.record_of) m ∙ ap (λ x. fresh_record (made alloc x v)) o) t in
+    let t = subst (λ h. IsDriven SendsWhole (mean h) a.record_of input ending output) (ap (λ (x : AttemptView H). x.handler) m) s in
+    let u = subst (λ r. IsDriven SendsWhole meaning r input ending output) (ap (λ (x : AttemptView H). x.record_of) m ∙ ap (λ x. fresh_record (made alloc x v)) o) t in
     let kept = run_keeps (fixed_by meaning v default_options) input fresh u.0 u.1 ending (λ premises. made_kept (fixed_by meaning v default_options) alloc) u.2 u.3 in
     let told : IsTold meaning v u.1 = λ once. kept_told (fixed_by meaning v default_options) u.1 u.5 (kept (record { replays = refl; queues = refl; once = once })) in
     (input, output, refl, (u.0, u.1, u.2, u.3, u.4, told), refl)
 
 -- the same of what a call answers
-pub served_anew : {H : Type 0} (mean : H → Meaning) (alloc : Global) (options : VMOptions) (handler : H) (version : Result Version Error) (a : AttemptView H) (items input : List ℕ) (r : Result (AttemptEnd × List ℕ) AllocError) → input ≡ items → options ≡ default_options → MakesAttempt alloc options handler version (Ok a) → IfOk r (λ served. Runs SendsWhole (mean a.handler) a.record_of input served.0 served.1)
+pub served_anew : {H : Type 0} (mean : H → Meaning) (alloc : Global) (options : VMOptions) (handler : H) (version : Result Version Error) (a : AttemptView H) (items input : List ℕ) (r : Result (AttemptEnd × List ℕ) AllocError) → input ≡ items → options ≡ default_options → MakesAttempt alloc options handler version (Ok a) → IfOk r (λ served. IsDriven SendsWhole (mean a.handler) a.record_of input served.0 served.1)
     → IfOk r (λ served. ServesAnew alloc version (mean handler) (Some items) (λ written. written ≡ served.1) served.0)
 served_anew mean alloc options handler version a items input (Err e) is o m s = tt
 served_anew mean alloc options handler version a items input (Ok served) is o m s =

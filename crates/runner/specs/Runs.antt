@@ -55,8 +55,8 @@ IsFed input first now =
     × ((fits : Result Unit AllocError) × CloseDoes between.starved between fits now)
 
 -- The attempt is fed the bytes, it is driven, this is all its output, and this holds of it then.
-abbrev pub Runs : (Record → Type 0) → Meaning → Record → List ℕ → AttemptEnd → List ℕ → Type 0
-Runs holds_then meaning fresh input ending output =
+abbrev pub IsDriven : (Record → Type 0) → Meaning → Record → List ℕ → AttemptEnd → List ℕ → Type 0
+IsDriven holds_then meaning fresh input ending output =
     (fed : Record) × (driven : Record) × IsFed input fresh fed × Drives meaning fed ending driven
     × (output ≡ concat driven.vm.machine.output) × holds_then driven
 
@@ -69,7 +69,7 @@ abbrev pub Serves : (Record → Type 0) → Meaning → Record → Option (List 
     → AttemptEnd → Type 0
 Serves holds_then meaning fresh left written ending =
     (input : List ℕ) × (output : List ℕ) × IfSome left (λ bytes. input ≡ bytes)
-    × Runs holds_then meaning fresh input ending output × written output
+    × IsDriven holds_then meaning fresh input ending output × written output
 
 -- Where no completion has two results, the answers of an attempt with the options by default are
 -- told by the journal that it was fed and what it wrote.
@@ -88,16 +88,20 @@ ServesAnew alloc (Err refusal) meaning left written ending = ⊥
 -- What each end of a run says. `serves` says that an attempt was served to that end, and what is
 -- written of its output into a writer that held and now holds these bytes; `read` that all was
 -- read, and `unwritten` that nothing was written.
-abbrev pub Tells : Result Version Error → ((List ℕ → Type 0) → AttemptEnd → Type 0)
+abbrev pub AttemptSays : Result Version Error → ((List ℕ → Type 0) → AttemptEnd → Type 0)
     → Option (List ℕ) → Option (List ℕ) → (IoError → Type 0) → (IoError → Type 0) → Type 0 → Type 0
     → RunEnd → Type 0
-Tells version serves held holds read_fails write_fails read unwritten UnknownHandler = unwritten
-Tells version serves held holds read_fails write_fails read unwritten (Refused refusal) = (version
+AttemptSays version serves held holds read_fails write_fails read unwritten UnknownHandler =
+    unwritten
+AttemptSays version serves held holds read_fails write_fails read unwritten (Refused refusal) =
+    (version
     ≡ Err refusal) × unwritten
-Tells version serves held holds read_fails write_fails read unwritten (ReadFailed e) = read_fails e
+AttemptSays version serves held holds read_fails write_fails read unwritten (ReadFailed e) =
+    read_fails e
     × unwritten
-Tells version serves held holds read_fails write_fails read unwritten NoMemory = read × unwritten
-Tells version serves held holds read_fails write_fails read unwritten (WriteFailed ending e) =
+AttemptSays version serves held holds read_fails write_fails read unwritten NoMemory =
+    read × unwritten
+AttemptSays version serves held holds read_fails write_fails read unwritten (WriteFailed ending e) =
     write_fails e × read × serves (AppendsSome held holds) ending
-Tells version serves held holds read_fails write_fails read unwritten (Written ending) = read
+AttemptSays version serves held holds read_fails write_fails read unwritten (Written ending) = read
     × serves (Appends held holds) ending

@@ -5,7 +5,7 @@ ghost use Rattle.journal_errors.specs.declared.error.Error.{Error};
 ghost use Rattle.invocation_vm.specs.Making.{version_in};
 ghost use Rattle.vm_steps.specs.Stepping.{StepDoes};
 ghost use Rattle.vm_steps.specs.declared.progress.Progress.{Progress};
-ghost use Rattle.runner.specs.Runs.{SendsWhole, end_after, IsFed, Drives, Runs, ServesAnew, Tells};
+ghost use Rattle.runner.specs.Runs.{SendsWhole, end_after, IsFed, Drives, IsDriven, ServesAnew, AttemptSays};
 ghost use Rattle.handlers.specs.Named.{step_named};
 ghost use Rattle.runner.specs.declared.run_end.RunEnd.TheVariants as run_end;
 
@@ -62,7 +62,7 @@ fn serve<H: Handler>(
     attempt: &mut Attempt<H>,
     input: Bytes,
 ) -> Result<(AttemptEnd, Bytes), AllocError>
-    ensures { IfOk result (λ served. Runs SendsWhole (H.meaning attempt.old.handler)
+    ensures { IfOk result (λ served. IsDriven SendsWhole (H.meaning attempt.old.handler)
         attempt.old.record_of input served.0 served.1) }
 {
     feed_all(attempt, input);
@@ -102,7 +102,7 @@ fn run_handler<H: Handler + Drop, R: Source, W: Sink>(
     ensures refused { IfErr (version_in (Some (Some content_type.now)))
         (λ refusal. (result ≡ run_end.Refused refusal) × (reader.new ≡ reader.old)
         × (writer.new ≡ writer.old)) }
-    ensures runs { Tells (version_in (Some (Some content_type.now)))
+    ensures runs { AttemptSays (version_in (Some (Some content_type.now)))
         (ServesAnew alloc (version_in (Some (Some content_type.now))) (H.meaning handler)
         (R.remaining reader.old)) (W.contents writer.old) (W.contents writer.new)
         (R.fails reader.old) (W.fails writer.old) (IsAtEnd (R.remaining reader.new)) (writer.new
@@ -146,7 +146,7 @@ pub fn run<R: Source, W: Sink>(
     // it wrote; or reading has failed, or memory was lacking behind it, and nothing is written. All that the attempt sends is
     // written, or a beginning where writing has failed.
     ensures runs { IfSome (step_named handler.now)
-        (λ meaning. Tells (version_in (Some (Some content_type.now)))
+        (λ meaning. AttemptSays (version_in (Some (Some content_type.now)))
         (ServesAnew alloc (version_in (Some (Some content_type.now))) meaning
         (R.remaining reader.old)) (W.contents writer.old) (W.contents writer.new)
         (R.fails reader.old) (W.fails writer.old) (IsAtEnd (R.remaining reader.new)) (writer.new

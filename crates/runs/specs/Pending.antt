@@ -1,4 +1,5 @@
--- Runs that were called and whose results are neither known nor proposed, in the order of their calls.
+-- Runs that were called and whose results are neither known nor proposed, in the order of their
+-- calls.
 use Rattle.std.specs.Prelude.{ℕ, ◌==◌, ◌&&◌, Bool, true, false, List}
 use Rattle.std.specs.List.{list_any}
 use Rattle.vm_parts.specs.declared.run_state.PendingRun.{PendingRun}
@@ -8,7 +9,13 @@ use Rattle.await_trees.specs.declared.handle.NotificationHandle.{NotificationHan
 
 -- a run that was just called
 abbrev pub to_execute : NotificationHandle → ℕ → ℕ → List ℕ → PendingRun
-to_execute handle id index name = record { handle = handle.0; completion_id = id; command_index = index; name = name; execution = Waiting }
+to_execute handle id index name = record {
+  handle = handle.0;
+  completion_id = id;
+  command_index = index;
+  name = name;
+  execution = Waiting;
+}
 
 abbrev pub handle_of : PendingRun → NotificationHandle
 handle_of run = record { 0 = run.handle }

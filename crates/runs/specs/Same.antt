@@ -5,4 +5,5 @@ use Rattle.vm_types.specs.Same.{handle_exact}
 use Rattle.runs.specs.contracts.types.RunHandlePartialEq.TheImpl as runs
 
 pub run_exact : Exact (runs.ghosts).eq
-run_exact = exact_on (λ r. (r.replayed, r.handle)) (λ p. record { replayed = p.0; handle = p.1 }) (λ _. refl) (exact_pair exact_bool handle_exact)
+run_exact = exact_on (λ r. (r.replayed, r.handle)) (λ p. record { replayed = p.0; handle = p.1 })
+    (λ _. refl) (exact_pair exact_bool handle_exact)

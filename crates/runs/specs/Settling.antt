@@ -31,14 +31,16 @@ has_metadata (exit.RetryableFailure duration e) = false
 
 -- ---- how often, and for how long
 
--- how often the run failed in earlier attempts. Start tells it of the first command behind the recorded ones, so it counts only
--- where none was written
+-- how often the run failed in earlier attempts. Start tells it of the first command behind the
+-- recorded ones, so it counts only where none was written
 abbrev pub earlier_count : StartInfo → Bool → ℕ
 earlier_count start wrote = if wrote then 0 else start.retry_count
 
--- and for how long, in nanoseconds; where it never failed, the duration that Start tells is none of its attempts
+-- and for how long, in nanoseconds; where it never failed, the duration that Start tells is none of
+-- its attempts
 abbrev pub earlier_nanos : StartInfo → Bool → ℕ
-earlier_nanos start wrote = if wrote || (start.retry_count == 0) then 0 else start.duration * 1000000
+earlier_nanos start wrote =
+    if wrote || (start.retry_count == 0) then 0 else start.duration * 1000000
 
 -- with one more failure, as far as a count goes
 abbrev pub count_with : StartInfo → Bool → ℕ
@@ -58,16 +60,28 @@ run_command run = record { index = run.command_index; ty = type.RunCommand; name
 abbrev pub terminal : Error → Failure
 terminal e = record { code = e.code; message = e.message; metadata = [] }
 
--- A failure that is retried fails the attempt, with the delay of the policy, also where that is none; a pause keeps the error's
--- own delay. Each relates to the run's command. Else the failure is the run's result.
+-- A failure that is retried fails the attempt, with the delay of the policy, also where that is
+-- none; a pause keeps the error's own delay. Each relates to the run's command. Else the failure is
+-- the run's result.
 abbrev pub FailsAs : PendingRun → Error → Verdict → Settlement → Type 0
 FailsAs run e (retried nanos) s =
-    (delay : Option Duration) × (option_map as_nanos delay ≡ nanos) × (s ≡ settlement.Failed (record e { next_retry_delay = delay; related_command = Some (run_command run) }))
-FailsAs run e paused s = s ≡ settlement.Failed (record e { behavior = behavior.Pause; related_command = Some (run_command run) })
+    (delay : Option Duration) × (option_map as_nanos delay ≡ nanos)
+    × (s ≡ settlement.Failed
+    (record e { next_retry_delay = delay; related_command = Some (run_command run) }))
+FailsAs run e paused s = s
+    ≡ settlement.Failed (record e {
+      behavior = behavior.Pause;
+      related_command = Some (run_command run);
+    })
 FailsAs run e failed s = s ≡ settlement.Proposed (proposed.Failure (terminal e))
 
--- A result and a terminal failure are proposed. What becomes of another failure the policy says, by all the run's failures.
-abbrev pub Becomes : PendingRun → RunExitResult → RetryPolicy → StartInfo → Bool → Settlement → Type 0
-Becomes run (exit.Success bytes) policy start wrote s = s ≡ settlement.Proposed (proposed.Value bytes)
-Becomes run (exit.TerminalFailure f) policy start wrote s = s ≡ settlement.Proposed (proposed.Failure (failure_message f))
-Becomes run (exit.RetryableFailure attempt e) policy start wrote s = FailsAs run e (next_retry policy (count_with start wrote) (nanos_with start wrote attempt)) s
+-- A result and a terminal failure are proposed. What becomes of another failure the policy says, by
+-- all the run's failures.
+abbrev pub Becomes : PendingRun → RunExitResult → RetryPolicy → StartInfo → Bool → Settlement
+    → Type 0
+Becomes run (exit.Success bytes) policy start wrote s = s
+    ≡ settlement.Proposed (proposed.Value bytes)
+Becomes run (exit.TerminalFailure f) policy start wrote s = s
+    ≡ settlement.Proposed (proposed.Failure (failure_message f))
+Becomes run (exit.RetryableFailure attempt e) policy start wrote s = FailsAs run e
+    (next_retry policy (count_with start wrote) (nanos_with start wrote attempt)) s

@@ -46,7 +46,8 @@ impl KeptProposals {
 
     /// The result is kept until its id is acknowledged.
     pub fn keep(&mut self, completion_id: u32, proposed: ValueOrFailure) -> Result<(), AllocError>
-        ensures ok { OnOk result (self.new ≡ self.old ++ record { completion_id = completion_id; result = proposed } ∷ []) }
+        ensures ok { OnOk result (self.new ≡ self.old
+            ++ record { completion_id = completion_id; result = proposed } ∷ []) }
         ensures err { OnErr result (self.new ≡ self.old) }
     {
         self.kept.push(KeptProposal {

@@ -49,7 +49,8 @@ impl RunState {
         command_index: u32,
         command_name: Text,
     ) -> Result<(), AllocError>
-        ensures ok { OnOk result (self.new ≡ self.old ++ to_execute handle completion_id command_index command_name ∷ []) }
+        ensures ok { OnOk result (self.new ≡ self.old
+            ++ to_execute handle completion_id command_index command_name ∷ []) }
         ensures err { OnErr result (self.new ≡ self.old) }
     {
         self.pending.push(PendingRun {
@@ -90,7 +91,8 @@ impl RunState {
 
     /// The index and the name of the run's command.
     pub fn get_run_info(&self, handle: &NotificationHandle) -> Option<(u32, &str)>
-        ensures { option_map (λ info. (info.0, info.1.now)) result ≡ option_map info_of (find (has_handle handle.now) self.now) }
+        ensures { option_map (λ info. (info.0, info.1.now)) result
+            ≡ option_map info_of (find (has_handle handle.now) self.now) }
     {
         let run = self.pending.iter().find(|run| run.handle == handle.0)?;
         Some((run.command_index, run.name.as_str()))

@@ -36,7 +36,10 @@ fn run_command(run: PendingRun) -> RelatedCommand
 }
 
 fn retried(mut error: Error, delay: Option<Duration>, run: PendingRun) -> Error
-    ensures { result ≡ record error { next_retry_delay = delay; related_command = Some (run_command run) } }
+    ensures { result ≡ record error {
+      next_retry_delay = delay;
+      related_command = Some (run_command run);
+    } }
 {
     error.next_retry_delay = delay;
     error.related_command = Some(run_command(run));
@@ -44,7 +47,10 @@ fn retried(mut error: Error, delay: Option<Duration>, run: PendingRun) -> Error
 }
 
 fn paused(mut error: Error, run: PendingRun) -> Error
-    ensures { result ≡ record error { behavior = behavior.Pause; related_command = Some (run_command run) } }
+    ensures { result ≡ record error {
+      behavior = behavior.Pause;
+      related_command = Some (run_command run);
+    } }
 {
     error.behavior = ErrorBehavior::Pause;
     error.related_command = Some(run_command(run));
@@ -66,7 +72,8 @@ fn terminal(alloc: Global, error: &Error) -> Result<Failure, AllocError>
 /// where no command was written behind the recorded ones.
 fn tried(start: &StartInfo, wrote_command: bool, attempt_duration: Duration) -> EntryRetryInfo
     ensures count { result.retry_count ≡ count_with start.now wrote_command }
-    ensures nanos { as_nanos result.retry_loop_duration ≡ nanos_with start.now wrote_command attempt_duration }
+    ensures nanos { as_nanos result.retry_loop_duration
+        ≡ nanos_with start.now wrote_command attempt_duration }
 {
     let (count, lasted) = if wrote_command || start.retry_count == 0 {
         (0, Duration::ZERO)

@@ -1,4 +1,5 @@
--- The call of the VM that a line's call is: one row a call, and one row a kind of what a handler's steps ask for.
+-- The call of the VM that a line's call is: one row a call, and one row a kind of what a handler's
+-- steps ask for.
 use Rattle.std.specs.Prelude.{[], ◌∷◌, ◌≡◌, ℕ, Bool, List, Result, Ok, Err, IfOk}
 use Rattle.std.specs.declared.alloc.AllocError.{AllocError}
 use Rattle.journal_errors.specs.declared.error.Error.{Error}
@@ -76,14 +77,22 @@ pub record TellsReady (machine : Machine) (answer : Reply) : Type 0 where
 
 -- what the call does that is asked for
 abbrev pub DoneAsAsked : Ask → Reply → View → View → Type 0
-DoneAsAsked (ask.Command c) told old new = Answers (λ handle. reply.Answer (command_answer c.message handle)) (commanded c) told old new
-DoneAsAsked (ask.Commands kind first second) told old new = Tells (λ handle. reply.Answer (answer_by kind handle)) (CallsAll first (second ∷ [])) told old new
-DoneAsAsked ask.Awakeable told old new = Answers (λ made. reply.Answer (answer.Awakeable made)) new_awakeable_step told old new
-DoneAsAsked (ask.Read r) told old new = Answers (λ handle. reply.Answer (answer.Handle handle)) (read_step r) told old new
-DoneAsAsked (ask.Signal name) told old new = Answers (λ handle. reply.Answer (answer.Handle handle)) (signal_step name) told old new
-DoneAsAsked (ask.Await future) told old new = Tells reply.Awaited (CallsFlatAwait future) told old new
-DoneAsAsked (ask.Take handle) told old new = Answers (λ value. reply.Answer (answer.Taken value)) (take_step handle.0) told old new
-DoneAsAsked (ask.Completed handle) told old new = (told ≡ reply.Answer (answer.Completed (is_completed handle.0 old.machine))) × (new ≡ old)
+DoneAsAsked (ask.Command c) told old new = Answers
+    (λ handle. reply.Answer (command_answer c.message handle)) (commanded c) told old new
+DoneAsAsked (ask.Commands kind first second) told old new = Tells
+    (λ handle. reply.Answer (answer_by kind handle)) (CallsAll first (second ∷ [])) told old new
+DoneAsAsked ask.Awakeable told old new =
+    Answers (λ made. reply.Answer (answer.Awakeable made)) new_awakeable_step told old new
+DoneAsAsked (ask.Read r) told old new = Answers (λ handle. reply.Answer (answer.Handle handle))
+    (read_step r) told old new
+DoneAsAsked (ask.Signal name) told old new = Answers (λ handle. reply.Answer (answer.Handle handle))
+    (signal_step name) told old new
+DoneAsAsked (ask.Await future) told old new = Tells reply.Awaited (CallsFlatAwait future) told old
+    new
+DoneAsAsked (ask.Take handle) told old new = Answers (λ value. reply.Answer (answer.Taken value))
+    (take_step handle.0) told old new
+DoneAsAsked (ask.Completed handle) told old new = (told
+    ≡ reply.Answer (answer.Completed (is_completed handle.0 old.machine))) × (new ≡ old)
 DoneAsAsked ask.End told old new = Answers (λ _. reply.Answer answer.Unit) end_step told old new
 
 -- what the call of a handler's step does
@@ -93,16 +102,23 @@ StepDone step told old new = DoneAsAsked (ask_of old.machine.version step) told 
 -- what a line's call does
 abbrev pub Called : Call → Reply → View → View → Type 0
 Called call.Head told old new = TellsHead old.machine.version told × (new ≡ old)
-Called (call.Input bytes) told old new = Feeds (brought old bytes) (after_input old bytes) told old new
+Called (call.Input bytes) told old new = Feeds (brought old bytes) (after_input old bytes) told old
+    new
 Called call.Close told old new = Feeds [] (after_closing old) told old new
 Called call.Output told old new = Drains told old new
 Called call.Ready told old new = TellsReady old.machine told × (new ≡ old)
 Called call.State told old new = (told ≡ reply.State (state_of old.machine)) × (new ≡ old)
-Called call.Index told old new = (told ≡ reply.Index (last_index old.machine.counters.command)) × (new ≡ old)
-Called (call.Error error relationship) told old new = Feeds [] (after_error old error relationship) told old new
-Called call.SysInput told old new = Answers (λ input. reply.Answer (answer.Input input)) input_step told old new
+Called call.Index told old new =
+    (told ≡ reply.Index (last_index old.machine.counters.command)) × (new ≡ old)
+Called (call.Error error relationship) told old new = Feeds [] (after_error old error relationship)
+    told old new
+Called call.SysInput told old new =
+    Answers (λ input. reply.Answer (answer.Input input)) input_step told old new
 Called (call.Run name) told old new = Tells reply.Run (CallsRun name) told old new
-Called (call.Propose handle exit policy) told old new = Tells (λ _. reply.Answer answer.Unit) (CallsProposal handle exit policy) told old new
-Called (call.EphemeralGet key) told old new = Answers reply.Ephemeral (ephemeral_step key) told old new
-Called (call.TakeEphemeral id) told old new = Answers (λ value. reply.Answer (answer.Taken value)) (take_ephemeral_step id.0) told old new
+Called (call.Propose handle exit policy) told old new = Tells (λ _. reply.Answer answer.Unit)
+    (CallsProposal handle exit policy) told old new
+Called (call.EphemeralGet key) told old new = Answers reply.Ephemeral (ephemeral_step key) told old
+    new
+Called (call.TakeEphemeral id) told old new = Answers (λ value. reply.Answer (answer.Taken value))
+    (take_ephemeral_step id.0) told old new
 Called (call.Step step) told old new = StepDone step told old new

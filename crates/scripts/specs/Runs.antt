@@ -24,20 +24,24 @@ pub record IsCut (alloc : Global) (script : List ℕ) (old : Option CoreVM) (bef
   pub is_begun : IsBegun alloc rest last between after
 
 -- what is written of a script's answers, where they have ended so
-abbrev pub Ends : Global → List ℕ → Option CoreVM → Option (List ℕ) → Option (List ℕ) → (IoError → Type 0) → RunEnd → Type 0
+abbrev pub Ends : Global → List ℕ → Option CoreVM → Option (List ℕ) → Option (List ℕ)
+    → (IoError → Type 0) → RunEnd → Type 0
 Ends alloc script old before after write_fails (ReadFailed e) = ⊥
 Ends alloc script old before after write_fails NoMemory = IsStarved alloc script old before after
-Ends alloc script old before after write_fails (WriteFailed e) = write_fails e × IsCut alloc script old before after
-Ends alloc script old before after write_fails Done = (last : Option CoreVM) × IsWritten alloc script [] old last before after
+Ends alloc script old before after write_fails (WriteFailed e) = write_fails e
+    × IsCut alloc script old before after
+Ends alloc script old before after write_fails Done =
+    (last : Option CoreVM) × IsWritten alloc script [] old last before after
 
--- The script is all that the reader had left, where this is known, and its lines are answered from no VM on.
+-- The script is all that the reader had left, where this is known, and its lines are answered from
+-- no VM on.
 pub record IsRun (alloc : Global) (remaining before after : Option (List ℕ)) (write_fails : IoError → Type 0) (end : RunEnd) : Type 0 where
   pub script : List ℕ
   pub read : IfSome remaining (λ bytes. script ≡ bytes)
   pub ends : Ends alloc script None before after write_fails end
 
--- What each end of a run says. `runs` says that a script was answered up to that end; `read` that all was read, and `unwritten` that
--- nothing was written.
+-- What each end of a run says. `runs` says that a script was answered up to that end; `read` that
+-- all was read, and `unwritten` that nothing was written.
 abbrev pub Tells : (RunEnd → Type 0) → (IoError → Type 0) → Type 0 → Type 0 → RunEnd → Type 0
 Tells runs read_fails read unwritten (ReadFailed e) = read_fails e × unwritten
 Tells runs read_fails read unwritten NoMemory = read × runs NoMemory

@@ -18,9 +18,12 @@ pub record Transcribes (alloc : Global) (old new : Option CoreVM) (line answer :
   pub performed : Performed alloc request old reply new
   pub printed : answer ≡ reply_text reply
 
--- Without memory nothing was done; or what the line asks for was done, and memory was lacking for the text of its reply.
+-- Without memory nothing was done; or what the line asks for was done, and memory was lacking for
+-- the text of its reply.
 abbrev pub IsUnanswered : Global → Option CoreVM → Option CoreVM → List ℕ → Type 0
-IsUnanswered alloc old new line = (new ≡ old) ⊎ ((request : Request) × (reply : Reply) × Reads line request × Performed alloc request old reply new)
+IsUnanswered alloc old new line = (new ≡ old)
+    ⊎ ((request : Request) × (reply : Reply) × Reads line request
+    × Performed alloc request old reply new)
 
 -- the script's first line, without its end, and what follows it; the last line may have no end
 abbrev pub IsFirstLine : List ℕ → List ℕ → List ℕ → Type 0
@@ -30,13 +33,16 @@ IsFirstLine script line rest =
 -- the script is these lines, one after another, and then this rest
 abbrev pub AreFirstLines : List (List ℕ) → List ℕ → List ℕ → Type 0
 AreFirstLines [] script rest = script ≡ rest
-AreFirstLines (line ∷ lines) script rest = (script ≢ []) × ((behind : List ℕ) × IsFirstLine script line behind × AreFirstLines lines behind rest)
+AreFirstLines (line ∷ lines) script rest = (script ≢ [])
+    × ((behind : List ℕ) × IsFirstLine script line behind × AreFirstLines lines behind rest)
 
 -- the lines are answered one after another, from one VM to the next, and each answer has an end
 abbrev pub AreAnswered : Global → List (List ℕ) → Option CoreVM → Option CoreVM → List ℕ → Type 0
 AreAnswered alloc [] old new transcript = (new ≡ old) × (transcript ≡ [])
 AreAnswered alloc (line ∷ lines) old new transcript =
-    (next : Option CoreVM) × (answer : List ℕ) × (others : List ℕ) × Transcribes alloc old next line answer × AreAnswered alloc lines next new others × (transcript ≡ answer ++ 10 ∷ others)
+    (next : Option CoreVM) × (answer : List ℕ) × (others : List ℕ)
+    × Transcribes alloc old next line answer × AreAnswered alloc lines next new others
+    × (transcript ≡ answer ++ 10 ∷ others)
 
 -- the script's lines are answered, up to this rest
 pub record IsTranscript (alloc : Global) (script rest : List ℕ) (old new : Option CoreVM) (transcript : List ℕ) : Type 0 where

@@ -136,7 +136,8 @@ pub fn ran(given: VMResult<RunHandle>) -> Reply
 /// Makes a call that has a command.
 #[tactic(auto, using(crate::proofs::Told::answers, vm_machine::proofs::Answering::handles_fit))]
 fn carry(vm: &mut CoreVM, command: Command) -> Reply
-    ensures { Answers (λ handle. reply.Answer (command_answer command.message handle)) (commanded command) result (seen vm.old) (seen vm.new) }
+    ensures { Answers (λ handle. reply.Answer (command_answer command.message handle))
+        (commanded command) result (seen vm.old) (seen vm.new) }
 {
     let kind = command.answer_kind();
     match vm.command(command) {
@@ -149,7 +150,8 @@ fn carry(vm: &mut CoreVM, command: Command) -> Reply
 #[tactic(auto, using(crate::proofs::Told::tells_all, vm_machine::proofs::Answering::several_fit))]
 fn carry_both(vm: &mut CoreVM, kind: AnswerKind, first: Command, second: Command) -> Reply
     requires { AnswerTakes kind (all_ids first (second ∷ [])) }
-    ensures { Tells (λ handle. reply.Answer (answer_by kind handle)) (CallsAll first (second ∷ [])) result (seen vm.old) (seen vm.new) }
+    ensures { Tells (λ handle. reply.Answer (answer_by kind handle)) (CallsAll first (second ∷ []))
+        result (seen vm.old) (seen vm.new) }
 {
     match vm.commands(first, second) {
         Ok(handle) => Reply::Answer(command_answer(kind, handle)),
@@ -251,7 +253,8 @@ fn replace(vm: &mut Option<CoreVM>, new: Option<CoreVM>)
 /// Makes a new VM, and says which or why not.
 #[tactic(auto, using(crate::proofs::Making::made_as_asked))]
 fn make(alloc: Global, content_type: ContentType, options: VMOptions) -> (Reply, Option<CoreVM>)
-    ensures { Made alloc options (version_in (found content_type (codes "content-type"))) result.0 result.1 }
+    ensures { Made alloc options (version_in (found content_type (codes "content-type"))) result.0
+        result.1 }
 {
     match CoreVM::new(alloc, content_type, options) {
         Ok(new) => {
@@ -269,7 +272,8 @@ pub fn make_anew(
     content_type: ContentType,
     options: VMOptions,
 ) -> Reply
-    ensures { Made alloc options (version_in (found content_type (codes "content-type"))) result vm.new }
+    ensures { Made alloc options (version_in (found content_type (codes "content-type"))) result
+        vm.new }
 {
     replace(vm, None);
     let (reply, made) = make(alloc, content_type, options);

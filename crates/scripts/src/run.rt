@@ -51,7 +51,8 @@ impl<'a> Room<'a> {
         vm: &mut Option<CoreVM>,
         line: &'a [u8],
     ) -> Result<(), AllocError>
-        ensures answered { IfOk result (λ _. Transcribes alloc vm.old vm.new line.now self.new.answer) }
+        ensures answered { IfOk result
+            (λ _. Transcribes alloc vm.old vm.new line.now self.new.answer) }
         ensures unanswered { OnErr result (IsUnanswered alloc vm.old vm.new line.now) }
     {
         self.answer.clear();
@@ -69,7 +70,8 @@ impl<'a> Room<'a> {
         vm: &mut Option<CoreVM>,
         line: &'a [u8],
     ) -> Result<(), AllocError>
-        ensures { IfOk result (λ _. (told : List ℕ) × Transcribes alloc vm.old vm.new line.now told × (self.new.answer ≡ told ++ 10 ∷ [])) }
+        ensures { IfOk result (λ _. (told : List ℕ) × Transcribes alloc vm.old vm.new line.now told
+            × (self.new.answer ≡ told ++ 10 ∷ [])) }
     {
         self.answer(alloc, vm, line)?;
         self.answer.word("\n")
@@ -107,7 +109,8 @@ fn answer_all<W: Sink>(
     script: &[u8],
     writer: &mut W,
 ) -> RunEnd
-    ensures { Ends alloc script.now vm.old (W.contents writer.old) (W.contents writer.new) (W.fails writer.old) result }
+    ensures { Ends alloc script.now vm.old (W.contents writer.old) (W.contents writer.new)
+        (W.fails writer.old) result }
 {
     let mut room = Room::new(alloc);
     let mut rest = script;
@@ -126,7 +129,8 @@ fn answer_all<W: Sink>(
 
 /// Answers a script from no VM on.
 fn drive<W: Sink>(alloc: Global, script: &[u8], writer: &mut W) -> RunEnd
-    ensures { Ends alloc script.now None (W.contents writer.old) (W.contents writer.new) (W.fails writer.old) result }
+    ensures { Ends alloc script.now None (W.contents writer.old) (W.contents writer.new)
+        (W.fails writer.old) result }
 {
     let mut vm = None;
     let end = answer_all(alloc, &mut vm, script, writer);
@@ -139,7 +143,9 @@ pub fn run<R: Source, W: Sink>(alloc: Global, reader: &mut R, writer: &mut W) ->
     // Reading has failed, and nothing is written. Each other run has read all that there was as a script, and has answered its
     // first lines, whose answers are written: all of them; or those before a line for which memory was lacking; or those before
     // an answer whose writing has failed, and a beginning of it.
-    ensures { Tells (IsRun alloc (R.remaining reader.old) (W.contents writer.old) (W.contents writer.new) (W.fails writer.old)) (R.fails reader.old) (IsAtEnd (R.remaining reader.new)) (writer.new ≡ writer.old) result }
+    ensures { Tells (IsRun alloc (R.remaining reader.old) (W.contents writer.old)
+        (W.contents writer.new) (W.fails writer.old)) (R.fails reader.old)
+        (IsAtEnd (R.remaining reader.new)) (writer.new ≡ writer.old) result }
 {
     let mut script = Vec::new(alloc);
     if let Err(error) = reader.read_whole(&mut script) {

@@ -25,12 +25,15 @@ abbrev pub reply_kept : Result Reply Status → Reply → Reply
 reply_kept (Ok reply) last = reply
 reply_kept (Err status) last = last
 
--- A call is made of a VM, of which is said what it does: C is told its reply, which is kept in the place of the last; or why it isn't made.
-abbrev pub IsMadeOf : (Result Reply Status → View → View → Type 0) → Result Replied Status → View → View → Reply → Reply → Type 0
+-- A call is made of a VM, of which is said what it does: C is told its reply, which is kept in the
+-- place of the last; or why it isn't made.
+abbrev pub IsMadeOf : (Result Reply Status → View → View → Type 0) → Result Replied Status → View
+    → View → Reply → Reply → Type 0
 IsMadeOf does (Ok told) old new last kept = does (Ok kept) old new × (told ≡ summary kept)
 IsMadeOf does (Err status) old new last kept = does (Err status) old new × (kept ≡ last)
 
--- A call is made of a VM, of which is said what it does; C is told its outcome, and its reply is kept.
+-- A call is made of a VM, of which is said what it does; C is told its outcome, and its reply is
+-- kept.
 pub record IsCalled (does : Result Reply Status → View → View → Type 0) (replied : Replied) (old new : CoreVM) (last next : Reply) : Type 0 where
   pub outcome : Result Reply Status
   pub done : does outcome (seen old) (seen new)
@@ -38,28 +41,36 @@ pub record IsCalled (does : Result Reply Status → View → View → Type 0) (r
   pub kept : next ≡ reply_kept outcome last
 
 -- A call is made of the VM that there is.
-abbrev pub OnVm : (Result Reply Status → View → View → Type 0) → Replied → Option CoreVM → Option CoreVM → Reply → Reply → Type 0
+abbrev pub OnVm : (Result Reply Status → View → View → Type 0) → Replied → Option CoreVM
+    → Option CoreVM → Reply → Reply → Type 0
 OnVm does told (Some old) (Some new) last kept = IsCalled does told old new last kept
 OnVm does told None None last kept = (told ≡ kept_told status.NoVm) × (kept ≡ last)
 OnVm does told old new last kept = ⊥
 
 -- A call is made of the VM of the session that there is. The last answer to a line stays.
-abbrev pub CalledFromC : (Result Reply Status → View → View → Type 0) → Replied → Option Session → Option Session → Type 0
-CalledFromC does told (Some old) (Some new) = OnVm does told old.vm new.vm old.reply new.reply × (new.answer ≡ old.answer)
+abbrev pub CalledFromC : (Result Reply Status → View → View → Type 0) → Replied → Option Session
+    → Option Session → Type 0
+CalledFromC does told (Some old) (Some new) = OnVm does told old.vm new.vm old.reply new.reply
+    × (new.answer ≡ old.answer)
 CalledFromC does told None None = told ≡ kept_told status.NoSession
 CalledFromC does told old new = ⊥
 
--- A VM is put into the session that there is, in the place of the last; or there is none, and C is told why. The last answer to a line stays.
-abbrev pub MadeFromC : Global → VMOptions → Result Version Error → Replied → Option Session → Option Session → Type 0
+-- A VM is put into the session that there is, in the place of the last; or there is none, and C is
+-- told why. The last answer to a line stays.
+abbrev pub MadeFromC : Global → VMOptions → Result Version Error → Replied → Option Session
+    → Option Session → Type 0
 MadeFromC alloc options wanted told (Some old) (Some new) =
-    Made alloc options wanted new.reply new.vm × (told ≡ summary new.reply) × (new.answer ≡ old.answer)
+    Made alloc options wanted new.reply new.vm × (told ≡ summary new.reply)
+    × (new.answer ≡ old.answer)
 MadeFromC alloc options wanted told None None = told ≡ kept_told status.NoSession
 MadeFromC alloc options wanted told old new = ⊥
 
 -- Bytes are written to the front of the room for them, if there is so much.
 abbrev pub Written : List ℕ → Status → ℕ → List ℕ → List ℕ → Type 0
-Written bytes status.Done len before after = (len ≡ length bytes) × (after ≡ bytes ++ drop len before)
-Written bytes status.NoRoom len before after = (len ≡ length bytes) × (length before < len) × (after ≡ before)
+Written bytes status.Done len before after =
+    (len ≡ length bytes) × (after ≡ bytes ++ drop len before)
+Written bytes status.NoRoom len before after =
+    (len ≡ length bytes) × (length before < len) × (after ≡ before)
 Written bytes told len before after = ⊥
 
 -- A part is written, if there is one.

@@ -71,8 +71,8 @@ version_code version.V7 = 7
 version_code version.V8 = 8
 
 -- a reply of this kind, with these three numbers
-abbrev pub told : Kind → ℕ → ℕ → ℕ → Replied
-told kind first second third = record {
+abbrev pub numbered : Kind → ℕ → ℕ → ℕ → Replied
+numbered kind first second third = record {
   status = 0;
   kind = kind_code kind;
   first = first;
@@ -84,8 +84,8 @@ told kind first second third = record {
 }
 
 -- a reply of this kind, with a large number and so many keys or pairs
-abbrev pub counted : Kind → ℕ → ℕ → Replied
-counted kind number rows = record {
+abbrev pub with_rows : Kind → ℕ → ℕ → Replied
+with_rows kind number rows = record {
   status = 0;
   kind = kind_code kind;
   first = 0;
@@ -110,8 +110,8 @@ kept_told status = record {
 }
 
 -- an error of this code, with a command that it relates to where the first number is 1
-abbrev pub failed : ℕ → ℕ → ℕ → ℕ → Replied
-failed code is_related index ty = record {
+abbrev pub error_numbers : ℕ → ℕ → ℕ → ℕ → Replied
+error_numbers code is_related index ty = record {
   status = 5;
   kind = kind_code kind.Error;
   first = is_related;
@@ -123,77 +123,82 @@ failed code is_related index ty = record {
 }
 
 abbrev pub related_told : ℕ → Option RelatedCommand → Replied
-related_told code (Some command) = failed code 1 command.index (type_number command.ty)
-related_told code None = failed code 0 0 0
+related_told code (Some command) = error_numbers code 1 command.index (type_number command.ty)
+related_told code None = error_numbers code 0 0 0
 
--- an error: the call is refused; its code, and whether it relates to a command, of which index and which type
+-- an error: the call is refused; its code, and whether it relates to a command, of which index and
+-- which type
 abbrev pub error_told : Error → Replied
 error_told e = related_told e.code e.related_command
 
 -- a result: a failure's code, and how many keys or pairs there are
 abbrev pub value_told : Value → Replied
-value_told value.Void = told kind.Void 0 0 0
-value_told (value.Success bytes) = told kind.Value 0 0 0
-value_told (value.Failure failure) = counted kind.Failure failure.code (length failure.metadata)
-value_told (value.StateKeys keys) = counted kind.Keys 0 (length keys)
-value_told (value.InvocationId id) = told kind.InvocationId 0 0 0
+value_told value.Void = numbered kind.Void 0 0 0
+value_told (value.Success bytes) = numbered kind.Value 0 0 0
+value_told (value.Failure failure) = with_rows kind.Failure failure.code (length failure.metadata)
+value_told (value.StateKeys keys) = with_rows kind.Keys 0 (length keys)
+value_told (value.InvocationId id) = numbered kind.InvocationId 0 0 0
 
 -- a handle's result, if it has one
 abbrev pub taken_told : Option Value → Replied
 taken_told (Some value) = value_told value
-taken_told None = told kind.Nothing 0 0 0
+taken_told None = numbered kind.Nothing 0 0 0
 
--- what an await answers: which run is to be executed, which ephemeral read's value is there, what is waited for
+-- what an await answers: which run is to be executed, which ephemeral read's value is there, what
+-- is waited for
 abbrev pub response_told : AwaitResponse → Replied
-response_told response.AnyCompleted = told kind.Awake 0 0 0
-response_told (response.WaitingExternalProgress input run) = told kind.Waiting (flag_code input) (flag_code run) 0
-response_told (response.ExecuteRun handle) = told kind.ExecuteRun handle.0 0 0
-response_told response.CancelSignalReceived = told kind.Cancelled 0 0 0
-response_told (response.EphemeralNotificationReady id) = told kind.Ephemeral id.0 0 0
+response_told response.AnyCompleted = numbered kind.Awake 0 0 0
+response_told (response.WaitingExternalProgress input run) = numbered kind.Waiting (flag_code input)
+    (flag_code run) 0
+response_told (response.ExecuteRun handle) = numbered kind.ExecuteRun handle.0 0 0
+response_told response.CancelSignalReceived = numbered kind.Cancelled 0 0 0
+response_told (response.EphemeralNotificationReady id) = numbered kind.Ephemeral id.0 0 0
 
 -- what a handler's call answers: its handles in the order in which they are handed out
 abbrev pub handles_told : Answer → Replied
-handles_told (answer.Input input) = counted kind.Input input.random_seed (length input.headers)
-handles_told (answer.Handle handle) = told kind.Handle handle.0 0 0
-handles_told (answer.Call call) = told kind.Handle call.invocation_id_notification_handle.0 call.call_notification_handle.0 0
+handles_told (answer.Input input) = with_rows kind.Input input.random_seed (length input.headers)
+handles_told (answer.Handle handle) = numbered kind.Handle handle.0 0 0
+handles_told (answer.Call call) = numbered kind.Handle call.invocation_id_notification_handle.0
+    call.call_notification_handle.0 0
 handles_told (answer.CallWithDeadline call) =
-    told kind.Handle call.invocation_id_notification_handle.0 call.call_notification_handle.0 call.deadline_notification_handle.0
-handles_told (answer.Send send) = told kind.Handle send.invocation_id_notification_handle.0 0 0
-handles_told (answer.Awakeable made) = told kind.Awakeable made.handle.0 0 0
-handles_told answer.Unit = told kind.Nothing 0 0 0
-handles_told answer.Awake = told kind.Awake 0 0 0
-handles_told answer.Cancelled = told kind.Cancelled 0 0 0
+    numbered kind.Handle call.invocation_id_notification_handle.0 call.call_notification_handle.0
+    call.deadline_notification_handle.0
+handles_told (answer.Send send) = numbered kind.Handle send.invocation_id_notification_handle.0 0 0
+handles_told (answer.Awakeable made) = numbered kind.Awakeable made.handle.0 0 0
+handles_told answer.Unit = numbered kind.Nothing 0 0 0
+handles_told answer.Awake = numbered kind.Awake 0 0 0
+handles_told answer.Cancelled = numbered kind.Cancelled 0 0 0
 handles_told (answer.Taken taken) = taken_told taken
-handles_told (answer.Completed is) = told kind.Flag (flag_code is) 0 0
+handles_told (answer.Completed is) = numbered kind.Flag (flag_code is) 0 0
 
 -- the index of the last command, if there is one
 abbrev pub number_told : ℤ → Replied
-number_told (pos index) = counted kind.Index index 0
-number_told (negsuc below) = told kind.Nothing 0 0 0
+number_told (pos index) = with_rows kind.Index index 0
+number_told (negsuc below) = numbered kind.Nothing 0 0 0
 
 -- the numbers of a reply
 abbrev pub told_of : Reply → Replied
 told_of (reply.Refused e) = error_told e
-told_of (reply.Made version) = told kind.Version (version_code version) 0 0
-told_of (reply.Head head) = counted kind.Head head.status_code (length head.headers)
-told_of (reply.Output bytes) = told kind.Output 0 0 0
-told_of (reply.Ready is_ready) = told kind.Flag (flag_code is_ready) 0 0
-told_of (reply.State state) = told kind.State (state_code state) 0 0
+told_of (reply.Made version) = numbered kind.Version (version_code version) 0 0
+told_of (reply.Head head) = with_rows kind.Head head.status_code (length head.headers)
+told_of (reply.Output bytes) = numbered kind.Output 0 0 0
+told_of (reply.Ready is_ready) = numbered kind.Flag (flag_code is_ready) 0 0
+told_of (reply.State state) = numbered kind.State (state_code state) 0 0
 told_of (reply.Index index) = number_told index
 told_of (reply.Awaited response) = response_told response
-told_of (reply.Run run) = told kind.Run run.handle.0 (flag_code run.replayed) 0
-told_of (reply.Ephemeral id) = told kind.Ephemeral id.0 0 0
+told_of (reply.Run run) = numbered kind.Run run.handle.0 (flag_code run.replayed) 0
+told_of (reply.Ephemeral id) = numbered kind.Ephemeral id.0 0 0
 told_of (reply.Answer answer) = handles_told answer
-told_of reply.Nothing = told kind.Nothing 0 0 0
-told_of reply.Bad = told kind.Nothing 0 0 0
-told_of reply.NoVm = told kind.Nothing 0 0 0
-told_of reply.Done = told kind.Nothing 0 0 0
+told_of reply.Nothing = numbered kind.Nothing 0 0 0
+told_of reply.Bad = numbered kind.Nothing 0 0 0
+told_of reply.NoVm = numbered kind.Nothing 0 0 0
+told_of reply.Done = numbered kind.Nothing 0 0 0
 
 -- ---- parts
 
 -- one part, at 0
-abbrev pub alone : List ℕ → ℕ → Option (List ℕ)
-alone text at = if at == 0 then Some text else None
+abbrev pub one_part : List ℕ → ℕ → Option (List ℕ)
+one_part text at = if at == 0 then Some text else None
 
 -- the key of a pair, where the place is even, or its value
 abbrev pub side : ℕ → List ℕ × List ℕ → List ℕ
@@ -218,16 +223,17 @@ in_failure failure at = if at == 0 then Some failure.message else in_pairs failu
 -- of a result: the bytes, the failure, the keys, or the id
 abbrev pub in_value : Value → ℕ → Option (List ℕ)
 in_value value.Void at = None
-in_value (value.Success bytes) at = alone bytes at
+in_value (value.Success bytes) at = one_part bytes at
 in_value (value.Failure failure) at = in_failure failure at
 in_value (value.StateKeys keys) at = slice_get keys at
-in_value (value.InvocationId id) at = alone id at
+in_value (value.InvocationId id) at = one_part id at
 
 abbrev pub in_taken : Option Value → ℕ → Option (List ℕ)
 in_taken (Some value) at = in_value value at
 in_taken None at = None
 
--- of what the handler was called with: the bytes, the invocation's id and key, what else the caller gave, and behind it the headers
+-- of what the handler was called with: the bytes, the invocation's id and key, what else the caller
+-- gave, and behind it the headers
 abbrev pub in_input : Input → ℕ → Option (List ℕ)
 in_input input at =
     if at == 0 then Some input.input
@@ -240,28 +246,28 @@ in_input input at =
 
 abbrev pub in_answer : Answer → ℕ → Option (List ℕ)
 in_answer (answer.Input input) at = in_input input at
-in_answer (answer.Awakeable made) at = alone made.id at
+in_answer (answer.Awakeable made) at = one_part made.id at
 in_answer (answer.Taken taken) at = in_taken taken at
 in_answer other at = None
 
 -- the name of a command, if there is one
-abbrev pub name_in : Option RelatedCommand → Option (List ℕ)
-name_in (Some command) = Some command.name
-name_in None = None
+abbrev pub related_name : Option RelatedCommand → Option (List ℕ)
+related_name (Some command) = Some command.name
+related_name None = None
 
 -- of an error: its text, its stack trace, and the name of the command that it relates to
 abbrev pub in_error : Error → ℕ → Option (List ℕ)
 in_error e at =
     if at == 0 then Some e.message
     else if at == 1 then Some e.stacktrace
-    else if at == 2 then name_in e.related_command
+    else if at == 2 then related_name e.related_command
     else None
 
 -- a part of a reply, a text or bytes, if there are so many
 abbrev pub part_of : Reply → ℕ → Option (List ℕ)
 part_of (reply.Refused e) at = in_error e at
 part_of (reply.Head head) at = in_headers head.headers at
-part_of (reply.Output bytes) at = alone bytes at
+part_of (reply.Output bytes) at = one_part bytes at
 part_of (reply.Answer answer) at = in_answer answer at
 part_of other at = None
 

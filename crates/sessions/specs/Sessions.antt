@@ -17,15 +17,16 @@ abbrev pub IsEmpty : Session → Type 0
 IsEmpty s = (s.vm ≡ None) × (s.answer ≡ []) × (s.reply ≡ reply.Nothing)
 
 -- a session was made, and it is empty; or no memory was found, and there is none
-abbrev pub IsMade : Status → Option Session → Type 0
-IsMade status.Done (Some made) = IsEmpty made
-IsMade status.NoMemory None = Unit {0}
-IsMade told made = ⊥
+abbrev pub IsNewSession : Status → Option Session → Type 0
+IsNewSession status.Done (Some made) = IsEmpty made
+IsNewSession status.NoMemory None = Unit {0}
+IsNewSession told made = ⊥
 
--- A line was performed on the session's VM, and its answer is the session's. Without memory the last answer stays, and the VM is as it
--- was, or the line was performed.
+-- A line was performed on the session's VM, and its answer is the session's. Without memory the
+-- last answer stays, and the VM is as it was, or the line was performed.
 abbrev pub LineDone : Global → List ℕ → Status → Session → Session → Type 0
-LineDone alloc line status.Done old new = Transcribes alloc old.vm new.vm line new.answer × (new.reply ≡ old.reply)
+LineDone alloc line status.Done old new =
+    Transcribes alloc old.vm new.vm line new.answer × (new.reply ≡ old.reply)
 LineDone alloc line status.NoMemory old new =
     (new.answer ≡ old.answer) × IsUnanswered alloc old.vm new.vm line × (new.reply ≡ old.reply)
 LineDone alloc line told old new = ⊥
@@ -33,17 +34,21 @@ LineDone alloc line told old new = ⊥
 -- A line is performed on the session that there is; `len` is the length of its answer.
 abbrev pub LineSent : Global → List ℕ → Status → ℕ → Option Session → Option Session → Type 0
 LineSent alloc line status.NoSession len None None = len ≡ 0
-LineSent alloc line told len (Some old) (Some new) = LineDone alloc line told old new × (len ≡ length new.answer)
+LineSent alloc line told len (Some old) (Some new) = LineDone alloc line told old new
+    × (len ≡ length new.answer)
 LineSent alloc line told len old new = ⊥
 
 -- The last answer is written to the front of the room for it, if there is so much.
 abbrev pub AnswerRead : Status → ℕ → List ℕ → List ℕ → Option Session → Type 0
-AnswerRead status.Done len before after (Some s) = (len ≡ length s.answer) × (after ≡ s.answer ++ drop len before)
-AnswerRead status.NoRoom len before after (Some s) = (len ≡ length s.answer) × (length before < len) × (after ≡ before)
+AnswerRead status.Done len before after (Some s) = (len ≡ length s.answer)
+    × (after ≡ s.answer ++ drop len before)
+AnswerRead status.NoRoom len before after (Some s) = (len ≡ length s.answer) × (length before < len)
+    × (after ≡ before)
 AnswerRead status.NoSession len before after None = (len ≡ 0) × (after ≡ before)
 AnswerRead told len before after s = ⊥
 
--- Bytes are fed to a VM. Without memory it is as it was, or has failed for it among the messages that the bytes bring.
+-- Bytes are fed to a VM. Without memory it is as it was, or has failed for it among the messages
+-- that the bytes bring.
 abbrev pub Fed : List ℕ → Status → Option CoreVM → Option CoreVM → Type 0
 Fed bytes status.Done (Some old) (Some new) = seen new ≡ after_input (seen old) bytes
 Fed bytes status.NoMemory (Some old) (Some new) =
@@ -54,22 +59,28 @@ Fed bytes told old new = ⊥
 -- Bytes are fed to the VM of the session that there is.
 abbrev pub InputFed : List ℕ → Status → Option Session → Option Session → Type 0
 InputFed bytes status.NoSession None None = Unit {0}
-InputFed bytes told (Some old) (Some new) = Fed bytes told old.vm new.vm × (new.answer ≡ old.answer) × (new.reply ≡ old.reply)
+InputFed bytes told (Some old) (Some new) = Fed bytes told old.vm new.vm × (new.answer ≡ old.answer)
+    × (new.reply ≡ old.reply)
 InputFed bytes told old new = ⊥
 
--- The output of a VM is taken, and written to the front of the room for it, if there is so much; else nothing is changed.
+-- The output of a VM is taken, and written to the front of the room for it, if there is so much;
+-- else nothing is changed.
 abbrev pub Drained : Status → ℕ → List ℕ → List ℕ → Option CoreVM → Option CoreVM → Type 0
 Drained status.Done len before after (Some old) (Some new) =
     let output = concat (seen old).machine.output in
-    TakesOutput (Ok output) (seen old) (seen new) × (len ≡ length output) × (after ≡ output ++ drop len before)
+    TakesOutput (Ok output) (seen old) (seen new) × (len ≡ length output)
+    × (after ≡ output ++ drop len before)
 Drained status.NoRoom len before after (Some old) (Some new) =
-    (len ≡ len_of (seen old).machine.output) × (length before < len) × (after ≡ before) × (new ≡ old)
-Drained status.NoMemory len before after (Some old) (Some new) = (len ≡ len_of (seen old).machine.output) × (after ≡ before) × (new ≡ old)
+    (len ≡ len_of (seen old).machine.output) × (length before < len) × (after ≡ before)
+    × (new ≡ old)
+Drained status.NoMemory len before after (Some old) (Some new) = (len
+    ≡ len_of (seen old).machine.output) × (after ≡ before) × (new ≡ old)
 Drained status.NoVm len before after None None = (len ≡ 0) × (after ≡ before)
 Drained told len before after old new = ⊥
 
 -- The output of the VM of the session that there is.
 abbrev pub OutputTaken : Status → ℕ → List ℕ → List ℕ → Option Session → Option Session → Type 0
 OutputTaken status.NoSession len before after None None = (len ≡ 0) × (after ≡ before)
-OutputTaken told len before after (Some old) (Some new) = Drained told len before after old.vm new.vm × (new.answer ≡ old.answer) × (new.reply ≡ old.reply)
+OutputTaken told len before after (Some old) (Some new) = Drained told len before after old.vm
+    new.vm × (new.answer ≡ old.answer) × (new.reply ≡ old.reply)
 OutputTaken told len before after old new = ⊥

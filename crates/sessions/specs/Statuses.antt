@@ -3,8 +3,9 @@ use Rattle.std.specs.Prelude.{ℕ, ◌==◌, if◌then◌else◌}
 use Rattle.sessions.specs.declared.status.Status.{Status}
 use Rattle.sessions.specs.declared.status.Status.TheVariants as status
 
--- 0: it was done; 1: no memory was found; 2: there is no session; 3: the session has no VM; 4: there is no room; 5: the VM refused the
--- call; 6: a text isn't UTF-8; 7: nodes aren't one tree; 8: a number names no case; 9: the reply has no such part
+-- 0: it was done; 1: no memory was found; 2: there is no session; 3: the session has no VM; 4:
+-- there is no room; 5: the VM refused the call; 6: a text isn't UTF-8; 7: nodes aren't one tree; 8:
+-- a number names no case; 9: the reply has no such part
 abbrev pub code_of : Status → ℕ
 code_of status.Done = 0
 code_of status.NoMemory = 1
@@ -18,8 +19,8 @@ code_of status.BadNumber = 8
 code_of status.NoPart = 9
 
 -- what a number says, from 9 on the same
-abbrev pub status_of : ℕ → Status
-status_of n =
+abbrev pub status_named : ℕ → Status
+status_named n =
     if n == 0 then status.Done
     else if n == 1 then status.NoMemory
     else if n == 2 then status.NoSession

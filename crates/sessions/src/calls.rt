@@ -1,8 +1,8 @@
 //! What each call from C does: a line is performed on a session's VM, and answered by a line; bytes go in and come out as they are.
 ghost use Rattle.std.specs.Prelude.{◌≡◌, ◌≤◌, None, Some};
 ghost use Rattle.std.specs.Option.{MatchOption};
-ghost use Rattle.sessions.specs.Sessions.{AnswerRead, InputFed, IsMade, LineSent, OutputTaken};
-ghost use Rattle.sessions.specs.Statuses.{status_of};
+ghost use Rattle.sessions.specs.Sessions.{AnswerRead, InputFed, IsNewSession, LineSent, OutputTaken};
+ghost use Rattle.sessions.specs.Statuses.{status_named};
 
 use crate::held::{Vm, empty, hide, show};
 use crate::loose::Loose;
@@ -20,7 +20,7 @@ pub struct Told {
 
 /// What C is told.
 pub(crate) fn tell(status: Status, len: usize) -> Told
-    ensures status { status_of result.status ≡ status }
+    ensures status { status_named result.status ≡ status }
     ensures known { result.status ≤ 9 }
     ensures len { result.len ≡ len }
 {
@@ -33,7 +33,8 @@ pub(crate) fn tell(status: Status, len: usize) -> Told
 /// Takes the session out of the hands of C.
 pub(crate) fn take(alloc: Global, vm: &mut Vm) -> Option<Box<Session>>
     ensures emptied { vm.new.value ≡ None }
-    ensures taken { MatchOption result (vm.old.value ≡ None) (λ session. vm.old.value ≡ Some session.value) }
+    ensures taken { MatchOption result (vm.old.value ≡ None) (λ session. vm.old.value
+        ≡ Some session.value) }
 {
     match show(std::mem::replace(vm, empty()), alloc) {
         Some(loose) => Some(loose.into_box()),
@@ -53,7 +54,7 @@ pub(crate) fn give(alloc: Global, vm: &mut Vm, session: Box<Session>)
 
 /// Makes an empty session, where memory is found. One that was there is let go.
 pub fn open(alloc: Global, vm: &mut Vm) -> u32
-    ensures made { IsMade (status_of result) vm.new.value }
+    ensures made { IsNewSession (status_named result) vm.new.value }
     ensures known { result ≤ 9 }
 {
     close(alloc, vm);
@@ -68,7 +69,8 @@ pub fn open(alloc: Global, vm: &mut Vm) -> u32
 
 /// Performs a line, and tells how long its answer is, which `read_answer` reads.
 pub fn perform_line(alloc: Global, vm: &mut Vm, line: &[u8]) -> Told
-    ensures sent { LineSent alloc line.now (status_of result.status) result.len vm.old.value vm.new.value }
+    ensures sent { LineSent alloc line.now (status_named result.status) result.len vm.old.value
+        vm.new.value }
     ensures known { result.status ≤ 9 }
 {
     match take(alloc, vm) {
@@ -86,7 +88,7 @@ pub fn perform_line(alloc: Global, vm: &mut Vm, line: &[u8]) -> Told
 pub fn read_answer(alloc: Global, vm: &mut Vm, out: &mut [u8]) -> Told
     ensures kept { vm.new.value ≡ vm.old.value }
     ensures known { result.status ≤ 9 }
-    ensures read { AnswerRead (status_of result.status) result.len out.old out.new vm.old.value }
+    ensures read { AnswerRead (status_named result.status) result.len out.old out.new vm.old.value }
 {
     match take(alloc, vm) {
         Some(session) => {
@@ -100,7 +102,7 @@ pub fn read_answer(alloc: Global, vm: &mut Vm, out: &mut [u8]) -> Told
 
 /// Feeds the VM bytes of its input.
 pub fn feed(alloc: Global, vm: &mut Vm, bytes: &[u8]) -> u32
-    ensures fed { InputFed bytes.now (status_of result) vm.old.value vm.new.value }
+    ensures fed { InputFed bytes.now (status_named result) vm.old.value vm.new.value }
     ensures known { result ≤ 9 }
 {
     match take(alloc, vm) {
@@ -115,7 +117,8 @@ pub fn feed(alloc: Global, vm: &mut Vm, bytes: &[u8]) -> u32
 
 /// Moves all of the VM's output to the front of `out`, where there is room for it, and tells how long it is.
 pub fn take_output(alloc: Global, vm: &mut Vm, out: &mut [u8]) -> Told
-    ensures taken { OutputTaken (status_of result.status) result.len out.old out.new vm.old.value vm.new.value }
+    ensures taken { OutputTaken (status_named result.status) result.len out.old out.new vm.old.value
+        vm.new.value }
     ensures known { result.status ≤ 9 }
 {
     match take(alloc, vm) {

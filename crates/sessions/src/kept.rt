@@ -7,7 +7,7 @@ ghost use Rattle.vm_types.specs.declared.steps.Answer.TheVariants as answer;
 
 use crate::kind::Kind;
 use crate::parts::{in_taken, part_of};
-use crate::replied::{Replied, tell, tell_response, tell_taken, told};
+use crate::replied::{Replied, numbered, tell, tell_response, tell_taken};
 use invocation_vm::{NotificationHandle, VMResult};
 use replies::Reply;
 use std::mem::{forget, replace};
@@ -83,7 +83,7 @@ pub fn keep_handle(kept: &mut Reply, given: VMResult<NotificationHandle>) -> Rep
         Ok(handle) => {
             let number = handle.0;
             put(kept, Reply::Answer(Answer::Handle(handle)));
-            told(Kind::Handle, number, 0, 0)
+            numbered(Kind::Handle, number, 0, 0)
         }
         Err(error) => keep(kept, Reply::Refused(error)),
     }
@@ -97,7 +97,7 @@ pub fn keep_ended(kept: &mut Reply, given: VMResult<()>) -> Replied
     match given {
         Ok(()) => {
             put(kept, Reply::Answer(Answer::Unit));
-            told(Kind::Nothing, 0, 0, 0)
+            numbered(Kind::Nothing, 0, 0, 0)
         }
         Err(error) => keep(kept, Reply::Refused(error)),
     }

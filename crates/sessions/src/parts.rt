@@ -1,7 +1,7 @@
 //! The parts of a reply: its texts and bytes, by their places.
 ghost use Rattle.std.specs.Prelude.{◌≡◌, slice_get};
 ghost use Rattle.std.specs.Option.{option_copied};
-ghost use Rattle.sessions.specs.Replies.{alone, in_answer, in_error, in_failure, in_headers, in_input, in_pairs, in_taken, in_value, part_of};
+ghost use Rattle.sessions.specs.Replies.{one_part, in_answer, in_error, in_failure, in_headers, in_input, in_pairs, in_taken, in_value, part_of};
 
 use journal_errors::Error;
 use journal_values::Header;
@@ -17,8 +17,8 @@ fn bytes_of(text: &Text) -> &[u8]
 }
 
 /// One part, at 0.
-fn alone(text: &[u8], at: usize) -> Option<&[u8]>
-    ensures { option_copied result ≡ alone text.now at }
+fn one_part(text: &[u8], at: usize) -> Option<&[u8]>
+    ensures { option_copied result ≡ one_part text.now at }
 {
     if at == 0 { Some(text) } else { None }
 }
@@ -83,10 +83,10 @@ fn in_value(value: &Value, at: usize) -> Option<&[u8]>
 {
     match value {
         Value::Void => None,
-        Value::Success(bytes) => alone(bytes.as_slice(), at),
+        Value::Success(bytes) => one_part(bytes.as_slice(), at),
         Value::Failure(failure) => in_failure(failure, at),
         Value::StateKeys(keys) => in_keys(keys.as_slice(), at),
-        Value::InvocationId(id) => alone(bytes_of(id), at),
+        Value::InvocationId(id) => one_part(bytes_of(id), at),
     }
 }
 
@@ -120,7 +120,7 @@ fn in_answer(answer: &Answer, at: usize) -> Option<&[u8]>
 {
     match answer {
         Answer::Input(input) => in_input(input, at),
-        Answer::Awakeable(made) => alone(bytes_of(&made.id), at),
+        Answer::Awakeable(made) => one_part(bytes_of(&made.id), at),
         Answer::Taken(taken) => in_taken(taken, at),
         _ => None,
     }
@@ -148,7 +148,7 @@ pub(crate) fn part_of(reply: &Reply, at: usize) -> Option<&[u8]>
     match reply {
         Reply::Refused(error) => in_error(error, at),
         Reply::Head(head) => in_headers(head.headers.as_slice(), at),
-        Reply::Output(bytes) => alone(bytes.as_slice(), at),
+        Reply::Output(bytes) => one_part(bytes.as_slice(), at),
         Reply::Answer(answer) => in_answer(answer, at),
         _ => None,
     }

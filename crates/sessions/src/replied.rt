@@ -1,6 +1,6 @@
 //! What C is told of a reply at once: numbers.
 ghost use Rattle.std.specs.Prelude.{◌≡◌};
-ghost use Rattle.sessions.specs.Replies.{counted, error_told, failed, flag_code, handles_told, kept_told, number_told, response_told, state_code, taken_told, told, told_of, value_told, version_code};
+ghost use Rattle.sessions.specs.Replies.{with_rows, error_told, error_numbers, flag_code, handles_told, kept_told, number_told, response_told, state_code, taken_told, numbered, told_of, value_told, version_code};
 
 use crate::kind::Kind;
 use crate::status::Status;
@@ -24,8 +24,8 @@ pub struct Replied {
 }
 
 /// Of a reply with these three numbers.
-pub(crate) fn told(kind: Kind, first: u32, second: u32, third: u32) -> Replied
-    ensures { result ≡ told kind first second third }
+pub(crate) fn numbered(kind: Kind, first: u32, second: u32, third: u32) -> Replied
+    ensures { result ≡ numbered kind first second third }
 {
     Replied {
         status: 0,
@@ -40,8 +40,8 @@ pub(crate) fn told(kind: Kind, first: u32, second: u32, third: u32) -> Replied
 }
 
 /// Of a reply with a large number, and so many keys or pairs.
-fn counted(kind: Kind, number: u64, rows: usize) -> Replied
-    ensures { result ≡ counted kind number rows }
+fn with_rows(kind: Kind, number: u64, rows: usize) -> Replied
+    ensures { result ≡ with_rows kind number rows }
 {
     Replied {
         status: 0,
@@ -88,8 +88,8 @@ fn version_code(version: Version) -> u32
 }
 
 /// Of an error with this code, and with a command that it relates to where the first number is 1.
-fn failed(code: u16, is_related: u32, index: u32, ty: u32) -> Replied
-    ensures { result ≡ failed code is_related index ty }
+fn error_numbers(code: u16, is_related: u32, index: u32, ty: u32) -> Replied
+    ensures { result ≡ error_numbers code is_related index ty }
 {
     Replied {
         status: Status::Refused.code(),
@@ -108,8 +108,10 @@ fn tell_error(error: &Error) -> Replied
     ensures { result ≡ error_told error.now }
 {
     match &error.related_command {
-        Some(command) => { failed(error.code, 1, command.index, u32::from(command.ty.number())) },
-        None => failed(error.code, 0, 0, 0),
+        Some(command) => {
+            error_numbers(error.code, 1, command.index, u32::from(command.ty.number()))
+        },
+        None => error_numbers(error.code, 0, 0, 0),
     }
 }
 
@@ -117,17 +119,17 @@ fn tell_value(value: &Value) -> Replied
     ensures { result ≡ value_told value.now }
 {
     match value {
-        Value::Void => told(Kind::Void, 0, 0, 0),
-        Value::Success(_) => told(Kind::Value, 0, 0, 0),
+        Value::Void => numbered(Kind::Void, 0, 0, 0),
+        Value::Success(_) => numbered(Kind::Value, 0, 0, 0),
         Value::Failure(failure) => {
-            counted(
+            with_rows(
                 Kind::Failure,
                 u64::from(failure.code),
                 failure.metadata.len(),
             )
         },
-        Value::StateKeys(keys) => counted(Kind::Keys, 0, keys.len()),
-        Value::InvocationId(_) => told(Kind::InvocationId, 0, 0, 0),
+        Value::StateKeys(keys) => with_rows(Kind::Keys, 0, keys.len()),
+        Value::InvocationId(_) => numbered(Kind::InvocationId, 0, 0, 0),
     }
 }
 
@@ -136,7 +138,7 @@ pub(crate) fn tell_taken(taken: &Option<Value>) -> Replied
 {
     match taken {
         Some(value) => tell_value(value),
-        None => told(Kind::Nothing, 0, 0, 0),
+        None => numbered(Kind::Nothing, 0, 0, 0),
     }
 }
 
@@ -144,19 +146,19 @@ pub(crate) fn tell_response(response: &AwaitResponse) -> Replied
     ensures { result ≡ response_told response.now }
 {
     match response {
-        AwaitResponse::AnyCompleted => told(Kind::Awake, 0, 0, 0),
+        AwaitResponse::AnyCompleted => numbered(Kind::Awake, 0, 0, 0),
         AwaitResponse::WaitingExternalProgress {
             waiting_input,
             waiting_run_proposal,
-        } => told(
+        } => numbered(
             Kind::Waiting,
             flag(*waiting_input),
             flag(*waiting_run_proposal),
             0,
         ),
-        AwaitResponse::ExecuteRun(handle) => told(Kind::ExecuteRun, handle.0, 0, 0),
-        AwaitResponse::CancelSignalReceived => told(Kind::Cancelled, 0, 0, 0),
-        AwaitResponse::EphemeralNotificationReady(id) => told(Kind::Ephemeral, id.0, 0, 0),
+        AwaitResponse::ExecuteRun(handle) => numbered(Kind::ExecuteRun, handle.0, 0, 0),
+        AwaitResponse::CancelSignalReceived => numbered(Kind::Cancelled, 0, 0, 0),
+        AwaitResponse::EphemeralNotificationReady(id) => numbered(Kind::Ephemeral, id.0, 0, 0),
     }
 }
 
@@ -164,29 +166,29 @@ fn tell_answer(answer: &Answer) -> Replied
     ensures { result ≡ handles_told answer.now }
 {
     match answer {
-        Answer::Input(input) => counted(Kind::Input, input.random_seed, input.headers.len()),
-        Answer::Handle(handle) => told(Kind::Handle, handle.0, 0, 0),
-        Answer::Call(call) => told(
+        Answer::Input(input) => with_rows(Kind::Input, input.random_seed, input.headers.len()),
+        Answer::Handle(handle) => numbered(Kind::Handle, handle.0, 0, 0),
+        Answer::Call(call) => numbered(
             Kind::Handle,
             call.invocation_id_notification_handle.0,
             call.call_notification_handle.0,
             0,
         ),
-        Answer::CallWithDeadline(call) => told(
+        Answer::CallWithDeadline(call) => numbered(
             Kind::Handle,
             call.invocation_id_notification_handle.0,
             call.call_notification_handle.0,
             call.deadline_notification_handle.0,
         ),
         Answer::Send(send) => {
-            told(Kind::Handle, send.invocation_id_notification_handle.0, 0, 0)
+            numbered(Kind::Handle, send.invocation_id_notification_handle.0, 0, 0)
         },
-        Answer::Awakeable(made) => told(Kind::Awakeable, made.handle.0, 0, 0),
-        Answer::Unit => told(Kind::Nothing, 0, 0, 0),
-        Answer::Awake => told(Kind::Awake, 0, 0, 0),
-        Answer::Cancelled => told(Kind::Cancelled, 0, 0, 0),
+        Answer::Awakeable(made) => numbered(Kind::Awakeable, made.handle.0, 0, 0),
+        Answer::Unit => numbered(Kind::Nothing, 0, 0, 0),
+        Answer::Awake => numbered(Kind::Awake, 0, 0, 0),
+        Answer::Cancelled => numbered(Kind::Cancelled, 0, 0, 0),
         Answer::Taken(taken) => tell_taken(taken),
-        Answer::Completed(is) => told(Kind::Flag, flag(*is), 0, 0),
+        Answer::Completed(is) => numbered(Kind::Flag, flag(*is), 0, 0),
     }
 }
 
@@ -195,8 +197,8 @@ fn tell_index(index: i64) -> Replied
     ensures { result ≡ number_told index }
 {
     match u64::try_from(index) {
-        Ok(number) => counted(Kind::Index, number, 0),
-        Err(_) => told(Kind::Nothing, 0, 0, 0),
+        Ok(number) => with_rows(Kind::Index, number, 0),
+        Err(_) => numbered(Kind::Nothing, 0, 0, 0),
     }
 }
 
@@ -206,19 +208,21 @@ pub(crate) fn tell(reply: &Reply) -> Replied
 {
     match reply {
         Reply::Refused(error) => tell_error(error),
-        Reply::Made(version) => told(Kind::Version, version_code(*version), 0, 0),
+        Reply::Made(version) => numbered(Kind::Version, version_code(*version), 0, 0),
         Reply::Head(head) => {
-            counted(Kind::Head, u64::from(head.status_code), head.headers.len())
+            with_rows(Kind::Head, u64::from(head.status_code), head.headers.len())
         },
-        Reply::Output(_) => told(Kind::Output, 0, 0, 0),
-        Reply::Ready(is_ready) => told(Kind::Flag, flag(*is_ready), 0, 0),
-        Reply::State(state) => told(Kind::State, state_code(*state), 0, 0),
+        Reply::Output(_) => numbered(Kind::Output, 0, 0, 0),
+        Reply::Ready(is_ready) => numbered(Kind::Flag, flag(*is_ready), 0, 0),
+        Reply::State(state) => numbered(Kind::State, state_code(*state), 0, 0),
         Reply::Index(index) => tell_index(*index),
         Reply::Awaited(response) => tell_response(response),
-        Reply::Run(run) => told(Kind::Run, run.handle.0, flag(run.replayed), 0),
-        Reply::Ephemeral(id) => told(Kind::Ephemeral, id.0, 0, 0),
+        Reply::Run(run) => numbered(Kind::Run, run.handle.0, flag(run.replayed), 0),
+        Reply::Ephemeral(id) => numbered(Kind::Ephemeral, id.0, 0, 0),
         Reply::Answer(answer) => tell_answer(answer),
-        Reply::Nothing | Reply::Bad | Reply::NoVm | Reply::Done => { told(Kind::Nothing, 0, 0, 0) },
+        Reply::Nothing | Reply::Bad | Reply::NoVm | Reply::Done => {
+            numbered(Kind::Nothing, 0, 0, 0)
+        },
     }
 }
 

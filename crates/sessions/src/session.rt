@@ -106,7 +106,8 @@ impl Session {
     #[tactic(auto, using(crate::proofs::Made::is_called, crate::proofs::Made::is_kept))]
     pub fn call<C: VmCall>(&mut self, alloc: Global, call: C) -> Replied
         ensures answer { self.new.answer ≡ self.old.answer }
-        ensures called { OnVm (C.does call) result self.old.vm self.new.vm self.old.reply self.new.reply }
+        ensures called { OnVm (C.does call) result self.old.vm self.new.vm self.old.reply
+            self.new.reply }
     {
         let Some(vm) = &mut self.vm else {
             return tell_status(Status::NoVm);
@@ -120,7 +121,8 @@ impl Session {
     /// Puts a new VM in the place of the last, and tells which, or why there is none.
     pub fn make(&mut self, alloc: Global, content_type: ContentType, options: VMOptions) -> Replied
         ensures answer { self.new.answer ≡ self.old.answer }
-        ensures made { Made alloc options (version_in (found content_type (codes "content-type"))) self.new.reply self.new.vm }
+        ensures made { Made alloc options (version_in (found content_type (codes "content-type")))
+            self.new.reply self.new.vm }
         ensures told { result ≡ summary self.new.reply }
     {
         let reply = make_anew(alloc, &mut self.vm, content_type, options);

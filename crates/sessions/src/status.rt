@@ -1,6 +1,6 @@
 //! How a call from C ends.
 ghost use Rattle.std.specs.Prelude.{◌≡◌, ◌≤◌};
-ghost use Rattle.sessions.specs.Statuses.{code_of, status_of};
+ghost use Rattle.sessions.specs.Statuses.{code_of, status_named};
 
 /// How a call from C ended.
 #[derive(Clone, Copy, Debug, PartialEq, Eq)]
@@ -31,7 +31,7 @@ impl Status {
     /// The number that C sees.
     pub fn code(self) -> u32
         ensures code { result ≡ code_of self }
-        ensures status { status_of result ≡ self }
+        ensures status { status_named result ≡ self }
         ensures known { result ≤ 9 }
     {
         match self {

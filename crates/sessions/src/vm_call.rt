@@ -3,7 +3,7 @@ ghost use Rattle.std.specs.Prelude.{◌≡◌, ◌≤◌, codes};
 ghost use Rattle.invocation_vm.specs.Making.{version_in};
 ghost use Rattle.requests.specs.ContentTypes.{found};
 ghost use Rattle.sessions.specs.Calls.{CalledFromC, MadeFromC, PartRead};
-ghost use Rattle.sessions.specs.Statuses.{status_of};
+ghost use Rattle.sessions.specs.Statuses.{status_named};
 
 use crate::calls::{Told, give, take, tell};
 use crate::held::Vm;
@@ -48,7 +48,8 @@ pub fn call<C: VmCall>(alloc: Global, vm: &mut Vm, call: C) -> Replied
 
 /// Puts a new VM into the session in the place of the last, and tells which, or why there is none.
 pub fn make(alloc: Global, vm: &mut Vm, content_type: ContentType, options: VMOptions) -> Replied
-    ensures { MadeFromC alloc options (version_in (found content_type (codes "content-type"))) result vm.old.value vm.new.value }
+    ensures { MadeFromC alloc options (version_in (found content_type (codes "content-type")))
+        result vm.old.value vm.new.value }
 {
     match take(alloc, vm) {
         Some(mut session) => {
@@ -64,7 +65,7 @@ pub fn make(alloc: Global, vm: &mut Vm, content_type: ContentType, options: VMOp
 pub fn read_part(alloc: Global, vm: &mut Vm, at: usize, out: &mut [u8]) -> Told
     ensures kept { vm.new.value ≡ vm.old.value }
     ensures known { result.status ≤ 9 }
-    ensures read { PartRead at (status_of result.status) result.len out.old out.new vm.old.value }
+    ensures read { PartRead at (status_named result.status) result.len out.old out.new vm.old.value }
 {
     match take(alloc, vm) {
         Some(session) => {

@@ -16,7 +16,7 @@ use Rattle.vm_store.specs.declared.completions.Completes.{Completes}
 use Rattle.vm_store.specs.declared.completions.Completes.TheVariants as completes
 use Rattle.vm_store.specs.declared.types.RoundFault.{RoundFault}
 use Rattle.vm_store.specs.declared.types.RoundFault.TheVariants as round_fault
-use Rattle.vm_store.specs.Arrivals.{arrival_fault, completes_among, completes_by, completion_fault, is_completed, is_invocation_id, is_of, most, note_fault, proposal_fault, proposed_fault, read_fault, room_fault}
+use Rattle.vm_store.specs.Arrivals.{arrival_fault, completes_among, completes_by, completion_fault, completes_id, is_invocation_id, is_of, most_entries, note_fault, stored_proposal_fault, proposed_fault, read_fault, room_fault}
 use Rattle.vm_store.specs.Entries.{frame_in, note_in, note_of as note_by, notes_in, read_from, said_at, said_by, said_in}
 use Rattle.vm_store.specs.Given.{as_given, frame_fault, framed_fault, given_fault as fault_given, given_note_fault as note_given, noted_fault as noted_given, place_fault}
 use Rattle.vm_store.proofs.Framing.{note_no_command, notes_append}
@@ -53,12 +53,12 @@ or_more : (b c d : Bool) (e : Bool) → c ≡ (d || e) → (b || c) ≡ ((b || d
 or_more true c d e h = refl
 or_more false c d e h = h
 
-completed_more : (id : ℕ) (ns : List Notification) (n : Notification) → is_completed id (ns ++ n ∷ []) ≡ (is_completed id ns || is_of id n.id)
+completed_more : (id : ℕ) (ns : List Notification) (n : Notification) → completes_id id (ns ++ n ∷ []) ≡ (completes_id id ns || is_of id n.id)
 completed_more id [] n = or_nothing (is_of id n.id)
-completed_more id (x ∷ xs) n = or_more (is_of id x.id) (is_completed id (xs ++ n ∷ [])) (is_completed id xs) (is_of id n.id) (completed_more id xs n)
+completed_more id (x ∷ xs) n = or_more (is_of id x.id) (completes_id id (xs ++ n ∷ [])) (completes_id id xs) (is_of id n.id) (completed_more id xs n)
 
-completed_read : (id : ℕ) (ns : List Notification) (o : Option Notification) → is_completed id (ns ++ notified_by o []) ≡ done_read id o (is_completed id ns)
-completed_read id ns None = ap (is_completed id) (append-nil ns)
+completed_read : (id : ℕ) (ns : List Notification) (o : Option Notification) → completes_id id (ns ++ notified_by o []) ≡ done_read id o (completes_id id ns)
+completed_read id ns None = ap (completes_id id) (append-nil ns)
 completed_read id ns (Some n) = completed_more id ns n
 
 -- an entry is appended to the journal and to what is known of it
@@ -67,9 +67,9 @@ appended journal x old new h a = record {
   ids = λ id.
       let kind : completes_among id (said_in (journal ++ x ∷ [])) None ≡ completes_read id (said_at x) (completes_among id (said_in journal) None)
       = ap (λ l. completes_among id l None) (said_append journal (x ∷ [])) ∙ among_read id (said_in journal) (said_at x) None in
-      let done : is_completed id (notes_in (journal ++ x ∷ [])) ≡ done_read id (note_in x) (is_completed id (notes_in journal))
-      = ap (is_completed id) (notes_append journal (x ∷ [])) ∙ completed_read id (notes_in journal) (note_in x) in
-      let s = a.ids id (completes_among id (said_in journal) None) (is_completed id (notes_in journal)) (h.ids id) in
+      let done : completes_id id (notes_in (journal ++ x ∷ [])) ≡ done_read id (note_in x) (completes_id id (notes_in journal))
+      = ap (completes_id id) (notes_append journal (x ∷ [])) ∙ completed_read id (notes_in journal) (note_in x) in
+      let s = a.ids id (completes_among id (said_in journal) None) (completes_id id (notes_in journal)) (h.ids id) in
       record { kind = s.kind ∙ sym kind; done = s.done ∙ sym done };
   count = omega (arith, a.count, h.count, length-append journal (x ∷ []));
 }
@@ -113,7 +113,7 @@ module _ (view : View) (journal : List (List ℕ)) (h : Holds view journal) wher
   noted_is None = refl
   noted_is (Some n) = given_note_is n.id n.result
 
-  pub proposing_is : (id : ℕ) → proposing_fault id view ≡ proposal_fault id journal
+  pub proposing_is : (id : ℕ) → proposing_fault id view ≡ stored_proposal_fault id journal
   proposing_is id = λ i. proposed_fault ((h.ids id).kind i) ((h.ids id).done i) (room_is i)
 
   may_is : (b : Bool) (raw : RawMessage) (read : Part) → said_of read ≡ said_by raw → note_of read ≡ note_by raw → by.may_be_given b raw read ≡ Rattle.vm_store.specs.Given.may_be_given b raw
@@ -128,10 +128,10 @@ module _ (view : View) (journal : List (List ℕ)) (h : Holds view journal) wher
 
 -- ---- room
 
-pub not_full : (n : ℕ) → n ≤ most → room_at n ≡ None → n < most
-not_full n l e = by_test (n == most) refl
+pub not_full : (n : ℕ) → n ≤ most_entries → room_at n ≡ None → n < most_entries
+not_full n l e = by_test (n == most_entries) refl
   where
-    by_test : (b : Bool) → (n == most) ≡ b → n < most
+    by_test : (b : Bool) → (n == most_entries) ≡ b → n < most_entries
     by_test true t = absurd (let z : Some round_fault.JournalFull ≡ None = sym (ap (λ (b : Bool). if b then Some round_fault.JournalFull else None) t) ∙ e in cc)
     by_test false t = grind (arith, nat_tests)
 
@@ -146,7 +146,7 @@ completion_room (Some completes.InvocationId) false brings room e = kind_room (i
 completion_room (Some completes.Proposal) false brings room e = absurd (cc)
 completion_room (Some completes.AnyResult) false brings room e = e
 
-pub arriving_room : (id : NotificationId) (brings : NotificationResult) (view : View) → view.entries ≤ most → arriving_fault id brings view ≡ None → view.entries < most
+pub arriving_room : (id : NotificationId) (brings : NotificationResult) (view : View) → view.entries ≤ most_entries → arriving_fault id brings view ≡ None → view.entries < most_entries
 arriving_room (CompletionId id) brings view l e = not_full view.entries l (completion_room (option_map as_completes (known_now view.ids id).kind) (known_now view.ids id).done brings (room_at view.entries) e)
 arriving_room (SignalId id) brings view l e = not_full view.entries l e
 arriving_room (SignalName name) brings view l e = not_full view.entries l e
@@ -155,7 +155,7 @@ neither : {A : Type 0} (x y : Option A) → option_or x y ≡ None → (x ≡ No
 neither None y h = (refl, h)
 neither (Some x) y h = absurd (cc)
 
-pub given_room : (raw : RawMessage) (read : Part) (view : View) → view.entries ≤ most → given_fault raw read view ≡ None → view.entries < most
+pub given_room : (raw : RawMessage) (read : Part) (view : View) → view.entries ≤ most_entries → given_fault raw read view ≡ None → view.entries < most_entries
 given_room raw read view l e =
     let place = place_fault (by.may_be_given (view.entries == 0) raw read) in
     not_full view.entries l (neither (room_at view.entries) place (neither (noted_fault (note_of read) view) (option_or (room_at view.entries) place) e).1).0
@@ -167,7 +167,7 @@ proposed_room (Some completes.InvocationId) false room e = absurd (cc)
 proposed_room (Some completes.Proposal) false room e = e
 proposed_room (Some completes.AnyResult) false room e = e
 
-pub proposing_room : (id : ℕ) (view : View) → view.entries ≤ most → proposing_fault id view ≡ None → view.entries < most
+pub proposing_room : (id : ℕ) (view : View) → view.entries ≤ most_entries → proposing_fault id view ≡ None → view.entries < most_entries
 proposing_room id view l e = not_full view.entries l (proposed_room (option_map as_completes (known_now view.ids id).kind) (known_now view.ids id).done (room_at view.entries) e)
 
 -- ---- an entry that has no fault

@@ -14,13 +14,13 @@ use Rattle.journal_values.specs.declared.notification.Notification.{Notification
 use Rattle.vm_parts.specs.declared.run_state.KeptProposal.{KeptProposal}
 use Rattle.vm_machine.specs.Inputs.{completion_of}
 use Rattle.vm_model.specs.Journal.{stored_form}
-use Rattle.vm_attempt.specs.Journals.{is_command}
+use Rattle.vm_attempt.specs.Journals.{is_command_frame}
 use Rattle.vm_store.specs.declared.storing.Written.{Written}
 use Rattle.vm_store.specs.declared.storing.Written.TheVariants.{Command, Proposal}
 use Rattle.vm_store.specs.declared.types.RoundFault.{RoundFault}
 use Rattle.vm_store.specs.Entries.{frame_of, note_in, note_of as note_by, read_from, said_at, said_by}
 use Rattle.vm_store.specs.NextFrames.{HasFault, NextFaults, StoresItem, StoresOne, StoresRaw}
-use Rattle.vm_store.specs.Storing.{FirstFault, Stores, completed_by, proposal_of, stored_as, storing_fault, written_as, written_from}
+use Rattle.vm_store.specs.Storing.{FirstFault, Stores, completion_message, proposal_of, stored_as, storing_fault, written_as, written_from}
 use Rattle.vm_store.proofs.Framing.{frame_back}
 use Rattle.vm_store.proofs.Scanned.{Stands, stands_done, stands_fault, stands_first, stands_over, then_next}
 use Rattle.stored_journals.specs.Journals.{Appends, Holds, IsSameKept, View}
@@ -50,11 +50,11 @@ note_read n whole = ap (read_from note_by) (frame_back (stored_form (message.Not
 note_said : (n : Notification) → IsWhole (message.Notification n) → said_at (encoding (message.Notification n)) ≡ None
 note_said n whole = ap (read_from said_by) (frame_back (stored_form (message.Notification n)) whole.1)
 
-pub completion_appends : (p : KeptProposal) (old new : View) → IsWhole (completed_by p) → Appends None (Some (completion_of p.completion_id p)) old new
-    → Appends (said_at (encoding (completed_by p))) (note_in (encoding (completed_by p))) old new
+pub completion_appends : (p : KeptProposal) (old new : View) → IsWhole (completion_message p) → Appends None (Some (completion_of p.completion_id p)) old new
+    → Appends (said_at (encoding (completion_message p))) (note_in (encoding (completion_message p))) old new
 completion_appends p old new whole a =
     let n = completion_of p.completion_id p in
-    subst (λ (o : Option Message). Appends o (note_in (encoding (completed_by p))) old new) (sym (note_said n whole)) (subst (λ (o : Option Notification). Appends None o old new) (sym (note_read n whole)) a)
+    subst (λ (o : Option Message). Appends o (note_in (encoding (completion_message p))) old new) (sym (note_said n whole)) (subst (λ (o : Option Notification). Appends None o old new) (sym (note_read n whole)) a)
 
 -- ---- one item
 
@@ -66,7 +66,7 @@ fits_by false raw (Some p) (Command c) e l = absurd (cc)
 fits_by false raw (Some p) (Proposal q) e l = tt
 
 pub item_fits : (raw : RawMessage) (w : Written) → written_as raw ≡ Some w → length raw.body < 2 ^ 64 → fits_in w
-item_fits raw w e l = fits_by (is_command raw) raw (proposal_of raw) w e l
+item_fits raw w e l = fits_by (is_command_frame raw) raw (proposal_of raw) w e l
 
 module _ (view : View) (journal : List (List ℕ)) (h : Holds view journal) where
   pub storing_is : (w : Written) → storing_by w view ≡ storing_fault w journal

@@ -11,7 +11,7 @@ use Rattle.vm_model.specs.Journal.{input_read_from}
 use Rattle.vm_store.specs.declared.completions.Completes.{Completes}
 use Rattle.vm_store.specs.declared.types.RoundFault.{RoundFault}
 use Rattle.vm_store.specs.declared.types.RoundFault.TheVariants as round_fault
-use Rattle.vm_store.specs.Arrivals.{completes_by, completion_fault, is_of, most, proposed_fault}
+use Rattle.vm_store.specs.Arrivals.{completes_by, completion_fault, is_of, most_entries, proposed_fault}
 use Rattle.vm_store.specs.Entries.{note_of as note_by, said_by}
 use Rattle.vm_store.specs.Given.{as_given, frame_fault, place_fault}
 use Rattle.stored_journals.specs.declared.known.Known.{Known}
@@ -96,7 +96,7 @@ note_of part.Other = None
 
 -- the fault of a journal that is full
 abbrev pub room_at : ℕ → Option RoundFault
-room_at entries = if entries == most then Some round_fault.JournalFull else None
+room_at entries = if entries == most_entries then Some round_fault.JournalFull else None
 
 -- the fault of a completion, by what is known of its id
 abbrev pub known_fault : Known → NotificationResult → Option RoundFault → Option RoundFault

@@ -4,7 +4,7 @@ use Rattle.std.specs.Prelude.{◌≡◌, ℕ, ◌==◌, Bool, true, false, List,
 use Rattle.std.specs.Option.{option_map}
 use Rattle.vm_store.specs.declared.completions.Completes.{Completes}
 use Rattle.vm_store.specs.declared.completions.Completes.TheVariants as completes
-use Rattle.vm_store.specs.Arrivals.{completes_among, if_same, is_completed}
+use Rattle.vm_store.specs.Arrivals.{completes_among, if_same, completes_id}
 use Rattle.vm_store.specs.Entries.{notes_in, said_in}
 use Rattle.stored_journals.specs.declared.known.Kind.{Kind}
 use Rattle.stored_journals.specs.declared.known.Kind.TheVariants as kind
@@ -24,7 +24,7 @@ pub record Says (what : Option Completes) (whether : Bool) (known : Known) : Typ
 -- this is what a journal says of an id
 abbrev pub IsKnown : List (List ℕ) → ℕ → Known → Type 0
 IsKnown journal id known =
-    Says (completes_among id (said_in journal) None) (is_completed id (notes_in journal)) known
+    Says (completes_among id (said_in journal) None) (completes_id id (notes_in journal)) known
 
 -- no command carries the id, and nothing completed it
 abbrev pub nothing_known : Known

@@ -1,6 +1,6 @@
 //! Frames, as a journal reads them.
 ghost use Rattle.std.specs.Prelude.{◌≡◌, IfOk, None, is_some, true};
-ghost use Rattle.vm_attempt.specs.Journals.{is_command, is_notification};
+ghost use Rattle.vm_attempt.specs.Journals.{is_command_frame, is_notification};
 ghost use Rattle.vm_model.specs.Journal.{input_read_from};
 ghost use Rattle.vm_store.specs.Entries.{frame_in, frame_of, note_in, note_of as note_by, said_by};
 ghost use Rattle.stored_journals.specs.Journals.{note_of, said_of};
@@ -35,8 +35,8 @@ impl Drop for Part {
 }
 
 /// Whether the frame is one of a command.
-pub(crate) fn is_command(raw: &RawMessage) -> bool
-    ensures { result ≡ is_command raw.now }
+pub(crate) fn is_command_frame(raw: &RawMessage) -> bool
+    ensures { result ≡ is_command_frame raw.now }
 {
     let number = raw.ty.number();
     10 <= number && number < 30
@@ -82,7 +82,7 @@ pub(crate) fn frame_in(alloc: Global, bytes: &Bytes) -> Result<Option<RawMessage
 
 /// What a frame of a command is.
 fn command_part(alloc: Global, raw: &RawMessage) -> Result<Part, AllocError>
-    requires { is_command raw.now ≡ true }
+    requires { is_command_frame raw.now ≡ true }
     ensures said { IfOk result (λ part. said_of part ≡ said_by raw.now) }
     ensures note { IfOk result (λ part. note_of part ≡ None) }
 {
@@ -112,7 +112,7 @@ pub(crate) fn part_of(alloc: Global, raw: &RawMessage) -> Result<Part, AllocErro
     ensures said { IfOk result (λ part. said_of part ≡ said_by raw.now) }
     ensures note { IfOk result (λ part. note_of part ≡ note_by raw.now) }
 {
-    if is_command(raw) {
+    if is_command_frame(raw) {
         return command_part(alloc, raw);
     }
     if is_notification(raw) {

@@ -1,6 +1,6 @@
 //! `StoredJournal`: what a journal's only writer knows of it.
 ghost use Rattle.std.specs.Prelude.{◌≡◌, ◌⊎◌, ◌<◌, ◌≤◌, ◌==◌, ℕ, List, [], IfOk, IfErr, OnOk, None, Some};
-ghost use Rattle.vm_store.specs.Arrivals.{arrival_fault, most};
+ghost use Rattle.vm_store.specs.Arrivals.{arrival_fault, most_entries};
 ghost use Rattle.vm_store.specs.Given.{frame_fault, given_fault as fault_given};
 ghost use Rattle.vm_store.specs.declared.types.RoundFault.TheVariants as round_fault;
 ghost use Rattle.stored_journals.specs.Journals.{Appends, Enters, Holds, IsFault, IsSameKept, Kept, Loads, arriving_fault, given_fault, given_note_fault, may_be_given, note_of, noted_fault, proposing_fault, room_at, said_of};
@@ -56,7 +56,7 @@ impl StoredJournal {
     /// The fault of a journal that is full.
     pub(crate) fn room(&self) -> Option<RoundFault>
         ensures room { result ≡ room_at self.now.entries }
-        ensures small { self.now.entries ≤ most }
+        ensures small { self.now.entries ≤ most_entries }
     {
         if self.entries == u32::MAX {
             Some(RoundFault::JournalFull)
@@ -68,7 +68,7 @@ impl StoredJournal {
     /// The fault of a notification.
     fn arriving_fault(&self, note: &Notification) -> Option<RoundFault>
         ensures fault { result ≡ arriving_fault note.now.id note.now.result self.now }
-        ensures small { self.now.entries ≤ most }
+        ensures small { self.now.entries ≤ most_entries }
     {
         match &note.id {
             NotificationId::CompletionId(id) => {
@@ -127,7 +127,7 @@ impl StoredJournal {
         read: &Part,
     ) -> Result<Option<RoundFault>, AllocError>
         ensures fault { IfOk result (λ fault. fault ≡ given_fault raw.now read.now self.now) }
-        ensures small { self.now.entries ≤ most }
+        ensures small { self.now.entries ≤ most_entries }
     {
         let room = self.room();
         if let Some(fault) = self.noted_fault(read) {
@@ -146,14 +146,14 @@ impl StoredJournal {
     /// The fault of a proposal for the run of this id.
     pub(crate) fn proposing_fault(&self, id: u32) -> Option<RoundFault>
         ensures fault { result ≡ proposing_fault id self.now }
-        ensures small { self.now.entries ≤ most }
+        ensures small { self.now.entries ≤ most_entries }
     {
         self.ids.known(id).proposed_fault(self.room())
     }
 
     /// A command is appended.
     fn command(&mut self, command: &Message) -> Result<(), AllocError>
-        requires { self.old.entries < most }
+        requires { self.old.entries < most_entries }
         ensures ok { OnOk result (Appends (Some command.now) None self.old self.new) }
         ensures kept { IsSameKept self.old self.new }
     {
@@ -166,7 +166,7 @@ impl StoredJournal {
 
     /// A notification is appended.
     pub(crate) fn note(&mut self, note: &Notification) -> Result<(), AllocError>
-        requires { self.old.entries < most }
+        requires { self.old.entries < most_entries }
         ensures ok { OnOk result (Appends None (Some note.now) self.old self.new) }
         ensures kept { IsSameKept self.old self.new }
     {
@@ -177,7 +177,7 @@ impl StoredJournal {
 
     /// A frame is appended.
     pub(crate) fn append(&mut self, read: &Part) -> Result<(), AllocError>
-        requires { self.old.entries < most }
+        requires { self.old.entries < most_entries }
         ensures ok { OnOk result (Appends (said_of read.now) (note_of read.now) self.old self.new) }
         ensures kept { IsSameKept self.old self.new }
     {

@@ -7,13 +7,13 @@ ghost use Rattle.vm_machine.specs.Inputs.{completion_of};
 ghost use Rattle.vm_steps.specs.Heard.{is_proposal};
 ghost use Rattle.vm_store.specs.Entries.{frame_of, note_in, note_of as note_by, said_at, said_by};
 ghost use Rattle.vm_store.specs.NextFrames.{NextWritten};
-ghost use Rattle.vm_store.specs.Storing.{acknowledgement, answered_by, completed_by, proposal_of, written_as};
+ghost use Rattle.vm_store.specs.Storing.{acknowledgement, answer_to, completion_message, proposal_of, written_as};
 ghost use Rattle.vm_store.specs.declared.storing.Written.TheVariants as written;
 ghost use Rattle.vm_store.specs.declared.types.RoundFault.TheVariants as round_fault;
 ghost use Rattle.stored_journals.specs.Journals.{Appends, IsSameKept};
 ghost use Rattle.stored_journals.specs.Stored.{FaultsBy, IsStoringFault, NextFaultsBy, StoresBy, StoresNext, StoresOneBy, StoresRawBy, fits_in, storing_by};
 
-use crate::frames::{frame_bytes, is_command, part_of};
+use crate::frames::{frame_bytes, is_command_frame, part_of};
 use crate::journal::StoredJournal;
 use bytes::{Bytes, BytesMut};
 use journal_attempt::{ProposeRunCompletion, ProposeRunCompletionAck};
@@ -57,7 +57,7 @@ fn proposal_of(alloc: Global, raw: &RawMessage) -> Result<Option<KeptProposal>, 
 fn written_as(alloc: Global, raw: RawMessage) -> Result<Option<Written>, AllocError>
     ensures { IfOk result (λ written. written ≡ written_as raw) }
 {
-    if is_command(&raw) {
+    if is_command_frame(&raw) {
         return Ok(Some(Written::Command(raw)));
     }
     match proposal_of(alloc, &raw) {
@@ -193,12 +193,12 @@ fn settle(
 ) -> Result<(), AllocError>
     requires { journal.old.entries < 4_294_967_295 }
     ensures stored { OnOk result (entries.new.items ≡ entries.old.items
-        ++ encoding (completed_by proposal) ∷ []) }
-    ensures waits { OnOk result (feed.new.items ≡ feed.old.items ++ answered_by version proposal) }
+        ++ encoding (completion_message proposal) ∷ []) }
+    ensures waits { OnOk result (feed.new.items ≡ feed.old.items ++ answer_to version proposal) }
     ensures appended { OnOk result
         (Appends None (Some (completion_of proposal.completion_id proposal)) journal.old
         journal.new) }
-    ensures whole { OnOk result (IsWhole (completed_by proposal)
+    ensures whole { OnOk result (IsWhole (completion_message proposal)
         × (is_from_v7 version ≡ true → IsWhole (acknowledgement proposal.completion_id))) }
     ensures kept { IsSameKept journal.old journal.new }
 {
@@ -335,7 +335,8 @@ pub fn store_from(
 ) -> Result<(), RoundFault>
     ensures ok { OnOk result (StoresNext version n unstored.old unstored.new
         journal.old entries.old.items feed.old.items journal.new entries.new.items feed.new.items) }
-    ensures err { IfErr result (λ f. IsStoringFault version n unstored.old journal.old entries.old.items f) }
+    ensures err { IfErr result
+        (λ f. IsStoringFault version n unstored.old journal.old entries.old.items f) }
     ensures kept { IsSameKept journal.old journal.new }
 {
     let mut left = n;

@@ -20,7 +20,8 @@ pub trait Source {
 
     /// Reads to the end.
     fn read_whole(&mut self, input: &mut Vec<u8>) -> io::Result<()>
-        ensures bytes { OnOk result (IfSome (remaining self.old) (λ xs. input.new.items ≡ input.old.items ++ xs)) }
+        ensures bytes { OnOk result
+            (IfSome (remaining self.old) (λ xs. input.new.items ≡ input.old.items ++ xs)) }
         ensures end { OnOk result (IsAtEnd (remaining self.new)) }
         ensures err { IfErr result (λ e. fails self.old e) };
 }
@@ -60,7 +61,8 @@ impl<R: Read> Source for Plain<R> {
 #[tactic(auto, using(crate::proofs::Writing::kept_none, crate::proofs::Writing::none_kept))]
 fn write_some<W: Write>(writer: &mut W, bytes: &[u8]) -> io::Result<usize>
     ensures bound { IfOk result (λ n. n ≤ length bytes.now) }
-    ensures ok { IfOk result (λ n. Appends (W.contents writer.old) (W.contents writer.new) (take n bytes.now)) }
+    ensures ok { IfOk result
+        (λ n. Appends (W.contents writer.old) (W.contents writer.new) (take n bytes.now)) }
     ensures err { OnErr result (Keeps (W.contents writer.old) (W.contents writer.new)) }
 {
     match writer.write(bytes) {
@@ -79,7 +81,8 @@ fn write_some<W: Write>(writer: &mut W, bytes: &[u8]) -> io::Result<usize>
 #[tactic(auto, using(crate::proofs::Writing::none_taken, crate::proofs::Writing::all_taken, crate::proofs::Writing::part_taken))]
 fn write_all<W: Write>(writer: &mut W, bytes: &[u8]) -> io::Result<()>
     ensures ok { OnOk result (Appends (W.contents writer.old) (W.contents writer.new) bytes.now) }
-    ensures part { OnErr result (AppendsSome (W.contents writer.old) (W.contents writer.new) bytes.now) }
+    ensures part { OnErr result
+        (AppendsSome (W.contents writer.old) (W.contents writer.new) bytes.now) }
 {
     let mut at = 0;
     for _ in 0..u64::MAX {

@@ -13,11 +13,11 @@ use Rattle.sessions.specs.declared.session.Session.{Session}
 use Rattle.sessions.specs.declared.status.Status.{Status}
 use Rattle.typed_calls.specs.declared.given.MayLend.{MayLend}
 use Rattle.typed_calls.specs.declared.making.GivenOptions.{GivenOptions}
-use Rattle.typed_calls.specs.Given.{Misfits, optional_of, texts_in}
+use Rattle.typed_calls.specs.Given.{Misfits, optional_of, lent_texts}
 use Rattle.typed_calls.specs.Making.{AreOptionsOf, IsFoundOf, MakesAsGiven, NamesNoOption}
 
 -- what was given serves for no VM
-pub is_kept : (alloc : Global) (given : MayLend) (by : GivenOptions) (told : Replied) (vm : Option Session) (why : Status) → Misfits (texts_in given) (NamesNoOption by) why → told ≡ kept_told why → MakesAsGiven alloc given by told vm vm
+pub is_kept : (alloc : Global) (given : MayLend) (by : GivenOptions) (told : Replied) (vm : Option Session) (why : Status) → Misfits (lent_texts given) (NamesNoOption by) why → told ≡ kept_told why → MakesAsGiven alloc given by told vm vm
 is_kept alloc given by told vm why misfits is = inl (record { why = why; misfits = misfits; told_why = is; kept = refl })
 
 -- a VM is made, or C is told why not

@@ -6,17 +6,17 @@ use Rattle.sessions.specs.declared.status.Status.{Status}
 use Rattle.sessions.specs.declared.status.Status.TheVariants as status
 use Rattle.typed_calls.specs.declared.given.Pair.{Pair}
 use Rattle.typed_calls.specs.declared.reports.GivenCommand.{GivenCommand}
-use Rattle.typed_calls.specs.Given.{IsWhy, Misfits, Refuses, SomeIsNoText, texts_in, texts_of_pair}
+use Rattle.typed_calls.specs.Given.{IsWhy, Misfits, CannotCopy, SomeIsNoText, lent_texts, texts_of_pair}
 use Rattle.typed_calls.specs.Reports.{NamesNoCommand, has_type, type_at}
 
-pub no_memory : (texts : List (List ℕ)) → Refuses texts status.NoMemory
+pub no_memory : (texts : List (List ℕ)) → CannotCopy texts status.NoMemory
 no_memory texts = record { why = tt }
 
-pub no_text : (text : List ℕ) → ¬ IsUtf8 text → Refuses (text ∷ []) status.BadText
+pub no_text : (text : List ℕ) → ¬ IsUtf8 text → CannotCopy (text ∷ []) status.BadText
 no_text text bad = record { why = inl bad }
 
 -- what keeps texts from being copied keeps the call from being made
-pub misfit : (texts : List (List ℕ)) (NamesNone : Type 0) (s : Status) → Refuses texts s → Misfits texts NamesNone s
+pub misfit : (texts : List (List ℕ)) (NamesNone : Type 0) (s : Status) → CannotCopy texts s → Misfits texts NamesNone s
 misfit texts NamesNone status.NoMemory refuses = tt
 misfit texts NamesNone status.BadText refuses = refuses.why
 misfit texts NamesNone status.Done refuses = absurd refuses.why
@@ -49,23 +49,23 @@ why_of xs ys more status.BadNumber why = why
 why_of xs ys more status.NoPart why = why
 
 -- the first texts can't be copied
-pub first_refused : (xs ys : List (List ℕ)) (s : Status) → Refuses xs s → Refuses (xs ++ ys) s
+pub first_refused : (xs ys : List (List ℕ)) (s : Status) → CannotCopy xs s → CannotCopy (xs ++ ys) s
 first_refused xs ys s refuses = record { why = why_of xs (xs ++ ys) (some_first xs ys) s refuses.why }
 
 -- the last texts can't be copied
-pub last_refused : (xs ys : List (List ℕ)) (s : Status) → Refuses ys s → Refuses (xs ++ ys) s
+pub last_refused : (xs ys : List (List ℕ)) (s : Status) → CannotCopy ys s → CannotCopy (xs ++ ys) s
 last_refused xs ys s refuses = record { why = why_of ys (xs ++ ys) (some_last xs ys) s refuses.why }
 
 -- the first text can't be copied
-pub front_refused : (text : List ℕ) (texts : List (List ℕ)) (s : Status) → Refuses (text ∷ []) s → Refuses (text ∷ texts) s
+pub front_refused : (text : List ℕ) (texts : List (List ℕ)) (s : Status) → CannotCopy (text ∷ []) s → CannotCopy (text ∷ texts) s
 front_refused text texts s refuses = first_refused (text ∷ []) texts s refuses
 
 -- the texts behind it can't be copied
-pub behind_refused : (text : List ℕ) (texts : List (List ℕ)) (s : Status) → Refuses texts s → Refuses (text ∷ texts) s
+pub behind_refused : (text : List ℕ) (texts : List (List ℕ)) (s : Status) → CannotCopy texts s → CannotCopy (text ∷ texts) s
 behind_refused text texts s refuses = last_refused (text ∷ []) texts s refuses
 
 -- one of the pairs can't be copied
-pub pair_refused : (pairs : List Pair) (k : ℕ) (d : Pair) (s : Status) → k < length pairs → Refuses (texts_of_pair (get_or pairs k d)) s → Refuses (flat_map texts_of_pair pairs) s
+pub pair_refused : (pairs : List Pair) (k : ℕ) (d : Pair) (s : Status) → k < length pairs → CannotCopy (texts_of_pair (get_or pairs k d)) s → CannotCopy (flat_map texts_of_pair pairs) s
 pair_refused [] k d s below refuses = absurd (not-suc-le-zero below)
 pair_refused (pair ∷ pairs) zero d s below refuses = first_refused (texts_of_pair pair) (flat_map texts_of_pair pairs) s refuses
 pair_refused (pair ∷ pairs) (suc k) d s below refuses =
@@ -91,9 +91,9 @@ pub misfit_last : (xs ys : List (List ℕ)) (A B : Type 0) (s : Status) → Misf
 misfit_last xs ys A B s why = misfit_of ys (xs ++ ys) B (A ⊎ B) (some_last xs ys) (λ b. inr b) s why
 
 -- no type of a command is named
-pub misfit_type : (given : GivenCommand) (s : Status) → has_type given.kind ≡ true → Misfits (texts_in given.name) (type_at given.ty ≡ None) s → Misfits (texts_in given.name) (NamesNoCommand given) s
+pub misfit_type : (given : GivenCommand) (s : Status) → has_type given.kind ≡ true → Misfits (lent_texts given.name) (type_at given.ty ≡ None) s → Misfits (lent_texts given.name) (NamesNoCommand given) s
 misfit_type given s kind why =
-    misfit_of (texts_in given.name) (texts_in given.name) (type_at given.ty ≡ None) (NamesNoCommand given) (λ some. some) (λ ty. inr (kind, ty)) s why
+    misfit_of (lent_texts given.name) (lent_texts given.name) (type_at given.ty ≡ None) (NamesNoCommand given) (λ some. some) (λ ty. inr (kind, ty)) s why
 
 pub misfit_more : (xs : List (List ℕ)) (A B : Type 0) (s : Status) → Misfits xs A s → Misfits xs (A ⊎ B) s
 misfit_more xs A B s why = misfit_of xs xs A (A ⊎ B) (λ some. some) (λ a. inl a) s why

@@ -1,4 +1,5 @@
--- What each call from C does to a VM: what it is answered, or why it isn't made; and the VM before and after.
+-- What each call from C does to a VM: what it is answered, or why it isn't made; and the VM before
+-- and after.
 use Rattle.std.specs.Prelude.{◌≡◌, ◌⊎◌, ℕ, Bool, List, [], ◌∷◌, ◌++◌, Option, Some, None, Result}
 use Rattle.await_trees.specs.declared.tree.UnresolvedFuture.TheVariants.{Single}
 use Rattle.vm_types.specs.declared.steps.Answer.TheVariants as answer
@@ -29,26 +30,27 @@ use Rattle.typed_calls.specs.declared.invocations.GivenInvocation.{GivenInvocati
 use Rattle.typed_calls.specs.declared.policies.GivenPolicy.{GivenPolicy}
 use Rattle.typed_calls.specs.declared.reports.GivenCommand.{GivenCommand}
 use Rattle.typed_calls.specs.declared.reports.GivenError.{GivenError}
-use Rattle.typed_calls.specs.Given.{IsSpan, Misfits, texts_in}
+use Rattle.typed_calls.specs.Given.{IsSpan, Misfits, lent_texts}
 use Rattle.typed_calls.specs.Invocations.{invocation_of, texts_of_invocation}
 use Rattle.typed_calls.specs.Policies.{IsNoPolicy, IsPolicyOf}
 use Rattle.typed_calls.specs.Reports.{IsErrorOf, IsRelatedOf, NamesNoCommand, behavior_at, texts_of_error}
-use Rattle.typed_calls.specs.Callees.{target_of, texts_of_call}
-use Rattle.typed_calls.specs.Makes.{IsMade, MadeUnless, MadeWith, all_handles, awakeable, handle, handles, input, nothing, sent, taken}
+use Rattle.typed_calls.specs.Callees.{given_target, texts_of_call}
+use Rattle.typed_calls.specs.Makes.{IsCalled, MadeUnless, MadeWith, all_handles, awakeable, handle, call_handles_told, input_told, unit_told, sent, taken_told_of}
 use Rattle.typed_calls.specs.Nodes.{AwaitsTree, FailsAsTree}
-use Rattle.typed_calls.specs.Values.{texts_of_value, value_of}
+use Rattle.typed_calls.specs.Values.{texts_of_value, given_value}
 
 -- what is said of a call of a VM
 abbrev pub Call : Type 1
 Call = Result Reply Status → View → View → Type 0
 
 -- a sleep to a time in milliseconds
-abbrev pub Sleeps : List ℕ → ℕ → Call
-Sleeps name millis = MadeWith (name ∷ []) (Tells handle (CallsCommand (sleep_command millis name)))
+abbrev pub CallsSleep : List ℕ → ℕ → Call
+CallsSleep name millis =
+    MadeWith (name ∷ []) (Tells handle (CallsCommand (sleep_command millis name)))
 
 -- an awakeable
 abbrev pub MakesAwakeable : Call
-MakesAwakeable = IsMade (Answers awakeable new_awakeable_step)
+MakesAwakeable = IsCalled (Answers awakeable new_awakeable_step)
 
 -- a handle of the signal of a name
 abbrev pub MakesSignal : List ℕ → Call
@@ -65,46 +67,60 @@ PeeksPromise key = MadeWith (key ∷ []) (Tells handle (CallsCommand (peek_promi
 -- a promise is completed
 abbrev pub CompletesPromise : List ℕ → GivenValue → Bool → Call
 CompletesPromise key value unstable outcome old new =
-    MadeWith (key ∷ texts_of_value value) (Tells handle (CallsCommand (complete_promise_command key (value_of value) (record { unstable_serialization = unstable }) old.machine.version))) outcome old new
+    MadeWith (key ∷ texts_of_value value)
+    (Tells handle (CallsCommand
+    (complete_promise_command key (given_value value)
+    (record { unstable_serialization = unstable }) old.machine.version))) outcome old new
 
 -- an awakeable is completed
 abbrev pub CompletesAwakeable : List ℕ → GivenValue → Bool → Call
 CompletesAwakeable id value unstable outcome old new =
-    MadeWith (id ∷ texts_of_value value) (Tells nothing (CallsUnit (complete_awakeable_command id (value_of value) (record { unstable_serialization = unstable }) old.machine.version))) outcome old new
+    MadeWith (id ∷ texts_of_value value)
+    (Tells unit_told (CallsUnit
+    (complete_awakeable_command id (given_value value)
+    (record { unstable_serialization = unstable }) old.machine.version))) outcome old new
 
 -- a named signal is sent to another invocation
 abbrev pub CompletesSignal : List ℕ → List ℕ → GivenValue → Call
 CompletesSignal target name value outcome old new =
-    MadeWith (target ∷ name ∷ texts_of_value value) (Tells nothing (CallsUnit (complete_signal_command target name (value_of value) old.machine.version))) outcome old new
+    MadeWith (target ∷ name ∷ texts_of_value value)
+    (Tells unit_told (CallsUnit
+    (complete_signal_command target name (given_value value) old.machine.version))) outcome old
+    new
 
 -- another invocation is cancelled
 abbrev pub CancelsInvocation : List ℕ → Call
 CancelsInvocation target =
-    MadeWith (target ∷ []) (Tells nothing (CallsUnit (cancel_invocation_command target)))
+    MadeWith (target ∷ []) (Tells unit_told (CallsUnit (cancel_invocation_command target)))
 
 -- the handler's result
 abbrev pub WritesOutput : GivenValue → Bool → Call
 WritesOutput value unstable outcome old new =
-    MadeWith (texts_of_value value) (Tells nothing (CallsUnit (output_command (value_of value) (record { unstable_serialization = unstable }) old.machine.version))) outcome old new
+    MadeWith (texts_of_value value)
+    (Tells unit_told (CallsUnit
+    (output_command (given_value value) (record { unstable_serialization = unstable })
+    old.machine.version))) outcome old new
 
 -- the handler ends
-abbrev pub Ends : Call
-Ends = IsMade (Answers nothing end_step)
+abbrev pub EndsHandler : Call
+EndsHandler = IsCalled (Answers unit_told end_step)
 
 -- a key is given a value
 abbrev pub SetsState : List ℕ → List ℕ → List ℕ → Bool → Call
 SetsState key value name unstable =
-    MadeWith (key ∷ name ∷ []) (Tells nothing (CallsUnit (set_state_command key value name (record { unstable_serialization = unstable }))))
+    MadeWith (key ∷ name ∷ [])
+    (Tells unit_told (CallsUnit
+    (set_state_command key value name (record { unstable_serialization = unstable }))))
 
 -- a key's value is taken away
 abbrev pub ClearsState : List ℕ → List ℕ → Call
 ClearsState key name =
-    MadeWith (key ∷ name ∷ []) (Tells nothing (CallsUnit (clear_state_command key name)))
+    MadeWith (key ∷ name ∷ []) (Tells unit_told (CallsUnit (clear_state_command key name)))
 
 -- each key's value is taken away
 abbrev pub ClearsAllState : List ℕ → Call
 ClearsAllState name =
-    MadeWith (name ∷ []) (Tells nothing (CallsUnit (clear_all_state_command name)))
+    MadeWith (name ∷ []) (Tells unit_told (CallsUnit (clear_all_state_command name)))
 
 -- a key's value is read
 abbrev pub ReadsState : List ℕ → List ℕ → Call
@@ -120,78 +136,82 @@ ReadsEphemerally key = MadeWith (key ∷ []) (Answers reply.Ephemeral (ephemeral
 
 -- the value of an ephemeral read is taken
 abbrev pub TakesEphemeral : ℕ → Call
-TakesEphemeral id = IsMade (Answers taken (take_ephemeral_step id))
+TakesEphemeral id = IsCalled (Answers taken_told_of (take_ephemeral_step id))
 
 -- a handle is awaited
 abbrev pub AwaitsHandle : ℕ → Call
 AwaitsHandle awaited =
-    IsMade (Tells reply.Awaited (CallsFlatAwait (Single (record { 0 = awaited }))))
+    IsCalled (Tells reply.Awaited (CallsFlatAwait (Single (record { 0 = awaited }))))
 
 -- the tree that nodes are is awaited
 abbrev pub AwaitsNodes : List Node → Call
 AwaitsNodes nodes = MadeUnless (FailsAsTree nodes) (AwaitsTree nodes)
 
 -- the result of a handle is taken
-abbrev pub Takes : ℕ → Call
-Takes of = IsMade (Answers taken (take_step of))
+abbrev pub TakesResult : ℕ → Call
+TakesResult of = IsCalled (Answers taken_told_of (take_step of))
 
 -- the head of the response
 abbrev pub ReadsHead : Call
-ReadsHead = IsMade (λ told old new. TellsHead old.machine.version told × (new ≡ old))
+ReadsHead = IsCalled (λ told old new. TellsHead old.machine.version told × (new ≡ old))
 
 -- no more input comes
 abbrev pub ClosesInput : Call
-ClosesInput = IsMade (λ told old new. Feeds [] (after_closing old) told old new)
+ClosesInput = IsCalled (λ told old new. Feeds [] (after_closing old) told old new)
 
 -- the bytes that wait to be sent are taken
 abbrev pub TakesOutputOf : Call
-TakesOutputOf = IsMade Drains
+TakesOutputOf = IsCalled Drains
 
 -- whether the handler may be run
 abbrev pub AsksReady : Call
-AsksReady = IsMade (λ told old new. TellsReady old.machine told × (new ≡ old))
+AsksReady = IsCalled (λ told old new. TellsReady old.machine told × (new ≡ old))
 
 -- whether a handle has a result
 abbrev pub AsksCompleted : ℕ → Call
 AsksCompleted of =
-    IsMade (λ told old new. (told ≡ reply.Answer (answer.Completed (is_completed of old.machine))) × (new ≡ old))
+    IsCalled (λ told old new. (told ≡ reply.Answer (answer.Completed (is_completed of old.machine))) × (new ≡ old))
 
 -- the state
 abbrev pub AsksState : Call
-AsksState = IsMade (λ told old new. (told ≡ reply.State (state_of old.machine)) × (new ≡ old))
+AsksState = IsCalled (λ told old new. (told ≡ reply.State (state_of old.machine)) × (new ≡ old))
 
 -- the index of the last command
 abbrev pub AsksIndex : Call
 AsksIndex =
-    IsMade (λ told old new. (told ≡ reply.Index (last_index old.machine.counters.command)) × (new ≡ old))
+    IsCalled (λ told old new. (told ≡ reply.Index (last_index old.machine.counters.command))
+    × (new ≡ old))
 
 -- what the handler was called with
 abbrev pub ReadsInput : Call
-ReadsInput = IsMade (Answers input input_step)
+ReadsInput = IsCalled (Answers input_told input_step)
 
 -- a run is called
-abbrev pub Runs : List ℕ → Call
-Runs name = MadeWith (name ∷ []) (Tells reply.Run (CallsRun name))
+abbrev pub CallsARun : List ℕ → Call
+CallsARun name = MadeWith (name ∷ []) (Tells reply.Run (CallsRun name))
 
 -- the result of a run, under a policy
-abbrev pub Proposes : ℕ → GivenValue → GivenPolicy → Call
-Proposes of value given =
+abbrev pub ProposesResult : ℕ → GivenValue → GivenPolicy → Call
+ProposesResult of value given =
     MadeUnless (Misfits (texts_of_value value) (IsNoPolicy given)) (λ told old new.
     (policy : RetryPolicy) × IsPolicyOf given policy
-    × Tells nothing (CallsProposal (record { 0 = of }) (settled (value_of value)) policy) told old new)
+    × Tells unit_told (CallsProposal (record { 0 = of }) (settled (given_value value)) policy) told old new)
 
 -- a run's error after so many milliseconds, of which its policy says what comes
 abbrev pub ProposesRetryable : ℕ → ℕ → GivenError → GivenPolicy → Call
 ProposesRetryable of millis given by =
-    MadeUnless (Misfits (texts_of_error given) ((behavior_at given.behavior ≡ None) ⊎ IsNoPolicy by)) (λ told old new.
+    MadeUnless (Misfits (texts_of_error given) ((behavior_at given.behavior ≡ None)
+    ⊎ IsNoPolicy by)) (λ told old new.
     (span : Duration) × (e : Error) × (policy : RetryPolicy)
     × IsSpan millis span × IsErrorOf given e × IsPolicyOf by policy
-    × Tells nothing (CallsProposal (record { 0 = of }) (exit.RetryableFailure span e) policy) told old new)
+    × Tells unit_told (CallsProposal (record { 0 = of }) (exit.RetryableFailure span e) policy) told old new)
 
 -- the handler failed by an error of its own, which relates to a command or to none
 abbrev pub ReportsError : GivenError → GivenCommand → Call
 ReportsError given command =
-    MadeUnless (Misfits (texts_of_error given ++ texts_in command.name) ((behavior_at given.behavior ≡ None) ⊎ NamesNoCommand command)) (λ told old new.
+    MadeUnless (Misfits (texts_of_error given
+    ++ lent_texts command.name) ((behavior_at given.behavior ≡ None) ⊎ NamesNoCommand command))
+    (λ told old new.
     (e : Error) × (related : Option CommandRelationship)
     × IsErrorOf given e × IsRelatedOf command related
     × Feeds [] (after_error old e related) told old new)
@@ -201,26 +221,40 @@ abbrev pub AttachesTo : GivenInvocation → Call
 AttachesTo given =
     MadeUnless (Misfits (texts_of_invocation given) (invocation_of given ≡ None)) (λ told old new.
     (target : InvocationTarget) × (invocation_of given ≡ Some target)
-    × Tells handle (CallsCommand (attach_invocation_command target old.machine.version)) told old new)
+    × Tells handle (CallsCommand (attach_invocation_command target old.machine.version)) told old
+    new)
 
 -- another invocation's output is asked for
 abbrev pub GetsOutput : GivenInvocation → Call
 GetsOutput given =
     MadeUnless (Misfits (texts_of_invocation given) (invocation_of given ≡ None)) (λ told old new.
     (target : InvocationTarget) × (invocation_of given ≡ Some target)
-    × Tells handle (CallsCommand (get_invocation_output_command target old.machine.version)) told old new)
+    × Tells handle (CallsCommand (get_invocation_output_command target old.machine.version)) told
+    old new)
 
 -- another handler is called
 abbrev pub CallsHandler : GivenTarget → List ℕ → List ℕ → Bool → Call
 CallsHandler target bytes name unstable outcome old new =
-    MadeWith (texts_of_call target name) (Tells handles (CallsFor call_handles (call_command (target_of target) bytes name (record { unstable_serialization = unstable }) old.machine.version))) outcome old new
+    MadeWith (texts_of_call target name)
+    (Tells call_handles_told
+    (CallsFor call_handles
+    (call_command (given_target target) bytes name
+    (record { unstable_serialization = unstable }) old.machine.version))) outcome old new
 
 -- another handler is called, with a deadline
 abbrev pub CallsWithDeadline : GivenTarget → List ℕ → ℕ → List ℕ → Bool → Call
 CallsWithDeadline target bytes millis name unstable outcome old new =
-    MadeWith (texts_of_call target name) (Tells all_handles (CallsAllFor deadline_handles (call_command (target_of target) bytes name (record { unstable_serialization = unstable }) old.machine.version) (sleep_command millis [] ∷ []))) outcome old new
+    MadeWith (texts_of_call target name)
+    (Tells all_handles (CallsAllFor deadline_handles
+    (call_command (given_target target) bytes name
+    (record { unstable_serialization = unstable }) old.machine.version)
+    (sleep_command millis [] ∷ []))) outcome old new
 
--- another handler is called, at a time in milliseconds, or at once where it is 0, and nobody waits for it
+-- another handler is called, at a time in milliseconds, or at once where it is 0, and nobody waits
+-- for it
 abbrev pub SendsTo : GivenTarget → List ℕ → ℕ → List ℕ → Bool → Call
 SendsTo target bytes millis name unstable outcome old new =
-    MadeWith (texts_of_call target name) (Tells sent (CallsFor send_handle (send_command (target_of target) bytes millis name (record { unstable_serialization = unstable }) old.machine.version))) outcome old new
+    MadeWith (texts_of_call target name)
+    (Tells sent (CallsFor send_handle
+    (send_command (given_target target) bytes millis name
+    (record { unstable_serialization = unstable }) old.machine.version))) outcome old new

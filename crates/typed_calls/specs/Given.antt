@@ -21,10 +21,11 @@ IsWhy texts status.BadText = SomeIsNoText texts
 IsWhy texts other = ⊥
 
 -- why these texts can't be copied
-pub record Refuses (texts : List (List ℕ)) (given : Status) : Type 0 where
+pub record CannotCopy (texts : List (List ℕ)) (given : Status) : Type 0 where
   pub why : IsWhy texts given
 
--- why what C gave serves for no call: no memory is found, one of these texts isn't UTF-8, or a number names no case
+-- why what C gave serves for no call: no memory is found, one of these texts isn't UTF-8, or a
+-- number names no case
 abbrev pub Misfits : List (List ℕ) → Type 0 → Status → Type 0
 Misfits texts NamesNone status.NoMemory = Unit {0}
 Misfits texts NamesNone status.BadText = SomeIsNoText texts
@@ -36,8 +37,8 @@ abbrev pub optional_of : MayLend → Option (List ℕ)
 optional_of may = if may.is_given then Some may.lent.bytes.now else None
 
 -- the text that has to be UTF-8 where it is given
-abbrev pub texts_in : MayLend → List (List ℕ)
-texts_in may = if may.is_given then may.lent.bytes.now ∷ [] else []
+abbrev pub lent_texts : MayLend → List (List ℕ)
+lent_texts may = if may.is_given then may.lent.bytes.now ∷ [] else []
 
 -- a key and its value
 abbrev pub pair_of : Pair → List ℕ × List ℕ

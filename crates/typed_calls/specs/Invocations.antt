@@ -5,7 +5,7 @@ use Rattle.journal_calls.specs.declared.invocations.IdempotencyId.{IdempotencyId
 use Rattle.journal_calls.specs.declared.invocations.InvocationTarget.{InvocationTarget}
 use Rattle.journal_calls.specs.declared.invocations.InvocationTarget.TheVariants as target
 use Rattle.typed_calls.specs.declared.invocations.GivenInvocation.{GivenInvocation}
-use Rattle.typed_calls.specs.Given.{optional_of, texts_in}
+use Rattle.typed_calls.specs.Given.{optional_of, lent_texts}
 
 -- a workflow
 abbrev pub workflow_of : GivenInvocation → WorkflowId
@@ -35,12 +35,13 @@ invocation_of given =
 
 -- the texts that name a workflow
 abbrev pub texts_of_workflow : GivenInvocation → List (List ℕ)
-texts_of_workflow given = given.name.bytes.now ∷ given.key.bytes.now ∷ texts_in given.scope
+texts_of_workflow given = given.name.bytes.now ∷ given.key.bytes.now ∷ lent_texts given.scope
 
 -- the texts that say what an idempotency key is of
 abbrev pub texts_of_idempotency : GivenInvocation → List (List ℕ)
 texts_of_idempotency given =
-    given.name.bytes.now ∷ given.handler.bytes.now ∷ given.key.bytes.now ∷ (texts_in given.service_key ++ texts_in given.scope)
+    given.name.bytes.now ∷ given.handler.bytes.now ∷ given.key.bytes.now
+    ∷ (lent_texts given.service_key ++ lent_texts given.scope)
 
 -- the texts that name an invocation
 abbrev pub texts_of_invocation : GivenInvocation → List (List ℕ)

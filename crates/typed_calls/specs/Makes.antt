@@ -14,28 +14,30 @@ use Rattle.replies.specs.declared.reply.Reply.{Reply}
 use Rattle.replies.specs.declared.reply.Reply.TheVariants as reply
 use Rattle.sessions.specs.declared.status.Status.{Status}
 use Rattle.sessions.specs.declared.status.Status.TheVariants as status
-use Rattle.typed_calls.specs.Given.{Refuses}
+use Rattle.typed_calls.specs.Given.{CannotCopy}
 
 -- A call is made; or it isn't, for such a reason, and the VM stays as it was.
-abbrev pub MadeUnless : (Status → Type 0) → (Reply → View → View → Type 0) → Result Reply Status → View → View → Type 0
+abbrev pub MadeUnless : (Status → Type 0) → (Reply → View → View → Type 0) → Result Reply Status
+    → View → View → Type 0
 MadeUnless Misfits makes (Ok reply) old new = makes reply old new
 MadeUnless Misfits makes (Err status) old new = Misfits status × (new ≡ old)
 
 -- A call is made for which these texts are copied.
-abbrev pub MadeWith : List (List ℕ) → (Reply → View → View → Type 0) → Result Reply Status → View → View → Type 0
-MadeWith texts makes outcome old new = MadeUnless (Refuses texts) makes outcome old new
+abbrev pub MadeWith : List (List ℕ) → (Reply → View → View → Type 0) → Result Reply Status → View
+    → View → Type 0
+MadeWith texts makes outcome old new = MadeUnless (CannotCopy texts) makes outcome old new
 
 -- A call is made, whatever C gave for it.
-abbrev pub IsMade : (Reply → View → View → Type 0) → Result Reply Status → View → View → Type 0
-IsMade makes (Ok reply) old new = makes reply old new
-IsMade makes (Err status) old new = ⊥
+abbrev pub IsCalled : (Reply → View → View → Type 0) → Result Reply Status → View → View → Type 0
+IsCalled makes (Ok reply) old new = makes reply old new
+IsCalled makes (Err status) old new = ⊥
 
 -- the reply of a handler's call: its handle, or what it is answered
 abbrev pub handle : NotificationHandle → Reply
 handle h = reply.Answer (answer.Handle h)
 
-abbrev pub handles : CallHandle → Reply
-handles call = reply.Answer (answer.Call call)
+abbrev pub call_handles_told : CallHandle → Reply
+call_handles_told call = reply.Answer (answer.Call call)
 
 abbrev pub all_handles : DeadlineCallHandle → Reply
 all_handles call = reply.Answer (answer.CallWithDeadline call)
@@ -46,11 +48,11 @@ sent send = reply.Answer (answer.Send send)
 abbrev pub awakeable : AwakeableHandle → Reply
 awakeable made = reply.Answer (answer.Awakeable made)
 
-abbrev pub taken : Option Value → Reply
-taken value = reply.Answer (answer.Taken value)
+abbrev pub taken_told_of : Option Value → Reply
+taken_told_of value = reply.Answer (answer.Taken value)
 
-abbrev pub input : Input → Reply
-input given = reply.Answer (answer.Input given)
+abbrev pub input_told : Input → Reply
+input_told given = reply.Answer (answer.Input given)
 
-abbrev pub nothing : Unit {0} → Reply
-nothing it = reply.Answer answer.Unit
+abbrev pub unit_told : Unit {0} → Reply
+unit_told it = reply.Answer answer.Unit

@@ -24,7 +24,7 @@ use Rattle.sessions.specs.declared.session.Session.{Session}
 use Rattle.sessions.specs.declared.status.Status.{Status}
 use Rattle.typed_calls.specs.declared.given.MayLend.{MayLend}
 use Rattle.typed_calls.specs.declared.making.GivenOptions.{GivenOptions}
-use Rattle.typed_calls.specs.Given.{Misfits, optional_of, texts_in}
+use Rattle.typed_calls.specs.Given.{Misfits, optional_of, lent_texts}
 
 -- each option by its number; 0 is the default
 abbrev pub cancellation_at : ℕ → Option ImplicitCancellationOption
@@ -81,8 +81,10 @@ pub record AreOptionsOf (given : GivenOptions) (options : VMOptions) : Type 0 wh
 -- a number that names no case of its option
 abbrev pub NamesNoOption : GivenOptions → Type 0
 NamesNoOption given =
-    (cancellation_at given.cancellation ≡ None) ⊎ (checks_at given.checks ≡ None) ⊎ (awaiting_at given.awaiting ≡ None)
-    ⊎ (mismatch_at given.mismatch ≡ None) ⊎ (replay_at given.replay ≡ None) ⊎ (delivery_at given.delivery ≡ None)
+    (cancellation_at given.cancellation ≡ None) ⊎ (checks_at given.checks ≡ None)
+    ⊎ (awaiting_at given.awaiting ≡ None)
+    ⊎ (mismatch_at given.mismatch ≡ None) ⊎ (replay_at given.replay ≡ None)
+    ⊎ (delivery_at given.delivery ≡ None)
 
 -- a request's headers with the content type that is given, or without one
 abbrev pub IsFoundOf : MayLend → ContentType → Type 0
@@ -91,15 +93,18 @@ IsFoundOf given content_type = found content_type (codes "content-type") ≡ Som
 -- what was given serves for no VM, and nothing is done
 pub record IsKeptAsMisfit (given : MayLend) (by : GivenOptions) (told : Replied) (old new : Option Session) : Type 0 where
   pub why : Status
-  pub misfits : Misfits (texts_in given) (NamesNoOption by) why
+  pub misfits : Misfits (lent_texts given) (NamesNoOption by) why
   pub told_why : told ≡ kept_told why
   pub kept : new ≡ old
 
--- a VM is made with the options that are given, for the version that the content type names, or C is told why not
+-- a VM is made with the options that are given, for the version that the content type names, or C
+-- is told why not
 pub record IsMadeAsGiven (alloc : Global) (given : MayLend) (by : GivenOptions) (told : Replied) (old new : Option Session) : Type 0 where
   pub options : VMOptions
   pub are : AreOptionsOf by options
   pub made : MadeFromC alloc options (version_in (Some (optional_of given))) told old new
 
-abbrev pub MakesAsGiven : Global → MayLend → GivenOptions → Replied → Option Session → Option Session → Type 0
-MakesAsGiven alloc given by told old new = IsKeptAsMisfit given by told old new ⊎ IsMadeAsGiven alloc given by told old new
+abbrev pub MakesAsGiven : Global → MayLend → GivenOptions → Replied → Option Session
+    → Option Session → Type 0
+MakesAsGiven alloc given by told old new =
+    IsKeptAsMisfit given by told old new ⊎ IsMadeAsGiven alloc given by told old new

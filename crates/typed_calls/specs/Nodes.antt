@@ -15,12 +15,12 @@ use Rattle.sessions.specs.declared.status.Status.TheVariants as status
 use Rattle.typed_calls.specs.declared.nodes.Node.{Node}
 
 -- the number of a kind; 0 is a handle's
-abbrev pub kind_code : FutureKind → ℕ
-kind_code FirstCompleted = 1
-kind_code AllCompleted = 2
-kind_code FirstSucceededOrAllFailed = 3
-kind_code AllSucceededOrFirstFailed = 4
-kind_code Unknown = 5
+abbrev pub node_code : FutureKind → ℕ
+node_code FirstCompleted = 1
+node_code AllCompleted = 2
+node_code FirstSucceededOrAllFailed = 3
+node_code AllSucceededOrFirstFailed = 4
+node_code Unknown = 5
 
 -- the kind of a number, if it names one
 abbrev pub kind_at : ℕ → Option FutureKind
@@ -33,33 +33,38 @@ kind_at n =
     else None
 
 -- how many trees stand in a row
-abbrev pub size : Forest → ℕ
-size none = 0
-size (more t others) = 1 + size others
+abbrev pub trees_in : Forest → ℕ
+trees_in none = 0
+trees_in (more t others) = 1 + trees_in others
 
--- A handle is one node. A node over children stands behind all of theirs, and says how many children there are.
+-- A handle is one node. A node over children stands behind all of theirs, and says how many
+-- children there are.
 abbrev mutual
   pub nodes_of : Tree → List Node
   nodes_of (leaf handle) = record { kind = 0; number = handle } ∷ []
-  nodes_of (node kind children) = rows_of children ++ record { kind = kind_code kind; number = size children } ∷ []
+  nodes_of (node kind children) = rows_of children
+      ++ record { kind = node_code kind; number = trees_in children } ∷ []
 
   pub rows_of : Forest → List Node
   rows_of none = []
   rows_of (more t others) = nodes_of t ++ rows_of others
 
 -- the nodes of a row of futures
-abbrev pub written : List UnresolvedFuture → List Node
-written futures = flat_map (λ future. nodes_of (tree_of future)) futures
+abbrev pub row_of : List UnresolvedFuture → List Node
+row_of futures = flat_map (λ future. nodes_of (tree_of future)) futures
 
 -- the tree that is written as these nodes is awaited
 abbrev pub AwaitsTree : List Node → Reply → View → View → Type 0
-AwaitsTree nodes told old new = (future : UnresolvedFuture) × (nodes_of (tree_of future) ≡ nodes) × Tells reply.Awaited (CallsFlatAwait future) told old new
+AwaitsTree nodes told old new = (future : UnresolvedFuture) × (nodes_of (tree_of future) ≡ nodes)
+    × Tells reply.Awaited (CallsFlatAwait future) told old new
 
--- A node can't stand behind so many trees: no memory is found for it, its kind is none, or it is over more trees than there are.
+-- A node can't stand behind so many trees: no memory is found for it, its kind is none, or it is
+-- over more trees than there are.
 abbrev pub CantStand : Node → ℕ → Status → Type 0
 CantStand n many status.NoMemory = Unit {0}
 CantStand n many status.BadNumber = (n.kind ≢ 0) × (kind_at n.kind ≡ None)
-CantStand n many status.BadTree = (kind : FutureKind) × (kind_code kind ≡ n.kind) × (many < n.number)
+CantStand n many status.BadTree =
+    (kind : FutureKind) × (node_code kind ≡ n.kind) × (many < n.number)
 CantStand n many other = ⊥
 
 -- the first node that can't stand behind the trees that those in front of it are
@@ -67,17 +72,17 @@ pub record StopsAtNode (nodes : List Node) (given : Status) : Type 0 where
   pub front : List UnresolvedFuture
   pub at : Node
   pub rest : List Node
-  pub split : written front ++ at ∷ rest ≡ nodes
+  pub split : row_of front ++ at ∷ rest ≡ nodes
   pub cant : CantStand at (length front) given
 
 -- all nodes are trees, but not one alone
 pub record IsNotOneTree (nodes : List Node) : Type 0 where
   pub trees : List UnresolvedFuture
-  pub all : written trees ≡ nodes
+  pub all : row_of trees ≡ nodes
   pub many : length trees ≢ 1
 
--- Why nodes aren't awaited: no memory is found; a number names no kind; or they aren't one tree, for a node is over more trees than stand
--- in front of it, or the nodes are no tree or several.
+-- Why nodes aren't awaited: no memory is found; a number names no kind; or they aren't one tree,
+-- for a node is over more trees than stand in front of it, or the nodes are no tree or several.
 abbrev pub FailsAsTree : List Node → Status → Type 0
 FailsAsTree nodes status.NoMemory = Unit {0}
 FailsAsTree nodes status.BadNumber = StopsAtNode nodes status.BadNumber

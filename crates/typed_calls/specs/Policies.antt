@@ -12,8 +12,10 @@ use Rattle.typed_calls.specs.Given.{IsSpan, IsSpanIf}
 abbrev pub attempts_of : GivenPolicy → Option ℕ
 attempts_of given = if given.has_attempts then Some given.attempts else None
 
--- the delay, or the longest one; the most attempts; the longest time for them; and what comes of it there
-abbrev pub AreBoundsOf : GivenPolicy → Option Duration → Option ℕ → Option Duration → OnMaxAttempts → Type 0
+-- the delay, or the longest one; the most attempts; the longest time for them; and what comes of it
+-- there
+abbrev pub AreBoundsOf : GivenPolicy → Option Duration → Option ℕ → Option Duration → OnMaxAttempts
+    → Type 0
 AreBoundsOf given interval attempts longest on =
     IsSpanIf given.has_interval given.interval_millis interval
     × (attempts ≡ attempts_of given)
@@ -24,7 +26,8 @@ AreBoundsOf given interval attempts longest on =
 abbrev pub IsPolicyOf : GivenPolicy → RetryPolicy → Type 0
 IsPolicyOf given policy.Infinite = given.kind ≡ 0
 IsPolicyOf given policy.None = given.kind ≡ 1
-IsPolicyOf given (policy.FixedDelay interval attempts longest on) = (given.kind ≡ 2) × AreBoundsOf given interval attempts longest on
+IsPolicyOf given (policy.FixedDelay interval attempts longest on) = (given.kind ≡ 2)
+    × AreBoundsOf given interval attempts longest on
 IsPolicyOf given (policy.Exponential initial factor interval attempts longest on) =
     (given.kind ≡ 3)
     × IsSpan given.initial_millis initial
@@ -34,7 +37,8 @@ IsPolicyOf given (policy.Exponential initial factor interval attempts longest on
 
 -- whether a number names a kind of policy
 abbrev pub is_kind : ℕ → Bool
-is_kind n = if n == 0 then true else if n == 1 then true else if n == 2 then true else if n == 3 then true else false
+is_kind n = if n == 0 then true else if n == 1 then true else if n == 2 then true else if n == 3
+    then true else false
 
 -- a number that names no kind, or a factor over 0
 abbrev pub IsNoPolicy : GivenPolicy → Type 0

@@ -58,7 +58,8 @@ type_at n =
 
 -- whether a number names no command, the last, the next or that of an index
 abbrev pub is_relation : ℕ → Bool
-is_relation n = if n == 0 then true else if n == 1 then true else if n == 2 then true else if n == 3 then true else false
+is_relation n = if n == 0 then true else if n == 1 then true else if n == 2 then true else if n == 3
+    then true else false
 
 -- whether a command that is named so has a type
 abbrev pub has_type : ℕ → Bool
@@ -71,8 +72,10 @@ IsRelatedOf given (Some relationship.Last) = given.kind ≡ 1
 IsRelatedOf given (Some (relationship.Next ty name)) =
     (given.kind ≡ 2) × (type_at given.ty ≡ Some ty) × (name ≡ optional_of given.name)
 IsRelatedOf given (Some (relationship.Specific index ty name)) =
-    (given.kind ≡ 3) × (index ≡ given.index) × (type_at given.ty ≡ Some ty) × (name ≡ optional_of given.name)
+    (given.kind ≡ 3) × (index ≡ given.index) × (type_at given.ty ≡ Some ty)
+    × (name ≡ optional_of given.name)
 
 -- a number that names no command, or no type of one
 abbrev pub NamesNoCommand : GivenCommand → Type 0
-NamesNoCommand given = (is_relation given.kind ≡ false) ⊎ ((has_type given.kind ≡ true) × (type_at given.ty ≡ None))
+NamesNoCommand given =
+    (is_relation given.kind ≡ false) ⊎ ((has_type given.kind ≡ true) × (type_at given.ty ≡ None))

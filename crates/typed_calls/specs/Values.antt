@@ -8,12 +8,17 @@ use Rattle.typed_calls.specs.declared.values.GivenValue.{GivenValue}
 use Rattle.typed_calls.specs.Given.{pair_of, texts_of_pair}
 
 -- the failure, of its code, message and metadata
-abbrev pub failure_of : GivenValue → TerminalFailure
-failure_of given = record { code = given.code; message = given.lent.bytes.now; metadata = map pair_of given.metadata.now }
+abbrev pub given_failure : GivenValue → TerminalFailure
+given_failure given = record {
+  code = given.code;
+  message = given.lent.bytes.now;
+  metadata = map pair_of given.metadata.now;
+}
 
 -- bytes, or a failure
-abbrev pub value_of : GivenValue → NonEmptyValue
-value_of given = if given.is_failure then Failure (failure_of given) else Success given.lent.bytes.now
+abbrev pub given_value : GivenValue → NonEmptyValue
+given_value given =
+    if given.is_failure then Failure (given_failure given) else Success given.lent.bytes.now
 
 -- the failure's texts
 abbrev pub texts_of_failure : GivenValue → List (List ℕ)

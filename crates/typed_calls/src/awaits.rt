@@ -48,9 +48,9 @@ pub struct TakeCall {
 }
 
 impl VmCall for TakeCall {
-    ghost use Rattle.typed_calls.specs.Calls.{Takes};
+    ghost use Rattle.typed_calls.specs.Calls.{TakesResult};
 
-    ghost does = { λ it. Takes it.handle };
+    ghost does = { λ it. TakesResult it.handle };
 
     fn make(self, alloc: Global, vm: &mut CoreVM, kept: &mut Reply) -> Result<Replied, Status> {
         Ok(keep_taken(kept, vm.take_notification(NotificationHandle(self.handle))))

@@ -1,9 +1,9 @@
 //! Calls of other handlers.
 ghost use Rattle.std.specs.Prelude.{◌≡◌, IfOk, IfErr, string_bytes};
 ghost use Rattle.scripts.specs.Called.{reply_of};
-ghost use Rattle.typed_calls.specs.Callees.{target_of, texts_of_call, texts_of_target};
-ghost use Rattle.typed_calls.specs.Given.{Refuses};
-ghost use Rattle.typed_calls.specs.Makes.{all_handles, handles, sent};
+ghost use Rattle.typed_calls.specs.Callees.{given_target, texts_of_call, texts_of_target};
+ghost use Rattle.typed_calls.specs.Given.{CannotCopy};
+ghost use Rattle.typed_calls.specs.Makes.{all_handles, call_handles_told, sent};
 
 use crate::given::{
     Lent, MayLend, Pair, bytes_of, headers_of, optional_text, string_of, text_of, time_of,
@@ -31,9 +31,9 @@ pub struct GivenTarget<'a> {
 
 /// Which handler is called, and how.
 #[tactic(auto, using(crate::proofs::Refusing::front_refused, crate::proofs::Refusing::behind_refused))]
-fn target_of(alloc: Global, given: &GivenTarget) -> Result<Target, Status>
-    ensures ok { IfOk result (λ target. target ≡ target_of given.now) }
-    ensures err { IfErr result (Refuses (texts_of_target given.now)) }
+fn given_target(alloc: Global, given: &GivenTarget) -> Result<Target, Status>
+    ensures ok { IfOk result (λ target. target ≡ given_target given.now) }
+    ensures err { IfErr result (CannotCopy (texts_of_target given.now)) }
 {
     let service = text_of(alloc, given.service.bytes)?;
     let handler = text_of(alloc, given.handler.bytes)?;
@@ -55,7 +55,7 @@ fn target_of(alloc: Global, given: &GivenTarget) -> Result<Target, Status>
 
 /// The reply with a call's handles.
 fn called(given: VMResult<CallHandle>) -> Reply
-    ensures { result ≡ reply_of handles given }
+    ensures { result ≡ reply_of call_handles_told given }
 {
     match given {
         Ok(call) => Reply::Answer(Answer::Call(call)),
@@ -97,12 +97,12 @@ fn callee_of(
     bytes: &[u8],
     name: &[u8],
 ) -> Result<Callee, Status>
-    ensures target { IfOk result (λ callee. callee.target ≡ target_of given.now) }
+    ensures target { IfOk result (λ callee. callee.target ≡ given_target given.now) }
     ensures input { IfOk result (λ callee. callee.input ≡ bytes.now) }
     ensures name { IfOk result (λ callee. string_bytes callee.name ≡ name.now) }
-    ensures err { IfErr result (Refuses (texts_of_call given.now name.now)) }
+    ensures err { IfErr result (CannotCopy (texts_of_call given.now name.now)) }
 {
-    let target = target_of(alloc, given)?;
+    let target = given_target(alloc, given)?;
     let name = string_of(alloc, name)?;
     let input = bytes_of(alloc, bytes)?;
     Ok(Callee {

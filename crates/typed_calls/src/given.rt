@@ -2,7 +2,7 @@
 ghost use Rattle.std.specs.Prelude.{◌≡◌, ◌/◌, ◌∷◌, [], map, IfOk, IfErr, string_bytes};
 ghost use Rattle.std.specs.Duration.{as_nanos};
 ghost use Rattle.std.specs.List.{flat_map};
-ghost use Rattle.typed_calls.specs.Given.{IsSpan, IsSpanIf, Refuses, header_of, optional_of, pair_of, texts_in, texts_of_pair};
+ghost use Rattle.typed_calls.specs.Given.{IsSpan, IsSpanIf, CannotCopy, header_of, optional_of, pair_of, lent_texts, texts_of_pair};
 
 use bytes::Bytes;
 use journal_values::Header;
@@ -38,7 +38,7 @@ pub struct Pair<'a> {
 #[tactic(auto, using(crate::proofs::Refusing::no_text, crate::proofs::Refusing::no_memory))]
 pub(crate) fn string_of(alloc: Global, bytes: &[u8]) -> Result<String, Status>
     ensures ok { IfOk result (λ text. string_bytes text ≡ bytes.now) }
-    ensures err { IfErr result (Refuses (bytes.now ∷ [])) }
+    ensures err { IfErr result (CannotCopy (bytes.now ∷ [])) }
 {
     let Ok(text) = std::str::from_utf8(bytes) else {
         return Err(Status::BadText);
@@ -52,7 +52,7 @@ pub(crate) fn string_of(alloc: Global, bytes: &[u8]) -> Result<String, Status>
 /// A text, as a value.
 pub(crate) fn text_of(alloc: Global, bytes: &[u8]) -> Result<Text, Status>
     ensures ok { IfOk result (λ text. text ≡ bytes.now) }
-    ensures err { IfErr result (Refuses (bytes.now ∷ [])) }
+    ensures err { IfErr result (CannotCopy (bytes.now ∷ [])) }
 {
     match string_of(alloc, bytes) {
         Ok(text) => Ok(Text::from_string(text)),
@@ -69,7 +69,7 @@ pub(crate) fn two_strings(
 ) -> Result<(String, String), Status>
     ensures first { IfOk result (λ texts. string_bytes texts.0 ≡ first.now) }
     ensures second { IfOk result (λ texts. string_bytes texts.1 ≡ second.now) }
-    ensures err { IfErr result (Refuses (first.now ∷ second.now ∷ [])) }
+    ensures err { IfErr result (CannotCopy (first.now ∷ second.now ∷ [])) }
 {
     let front = string_of(alloc, first)?;
     match string_of(alloc, second) {
@@ -84,7 +84,7 @@ pub(crate) fn two_strings(
 /// A text, if it is given.
 pub(crate) fn optional_text(alloc: Global, may: &MayLend) -> Result<Option<Text>, Status>
     ensures ok { IfOk result (λ text. text ≡ optional_of may.now) }
-    ensures err { IfErr result (Refuses (texts_in may.now)) }
+    ensures err { IfErr result (CannotCopy (lent_texts may.now)) }
 {
     if !may.is_given {
         return Ok(None);
@@ -99,7 +99,7 @@ pub(crate) fn optional_text(alloc: Global, may: &MayLend) -> Result<Option<Text>
 #[tactic(auto, using(crate::proofs::Refusing::no_memory))]
 pub(crate) fn bytes_of(alloc: Global, bytes: &[u8]) -> Result<Bytes, Status>
     ensures ok { IfOk result (λ copy. copy ≡ bytes.now) }
-    ensures err { IfErr result (Refuses []) }
+    ensures err { IfErr result (CannotCopy []) }
 {
     match Bytes::copy_from_slice(alloc, bytes) {
         Ok(copy) => Ok(copy),
@@ -111,7 +111,7 @@ pub(crate) fn bytes_of(alloc: Global, bytes: &[u8]) -> Result<Bytes, Status>
 #[tactic(auto, using(crate::proofs::Refusing::front_refused, crate::proofs::Refusing::behind_refused))]
 fn key_and_value(alloc: Global, pair: &Pair) -> Result<(Text, Text), Status>
     ensures ok { IfOk result (λ texts. texts ≡ pair_of pair.now) }
-    ensures err { IfErr result (Refuses (texts_of_pair pair.now)) }
+    ensures err { IfErr result (CannotCopy (texts_of_pair pair.now)) }
 {
     let key = text_of(alloc, pair.key.bytes)?;
     match text_of(alloc, pair.value.bytes) {
@@ -127,7 +127,7 @@ fn key_and_value(alloc: Global, pair: &Pair) -> Result<(Text, Text), Status>
 #[tactic(auto, using(crate::proofs::Refusing::no_memory))]
 pub(crate) fn pairs_of(alloc: Global, pairs: &[Pair]) -> Result<Items<(Text, Text)>, Status>
     ensures ok { IfOk result (λ texts. texts ≡ map pair_of pairs.now) }
-    ensures err { IfErr result (Refuses (flat_map texts_of_pair pairs.now)) }
+    ensures err { IfErr result (CannotCopy (flat_map texts_of_pair pairs.now)) }
 {
     let mut texts = Items::new(alloc);
     for pair in pairs {
@@ -143,7 +143,7 @@ pub(crate) fn pairs_of(alloc: Global, pairs: &[Pair]) -> Result<Items<(Text, Tex
 #[tactic(auto, using(crate::proofs::Refusing::no_memory))]
 pub(crate) fn headers_of(alloc: Global, pairs: &[Pair]) -> Result<Items<Header>, Status>
     ensures ok { IfOk result (λ headers. headers ≡ map header_of pairs.now) }
-    ensures err { IfErr result (Refuses (flat_map texts_of_pair pairs.now)) }
+    ensures err { IfErr result (CannotCopy (flat_map texts_of_pair pairs.now)) }
 {
     let mut headers = Items::new(alloc);
     for pair in pairs {

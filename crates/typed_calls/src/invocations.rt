@@ -1,6 +1,6 @@
 //! Invocations that run elsewhere: a call attaches to one, or asks for its output.
 ghost use Rattle.std.specs.Prelude.{◌≡◌, Some, None, IfErr, IfOk};
-ghost use Rattle.typed_calls.specs.Given.{Misfits, Refuses};
+ghost use Rattle.typed_calls.specs.Given.{Misfits, CannotCopy};
 ghost use Rattle.typed_calls.specs.Invocations.{idempotency_of, invocation_of, texts_of_idempotency, texts_of_invocation, texts_of_workflow, workflow_of};
 
 use crate::given::{Lent, MayLend, optional_text, text_of};
@@ -31,7 +31,7 @@ pub struct GivenInvocation<'a> {
 #[tactic(auto, using(crate::proofs::Refusing::front_refused, crate::proofs::Refusing::behind_refused))]
 fn workflow_of(alloc: Global, given: &GivenInvocation) -> Result<WorkflowId, Status>
     ensures ok { IfOk result (λ id. id ≡ workflow_of given.now) }
-    ensures err { IfErr result (Refuses (texts_of_workflow given.now)) }
+    ensures err { IfErr result (CannotCopy (texts_of_workflow given.now)) }
 {
     let name = text_of(alloc, given.name.bytes)?;
     let key = text_of(alloc, given.key.bytes)?;
@@ -49,7 +49,7 @@ fn workflow_of(alloc: Global, given: &GivenInvocation) -> Result<WorkflowId, Sta
 #[tactic(auto, using(crate::proofs::Refusing::front_refused, crate::proofs::Refusing::behind_refused))]
 fn idempotency_of(alloc: Global, given: &GivenInvocation) -> Result<IdempotencyId, Status>
     ensures ok { IfOk result (λ id. id ≡ idempotency_of given.now) }
-    ensures err { IfErr result (Refuses (texts_of_idempotency given.now)) }
+    ensures err { IfErr result (CannotCopy (texts_of_idempotency given.now)) }
 {
     let service_name = text_of(alloc, given.name.bytes)?;
     let handler_name = text_of(alloc, given.handler.bytes)?;
@@ -69,7 +69,8 @@ fn idempotency_of(alloc: Global, given: &GivenInvocation) -> Result<IdempotencyI
 #[tactic(auto, using(crate::proofs::Refusing::misfit))]
 fn invocation_of(alloc: Global, given: &GivenInvocation) -> Result<AttachInvocationTarget, Status>
     ensures ok { IfOk result (λ target. invocation_of given.now ≡ Some target) }
-    ensures err { IfErr result (Misfits (texts_of_invocation given.now) (invocation_of given.now ≡ None)) }
+    ensures err { IfErr result
+        (Misfits (texts_of_invocation given.now) (invocation_of given.now ≡ None)) }
 {
     match given.kind {
         0 => match text_of(alloc, given.name.bytes) {

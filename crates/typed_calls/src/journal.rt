@@ -1,7 +1,7 @@
 //! The calls of a handler that have one text or one value: sleeps, awakeables, signals, promises, and its end.
 
 use crate::given::{Lent, string_of, time_of, two_strings};
-use crate::values::{GivenValue, payload, value_of};
+use crate::values::{GivenValue, given_value, payload};
 use invocation_vm::{CoreVM, VM};
 use replies::Reply;
 use scripts::perform::awakeable;
@@ -16,9 +16,9 @@ pub struct SleepCall<'a> {
 }
 
 impl<'a> VmCall for SleepCall<'a> {
-    ghost use Rattle.typed_calls.specs.Calls.{Sleeps};
+    ghost use Rattle.typed_calls.specs.Calls.{CallsSleep};
 
-    ghost does = { λ it. Sleeps it.name.bytes.now it.wake_up_millis };
+    ghost does = { λ it. CallsSleep it.name.bytes.now it.wake_up_millis };
 
     fn make(self, alloc: Global, vm: &mut CoreVM, kept: &mut Reply) -> Result<Replied, Status> {
         let name = string_of(alloc, self.name.bytes)?;
@@ -106,7 +106,7 @@ impl<'a> VmCall for CompletePromiseCall<'a> {
 
     fn make(self, alloc: Global, vm: &mut CoreVM, kept: &mut Reply) -> Result<Replied, Status> {
         let key = string_of(alloc, self.key.bytes)?;
-        match value_of(alloc, &self.value) {
+        match given_value(alloc, &self.value) {
             Ok(value) => Ok(keep_handle(
                 kept,
                 vm.sys_complete_promise(key, value, payload(self.unstable)),
@@ -134,7 +134,7 @@ impl<'a> VmCall for CompleteAwakeableCall<'a> {
 
     fn make(self, alloc: Global, vm: &mut CoreVM, kept: &mut Reply) -> Result<Replied, Status> {
         let id = string_of(alloc, self.id.bytes)?;
-        match value_of(alloc, &self.value) {
+        match given_value(alloc, &self.value) {
             Ok(value) => Ok(keep_ended(
                 kept,
                 vm.sys_complete_awakeable(id, value, payload(self.unstable)),
@@ -162,7 +162,7 @@ impl<'a> VmCall for CompleteSignalCall<'a> {
 
     fn make(self, alloc: Global, vm: &mut CoreVM, kept: &mut Reply) -> Result<Replied, Status> {
         let (target, name) = two_strings(alloc, self.target.bytes, self.name.bytes)?;
-        match value_of(alloc, &self.value) {
+        match given_value(alloc, &self.value) {
             Ok(value) => Ok(keep_ended(kept, vm.sys_complete_signal(target, name, value))),
             Err(status) => {
                 drop(target);
@@ -203,7 +203,7 @@ impl<'a> VmCall for WriteOutputCall<'a> {
     ghost does = { λ it. WritesOutput it.value it.unstable };
 
     fn make(self, alloc: Global, vm: &mut CoreVM, kept: &mut Reply) -> Result<Replied, Status> {
-        let value = value_of(alloc, &self.value)?;
+        let value = given_value(alloc, &self.value)?;
         Ok(keep_ended(kept, vm.sys_write_output(value, payload(self.unstable))))
     }
 }
@@ -213,9 +213,9 @@ impl<'a> VmCall for WriteOutputCall<'a> {
 pub struct EndCall;
 
 impl VmCall for EndCall {
-    ghost use Rattle.typed_calls.specs.Calls.{Ends};
+    ghost use Rattle.typed_calls.specs.Calls.{EndsHandler};
 
-    ghost does = { λ it. Ends };
+    ghost does = { λ it. EndsHandler };
 
     fn make(self, alloc: Global, vm: &mut CoreVM, kept: &mut Reply) -> Result<Replied, Status> {
         Ok(keep_ended(kept, vm.sys_end()))

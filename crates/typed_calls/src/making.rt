@@ -2,7 +2,7 @@
 ghost use Rattle.std.specs.Prelude.{◌≡◌, Some, IfErr, IfOk};
 ghost use Rattle.std.specs.Option.{MatchOption};
 ghost use Rattle.vm_types.specs.declared.options.ImplicitCancellationOption.TheVariants as cancellation;
-ghost use Rattle.typed_calls.specs.Given.{Refuses, texts_in};
+ghost use Rattle.typed_calls.specs.Given.{CannotCopy, lent_texts};
 ghost use Rattle.typed_calls.specs.Making.{AreOptionsOf, IsFoundOf, MakesAsGiven, NamesNoOption, awaiting_at, cancellation_at, checks_at, delivery_at, mismatch_at, replay_at};
 
 use crate::given::{MayLend, string_of};
@@ -134,7 +134,7 @@ fn options_of(given: &GivenOptions) -> Option<VMOptions>
 /// The content type, or that there is none.
 fn content_type_of(alloc: Global, given: &MayLend) -> Result<ContentType, Status>
     ensures ok { IfOk result (IsFoundOf given.now) }
-    ensures err { IfErr result (Refuses (texts_in given.now)) }
+    ensures err { IfErr result (CannotCopy (lent_texts given.now)) }
 {
     if !given.is_given {
         return Ok(ContentType::Absent);

@@ -1,7 +1,7 @@
 //! Trees of awaits as a row of nodes.
 ghost use Rattle.std.specs.Prelude.{◌≡◌, ◌≢◌, ◌++◌, ◌∷◌, [], length, IfErr, IfOk, IfSome};
 ghost use Rattle.await_trees.specs.Tree.{tree_of};
-ghost use Rattle.typed_calls.specs.Nodes.{CantStand, FailsAsTree, kind_at, kind_code, nodes_of, written};
+ghost use Rattle.typed_calls.specs.Nodes.{CantStand, FailsAsTree, kind_at, node_code, nodes_of, row_of};
 
 use await_trees::{FutureKind, node_over};
 use sessions::Status;
@@ -22,7 +22,7 @@ pub struct Node {
 /// The kind of this number.
 fn kind_of(code: u32) -> Option<FutureKind>
     ensures found { result ≡ kind_at code }
-    ensures numbered { IfSome result (λ kind. kind_code kind ≡ code) }
+    ensures numbered { IfSome result (λ kind. node_code kind ≡ code) }
 {
     match code {
         1 => Some(FutureKind::FirstCompleted),
@@ -37,7 +37,8 @@ fn kind_of(code: u32) -> Option<FutureKind>
 /// The tree of a node over the last of the trees that stand in front of it, which are taken.
 fn tree_over(trees: &mut Vec<UnresolvedFuture>, node: Node) -> Result<UnresolvedFuture, Status>
     requires { node.kind ≢ 0 }
-    ensures ok { IfOk result (λ tree. written trees.new.items ++ nodes_of (tree_of tree) ≡ written trees.old.items ++ node ∷ []) }
+    ensures ok { IfOk result (λ tree. row_of trees.new.items ++ nodes_of (tree_of tree)
+        ≡ row_of trees.old.items ++ node ∷ []) }
     ensures err { IfErr result (CantStand node (length trees.old.items)) }
 {
     let Some(kind) = kind_of(node.kind) else {
@@ -54,7 +55,7 @@ fn tree_over(trees: &mut Vec<UnresolvedFuture>, node: Node) -> Result<Unresolved
 
 /// Puts a node behind the trees in front of it, over the last of them.
 fn put_node(trees: &mut Vec<UnresolvedFuture>, node: Node) -> Result<(), Status>
-    ensures ok { IfOk result (λ _. written trees.new.items ≡ written trees.old.items ++ node ∷ []) }
+    ensures ok { IfOk result (λ _. row_of trees.new.items ≡ row_of trees.old.items ++ node ∷ []) }
     ensures err { IfErr result (CantStand node (length trees.old.items)) }
 {
     let tree = if node.kind == 0 {

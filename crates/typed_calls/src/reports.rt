@@ -1,6 +1,6 @@
 //! Errors that C reports, and the commands that they relate to.
 ghost use Rattle.std.specs.Prelude.{◌≡◌, Some, None, IfErr, IfOk, string_bytes};
-ghost use Rattle.typed_calls.specs.Given.{Misfits, optional_of, texts_in};
+ghost use Rattle.typed_calls.specs.Given.{Misfits, optional_of, lent_texts};
 ghost use Rattle.typed_calls.specs.Reports.{IsErrorOf, IsRelatedOf, NamesNoCommand, behavior_at, texts_of_error, type_at};
 
 use crate::given::{Lent, MayLend, optional_span, optional_text, two_strings};
@@ -56,7 +56,9 @@ fn error_with(
     stacktrace: String,
     behavior: ErrorBehavior,
 ) -> Error
-    requires { (string_bytes message ≡ given.now.message.bytes.now) × (string_bytes stacktrace ≡ given.now.stacktrace.bytes.now) × (behavior_at given.now.behavior ≡ Some behavior) }
+    requires { (string_bytes message ≡ given.now.message.bytes.now)
+        × (string_bytes stacktrace ≡ given.now.stacktrace.bytes.now)
+        × (behavior_at given.now.behavior ≡ Some behavior) }
     ensures { IsErrorOf given.now result }
 {
     let error = Error::new(given.code, message)
@@ -72,7 +74,8 @@ fn error_with(
 #[tactic(auto, using(crate::proofs::Refusing::misfit))]
 pub(crate) fn error_of(alloc: Global, given: &GivenError) -> Result<Error, Status>
     ensures ok { IfOk result (IsErrorOf given.now) }
-    ensures err { IfErr result (Misfits (texts_of_error given.now) (behavior_at given.now.behavior ≡ None)) }
+    ensures err { IfErr result
+        (Misfits (texts_of_error given.now) (behavior_at given.now.behavior ≡ None)) }
 {
     let Some(behavior) = behavior_of(given.behavior) else {
         return Err(Status::BadNumber);
@@ -117,7 +120,7 @@ fn type_of(code: u32) -> Option<CommandType>
 fn type_and_name(alloc: Global, given: &GivenCommand) -> Result<(CommandType, Option<Text>), Status>
     ensures ty { IfOk result (λ it. type_at given.now.ty ≡ Some it.0) }
     ensures name { IfOk result (λ it. it.1 ≡ optional_of given.now.name) }
-    ensures err { IfErr result (Misfits (texts_in given.now.name) (type_at given.now.ty ≡ None)) }
+    ensures err { IfErr result (Misfits (lent_texts given.now.name) (type_at given.now.ty ≡ None)) }
 {
     let Some(ty) = type_of(given.ty) else {
         return Err(Status::BadNumber);
@@ -132,7 +135,7 @@ fn type_and_name(alloc: Global, given: &GivenCommand) -> Result<(CommandType, Op
 #[tactic(auto, using(crate::proofs::Refusing::misfit_type))]
 fn related_of(alloc: Global, given: &GivenCommand) -> Result<Option<CommandRelationship>, Status>
     ensures ok { IfOk result (IsRelatedOf given.now) }
-    ensures err { IfErr result (Misfits (texts_in given.now.name) (NamesNoCommand given.now)) }
+    ensures err { IfErr result (Misfits (lent_texts given.now.name) (NamesNoCommand given.now)) }
 {
     match given.kind {
         0 => Ok(None),

@@ -5,7 +5,7 @@ ghost use Rattle.line_parts.specs.Results.{settled};
 use crate::given::{Lent, span_of, string_of};
 use crate::policies::{GivenPolicy, policy_of};
 use crate::reports::{GivenError, error_of};
-use crate::values::{GivenValue, value_of};
+use crate::values::{GivenValue, given_value};
 use invocation_vm::{CoreVM, NotificationHandle, VM};
 use replies::Reply;
 use runs::RunExitResult;
@@ -21,9 +21,9 @@ pub struct RunCall<'a> {
 }
 
 impl<'a> VmCall for RunCall<'a> {
-    ghost use Rattle.typed_calls.specs.Calls.{Runs};
+    ghost use Rattle.typed_calls.specs.Calls.{CallsARun};
 
-    ghost does = { λ it. Runs it.name.bytes.now };
+    ghost does = { λ it. CallsARun it.name.bytes.now };
 
     fn make(self, alloc: Global, vm: &mut CoreVM, kept: &mut Reply) -> Result<Replied, Status> {
         let name = string_of(alloc, self.name.bytes)?;
@@ -51,15 +51,15 @@ pub struct ProposeCall<'a> {
 
 #[tactic(auto, using(crate::proofs::Refusing::misfit))]
 impl<'a> VmCall for ProposeCall<'a> {
-    ghost use Rattle.typed_calls.specs.Calls.{Proposes};
+    ghost use Rattle.typed_calls.specs.Calls.{ProposesResult};
 
-    ghost does = { λ it. Proposes it.handle it.value it.policy };
+    ghost does = { λ it. ProposesResult it.handle it.value it.policy };
 
     fn make(self, alloc: Global, vm: &mut CoreVM, kept: &mut Reply) -> Result<Replied, Status> {
         let Some(policy) = policy_of(&self.policy) else {
             return Err(Status::BadNumber);
         };
-        match value_of(alloc, &self.value) {
+        match given_value(alloc, &self.value) {
             Ok(value) => {
                 let handle = NotificationHandle(self.handle);
                 Ok(keep_ended(

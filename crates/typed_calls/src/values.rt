@@ -1,7 +1,7 @@
 //! Results that C gives: bytes, or a failure.
 ghost use Rattle.std.specs.Prelude.{◌≡◌, IfOk, IfErr};
-ghost use Rattle.typed_calls.specs.Given.{Refuses};
-ghost use Rattle.typed_calls.specs.Values.{failure_of, texts_of_failure, texts_of_value, value_of};
+ghost use Rattle.typed_calls.specs.Given.{CannotCopy};
+ghost use Rattle.typed_calls.specs.Values.{given_failure, texts_of_failure, texts_of_value, given_value};
 
 use crate::given::{Lent, Pair, bytes_of, pairs_of, text_of};
 use sessions::Status;
@@ -23,9 +23,9 @@ pub struct GivenValue<'a> {
 
 /// The failure.
 #[tactic(auto, using(crate::proofs::Refusing::front_refused, crate::proofs::Refusing::behind_refused))]
-fn failure_of(alloc: Global, given: &GivenValue) -> Result<TerminalFailure, Status>
-    ensures ok { IfOk result (λ failure. failure ≡ failure_of given.now) }
-    ensures err { IfErr result (Refuses (texts_of_failure given.now)) }
+fn given_failure(alloc: Global, given: &GivenValue) -> Result<TerminalFailure, Status>
+    ensures ok { IfOk result (λ failure. failure ≡ given_failure given.now) }
+    ensures err { IfErr result (CannotCopy (texts_of_failure given.now)) }
 {
     let message = text_of(alloc, given.lent.bytes)?;
     match pairs_of(alloc, given.metadata) {
@@ -42,12 +42,12 @@ fn failure_of(alloc: Global, given: &GivenValue) -> Result<TerminalFailure, Stat
 }
 
 /// The result.
-pub(crate) fn value_of(alloc: Global, given: &GivenValue) -> Result<NonEmptyValue, Status>
-    ensures ok { IfOk result (λ value. value ≡ value_of given.now) }
-    ensures err { IfErr result (Refuses (texts_of_value given.now)) }
+pub(crate) fn given_value(alloc: Global, given: &GivenValue) -> Result<NonEmptyValue, Status>
+    ensures ok { IfOk result (λ value. value ≡ given_value given.now) }
+    ensures err { IfErr result (CannotCopy (texts_of_value given.now)) }
 {
     if given.is_failure {
-        return match failure_of(alloc, given) {
+        return match given_failure(alloc, given) {
             Ok(failure) => Ok(NonEmptyValue::Failure(failure)),
             Err(status) => Err(status),
         };

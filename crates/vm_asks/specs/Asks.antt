@@ -1,4 +1,5 @@
--- What each step of a handler asks of the machine: one table over steps. A command is given without its numbers.
+-- What each step of a handler asks of the machine: one table over steps. A command is given without
+-- its numbers.
 use Rattle.std.specs.Prelude.{ℕ, zero, suc, ◌+◌, ◌<◌, ◌≤◌, ◌^◌, ◌/◌, Bool, true, false, ◌&&◌, not, nat_lt, min, if◌then◌else◌, List, [], ◌∷◌, Option, Some, None, refl}
 use Rattle.std.specs.Duration.{as_nanos}
 use Rattle.std.specs.Option.{option_or}
@@ -53,11 +54,13 @@ has_metadata (Failure f) = not (is_empty f.metadata)
 
 -- a value that the version cannot send: metadata on a failure needs V6
 abbrev pub value_fault : NonEmptyValue → Version → Option NamedFault
-value_fault value version = if has_metadata value && not (is_from_v6 version) then Some fault.UnsupportedFeatureForNegotiatedVersion else None
+value_fault value version = if has_metadata value && not (is_from_v6 version)
+    then Some fault.UnsupportedFeatureForNegotiatedVersion else None
 
 -- a time in whole milliseconds that no u64 holds
 abbrev pub time_fault : ℕ → Option NamedFault
-time_fault millis = if nat_lt millis 18446744073709551616 then None else Some fault.OutOfBoundsDuration
+time_fault millis =
+    if nat_lt millis 18446744073709551616 then None else Some fault.OutOfBoundsDuration
 
 -- a text that is there and empty
 abbrev pub empty_fault : NamedFault → Option (List ℕ) → Option NamedFault
@@ -67,7 +70,8 @@ empty_fault name (Some text) = if is_empty text then Some name else None
 -- a text that is there before V7
 abbrev pub early_fault : Version → Option (List ℕ) → Option NamedFault
 early_fault version None = None
-early_fault version (Some text) = if is_from_v7 version then None else Some fault.UnsupportedFeatureForNegotiatedVersion
+early_fault version (Some text) = if is_from_v7 version then None
+    else Some fault.UnsupportedFeatureForNegotiatedVersion
 
 -- the first fault that there is
 abbrev pub first_fault : List (Option NamedFault) → Option NamedFault
@@ -76,7 +80,8 @@ first_fault (f ∷ fs) = option_or f (first_fault fs)
 
 -- a scope that can't be sent: an empty one, and before V7 each
 abbrev pub scope_fault : Option (List ℕ) → Version → Option NamedFault
-scope_fault scope version = first_fault (empty_fault fault.EmptyScope scope ∷ early_fault version scope ∷ [])
+scope_fault scope version =
+    first_fault (empty_fault fault.EmptyScope scope ∷ early_fault version scope ∷ [])
 
 -- a target that can't be called: of its texts these may not be empty, and these need V7
 abbrev pub target_fault : Target → Version → Option NamedFault
@@ -98,7 +103,11 @@ allowed m unstable is = record { refusal = None; message = m; unstable = unstabl
 abbrev pub sleep_command : ℕ → List ℕ → Command
 sleep_command millis name = record {
   refusal = time_fault millis;
-  message = message.Sleep (record { wake_up_time = min millis 18446744073709551615; result_completion_id = 0; name = name });
+  message = message.Sleep (record {
+    wake_up_time = min millis 18446744073709551615;
+    result_completion_id = 0;
+    name = name;
+  });
   unstable = false;
   is_command = refl;
 }
@@ -114,11 +123,14 @@ output_command value options version = record {
 
 -- a state key is set
 abbrev pub set_state_command : List ℕ → List ℕ → List ℕ → PayloadOptions → Command
-set_state_command key value name options = allowed (message.SetState (record { name = name; key = key; value = value })) options.unstable_serialization refl
+set_state_command key value name options = allowed
+    (message.SetState (record { name = name; key = key; value = value }))
+    options.unstable_serialization refl
 
 -- a state key is cleared
 abbrev pub clear_state_command : List ℕ → List ℕ → Command
-clear_state_command key name = allowed (message.ClearState (record { name = name; key = key })) false refl
+clear_state_command key name =
+    allowed (message.ClearState (record { name = name; key = key })) false refl
 
 -- all state keys are cleared
 abbrev pub clear_all_state_command : List ℕ → Command
@@ -142,35 +154,49 @@ signal_result (given.Failure failure) = sent.Failure failure
 abbrev pub complete_signal_command : List ℕ → List ℕ → NonEmptyValue → Version → Command
 complete_signal_command target signal value version = record {
   refusal = value_fault value version;
-  message = message.SendSignal (record { target_invocation_id = target; signal = Name signal; result = signal_result (value_message value) });
+  message = message.SendSignal
+      (record {
+        target_invocation_id = target;
+        signal = Name signal;
+        result = signal_result (value_message value);
+      });
   unstable = false;
   is_command = refl;
 }
 
 -- the cancel signal is sent
 abbrev pub cancel_invocation_command : List ℕ → Command
-cancel_invocation_command target = allowed (message.SendSignal (record { target_invocation_id = target; signal = Index 1; result = sent.Void })) false refl
+cancel_invocation_command target = allowed
+    (message.SendSignal (record {
+      target_invocation_id = target;
+      signal = Index 1;
+      result = sent.Void;
+    })) false refl
 
 -- a promise of the workflow is awaited
 abbrev pub get_promise_command : List ℕ → Command
-get_promise_command key = allowed (message.GetPromise (record { key = key; result_completion_id = 0 })) false refl
+get_promise_command key =
+    allowed (message.GetPromise (record { key = key; result_completion_id = 0 })) false refl
 
 -- the handler looks whether a promise of the workflow is completed
 abbrev pub peek_promise_command : List ℕ → Command
-peek_promise_command key = allowed (message.PeekPromise (record { key = key; result_completion_id = 0 })) false refl
+peek_promise_command key =
+    allowed (message.PeekPromise (record { key = key; result_completion_id = 0 })) false refl
 
 -- a promise of the workflow is completed
 abbrev pub complete_promise_command : List ℕ → NonEmptyValue → PayloadOptions → Version → Command
 complete_promise_command key value options version = record {
   refusal = value_fault value version;
-  message = message.CompletePromise (record { key = key; completion = value_message value; result_completion_id = 0 });
+  message = message.CompletePromise
+      (record { key = key; completion = value_message value; result_completion_id = 0 });
   unstable = options.unstable_serialization;
   is_command = refl;
 }
 
 -- an effect is executed outside, and its result is proposed
 abbrev pub run_command : List ℕ → Command
-run_command name = allowed (message.Run (record { name = name; result_completion_id = 0 })) false refl
+run_command name =
+    allowed (message.Run (record { name = name; result_completion_id = 0 })) false refl
 
 -- the scope of an invocation that is named by its workflow or its idempotency key
 abbrev pub scope_of : InvocationTarget → Option (List ℕ)
@@ -220,16 +246,22 @@ request_of target input name = record {
 abbrev pub call_command : Target → List ℕ → List ℕ → PayloadOptions → Version → Command
 call_command target input name options version = record {
   refusal = target_fault target version;
-  message = message.Call (record { request = request_of target input name; result_completion_id = 0 });
+  message =
+      message.Call (record { request = request_of target input name; result_completion_id = 0 });
   unstable = options.unstable_serialization;
   is_command = refl;
 }
 
--- another handler is called at a time in whole milliseconds, 0 for at once, and its result isn't waited for
+-- another handler is called at a time in whole milliseconds, 0 for at once, and its result isn't
+-- waited for
 abbrev pub send_command : Target → List ℕ → ℕ → List ℕ → PayloadOptions → Version → Command
 send_command target input millis name options version = record {
   refusal = option_or (target_fault target version) (time_fault millis);
-  message = message.OneWayCall (record { request = request_of target input name; invoke_time = min millis 18446744073709551615 });
+  message = message.OneWayCall
+      (record {
+        request = request_of target input name;
+        invoke_time = min millis 18446744073709551615;
+      });
   unstable = options.unstable_serialization;
   is_command = refl;
 }
@@ -243,26 +275,37 @@ millis_of (Some time) = as_nanos time / 1000000
 
 -- what a step asks for, in an attempt of this version
 abbrev pub ask_of : Version → Step → Ask
-ask_of version (step.Sleep name wake_up_time now) = ask.Command (sleep_command (as_nanos wake_up_time / 1000000) name)
-ask_of version (step.StateSet key value name options) = ask.Command (set_state_command key value (name_in name) options)
+ask_of version (step.Sleep name wake_up_time now) = ask.Command
+    (sleep_command (as_nanos wake_up_time / 1000000) name)
+ask_of version (step.StateSet key value name options) = ask.Command
+    (set_state_command key value (name_in name) options)
 ask_of version (step.StateClear key name) = ask.Command (clear_state_command key (name_in name))
 ask_of version (step.StateClearAll name) = ask.Command (clear_all_state_command (name_in name))
 ask_of version (step.StateGet key name options) = ask.Read (reads.Value key (name_in name))
 ask_of version (step.StateGetKeys name) = ask.Read (reads.Keys (name_in name))
-ask_of version (step.Call target input name options) = ask.Command (call_command target input (name_in name) options version)
-ask_of version (step.CallWithDeadline target input time name options) = ask.Commands kind.CallWithDeadline (call_command target input (name_in name) options version) (sleep_command (as_nanos time / 1000000) [])
-ask_of version (step.Send target input time name options) = ask.Command (send_command target input (millis_of time) (name_in name) options version)
+ask_of version (step.Call target input name options) = ask.Command
+    (call_command target input (name_in name) options version)
+ask_of version (step.CallWithDeadline target input time name options) = ask.Commands
+    kind.CallWithDeadline (call_command target input (name_in name) options version)
+    (sleep_command (as_nanos time / 1000000) [])
+ask_of version (step.Send target input time name options) = ask.Command
+    (send_command target input (millis_of time) (name_in name) options version)
 ask_of version step.Awakeable = ask.Awakeable
 ask_of version (step.Signal name) = ask.Signal name
-ask_of version (step.CompleteAwakeable id value options) = ask.Command (complete_awakeable_command id value options version)
-ask_of version (step.CompleteSignal target signal value) = ask.Command (complete_signal_command target signal value version)
+ask_of version (step.CompleteAwakeable id value options) = ask.Command
+    (complete_awakeable_command id value options version)
+ask_of version (step.CompleteSignal target signal value) = ask.Command
+    (complete_signal_command target signal value version)
 ask_of version (step.CancelInvocation target) = ask.Command (cancel_invocation_command target)
 ask_of version (step.GetPromise key) = ask.Command (get_promise_command key)
 ask_of version (step.PeekPromise key) = ask.Command (peek_promise_command key)
-ask_of version (step.CompletePromise key value options) = ask.Command (complete_promise_command key value options version)
+ask_of version (step.CompletePromise key value options) = ask.Command
+    (complete_promise_command key value options version)
 ask_of version (step.Run name) = ask.Command (run_command name)
-ask_of version (step.AttachInvocation target) = ask.Command (attach_invocation_command target version)
-ask_of version (step.GetInvocationOutput target) = ask.Command (get_invocation_output_command target version)
+ask_of version (step.AttachInvocation target) = ask.Command
+    (attach_invocation_command target version)
+ask_of version (step.GetInvocationOutput target) = ask.Command
+    (get_invocation_output_command target version)
 ask_of version (step.WriteOutput value options) = ask.Command (output_command value options version)
 ask_of version (step.Await future) = ask.Await future
 ask_of version (step.Take handle) = ask.Take handle
@@ -274,7 +317,8 @@ abbrev pub kind_by_ids : ℕ → AnswerKind
 kind_by_ids zero = kind.Unit
 kind_by_ids (suc n) = kind.Handle
 
--- how a command is answered: a call by two handles, a send by that of the invocation's id, another by its own
+-- how a command is answered: a call by two handles, a send by that of the invocation's id, another
+-- by its own
 abbrev pub answer_kind : Message → AnswerKind
 answer_kind (message.Call c) = kind.Call
 answer_kind (message.OneWayCall c) = kind.Send
@@ -282,11 +326,18 @@ answer_kind m = kind_by_ids (ids_of m)
 
 -- the two handles of a call
 abbrev pub call_handles : NotificationHandle → CallHandle
-call_handles handle = record { invocation_id_notification_handle = handle; call_notification_handle = record { 0 = handle.0 + 1 } }
+call_handles handle = record {
+  invocation_id_notification_handle = handle;
+  call_notification_handle = record { 0 = handle.0 + 1 };
+}
 
 -- the three handles of a call with a deadline
 abbrev pub deadline_handles : NotificationHandle → DeadlineCallHandle
-deadline_handles handle = record { invocation_id_notification_handle = handle; call_notification_handle = record { 0 = handle.0 + 1 }; deadline_notification_handle = record { 0 = handle.0 + 2 } }
+deadline_handles handle = record {
+  invocation_id_notification_handle = handle;
+  call_notification_handle = record { 0 = handle.0 + 1 };
+  deadline_notification_handle = record { 0 = handle.0 + 2 };
+}
 
 -- the handle of a send
 abbrev pub send_handle : NotificationHandle → SendHandle

@@ -1,4 +1,5 @@
--- The completion ids that commands carry, for whose results notifications come; and the one that is next past all of them.
+-- The completion ids that commands carry, for whose results notifications come; and the one that is
+-- next past all of them.
 use Rattle.std.specs.Prelude.{ℕ, ◌+◌, ◌<◌, ◌≤◌, max, List, [], ◌∷◌, ◌++◌, Option, Some, None}
 use Rattle.std.specs.List.{AllByRecursion}
 use Rattle.std.specs.Option.{option_and_then}
@@ -9,7 +10,8 @@ use Rattle.journal_messages.specs.Reading.{message_in}
 
 -- ---- what commands carry
 
--- the completion ids that a command carries; an eager read has its result in itself and carries none
+-- the completion ids that a command carries; an eager read has its result in itself and carries
+-- none
 abbrev pub carried : Message → List ℕ
 carried (message.Sleep c) = c.result_completion_id ∷ []
 carried (message.GetLazyState c) = c.result_completion_id ∷ []
@@ -67,4 +69,5 @@ read_past next (Some m) = Some (past next (carried m))
 -- past all that recorded commands carry; none where one of them can't be read
 abbrev pub past_all : ℕ → List RawMessage → Option ℕ
 past_all next [] = Some next
-past_all next (c ∷ cs) = option_and_then (λ id. past_all id cs) (read_past next (message_in c.ty c.body))
+past_all next (c ∷ cs) = option_and_then (λ id. past_all id cs)
+    (read_past next (message_in c.ty c.body))

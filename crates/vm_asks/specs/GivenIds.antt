@@ -15,8 +15,9 @@ abbrev pub numbers_from : ℕ → ℕ → List ℕ
 numbers_from first zero = []
 numbers_from first (suc n) = first ∷ numbers_from (first + 1) n
 
--- How many completion ids a step is given: a call one for the invocation's id and one for the result, a send the first of these, a
--- call with a deadline one more for the deadline, and each other call whose result comes later one.
+-- How many completion ids a step is given: a call one for the invocation's id and one for the
+-- result, a send the first of these, a call with a deadline one more for the deadline, and each
+-- other call whose result comes later one.
 abbrev pub ids_given : Step → ℕ
 ids_given (step.Call target input name options) = 2
 ids_given (step.Send target input time name options) = 1
@@ -32,12 +33,13 @@ ids_given (step.AttachInvocation target) = 1
 ids_given (step.GetInvocationOutput target) = 1
 ids_given s = 0
 
--- The commands that are asked for carry this many ids: those that they are given, in order. A read of the state carries one where its
--- result comes later.
+-- The commands that are asked for carry this many ids: those that they are given, in order. A read
+-- of the state carries one where its result comes later.
 abbrev pub CarriesGiven : ℕ → Ask → Type 0
 CarriesGiven n (ask.Command c) = (id : ℕ) → carried (with_ids id c.message) ≡ numbers_from id n
 CarriesGiven n (ask.Commands kind first second) =
-    (id : ℕ) → carried (with_ids id first.message) ++ carried (with_ids (id + ids_of first.message) second.message) ≡ numbers_from id n
+    (id : ℕ) → carried (with_ids id first.message)
+    ++ carried (with_ids (id + ids_of first.message) second.message) ≡ numbers_from id n
 CarriesGiven n (ask.Read r) = (id : ℕ) → carried (lazy_form r id) ≡ numbers_from id n
 CarriesGiven n other = n ≡ 0
 

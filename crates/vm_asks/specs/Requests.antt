@@ -1,5 +1,5 @@
--- What a message asks for as a command: how errors show it, its numbers, and what it changes. One table over messages for
--- all calls; a message that isn't named in one takes no part in it.
+-- What a message asks for as a command: how errors show it, its numbers, and what it changes. One
+-- table over messages for all calls; a message that isn't named in one takes no part in it.
 use Rattle.std.specs.Prelude.{ℕ, ◌+◌, Bool, false, if◌then◌else◌, List, []}
 use Rattle.journal_messages.specs.declared.message.Message.{Message}
 use Rattle.journal_messages.specs.declared.message.Message.TheVariants as message
@@ -53,15 +53,24 @@ ids_of m = 0
 abbrev pub with_ids : ℕ → Message → Message
 with_ids id (message.Sleep c) = message.Sleep (record c { result_completion_id = id })
 with_ids id (message.GetLazyState c) = message.GetLazyState (record c { result_completion_id = id })
-with_ids id (message.GetLazyStateKeys c) = message.GetLazyStateKeys (record c { result_completion_id = id })
-with_ids id (message.Call c) = message.Call (record c { request = record c.request { invocation_id_notification_idx = id }; result_completion_id = id + 1 })
-with_ids id (message.OneWayCall c) = message.OneWayCall (record c { request = record c.request { invocation_id_notification_idx = id } })
+with_ids id (message.GetLazyStateKeys c) = message.GetLazyStateKeys
+    (record c { result_completion_id = id })
+with_ids id (message.Call c) = message.Call
+    (record c {
+      request = record c.request { invocation_id_notification_idx = id };
+      result_completion_id = id + 1;
+    })
+with_ids id (message.OneWayCall c) = message.OneWayCall
+    (record c { request = record c.request { invocation_id_notification_idx = id } })
 with_ids id (message.GetPromise c) = message.GetPromise (record c { result_completion_id = id })
 with_ids id (message.PeekPromise c) = message.PeekPromise (record c { result_completion_id = id })
-with_ids id (message.CompletePromise c) = message.CompletePromise (record c { result_completion_id = id })
+with_ids id (message.CompletePromise c) = message.CompletePromise
+    (record c { result_completion_id = id })
 with_ids id (message.Run c) = message.Run (record c { result_completion_id = id })
-with_ids id (message.AttachInvocation c) = message.AttachInvocation (record c { result_completion_id = id })
-with_ids id (message.GetInvocationOutput c) = message.GetInvocationOutput (record c { result_completion_id = id })
+with_ids id (message.AttachInvocation c) = message.AttachInvocation
+    (record c { result_completion_id = id })
+with_ids id (message.GetInvocationOutput c) = message.GetInvocationOutput
+    (record c { result_completion_id = id })
 with_ids id m = m
 
 -- the state after it
@@ -78,5 +87,7 @@ is_cancelled_with option (message.OneWayCall c) = cancels_sends option
 is_cancelled_with option m = false
 
 -- the tracked calls after it, by its first handle
-abbrev pub tracked_after : ImplicitCancellationOption → Message → ℕ → List TrackedCall → List TrackedCall
-tracked_after option m handle tracked = if is_cancelled_with option m then with_call handle tracked else tracked
+abbrev pub tracked_after : ImplicitCancellationOption → Message → ℕ → List TrackedCall
+    → List TrackedCall
+tracked_after option m handle tracked =
+    if is_cancelled_with option m then with_call handle tracked else tracked

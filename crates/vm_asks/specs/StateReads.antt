@@ -1,4 +1,5 @@
--- A state read's command: eager where the state is known, lazy where it isn't; in replay the recorded form decides.
+-- A state read's command: eager where the state is known, lazy where it isn't; in replay the
+-- recorded form decides.
 use Rattle.std.specs.Prelude.{ℕ, true, ◌==◌, if◌then◌else◌, List, Option, Some, None, Result, Ok, Err}
 use Rattle.journal_errors.specs.declared.faults.NamedFault.{NamedFault}
 use Rattle.journal_errors.specs.declared.faults.NamedFault.TheVariants as fault
@@ -40,24 +41,32 @@ eager_type (reads.Keys name) = type.GetEagerStateKeysCommand
 
 -- the lazy form: the result comes with this completion id
 abbrev pub lazy_form : StateRead → ℕ → Message
-lazy_form (reads.Value key name) id = message.GetLazyState (record { name = name; key = key; result_completion_id = id })
-lazy_form (reads.Keys name) id = message.GetLazyStateKeys (record { result_completion_id = id; name = name })
+lazy_form (reads.Value key name) id = message.GetLazyState
+    (record { name = name; key = key; result_completion_id = id })
+lazy_form (reads.Keys name) id = message.GetLazyStateKeys
+    (record { result_completion_id = id; name = name })
 
 -- the eager form, without its result
 abbrev pub eager_form : StateRead → Message
-eager_form (reads.Value key name) = message.GetEagerState (record { name = name; key = key; result = None })
+eager_form (reads.Value key name) = message.GetEagerState
+    (record { name = name; key = key; result = None })
 eager_form (reads.Keys name) = message.GetEagerStateKeys (record { value = None; name = name })
 
 -- a value that is asked for, by what is known of its key
 abbrev pub value_form : List ℕ → List ℕ → ℕ → Known → Message
-value_form key name id Unknown = message.GetLazyState (record { name = name; key = key; result_completion_id = id })
-value_form key name id Empty = message.GetEagerState (record { name = name; key = key; result = Some stored.Void })
-value_form key name id (Value value) = message.GetEagerState (record { name = name; key = key; result = Some (stored.Value value) })
+value_form key name id Unknown =
+    message.GetLazyState (record { name = name; key = key; result_completion_id = id })
+value_form key name id Empty =
+    message.GetEagerState (record { name = name; key = key; result = Some stored.Void })
+value_form key name id (Value value) = message.GetEagerState
+    (record { name = name; key = key; result = Some (stored.Value value) })
 
 -- the keys, where they are known
 abbrev pub keys_form : List ℕ → ℕ → Option (List (List ℕ)) → Message
-keys_form name id None = message.GetLazyStateKeys (record { result_completion_id = id; name = name })
-keys_form name id (Some keys) = message.GetEagerStateKeys (record { value = Some keys; name = name })
+keys_form name id None =
+    message.GetLazyStateKeys (record { result_completion_id = id; name = name })
+keys_form name id (Some keys) = message.GetEagerStateKeys
+    (record { value = Some keys; name = name })
 
 -- The command of a read, by what is known of the state.
 abbrev pub own_form : StateRead → ℕ → StateMap → Message
@@ -70,22 +79,26 @@ value_result stored.Void = gives.Void
 value_result (stored.Value value) = gives.Value value
 
 -- a result that has to be there
-abbrev pub result_or : {A : Type 0} → NamedFault → (A → NotificationResult) → Option A → Result (Option NotificationResult) NamedFault
+abbrev pub result_or : {A : Type 0} → NamedFault → (A → NotificationResult) → Option A
+    → Result (Option NotificationResult) NamedFault
 result_or name f None = Err name
 result_or name f (Some x) = Ok (Some (f x))
 
 -- the result that a read's command brings: an eager one has to have one
 abbrev pub result_in : Message → Result (Option NotificationResult) NamedFault
 result_in (message.GetEagerState c) = result_or fault.EmptyGetEagerState value_result c.result
-result_in (message.GetEagerStateKeys c) = result_or fault.EmptyGetEagerStateKeys gives.StateKeys c.value
+result_in (message.GetEagerStateKeys c) = result_or fault.EmptyGetEagerStateKeys gives.StateKeys
+    c.value
 result_in m = Ok None
 
 -- ---- a recorded read
 
--- a recorded command that has to be header-equal to this form, but for its result: what it brings, or why it doesn't fit
+-- a recorded command that has to be header-equal to this form, but for its result: what it brings,
+-- or why it doesn't fit
 abbrev pub read_by : Message → Option Message → Result (Option NotificationResult) NamedFault
 read_by form None = Err fault.BadMessage
-read_by form (Some recorded) = if header_equal recorded form true then result_in recorded else Err fault.CommandMismatch
+read_by form (Some recorded) = if header_equal recorded form true then result_in recorded
+    else Err fault.CommandMismatch
 
 -- the form that a recorded command has to have, by its type
 abbrev pub form_of : StateRead → ℕ → RawMessage → Option Message
@@ -99,10 +112,12 @@ abbrev pub read_as : Option Message → Option Message → Result (Option Notifi
 read_as None recorded = Err fault.CommandTypeMismatch
 read_as (Some form) recorded = read_by form recorded
 
--- A recorded command in the place of a read with this completion id: what it brings, or why it doesn't fit. Its form decides.
+-- A recorded command in the place of a read with this completion id: what it brings, or why it
+-- doesn't fit. Its form decides.
 abbrev pub recorded_as : StateRead → ℕ → RawMessage → Result (Option NotificationResult) NamedFault
 recorded_as r id raw = read_as (form_of r id raw) (message_in raw.ty raw.body)
 
 -- the type that an error shows of a read in replay: that of the recorded form, or the eager one's
 abbrev pub recorded_type : StateRead → RawMessage → MessageType
-recorded_type r raw = if type_number raw.ty == type_number (lazy_type r) then lazy_type r else eager_type r
+recorded_type r raw =
+    if type_number raw.ty == type_number (lazy_type r) then lazy_type r else eager_type r

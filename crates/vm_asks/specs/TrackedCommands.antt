@@ -24,13 +24,16 @@ TracksCalls calls sends = (c : CallCommand) (handle : ℕ) (ts : List TrackedCal
 -- a send is tracked if the second option says so
 abbrev pub TracksSends : Bool → Bool → Type 0
 TracksSends calls sends = (c : OneWayCallCommand) (handle : ℕ) (ts : List TrackedCall)
-    → tracked_after (Enabled calls sends) (message.OneWayCall c) handle ts ≡ tracked_if sends handle ts
+    → tracked_after (Enabled calls sends) (message.OneWayCall c) handle ts
+    ≡ tracked_if sends handle ts
 
 -- a message of another type isn't tracked
 abbrev pub TracksNothingElse : ImplicitCancellationOption → Message → Type 0
-TracksNothingElse option m = ¬ (type_of m ≡ type.CallCommand) → ¬ (type_of m ≡ type.OneWayCallCommand)
+TracksNothingElse option m =
+    ¬ (type_of m ≡ type.CallCommand) → ¬ (type_of m ≡ type.OneWayCallCommand)
     → (handle : ℕ) (ts : List TrackedCall) → tracked_after option m handle ts ≡ ts
 
 -- nothing is tracked
 abbrev pub TracksNothing : ImplicitCancellationOption → Type 0
-TracksNothing option = (m : Message) (handle : ℕ) (ts : List TrackedCall) → tracked_after option m handle ts ≡ ts
+TracksNothing option =
+    (m : Message) (handle : ℕ) (ts : List TrackedCall) → tracked_after option m handle ts ≡ ts

@@ -24,8 +24,10 @@ ghost use Rattle.vm_asks.specs.TrackedCommands.{TracksCalls, TracksNothing, Trac
 #[tactic(auto, using(crate::proofs::GivenIds::steps_carry_given))]
 pub fn commands_carry_their_ids()
     ensures steps { (version : Version) (s : Step) → CarriesGiven (ids_given s) (ask_of version s) }
-    ensures calls { (id : ℕ) (c : CallCommand) → IsCallWith id (id + 1) (with_ids id (message.Call c)) }
-    ensures sends { (id : ℕ) (c : OneWayCallCommand) → IsSendWith id (with_ids id (message.OneWayCall c)) }
+    ensures calls { (id : ℕ) (c : CallCommand)
+        → IsCallWith id (id + 1) (with_ids id (message.Call c)) }
+    ensures sends { (id : ℕ) (c : OneWayCallCommand)
+        → IsSendWith id (with_ids id (message.OneWayCall c)) }
     ensures eager { (r : StateRead) → carried (eager_form r) ≡ [] }
 {}
 
@@ -34,11 +36,14 @@ pub fn commands_carry_their_ids()
 pub fn calls_and_sends_are_tracked()
     ensures calls { (calls sends : Bool) → TracksCalls calls sends }
     ensures sends { (calls sends : Bool) → TracksSends calls sends }
-    ensures others { (option : ImplicitCancellationOption) (m : Message) → TracksNothingElse option m }
+    ensures others { (option : ImplicitCancellationOption) (m : Message)
+        → TracksNothingElse option m }
     ensures disabled { TracksNothing Disabled }
 {}
 
 /// An invocation is cancelled by the signal with index 1, without a value, that is sent to it.
 pub fn cancel_commands_send_signal_one()
-    ensures { (target : List ℕ) → (cancel_invocation_command target).message ≡ message.SendSignal (record { target_invocation_id = target; signal = Index 1; result = Void }) }
+    ensures { (target : List ℕ) → (cancel_invocation_command target).message
+        ≡ message.SendSignal
+        (record { target_invocation_id = target; signal = Index 1; result = Void }) }
 {}

@@ -19,7 +19,7 @@ use Rattle.vm_types.specs.declared.steps.Answer.{Answer}
 use Rattle.vm_types.specs.declared.steps.Answer.TheVariants as answer
 use Rattle.await_trees.specs.declared.tree.UnresolvedFuture.{UnresolvedFuture}
 use Rattle.vm_types.specs.declared.values.Input.{Input}
-use Rattle.vm_parts.specs.Counting.{missing as lacking}
+use Rattle.vm_parts.specs.Counting.{with_missing as lacking}
 use Rattle.vm_machine.specs.declared.machine.Machine.{Machine}
 use Rattle.vm_machine.specs.declared.phase.Phase.{Phase}
 use Rattle.vm_machine.specs.declared.phase.Phase.TheVariants.{WaitingStart, WaitingReplayEntries, Replaying, Processing, Closed}
@@ -54,11 +54,11 @@ use Rattle.vm_steps.specs.Heard.{Heard}
 use Rattle.vm_steps.specs.declared.progress.Progress.{Progress}
 use Rattle.vm_steps.specs.declared.progress.Progress.TheVariants as progress
 use Rattle.vm_attempt.specs.Agreement.{Agrees, Aside}
-use Rattle.vm_attempt.specs.Journals.{BeginsOrFails, HasAll, StillWaits, commands_among, machine_fed, missing, notifications_among, setup_for, AcknowledgesNothing}
+use Rattle.vm_attempt.specs.Journals.{BeginsOrFails, HasAll, StillWaits, commands_among, machine_fed, with_missing, notifications_among, setup_for, AcknowledgesNothing}
 use Rattle.vm_steps.specs.Record.{Record, heard}
 use Rattle.vm_steps.specs.Stepping.{Advances, Asks, IfWaits, IsReplaying, LacksMemory, Reads, StepAt, StepDoes, StepFrom, StepUnless, fresh_record}
 use Rattle.vm_parts.specs.Outboxes.{WholeFrames}
-use Rattle.vm_attempt.specs.Told.{AnswersAreTold, BeforeInput, Begun, Comes, IsAsleep, IsKept, IsLive, NothingWakes, Premises, Quiet, Replays, Runs, Sleeps, StillAwaits, ToldBy, Wrote, arrivals, bytes_fed, frames_fed, handed_out}
+use Rattle.vm_attempt.specs.Told.{AnswersAreTold, BeforeInput, Begun, Comes, IsAsleep, IsKept, IsLive, NothingWakes, Premises, Quiet, AnswersInReplay, HandlerRuns, AwaitWaits, StillAwaits, ToldBy, Wrote, arrivals, bytes_fed, frames_fed, start_state}
 use Rattle.vm_attempt.proofs.Beginning.{input_begins}
 use Rattle.vm_attempt.proofs.Kept.{KeptBy, Lasts, Reading, dead_same}
 use Rattle.vm_attempt.proofs.Lasting.{runs_last}
@@ -162,7 +162,7 @@ no_command_reads s given aside ns i w is =
 
 -- the handler runs, and nothing was written
 abbrev pub Begins : Fixed → Heard → List Answer → Option UnresolvedFuture → List (List ℕ) → View → Type 0
-Begins fixed fed answers waiting taken v = (k : Runs fixed fed answers waiting taken v) × (k.written ≡ []) × (fed.proposed ≡ [])
+Begins fixed fed answers waiting taken v = (k : HandlerRuns fixed fed answers waiting taken v) × (k.written ≡ []) × (fed.proposed ≡ [])
 
 read_begins : (fixed : Fixed) (fed : Heard) (replays : fixed.options.journal_replay ≡ Enabled) (nothing : fed.proposed ≡ []) (before : Option UnresolvedFuture) (taken : List (List ℕ)) (v w : View) (b : Begun fixed fed v.machine) (h : HasAll (setup_for fixed b.start) (record { entries = b.state; coverage = coverage_of b.start.partial }) b.aside b.start.known_entries [] [] b.others v.machine)
     → (i : Input) → input_step v.machine ≡ Done i w.machine → before ≡ None → Wrote taken v.machine.output [] → (frames_of (bytes_fed fed)).1 ≡ Rest w.undecoded
@@ -170,15 +170,15 @@ read_begins : (fixed : Fixed) (fed : Heard) (replays : fixed.options.journal_rep
 read_begins fixed fed replays nothing before taken v w b h i is none wrote tail [] e =
     let s = setup_for fixed b.start in
     let given : StateMap = record { entries = b.state; coverage = coverage_of b.start.partial } in
-    no_command_reads s given (missing 0 b.aside) (notifications_among b.others) i w.machine (sym (ap input_step (h.machine ∙ λ j. machine_fed s given (missing 0 b.aside) (e j) (notifications_among b.others) Replaying)) ∙ is)
+    no_command_reads s given (with_missing 0 b.aside) (notifications_among b.others) i w.machine (sym (ap input_step (h.machine ∙ λ j. machine_fed s given (with_missing 0 b.aside) (e j) (notifications_among b.others) Replaying)) ∙ is)
 read_begins fixed fed replays nothing before taken v w b h i is none wrote tail (first ∷ rest) e =
     let s = setup_for fixed b.start in
     let given : StateMap = record { entries = b.state; coverage = coverage_of b.start.partial } in
     let ns = notifications_among b.others in
-    let at : v.machine ≡ machine_fed s given (missing 0 b.aside) (first ∷ rest) ns Replaying = h.machine ∙ λ j. machine_fed s given (missing 0 b.aside) (e j) ns Replaying in
-    by_input (input_read_from first) refl (subst (BeginsOrFails s given (missing 0 b.aside) rest ns (input_read_from first)) (sym (ap input_step at) ∙ is) (input_begins s given (missing 0 b.aside) first rest ns replays (ap identity_of (sym b.of_start))))
+    let at : v.machine ≡ machine_fed s given (with_missing 0 b.aside) (first ∷ rest) ns Replaying = h.machine ∙ λ j. machine_fed s given (with_missing 0 b.aside) (e j) ns Replaying in
+    by_input (input_read_from first) refl (subst (BeginsOrFails s given (with_missing 0 b.aside) rest ns (input_read_from first)) (sym (ap input_step at) ∙ is) (input_begins s given (with_missing 0 b.aside) first rest ns replays (ap identity_of (sym b.of_start))))
   where
-    by_input : (o : Option InputCommand) → input_read_from first ≡ o → BeginsOrFails (setup_for fixed b.start) (record { entries = b.state; coverage = coverage_of b.start.partial }) (missing 0 b.aside) rest (notifications_among b.others) o (Done i w.machine) → Begins fixed fed (answer.Input i ∷ []) before taken w
+    by_input : (o : Option InputCommand) → input_read_from first ≡ o → BeginsOrFails (setup_for fixed b.start) (record { entries = b.state; coverage = coverage_of b.start.partial }) (with_missing 0 b.aside) rest (notifications_among b.others) o (Done i w.machine) → Begins fixed fed (answer.Input i ∷ []) before taken w
     by_input None reads g = absurd g
     by_input (Some c) reads g =
         let s = setup_for fixed b.start in
@@ -234,11 +234,11 @@ reads_done fixed fed replays nothing before taken v w i comes is none wrote tail
 -- ---- a step
 
 -- once the handler runs there is an answer
-pub runs_answered : (fixed : Fixed) (fed : Heard) (answers : List Answer) (before : Option UnresolvedFuture) (taken : List (List ℕ)) (v : View) → Runs fixed fed answers before taken v → answers ≢ []
+pub runs_answered : (fixed : Fixed) (fed : Heard) (answers : List Answer) (before : Option UnresolvedFuture) (taken : List (List ℕ)) (v : View) → HandlerRuns fixed fed answers before taken v → answers ≢ []
 runs_answered fixed fed answers before taken v k none =
     let s = setup_for fixed k.journal.start in
     let p = start s k.journal.input (arrivals k.journal) k.journal.rest in
-    let a = after_answers s fixed.handler k.moves (longer k.written p) k.at (made_after s fixed.handler (Handed (handed_out k.journal)) k.moves p k.written k.at k.run) in
+    let a = after_answers s fixed.handler k.moves (longer k.written p) k.at (made_after s fixed.handler (Handed (start_state k.journal)) k.moves p k.written k.at k.run) in
     let z : [] ≡ answer.Input (told_input s.identity k.journal.input) ∷ a.0 = sym none ∙ sym k.answers ∙ a.1 in
     cc
 
@@ -301,7 +301,7 @@ module _ (R : Reading) (P : Heard → Type 0) (l : Lasts R) (fixed : Fixed) (rea
 
 -- the run of a handler is kept by each step
 pub step_keeps : (fixed : Fixed) (old : Record) (result : Result Progress Error) (new : Record) → Premises fixed (heard fixed.version old) → IsKept fixed old → StepDoes fixed.handler old result new → IsKept fixed new
-step_keeps fixed = steps_keep (Runs fixed) (Premises fixed) (runs_last fixed) fixed (λ fed waiting taken v w i p none comes is none_waits wrote tail. (reads_done fixed fed p.replays none waiting taken v w i comes is none_waits wrote tail).0) (runs_answered fixed) (λ old result new p k. asks_keep fixed old result new p.queues k (p.once k.journal k.moves k.written k.at k.run))
+step_keeps fixed = steps_keep (HandlerRuns fixed) (Premises fixed) (runs_last fixed) fixed (λ fed waiting taken v w i p none comes is none_waits wrote tail. (reads_done fixed fed p.replays none waiting taken v w i comes is none_waits wrote tail).0) (runs_answered fixed) (λ old result new p k. asks_keep fixed old result new p.queues k (p.once k.journal k.moves k.written k.at k.run))
 
 -- ---- a step that waits
 
@@ -313,16 +313,16 @@ error_waits : (P : Type 0) (result : Result Progress Error) (e : Error) → resu
 error_waits P result e is = subst (λ z. IfWaits z P) (sym is) tt
 
 -- the handler runs, as it was answered
-pub runs_of : (fixed : Fixed) (r : Record) → IsKept fixed r → r.answers ≢ [] → Runs fixed (heard fixed.version r) r.answers r.waiting r.taken r.vm
+pub runs_of : (fixed : Fixed) (r : Record) → IsKept fixed r → r.answers ≢ [] → HandlerRuns fixed (heard fixed.version r) r.answers r.waiting r.taken r.vm
 runs_of fixed r k some =
     ⊎_elim
     (λ (b : BeforeInput fixed (heard fixed.version r) r.answers r.waiting r.taken r.vm). absurd (some b.answers))
-    (λ (b : Runs fixed (heard fixed.version r) r.answers r.waiting r.taken r.vm). b)
+    (λ (b : HandlerRuns fixed (heard fixed.version r) r.answers r.waiting r.taken r.vm). b)
     k
 
-advances_wait : (fixed : Fixed) (old : Record) (result : Result Progress Error) (new : Record) → Premises fixed (heard fixed.version old) → IsKept fixed old → IsLive old.vm.machine → Advances fixed.handler old result new → IfWaits result (Sleeps fixed (heard fixed.version new) new.answers new.taken new.vm)
+advances_wait : (fixed : Fixed) (old : Record) (result : Result Progress Error) (new : Record) → Premises fixed (heard fixed.version old) → IsKept fixed old → IsLive old.vm.machine → Advances fixed.handler old result new → IfWaits result (AwaitWaits fixed (heard fixed.version new) new.answers new.taken new.vm)
 advances_wait fixed old result new under k live =
-    let P = Sleeps fixed (heard fixed.version new) new.answers new.taken new.vm in
+    let P = AwaitWaits fixed (heard fixed.version new) new.answers new.taken new.vm in
     ⊎_elim
     (λ (x : LacksMemory old result new). error_waits P result _ x.0)
     (λ (o : ((old.answers ≡ []) × Reads old result new) ⊎ ((old.answers ≢ []) × Asks fixed.handler old result new)).
@@ -333,29 +333,29 @@ advances_wait fixed old result new under k live =
     asks_wait fixed old result new under.queues run (under.once run.journal run.moves run.written run.at run.run) live x.1)
     o)
 
-wait_at : (fixed : Fixed) (old : Record) (result : Result Progress Error) (new : Record) → Premises fixed (heard fixed.version old) → IsKept fixed old → old.vm.machine.failure ≡ None → (ph : Phase) → old.vm.machine.phase ≡ ph → StepAt ph fixed.handler old result new → IfWaits result (Sleeps fixed (heard fixed.version new) new.answers new.taken new.vm)
-wait_at fixed old result new under k live WaitingStart at d = subst (λ z. IfWaits z (Sleeps fixed (heard fixed.version new) new.answers new.taken new.vm)) (sym d.0) tt
-wait_at fixed old result new under k live WaitingReplayEntries at d = subst (λ z. IfWaits z (Sleeps fixed (heard fixed.version new) new.answers new.taken new.vm)) (sym d.0) tt
+wait_at : (fixed : Fixed) (old : Record) (result : Result Progress Error) (new : Record) → Premises fixed (heard fixed.version old) → IsKept fixed old → old.vm.machine.failure ≡ None → (ph : Phase) → old.vm.machine.phase ≡ ph → StepAt ph fixed.handler old result new → IfWaits result (AwaitWaits fixed (heard fixed.version new) new.answers new.taken new.vm)
+wait_at fixed old result new under k live WaitingStart at d = subst (λ z. IfWaits z (AwaitWaits fixed (heard fixed.version new) new.answers new.taken new.vm)) (sym d.0) tt
+wait_at fixed old result new under k live WaitingReplayEntries at d = subst (λ z. IfWaits z (AwaitWaits fixed (heard fixed.version new) new.answers new.taken new.vm)) (sym d.0) tt
 wait_at fixed old result new under k live Closed at d = error_waits _ result _ d.0
 wait_at fixed old result new under k live Replaying at d = advances_wait fixed old result new under k (record { failure = live; phase = ap is_running at }) d
 wait_at fixed old result new under k live Processing at d = advances_wait fixed old result new under k (record { failure = live; phase = ap is_running at }) d
 
-wait_unless : (fixed : Fixed) (old : Record) (result : Result Progress Error) (new : Record) → Premises fixed (heard fixed.version old) → IsKept fixed old → (f : Option Error) → old.vm.machine.failure ≡ f → StepUnless f None fixed.handler old result new → IfWaits result (Sleeps fixed (heard fixed.version new) new.answers new.taken new.vm)
+wait_unless : (fixed : Fixed) (old : Record) (result : Result Progress Error) (new : Record) → Premises fixed (heard fixed.version old) → IsKept fixed old → (f : Option Error) → old.vm.machine.failure ≡ f → StepUnless f None fixed.handler old result new → IfWaits result (AwaitWaits fixed (heard fixed.version new) new.answers new.taken new.vm)
 wait_unless fixed old result new under k (Some e) is d = ⊎_elim (λ (x : result ≡ Err e). error_waits _ result e x) (λ (x : result ≡ Err no_memory). error_waits _ result no_memory x) d.0
 wait_unless fixed old result new under k None is d = wait_at fixed old result new under k is old.vm.machine.phase refl d
 
 -- a step waits only where nothing wakes
-pub step_waits : (fixed : Fixed) (old : Record) (result : Result Progress Error) (new : Record) → Premises fixed (heard fixed.version old) → IsKept fixed old → old.over ≡ None → StepDoes fixed.handler old result new → IfWaits result (Sleeps fixed (heard fixed.version new) new.answers new.taken new.vm)
+pub step_waits : (fixed : Fixed) (old : Record) (result : Result Progress Error) (new : Record) → Premises fixed (heard fixed.version old) → IsKept fixed old → old.over ≡ None → StepDoes fixed.handler old result new → IfWaits result (AwaitWaits fixed (heard fixed.version new) new.answers new.taken new.vm)
 step_waits fixed old result new under k going does = by_test old.starved does
   where
-    by_test : (b : Bool) → StepFrom b fixed.handler old result new → IfWaits result (Sleeps fixed (heard fixed.version new) new.answers new.taken new.vm)
+    by_test : (b : Bool) → StepFrom b fixed.handler old result new → IfWaits result (AwaitWaits fixed (heard fixed.version new) new.answers new.taken new.vm)
     by_test true d = error_waits _ result no_memory d.0
     by_test false d = wait_unless fixed old result new under k old.vm.machine.failure refl (subst (λ over. StepUnless old.vm.machine.failure over fixed.handler old result new) going d)
 
 -- ---- a step while recorded commands are left
 
-lacks_replay : (fixed : Fixed) (old : Record) (result : Result Progress Error) (new : Record) → LacksMemory old result new → Replays fixed old result new
-lacks_replay fixed old result new (is, left) = subst (λ z. Replays fixed old z new) (sym is) (inl (ap (λ (r : Record). r.starved) left))
+lacks_replay : (fixed : Fixed) (old : Record) (result : Result Progress Error) (new : Record) → LacksMemory old result new → AnswersInReplay fixed old result new
+lacks_replay fixed old result new (is, left) = subst (λ z. AnswersInReplay fixed old z new) (sym is) (inl (ap (λ (r : Record). r.starved) left))
 
 -- a step of a handler that is replaying, as the step is at this phase
 replays_advance : (m : Meaning) (old : Record) (result : Result Progress Error) (new : Record) → IsReplaying old → StepDoes m old result new → Advances m old result new
@@ -364,7 +364,7 @@ replays_advance m old result new is d =
     (subst (λ f. StepUnless f None m old result new) is.failure
     (subst (λ over. StepUnless old.vm.machine.failure over m old result new) is.over (subst (λ b. StepFrom b m old result new) is.starved d)))
 
-pub step_replays : (fixed : Fixed) (old : Record) (result : Result Progress Error) (new : Record) → fixed.options.signal_delivery ≡ Queued → (k : Runs fixed (heard fixed.version old) old.answers old.waiting old.taken old.vm) → HasNoTwo k.at → IsReplaying old → StepDoes fixed.handler old result new → Replays fixed old result new
+pub step_replays : (fixed : Fixed) (old : Record) (result : Result Progress Error) (new : Record) → fixed.options.signal_delivery ≡ Queued → (k : HandlerRuns fixed (heard fixed.version old) old.answers old.waiting old.taken old.vm) → HasNoTwo k.at → IsReplaying old → StepDoes fixed.handler old result new → AnswersInReplay fixed old result new
 step_replays fixed old result new queues k two is does =
     ⊎_elim
     (λ (x : LacksMemory old result new). lacks_replay fixed old result new x)
@@ -420,15 +420,15 @@ pub kept_told : (fixed : Fixed) (r : Record) → WholeFrames r.vm.machine.output
 kept_told fixed r f =
     ⊎_elim
     (λ (b : BeforeInput fixed (heard fixed.version r) r.answers r.waiting r.taken r.vm). inl b.answers)
-    (λ (k : Runs fixed (heard fixed.version r) r.answers r.waiting r.taken r.vm).
-    let told = attempt_is_told (setup_for fixed k.journal.start) fixed.handler (handed_out k.journal) k.journal.input k.moves (arrivals k.journal) k.journal.rest k.written k.at k.run in
+    (λ (k : HandlerRuns fixed (heard fixed.version r) r.answers r.waiting r.taken r.vm).
+    let told = attempt_is_told (setup_for fixed k.journal.start) fixed.handler (start_state k.journal) k.journal.input k.moves (arrivals k.journal) k.journal.rest k.written k.at k.run in
     inr (subst (ToldBy fixed (heard fixed.version r) r.answers) (written_is r.taken r.vm.machine.output k.written k.wrote f) (record { journal = k.journal; at = k.at; told = told.0; answers = k.answers; moves = k.moves; made = k.run; in_order = told.1 })))
 
 -- an await sleeps by what is read from its output
-sleeps_on : (fixed : Fixed) (r : Record) → WholeFrames r.vm.machine.output → Sleeps fixed (heard fixed.version r) r.answers r.taken r.vm → NothingWakes fixed r
+sleeps_on : (fixed : Fixed) (r : Record) → WholeFrames r.vm.machine.output → AwaitWaits fixed (heard fixed.version r) r.answers r.taken r.vm → NothingWakes fixed r
 sleeps_on fixed r f (written, wrote, asleep) = subst (IsAsleep fixed (heard fixed.version r) r.answers) (written_is r.taken r.vm.machine.output written wrote f) asleep
 
-pub asleep_waits : (fixed : Fixed) (r : Record) (result : Result Progress Error) → WholeFrames r.vm.machine.output → IfWaits result (Sleeps fixed (heard fixed.version r) r.answers r.taken r.vm) → IfWaits result (NothingWakes fixed r)
+pub asleep_waits : (fixed : Fixed) (r : Record) (result : Result Progress Error) → WholeFrames r.vm.machine.output → IfWaits result (AwaitWaits fixed (heard fixed.version r) r.answers r.taken r.vm) → IfWaits result (NothingWakes fixed r)
 asleep_waits fixed r (Ok (progress.Waiting input run)) f h = sleeps_on fixed r f h
 asleep_waits fixed r (Ok (progress.ExecuteRun run)) f h = sleeps_on fixed r f h
 asleep_waits fixed r (Ok progress.Suspended) f h = sleeps_on fixed r f h

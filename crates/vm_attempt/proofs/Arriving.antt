@@ -28,7 +28,7 @@ use Rattle.invocation_vm.specs.Views.{all_received, left_by, received}
 use Rattle.vm_model.specs.Calls.{Setup, identity_of}
 use Rattle.vm_model.specs.Moves.{Point, later}
 use Rattle.vm_attempt.specs.Agreement.{Agrees, Aside, machine_at}
-use Rattle.vm_attempt.specs.Arrivals.{arriving, brought_by, kept_after, kept_behind, stands_for, unacknowledged}
+use Rattle.vm_attempt.specs.Arrivals.{arriving, arrival_of, kept_after, kept_behind, acknowledged_as, unacknowledged}
 use Rattle.vm_attempt.specs.Journals.{is_acknowledgement, is_ephemeral, is_notification, notifications_among, notified_by}
 use Rattle.vm_attempt.proofs.Requesting.{runs_at}
 
@@ -114,7 +114,7 @@ module _ (s : Setup) (given : StateMap) (written : List RawMessage) (aside : Asi
   kept_comes id None = inr refl
   kept_comes id (Some kept) = inl (record { aside = record aside { proposals = without_first (is_for id) aside.proposals }; machine = refl; identity = identity }, refl)
 
-  acknowledged_comes : (ack : Option ProposeRunCompletionAck) → Comes s given written (left_by (settled (acknowledged_by ack here))) (notified_by (stands_for aside.proposals ack) []) (unacknowledged aside.proposals ack) p
+  acknowledged_comes : (ack : Option ProposeRunCompletionAck) → Comes s given written (left_by (settled (acknowledged_by ack here))) (notified_by (acknowledged_as aside.proposals ack) []) (unacknowledged aside.proposals ack) p
   acknowledged_comes None = inr refl
   acknowledged_comes (Some ack) = kept_comes ack.id (find (is_for ack.id) aside.proposals)
 
@@ -134,7 +134,7 @@ module _ (s : Setup) (given : StateMap) (written : List RawMessage) (aside : Asi
   -- another message than a notification is refused, but for an acknowledgement and the result of an ephemeral read in Processing
   other_comes : (raw : RawMessage) (phase : Phase) → is_running phase ≡ true → (a b d : Bool)
       → Comes s given written (left_by (settled (if a then start_step raw phase here else if b then entry_step raw phase here else if d then acknowledgement_step raw phase here else unknown_step (is_ephemeral raw) raw phase here)))
-      (notified_by (if d then stands_for aside.proposals (acknowledgement_in raw.body) else None) []) (if d then unacknowledged aside.proposals (acknowledgement_in raw.body) else aside.proposals) p
+      (notified_by (if d then acknowledged_as aside.proposals (acknowledgement_in raw.body) else None) []) (if d then unacknowledged aside.proposals (acknowledgement_in raw.body) else aside.proposals) p
   other_comes raw WaitingStart e a b d = absurd (cc)
   other_comes raw WaitingReplayEntries e a b d = absurd (cc)
   other_comes raw Closed e a b d = absurd (cc)
@@ -147,18 +147,18 @@ module _ (s : Setup) (given : StateMap) (written : List RawMessage) (aside : Asi
   other_comes raw Processing e false false true = acknowledged_comes (acknowledgement_in raw.body)
   other_comes raw Processing e false false false = unknown_comes (is_ephemeral raw) raw
 
-  one_comes : (raw : RawMessage) → Comes s given written (received raw here) (notified_by (brought_by aside.proposals raw) []) (kept_behind aside.proposals raw) p
+  one_comes : (raw : RawMessage) → Comes s given written (received raw here) (notified_by (arrival_of aside.proposals raw) []) (kept_behind aside.proposals raw) p
   one_comes raw = by_kind (is_notification raw) refl
     where
-      by_kind : (b : Bool) → is_notification raw ≡ b → Comes s given written (received raw here) (notified_by (brought_by aside.proposals raw) []) (kept_behind aside.proposals raw) p
+      by_kind : (b : Bool) → is_notification raw ≡ b → Comes s given written (received raw here) (notified_by (arrival_of aside.proposals raw) []) (kept_behind aside.proposals raw) p
       by_kind true e =
           let is : received raw here ≡ left_by (settled (queued (notification_in raw.body) (λ w. w) here)) = live_receives here raw refl ∙ ap (λ o. left_by (settled o)) (notification_is here raw e ∙ notified_step raw here.phase here (runs_at p.left)) in
-          let brings : brought_by aside.proposals raw ≡ notification_in raw.body = ap (λ b. if b then notification_in raw.body else if is_acknowledgement raw then stands_for aside.proposals (acknowledgement_in raw.body) else None) e in
+          let brings : arrival_of aside.proposals raw ≡ notification_in raw.body = ap (λ b. if b then notification_in raw.body else if is_acknowledgement raw then acknowledged_as aside.proposals (acknowledgement_in raw.body) else None) e in
           let keeps : kept_behind aside.proposals raw ≡ aside.proposals = ap (λ b. if b then unacknowledged aside.proposals (acknowledgement_in raw.body) else aside.proposals) (not_both raw e) in
           subst (λ (x : Machine × List Notification × List KeptProposal). Comes s given written x.0 x.1 x.2 p) (λ i. (sym is i, notified_by (sym brings i) [], sym keeps i)) (queued_comes (notification_in raw.body))
       by_kind false e =
           let is = live_receives here raw refl ∙ ap (λ o. left_by (settled o)) (other_is here raw e) in
-          let brings : brought_by aside.proposals raw ≡ (if is_acknowledgement raw then stands_for aside.proposals (acknowledgement_in raw.body) else None) = ap (λ b. if b then notification_in raw.body else if is_acknowledgement raw then stands_for aside.proposals (acknowledgement_in raw.body) else None) e in
+          let brings : arrival_of aside.proposals raw ≡ (if is_acknowledgement raw then acknowledged_as aside.proposals (acknowledgement_in raw.body) else None) = ap (λ b. if b then notification_in raw.body else if is_acknowledgement raw then acknowledged_as aside.proposals (acknowledgement_in raw.body) else None) e in
           subst (λ (x : Machine × List Notification). Comes s given written x.0 x.1 (kept_behind aside.proposals raw) p) (λ i. (sym is i, notified_by (sym brings i) []))
           (other_comes raw here.phase (runs_at p.left) (type_number raw.ty == 1) (nat_le 10 (type_number raw.ty) && nat_lt (type_number raw.ty) 30) (is_acknowledgement raw))
 
@@ -185,15 +185,15 @@ behind_brought (Some n) ns = refl
 pub frames_come : (s : Setup) (given : StateMap) (written : List RawMessage) (v : Machine) (p : Point) (raws : List RawMessage) → Agrees s given written v p → Comes s given written (all_received raws v) (arriving v.proposals raws) (kept_after v.proposals raws) p
 frames_come s given written v p [] a = inl (subst (Agrees s given written v) (λ i. record p { queue = sym (append-nil p.queue) i }) a, refl)
 frames_come s given written v p (raw ∷ raws) a =
-    let one : Comes s given written (received raw v) (notified_by (brought_by v.proposals raw) []) (kept_behind v.proposals raw) p = rw a.machine (one_comes s given written a.aside p a.identity raw) in
+    let one : Comes s given written (received raw v) (notified_by (arrival_of v.proposals raw) []) (kept_behind v.proposals raw) p = rw a.machine (one_comes s given written a.aside p a.identity raw) in
     ⊎_elim
-    (λ (b : Agrees s given written (received raw v) (later (notified_by (brought_by v.proposals raw) []) p) × ((received raw v).proposals ≡ kept_behind v.proposals raw)).
-    let on = frames_come s given written (received raw v) (later (notified_by (brought_by v.proposals raw) []) p) raws b.0 in
-    let there : Comes s given written (all_received raws (received raw v)) (arriving (kept_behind v.proposals raw) raws) (kept_after (kept_behind v.proposals raw) raws) (later (notified_by (brought_by v.proposals raw) []) p) =
-    subst (λ kept. Comes s given written (all_received raws (received raw v)) (arriving kept raws) (kept_after kept raws) (later (notified_by (brought_by v.proposals raw) []) p)) b.1 on
+    (λ (b : Agrees s given written (received raw v) (later (notified_by (arrival_of v.proposals raw) []) p) × ((received raw v).proposals ≡ kept_behind v.proposals raw)).
+    let on = frames_come s given written (received raw v) (later (notified_by (arrival_of v.proposals raw) []) p) raws b.0 in
+    let there : Comes s given written (all_received raws (received raw v)) (arriving (kept_behind v.proposals raw) raws) (kept_after (kept_behind v.proposals raw) raws) (later (notified_by (arrival_of v.proposals raw) []) p) =
+    subst (λ kept. Comes s given written (all_received raws (received raw v)) (arriving kept raws) (kept_after kept raws) (later (notified_by (arrival_of v.proposals raw) []) p)) b.1 on
     in
     subst (λ q. (Agrees s given written (all_received raws (received raw v)) q × ((all_received raws (received raw v)).proposals ≡ kept_after (kept_behind v.proposals raw) raws)) ⊎ IsSome (all_received raws (received raw v)).failure)
-    (later_twice (notified_by (brought_by v.proposals raw) []) (arriving (kept_behind v.proposals raw) raws) p ∙ ap (λ ns. later ns p) (behind_brought (brought_by v.proposals raw) (arriving (kept_behind v.proposals raw) raws)))
+    (later_twice (notified_by (arrival_of v.proposals raw) []) (arriving (kept_behind v.proposals raw) raws) p ∙ ap (λ ns. later ns p) (behind_brought (arrival_of v.proposals raw) (arriving (kept_behind v.proposals raw) raws)))
     there)
     (λ (f : IsSome (received raw v).failure).
     let e = some_failure (received raw v) f in
@@ -202,10 +202,10 @@ frames_come s given written v p (raw ∷ raws) a =
 
 -- ---- where nothing was proposed
 
-brings_none : (raw : RawMessage) (ns : List Notification) → notified_by (brought_by [] raw) ns ≡ cond (is_notification raw) (notified_by (notification_in raw.body) ns) ns
+brings_none : (raw : RawMessage) (ns : List Notification) → notified_by (arrival_of [] raw) ns ≡ cond (is_notification raw) (notified_by (notification_in raw.body) ns) ns
 brings_none raw ns = by_kind (is_notification raw) (is_acknowledgement raw) (acknowledgement_in raw.body)
   where
-    by_kind : (a d : Bool) (ack : Option ProposeRunCompletionAck) → notified_by (if a then notification_in raw.body else if d then stands_for [] ack else None) ns ≡ cond a (notified_by (notification_in raw.body) ns) ns
+    by_kind : (a d : Bool) (ack : Option ProposeRunCompletionAck) → notified_by (if a then notification_in raw.body else if d then acknowledged_as [] ack else None) ns ≡ cond a (notified_by (notification_in raw.body) ns) ns
     by_kind true d ack = refl
     by_kind false true None = refl
     by_kind false true (Some ack) = refl

@@ -13,7 +13,7 @@ use Rattle.vm_model.specs.Calls.{Meaning, Setup}
 use Rattle.vm_model.specs.Histories.{Handed}
 use Rattle.vm_model.specs.Moves.{Point}
 use Rattle.vm_model.proofs.Runs.{made_add}
-use Rattle.vm_attempt.specs.Agreement.{Answered, IsCutShort, IsRefused, MovesOn, command_frames, machine_at}
+use Rattle.vm_attempt.specs.Agreement.{Answered, IsCutShort, CallRefused, MovesOn, command_frames, machine_at}
 use Rattle.vm_attempt.proofs.Leading.{made_or_spent, same_rule}
 
 -- ---- outcomes
@@ -45,7 +45,7 @@ module _ (s : Setup) (m : Meaning) (given : StateMap) where
     answers = b.answers ∙ ap (λ l. l ++ gives) (a.answers ∙ append-nil p.answers);
   }
 
-  pub refused_behind : (p q : Point) (made : List RawMessage) (v u : Machine) → MovesOn s m given p [] made q → u.output ≡ v.output ++ command_frames made → u.version ≡ v.version → u.options ≡ v.options → (e : Error) (w : Machine) → IsRefused s m given q u e w → IsRefused s m given p v e w
+  pub refused_behind : (p q : Point) (made : List RawMessage) (v u : Machine) → MovesOn s m given p [] made q → u.output ≡ v.output ++ command_frames made → u.version ≡ v.version → u.options ≡ v.options → (e : Error) (w : Machine) → CallRefused s m given q u e w → CallRefused s m given p v e w
   refused_behind p q made v u a output version options e w h =
       let moves = moves_on p q h.at [] made h.made a h.moves in
       let frame = encoding (message.Error (error_message e)) ∷ [] in
@@ -76,9 +76,9 @@ module _ (s : Setup) (m : Meaning) (given : StateMap) where
         failure = h.failure;
       }
 
-  pub either_behind : (p q : Point) (made : List RawMessage) (v u : Machine) → MovesOn s m given p [] made q → u.output ≡ v.output ++ command_frames made → u.version ≡ v.version → u.options ≡ v.options → (e : Error) (w : Machine) → IsRefused s m given q u e w ⊎ IsCutShort s m given q u e w → IsRefused s m given p v e w ⊎ IsCutShort s m given p v e w
+  pub either_behind : (p q : Point) (made : List RawMessage) (v u : Machine) → MovesOn s m given p [] made q → u.output ≡ v.output ++ command_frames made → u.version ≡ v.version → u.options ≡ v.options → (e : Error) (w : Machine) → CallRefused s m given q u e w ⊎ IsCutShort s m given q u e w → CallRefused s m given p v e w ⊎ IsCutShort s m given p v e w
   either_behind p q made v u a output version options e w h = ⊎_elim
-      (λ (x : IsRefused s m given q u e w). inl (refused_behind p q made v u a output version options e w x))
+      (λ (x : CallRefused s m given q u e w). inl (refused_behind p q made v u a output version options e w x))
       (λ (x : IsCutShort s m given q u e w). inr (cut_behind p q made v u a output e w x))
       h
 

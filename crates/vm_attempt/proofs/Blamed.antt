@@ -25,8 +25,8 @@ use Rattle.vm_steps.specs.declared.progress.Fed.{Fed}
 use Rattle.vm_steps.specs.declared.progress.Progress.{Progress}
 use Rattle.vm_steps.specs.Record.{Record, Said, all_said, heard}
 use Rattle.vm_steps.specs.Stepping.{CloseDoes, Closes, FeedDoes, Feeds, Takes, fresh_record, kept, kept_at, with_vm}
-use Rattle.vm_attempt.specs.Told.{BeforeInput, Came, HasCome, bytes_fed, frames_fed}
-use Rattle.vm_attempt.specs.Blames.{Blame, BlamedAt, FailsAt, IsBlamed, IsShort, Place}
+use Rattle.vm_attempt.specs.Told.{BeforeInput, JournalCame, HasCome, bytes_fed, frames_fed}
+use Rattle.vm_attempt.specs.Blames.{Blame, BlamedAt, FailsAt, IsBlamed, LacksEntries, Place}
 use Rattle.vm_attempt.specs.Blames.Blame.{Memory, Frame, NoFrame, ClosedEarly, NoInput, NoSkip, Call, RunResult}
 use Rattle.vm_attempt.proofs.Blaming.{frames_fit}
 use Rattle.vm_attempt.proofs.Pieces.{fed_frames}
@@ -74,7 +74,7 @@ come_tail : (fixed : Fixed) (r : Record) → HasCome fixed r → (live : r.vm.ma
 come_tail fixed r k live open_yet =
     ⊎_elim
     (λ (b : BeforeInput fixed (heard fixed.version r) r.answers r.waiting r.taken r.vm). b.tail live)
-    (λ (b : Came fixed (heard fixed.version r) r.answers r.taken r.vm). b.tail (record { failure = live; phase = ⊎_elim (λ x. x) (λ (x : r.vm.machine.phase ≡ Closed). absurd (open_yet x)) (b.phase live) }))
+    (λ (b : JournalCame fixed (heard fixed.version r) r.answers r.taken r.vm). b.tail (record { failure = live; phase = ⊎_elim (λ x. x) (λ (x : r.vm.machine.phase ≡ Closed). absurd (open_yet x)) (b.phase live) }))
     k
 
 pub spoils : (v : Machine) → v.failure ≡ None → (spoiled v).failure ≡ Some (ruled v (named_error fault.BadMessage None))
@@ -176,7 +176,7 @@ pub closing_not : (v : View) (e : Error) → v.machine.failure ≡ Some e → v.
 unfolding called
 closing_not v e is = ap (λ f. left_by (called_at f (close_step v.machine) v.machine)) (sym is)
 
-known_missing : (F : List RawMessage) (k : ℕ) → Place WaitingReplayEntries k F → IsShort F
+known_missing : (F : List RawMessage) (k : ℕ) → Place WaitingReplayEntries k F → LacksEntries F
 known_missing F k b = inr (record { first = b.first; others = b.others; is = b.is; start = b.start; reads = b.reads; counts = fewer (length b.others) b.start.known_entries b.counts.0 b.counts.1 })
   where
     fewer : (n known : ℕ) → n + k ≡ known → 0 < k → n < known

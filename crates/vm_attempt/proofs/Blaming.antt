@@ -24,8 +24,8 @@ use Rattle.vm_machine.specs.declared.phase.Phase.TheVariants.{WaitingStart, Wait
 use Rattle.vm_machine.specs.Inputs.{counted_entry, coverage_of, entries_in, info_of, queued, started, started_with, acknowledged, acknowledged_by, acknowledgement_step}
 use Rattle.vm_machine.specs.Outcomes.{Outcome, Done, refused, ruled, ruled_by, settled}
 use Rattle.invocation_vm.specs.Views.{all_received, left_by, received}
-use Rattle.vm_attempt.specs.Journals.{is_command, is_ephemeral, is_notification, is_acknowledgement}
-use Rattle.vm_attempt.specs.Blames.{FailsAt, acknowledgement_fault, completion_fault, ephemeral_fault, found_fault, unknown_fault, fault_among, fault_by, kept_fault, notification_fault, other_fault, read_fault, refused_start, start_fault, frame_fault}
+use Rattle.vm_attempt.specs.Journals.{is_command_frame, is_ephemeral, is_notification, is_acknowledgement}
+use Rattle.vm_attempt.specs.Blames.{FailsAt, acknowledgement_fault, ephemeral_body_fault, ephemeral_fault, found_fault, unknown_fault, fault_among, fault_by, kept_fault, notification_fault, other_fault, acknowledgement_body_fault, refused_start, start_fault, phase_fault}
 use Rattle.vm_parts.specs.declared.context.StateMap.{StateMap}
 use Rattle.vm_model.specs.Calls.{Setup}
 use Rattle.vm_model.specs.Moves.{Point, later}
@@ -66,7 +66,7 @@ kept_fits : (id : ℕ) (kept : Option KeptProposal) (v : Machine) → Fits (kept
 kept_fits id None v = refl
 kept_fits id (Some kept) v = (_, refl, (refl, (refl, refl)), (refl, refl))
 
-read_fits : (ack : Option ProposeRunCompletionAck) (v : Machine) → Fits (read_fault v.proposals ack) v (acknowledged_by ack v)
+read_fits : (ack : Option ProposeRunCompletionAck) (v : Machine) → Fits (acknowledgement_body_fault v.proposals ack) v (acknowledged_by ack v)
 read_fits None v = refl
 read_fits (Some ack) v = kept_fits ack.id (find (is_for ack.id) v.proposals) v
 
@@ -81,7 +81,7 @@ found_fits : (id : ℕ) (found : Option VoidOrValue) (v : Machine) → Fits (fou
 found_fits id None v = refl
 found_fits id (Some found) v = (_, refl, (refl, (refl, refl)), (refl, refl))
 
-completion_fits : (n : Option GetStateEphemeralNotification) (v : Machine) → Fits (completion_fault n) v (completed_by n v)
+completion_fits : (n : Option GetStateEphemeralNotification) (v : Machine) → Fits (ephemeral_body_fault n) v (completed_by n v)
 completion_fits None v = refl
 completion_fits (Some n) v = found_fits n.id n.result v
 
@@ -123,7 +123,7 @@ message_fits raw Processing v false false false d = other_fits raw Processing v 
 message_fits raw Closed v false false false d = other_fits raw Closed v d
 
 -- a frame that is refused though proposals are kept is refused where none is, for the same reason
-kept_by : (kept : List KeptProposal) (ack : Option ProposeRunCompletionAck) (why : NamedFault) → read_fault kept ack ≡ Some why → read_fault [] ack ≡ Some why
+kept_by : (kept : List KeptProposal) (ack : Option ProposeRunCompletionAck) (why : NamedFault) → acknowledgement_body_fault kept ack ≡ Some why → acknowledgement_body_fault [] ack ≡ Some why
 kept_by kept None why is = is
 kept_by kept (Some ack) why is = by_kept (find (is_for ack.id) kept) is
   where
@@ -158,18 +158,18 @@ none_kept_by kept Closed raw false false true d why is = is
 none_kept_by kept Closed raw false false false true why is = is
 none_kept_by kept Closed raw false false false false why is = is
 
-pub none_kept : (kept : List KeptProposal) (phase : Phase) (raw : RawMessage) (why : NamedFault) → fault_among kept phase raw ≡ Some why → frame_fault phase raw ≡ Some why
-none_kept kept phase raw why is = none_kept_by kept phase raw (type_number raw.ty == 1) (is_command raw) (is_notification raw) (is_acknowledgement raw) why is
+pub none_kept : (kept : List KeptProposal) (phase : Phase) (raw : RawMessage) (why : NamedFault) → fault_among kept phase raw ≡ Some why → phase_fault phase raw ≡ Some why
+none_kept kept phase raw why is = none_kept_by kept phase raw (type_number raw.ty == 1) (is_command_frame raw) (is_notification raw) (is_acknowledgement raw) why is
 
 -- one frame: it is taken in, or refused
 abbrev One : RawMessage → Machine → Machine → Type 0
 One raw v w = ((w.failure ≡ None) × ((w.version ≡ v.version) × (w.options ≡ v.options))) ⊎ ((why : NamedFault) × (fault_among v.proposals v.phase raw ≡ Some why) × (w.failure ≡ Some (ruled v (named_error why None))))
 
 pub one_comes : (raw : RawMessage) (v : Machine) → v.failure ≡ None → One raw v (received raw v)
-one_comes raw v live = by_fault (fault_among v.proposals v.phase raw) refl (message_fits raw v.phase v (type_number raw.ty == 1) (is_command raw) (is_notification raw) (is_acknowledgement raw))
+one_comes raw v live = by_fault (fault_among v.proposals v.phase raw) refl (message_fits raw v.phase v (type_number raw.ty == 1) (is_command_frame raw) (is_notification raw) (is_acknowledgement raw))
   where
     o : Outcome Unit
-    o = message_by raw v.phase v (type_number raw.ty == 1) (is_command raw) (is_notification raw) (is_acknowledgement raw)
+    o = message_by raw v.phase v (type_number raw.ty == 1) (is_command_frame raw) (is_notification raw) (is_acknowledgement raw)
 
     is : received raw v ≡ left_by (settled o)
     is = receives_by v raw live

@@ -36,7 +36,7 @@ use Rattle.vm_model.specs.Moves.{Point, command_used, found, longer, move_at, mo
 use Rattle.vm_model.specs.Histories.{Handed, Made}
 use Rattle.vm_model.specs.Refusals.{IsRefusedFor}
 use Rattle.vm_model.proofs.Cancelling.{Sent, cancelled_same, sends_unless}
-use Rattle.vm_attempt.specs.Agreement.{Answered, Aside, Follows, IsCutShort, IsRefused, MakesMany, MovesOn, command_frames, machine_at}
+use Rattle.vm_attempt.specs.Agreement.{Answered, Aside, CallFollows, IsCutShort, CallRefused, MakesMany, MovesOn, command_frames, machine_at}
 use Rattle.vm_steps.specs.declared.progress.Reply.{Reply}
 use Rattle.vm_steps.specs.Steps.{Awaited, IfDone, await_reply}
 use Rattle.vm_model.proofs.Parts.{taken_keeps}
@@ -162,7 +162,7 @@ module _ (s : Setup) (m : Meaning) (given : StateMap) (future : UnresolvedFuture
 
   abbrev SentTo : List RawMessage → Aside → Point → List (List ℕ) → Result NotificationHandle Error → Machine → Type 0
   SentTo written aside p ids (Ok handle) w = HasSent written aside p ids w
-  SentTo written aside p ids (Err e) w = IsRefused s m given p (cleared written aside p) e w ⊎ IsCutShort s m given p (cleared written aside p) e w
+  SentTo written aside p ids (Err e) w = CallRefused s m given p (cleared written aside p) e w ⊎ IsCutShort s m given p (cleared written aside p) e w
 
   module _ (written : List RawMessage) (aside : Aside) (identity : s.identity ≡ identity_of aside.start) (p : Point) (id : List ℕ) (ids : List (List ℕ)) (c : Cancelling p (id ∷ ids)) where
     abbrev command : Command
@@ -222,7 +222,7 @@ module _ (s : Setup) (m : Meaning) (given : StateMap) (future : UnresolvedFuture
         }
 
     failed_so : (f : Error) (w : Machine) (to : Option Point) → moved (alone s p id lacks) (longer brought (bare s p id)) ≡ to
-        → Leads s given written aside (bare s p id) (alone s p id lacks) p.left brought (λ a. command_answer command.message a ∷ []) to (Failed f w) → IsRefused s m given p v (ruled w f) (failed (ruled w f) w)
+        → Leads s given written aside (bare s p id) (alone s p id lacks) p.left brought (λ a. command_answer command.message a ∷ []) to (Failed f w) → CallRefused s m given p v (ruled w f) (failed (ruled w f) w)
     failed_so f w (Some q) e g = absurd g
     failed_so f w None e g = record {
       at = p;
@@ -255,7 +255,7 @@ module _ (s : Setup) (m : Meaning) (given : StateMap) (future : UnresolvedFuture
         let g = follows (failed_done (commanded command v) Readable f.0 f.1 f.2) in
         let refusal = failed_so f.0 f.1 (moved (alone s p id lacks) (longer brought (bare s p id))) refl
         (subst (λ (x : Outcome NotificationHandle). Leads s given written aside (bare s p id) (alone s p id lacks) p.left brought (λ a. command_answer command.message a ∷ []) (moved (alone s p id lacks) (longer brought (bare s p id))) x) f.2 g) in
-        inl (subst (λ (z : Error × Machine). IsRefused s m given p v z.0 z.1) (λ i. (sym f.3 i, sym f.4 i)) refusal))
+        inl (subst (λ (z : Error × Machine). CallRefused s m given p v z.0 z.1) (λ i. (sym f.3 i, sym f.4 i)) refusal))
         (λ (x : IsStarved v e w). inr (record { at = p; made = []; none_before = inl refl; moves = no_move s m given p; many = many_there p c.is; error = x.error; output = x.output ∙ sym (append-nil aside.output); failure = x.failure ∙ ap Some (sym x.error) }))
         does
 
@@ -269,7 +269,7 @@ module _ (s : Setup) (m : Meaning) (given : StateMap) (future : UnresolvedFuture
   CancelsTo written aside p (Ok (Ok (ExecuteRun run))) w = ⊥
   CancelsTo written aside p (Ok (Ok (EphemeralNotificationReady id))) w = ⊥
   CancelsTo written aside p (Ok (Err e)) w = ⊥
-  CancelsTo written aside p (Err e) w = IsRefused s m given p (cleared written aside p) e w ⊎ IsCutShort s m given p (cleared written aside p) e w
+  CancelsTo written aside p (Err e) w = CallRefused s m given p (cleared written aside p) e w ⊎ IsCutShort s m given p (cleared written aside p) e w
 
   cancels_behind : (written : List RawMessage) (aside : Aside) (p : Point) (ids : List (List ℕ)) (mid : Machine) (x : HasSent written aside p ids mid) (r : Result (Result AwaitResponse Error) Error) (w : Machine) → CancelsTo (written ++ x.made) x.beside x.at r w → CancelsTo written aside p r w
   cancels_behind written aside p ids mid x (Ok (Ok CancelSignalReceived)) w h = answered_behind s m given written p x.at x.made (cleared written aside p) (cleared (written ++ x.made) x.beside x.at) x.moves x.output x.kept answer.Cancelled w h (λ none. h.rests (x.rests none))
@@ -342,7 +342,7 @@ module _ (s : Setup) (m : Meaning) (given : StateMap) (written : List RawMessage
   first_done : (a : Result AwaitResponse Error) (mid : Machine) → DoesBy (CalledBy (Awaits (tree_of future) here) here) (Ok a) here mid → Part (Done a mid)
   first_done a mid (event, comes, does) = subst Part (settled_done event a mid (sym does)) (part_so event comes)
 
-  refusal : (f : Error) (x : Machine) → RefusesAt s m given p here f x → IsRefused s m given p here (ruled x f) (failed (ruled x f) x)
+  refusal : (f : Error) (x : Machine) → RefusesAt s m given p here f x → CallRefused s m given p here (ruled x f) (failed (ruled x f) x)
   refusal f x h = record {
     at = h.at;
     made = [];
@@ -357,11 +357,11 @@ module _ (s : Setup) (m : Meaning) (given : StateMap) (written : List RawMessage
   }
 
   -- the first part failed, or found no memory
-  first_failed : (e : Error) (mid : Machine) → DoesBy (CalledBy (Awaits (tree_of future) here) here) (Err e) here mid → IsRefused s m given p here e mid ⊎ IsCutShort s m given p here e mid
+  first_failed : (e : Error) (mid : Machine) → DoesBy (CalledBy (Awaits (tree_of future) here) here) (Err e) here mid → CallRefused s m given p here e mid ⊎ IsCutShort s m given p here e mid
   first_failed e mid does = ⊎_elim
       (λ (x : CalledBy (Awaits (tree_of future) here) here (Failed e mid)).
       let f = settled_failed x.0 e mid (sym x.2) in
-      inl (subst (λ (z : Error × Machine). IsRefused s m given p here z.0 z.1) (λ i. (sym f.3 i, sym f.4 i)) (refusal f.0 f.1 (subst Part f.2 (part_so x.0 x.1)))))
+      inl (subst (λ (z : Error × Machine). CallRefused s m given p here z.0 z.1) (λ i. (sym f.3 i, sym f.4 i)) (refusal f.0 f.1 (subst Part f.2 (part_so x.0 x.1)))))
       (λ (x : IsStarved here e mid). inr (record { at = p; made = []; none_before = inl refl; moves = no_move s m given p; many = subst (λ st. MakesMany (ask_of s.version st)) (sym is) tt; error = x.error; output = x.output ∙ sym (append-nil aside.output); failure = x.failure ∙ ap Some (sym x.error) }))
       does
 
@@ -371,20 +371,20 @@ module _ (s : Setup) (m : Meaning) (given : StateMap) (written : List RawMessage
       let c : Cancelling s m given future x.at (invocation_ids x.at.derived.tracked) = record { is = x.reached.is; is_cancelled = x.is_cancelled; known = x.known; ids_are = refl } in
       cancels_to s m given future (invocation_ids x.at.derived.tracked) written aside identity x.at c r w (subst (λ (u : Machine). Cancels (invocation_ids u.tracked) r (record u { tracked = [] }) w) x.machine on)
 
-  answered_so : (a : Result AwaitResponse Error) (w : Machine) → AwaitsWhole (tree_of future) (Ok a) here w → Follows s m given written p here (Done (await_reply a) w)
+  answered_so : (a : Result AwaitResponse Error) (w : Machine) → AwaitsWhole (tree_of future) (Ok a) here w → CallFollows s m given written p here (Done (await_reply a) w)
   unfolding ok_in
   answered_so a w (Err e, mid, does, fin) = absurd (let z : Ok a ≡ Err e = fin.0 in cc)
-  answered_so a w (Ok (Ok AnyCompleted), mid, does, fin) = subst (λ (z : Result AwaitResponse Error × Machine). Follows s m given written p here (Done (await_reply z.0) z.1)) (λ i. (sym (ap (ok_in a) fin.0) i, sym fin.1 i)) (first_done (Ok AnyCompleted) mid does)
-  answered_so a w (Ok (Ok (WaitingExternalProgress input run)), mid, does, fin) = subst (λ (z : Result AwaitResponse Error × Machine). Follows s m given written p here (Done (await_reply z.0) z.1)) (λ i. (sym (ap (ok_in a) fin.0) i, sym fin.1 i)) (first_done (Ok (WaitingExternalProgress input run)) mid does)
-  answered_so a w (Ok (Ok (ExecuteRun run)), mid, does, fin) = subst (λ (z : Result AwaitResponse Error × Machine). Follows s m given written p here (Done (await_reply z.0) z.1)) (λ i. (sym (ap (ok_in a) fin.0) i, sym fin.1 i)) (first_done (Ok (ExecuteRun run)) mid does)
+  answered_so a w (Ok (Ok AnyCompleted), mid, does, fin) = subst (λ (z : Result AwaitResponse Error × Machine). CallFollows s m given written p here (Done (await_reply z.0) z.1)) (λ i. (sym (ap (ok_in a) fin.0) i, sym fin.1 i)) (first_done (Ok AnyCompleted) mid does)
+  answered_so a w (Ok (Ok (WaitingExternalProgress input run)), mid, does, fin) = subst (λ (z : Result AwaitResponse Error × Machine). CallFollows s m given written p here (Done (await_reply z.0) z.1)) (λ i. (sym (ap (ok_in a) fin.0) i, sym fin.1 i)) (first_done (Ok (WaitingExternalProgress input run)) mid does)
+  answered_so a w (Ok (Ok (ExecuteRun run)), mid, does, fin) = subst (λ (z : Result AwaitResponse Error × Machine). CallFollows s m given written p here (Done (await_reply z.0) z.1)) (λ i. (sym (ap (ok_in a) fin.0) i, sym fin.1 i)) (first_done (Ok (ExecuteRun run)) mid does)
   answered_so a w (Ok (Ok (EphemeralNotificationReady id)), mid, does, fin) = absurd (first_done (Ok (EphemeralNotificationReady id)) mid does)
-  answered_so a w (Ok (Err e), mid, does, fin) = subst (λ (z : Result AwaitResponse Error × Machine). Follows s m given written p here (Done (await_reply z.0) z.1)) (λ i. (sym (ap (ok_in a) fin.0) i, sym fin.1 i)) (first_done (Err e) mid does)
+  answered_so a w (Ok (Err e), mid, does, fin) = subst (λ (z : Result AwaitResponse Error × Machine). CallFollows s m given written p here (Done (await_reply z.0) z.1)) (λ i. (sym (ap (ok_in a) fin.0) i, sym fin.1 i)) (first_done (Err e) mid does)
   answered_so a w (Ok (Ok CancelSignalReceived), mid, does, fin) = by_answer a (whole_cancels mid (Ok a) w x fin)
     where
       x : IsGathered s m given written aside future identity queued p mid
       x = first_done (Ok CancelSignalReceived) mid does
 
-      by_answer : (a : Result AwaitResponse Error) → CancelsTo s m given future written aside x.at (Ok a) w → Follows s m given written p here (Done (await_reply a) w)
+      by_answer : (a : Result AwaitResponse Error) → CancelsTo s m given future written aside x.at (Ok a) w → CallFollows s m given written p here (Done (await_reply a) w)
       by_answer (Ok CancelSignalReceived) h =
           let g = subst (λ l. Answered s m given l x.at (cleared s m given future written aside x.at) answer.Cancelled w) (sym (append-nil written)) h in
           answered_behind s m given written p x.at [] here (cleared s m given future written aside x.at) x.reached.moves (sym (append-nil aside.output)) refl answer.Cancelled w g (λ none. g.rests (x.reached.rests none))
@@ -394,9 +394,9 @@ module _ (s : Setup) (m : Meaning) (given : StateMap) (written : List RawMessage
       by_answer (Ok (EphemeralNotificationReady id)) h = absurd h
       by_answer (Err e) h = absurd h
 
-  failed_as : (e : Error) (w : Machine) → AwaitsWhole (tree_of future) (Err e) here w → IsRefused s m given p here e w ⊎ IsCutShort s m given p here e w
+  failed_as : (e : Error) (w : Machine) → AwaitsWhole (tree_of future) (Err e) here w → CallRefused s m given p here e w ⊎ IsCutShort s m given p here e w
   unfolding err_in
-  failed_as e w (Err d, mid, does, fin) = subst (λ (z : Error × Machine). IsRefused s m given p here z.0 z.1 ⊎ IsCutShort s m given p here z.0 z.1) (λ i. (sym (ap (err_in e) fin.0) i, sym fin.1 i)) (first_failed d mid does)
+  failed_as e w (Err d, mid, does, fin) = subst (λ (z : Error × Machine). CallRefused s m given p here z.0 z.1 ⊎ IsCutShort s m given p here z.0 z.1) (λ i. (sym (ap (err_in e) fin.0) i, sym fin.1 i)) (first_failed d mid does)
   failed_as e w (Ok (Ok AnyCompleted), mid, does, fin) = absurd (let z : Err e ≡ Ok (Ok AnyCompleted) = fin.0 in cc)
   failed_as e w (Ok (Ok (WaitingExternalProgress input run)), mid, does, fin) = absurd (let z : Err e ≡ Ok (Ok (WaitingExternalProgress input run)) = fin.0 in cc)
   failed_as e w (Ok (Ok (ExecuteRun run)), mid, does, fin) = absurd (let z : Err e ≡ Ok (Ok (ExecuteRun run)) = fin.0 in cc)
@@ -407,6 +407,6 @@ module _ (s : Setup) (m : Meaning) (given : StateMap) (written : List RawMessage
       either_behind s m given p x.at [] here (cleared s m given future written aside x.at) x.reached.moves (sym (append-nil aside.output)) refl refl e w (whole_cancels mid (Err e) w x fin)
 
   -- an await does what its moves lead to
-  pub awaits_follow : (o : Outcome Reply) → Awaited future here o → Follows s m given written p here o
-  awaits_follow (Done given_reply w) (a, whole, replied) = subst (λ (x : Reply). Follows s m given written p here (Done x w)) (sym replied) (answered_so a w whole)
+  pub awaits_follow : (o : Outcome Reply) → Awaited future here o → CallFollows s m given written p here o
+  awaits_follow (Done given_reply w) (a, whole, replied) = subst (λ (x : Reply). CallFollows s m given written p here (Done x w)) (sym replied) (answered_so a w whole)
   awaits_follow (Failed e w) whole = failed_as e w whole

@@ -27,7 +27,7 @@ use Rattle.vm_types.specs.declared.values.Input.{Input}
 use Rattle.journal_messages.specs.Reading.{input_in}
 use Rattle.vm_attempt.specs.Arrivals.{kept_after}
 use Rattle.vm_attempt.specs.Journals.{AcknowledgesNothing, HasAll, StillWaits, setup_for}
-use Rattle.vm_attempt.specs.Told.{Begun, Came, Comes, HasCome, IsLive, Journal, Wrote, bytes_fed, commands_of, frames_fed}
+use Rattle.vm_attempt.specs.Told.{Begun, JournalCame, Comes, HasCome, IsLive, Journal, Wrote, bytes_fed, commands_of, frames_fed}
 use Rattle.invocation_vm.specs.Frames.{frames_of}
 use Rattle.std.specs.Prelude.{if◌then◌else◌}
 use Rattle.std.specs.List.{AllByRecursion}
@@ -65,7 +65,7 @@ module _ (fixed : Fixed) (fed : Heard) (none_proposed : fed.proposed ≡ []) (ta
     reads_input = ap (λ t. if t then input_in r.first.body else None) r.typed ∙ r.reads;
   }
 
-  read_comes : Wrote taken v.machine.output [] → (frames_of (bytes_fed fed)).1 ≡ Rest w.undecoded → Came fixed fed (answer.Input i ∷ []) taken w
+  read_comes : Wrote taken v.machine.output [] → (frames_of (bytes_fed fed)).1 ≡ Rest w.undecoded → JournalCame fixed fed (answer.Input i ∷ []) taken w
   unfolding journal_read
   read_comes wrote tail =
       let all = h.entries ++ h.others in
@@ -89,7 +89,7 @@ module _ (fixed : Fixed) (fed : Heard) (none_proposed : fed.proposed ≡ []) (ta
       }
 
 -- the input is read, whatever the options are
-pub reads_come : (fixed : Fixed) (fed : Heard) → fed.proposed ≡ [] → (taken : List (List ℕ)) (v w : View) (i : Input) → Comes fixed fed v.machine → input_step v.machine ≡ Done i w.machine → Wrote taken v.machine.output [] → (frames_of (bytes_fed fed)).1 ≡ Rest w.undecoded → Came fixed fed (answer.Input i ∷ []) taken w
+pub reads_come : (fixed : Fixed) (fed : Heard) → fed.proposed ≡ [] → (taken : List (List ℕ)) (v w : View) (i : Input) → Comes fixed fed v.machine → input_step v.machine ≡ Done i w.machine → Wrote taken v.machine.output [] → (frames_of (bytes_fed fed)).1 ≡ Rest w.undecoded → JournalCame fixed fed (answer.Input i ∷ []) taken w
 reads_come fixed fed none taken v w i comes is wrote tail =
     let r = input_is v.machine i w.machine is in
     let runs : is_running v.machine.phase ≡ true = ap is_running r.phase in

@@ -24,12 +24,12 @@ use Rattle.vm_machine.specs.Outcomes.{Outcome, Done, refused, settled}
 use Rattle.invocation_vm.specs.Views.{all_received, left_by, received}
 use Rattle.vm_model.specs.Calls.{Setup}
 use Rattle.vm_attempt.specs.Agreement.{Aside}
-use Rattle.vm_attempt.specs.Journals.{AcknowledgesNothing, HasAll, HasStarted, StartCame, Started, StillWaits, TakenIn, aside_for, commands_among, is_acknowledgement, is_command, is_ephemeral, is_notification, machine_fed, missing, notifications_among, notified_by, phase_missing, setup_with, waiting}
+use Rattle.vm_attempt.specs.Journals.{AcknowledgesNothing, HasAll, HasStarted, StartCame, Started, StillWaits, TakenIn, aside_for, commands_among, is_acknowledgement, is_command_frame, is_ephemeral, is_notification, machine_fed, with_missing, notifications_among, notified_by, phase_missing, setup_with, waiting_machine}
 use Rattle.vm_attempt.proofs.Arriving.{behind_one, failed_stays, live_receives, some_failure, unknown_fails, unknown_step}
 
 -- one entry less is missing
 abbrev counted_to : Setup → StateMap → Aside → ℕ → List RawMessage → List Notification → Machine
-counted_to s given aside k cs ns = counted_entry (machine_fed s given (missing (suc k) aside) cs ns WaitingReplayEntries)
+counted_to s given aside k cs ns = counted_entry (machine_fed s given (with_missing (suc k) aside) cs ns WaitingReplayEntries)
 
 one_less : (k : ℕ) → suc k - 1 ≡ k
 one_less k = omega arith
@@ -41,8 +41,8 @@ phase_less : (k : ℕ) → (if nat_le (suc k) 1 then Replaying else WaitingRepla
 phase_less zero = refl
 phase_less (suc k) = ap (λ b. if b then Replaying else WaitingReplayEntries) (more_missing k)
 
-counts_to : (s : Setup) (given : StateMap) (aside : Aside) (k : ℕ) (cs : List RawMessage) (ns : List Notification) → counted_to s given aside k cs ns ≡ waiting s given aside k cs ns
-counts_to s given aside k cs ns = λ i. machine_fed s given (missing (one_less k i) aside) cs ns (phase_less k i)
+counts_to : (s : Setup) (given : StateMap) (aside : Aside) (k : ℕ) (cs : List RawMessage) (ns : List Notification) → counted_to s given aside k cs ns ≡ waiting_machine s given aside k cs ns
+counts_to s given aside k cs ns = λ i. machine_fed s given (with_missing (one_less k i) aside) cs ns (phase_less k i)
 
 -- ---- one frame
 
@@ -54,7 +54,7 @@ message_by raw phase v a b c d =
     else if d then acknowledgement_step raw phase v
     else unknown_step (is_ephemeral raw) raw phase v
 
-pub receives_by : (v : Machine) (raw : RawMessage) → v.failure ≡ None → received raw v ≡ left_by (settled (message_by raw v.phase v (type_number raw.ty == 1) (is_command raw) (is_notification raw) (is_acknowledgement raw)))
+pub receives_by : (v : Machine) (raw : RawMessage) → v.failure ≡ None → received raw v ≡ left_by (settled (message_by raw v.phase v (type_number raw.ty == 1) (is_command_frame raw) (is_notification raw) (is_acknowledgement raw)))
 unfolding message_step
 receives_by v raw is = live_receives v raw is
 
@@ -80,50 +80,50 @@ alone n = record {
 
 -- one more entry came, of which this is so, or the machine has failed
 abbrev Counts : Setup → StateMap → Aside → ℕ → List RawMessage → List Notification → Type 0 → Machine → Type 0
-Counts s given aside k cs ns N m = IsSome m.failure ⊎ ((m ≡ waiting s given aside k cs ns) × N)
+Counts s given aside k cs ns N m = IsSome m.failure ⊎ ((m ≡ waiting_machine s given aside k cs ns) × N)
 
 queued_counts : (s : Setup) (given : StateMap) (aside : Aside) (k : ℕ) (cs : List RawMessage) (ns : List Notification) (N : Type 0) → N → (o : Option Notification)
-    → Counts s given aside k (cs ++ []) (ns ++ notified_by o []) N (left_by (settled (queued o counted_entry (machine_fed s given (missing (suc k) aside) cs ns WaitingReplayEntries))))
+    → Counts s given aside k (cs ++ []) (ns ++ notified_by o []) N (left_by (settled (queued o counted_entry (machine_fed s given (with_missing (suc k) aside) cs ns WaitingReplayEntries))))
 queued_counts s given aside k cs ns N is None = inl refl
-queued_counts s given aside k cs ns N is (Some n) = inr ((counts_to s given aside k cs (ns ++ n ∷ []) ∙ λ i. waiting s given aside k (sym (append-nil cs) i) (ns ++ n ∷ [])), is)
+queued_counts s given aside k cs ns N is (Some n) = inr ((counts_to s given aside k cs (ns ++ n ∷ []) ∙ λ i. waiting_machine s given aside k (sym (append-nil cs) i) (ns ++ n ∷ [])), is)
 
 entry_counts : (s : Setup) (given : StateMap) (aside : Aside) (k : ℕ) (cs : List RawMessage) (ns : List Notification) (raw : RawMessage) (a b c d : Bool) → Alone b c d
-    → Counts s given aside k (cs ++ cond b (raw ∷ []) []) (ns ++ cond c (notified_by (notification_in raw.body) []) []) (d ≡ false) (left_by (settled (message_by raw WaitingReplayEntries (machine_fed s given (missing (suc k) aside) cs ns WaitingReplayEntries) a b c d)))
+    → Counts s given aside k (cs ++ cond b (raw ∷ []) []) (ns ++ cond c (notified_by (notification_in raw.body) []) []) (d ≡ false) (left_by (settled (message_by raw WaitingReplayEntries (machine_fed s given (with_missing (suc k) aside) cs ns WaitingReplayEntries) a b c d)))
 entry_counts s given aside k cs ns raw true b c d one = inl refl
 entry_counts s given aside k cs ns raw false true true d one = absurd (let z : true ≡ false = one.no_note refl in cc)
-entry_counts s given aside k cs ns raw false true false d one = inr ((counts_to s given aside k (cs ++ raw ∷ []) ns ∙ λ i. waiting s given aside k (cs ++ raw ∷ []) (sym (append-nil ns) i)), one.no_acknowledgement refl)
+entry_counts s given aside k cs ns raw false true false d one = inr ((counts_to s given aside k (cs ++ raw ∷ []) ns ∙ λ i. waiting_machine s given aside k (cs ++ raw ∷ []) (sym (append-nil ns) i)), one.no_acknowledgement refl)
 entry_counts s given aside k cs ns raw false false true d one = queued_counts s given aside k cs ns (d ≡ false) (one.note_acknowledges_nothing refl) (notification_in raw.body)
 entry_counts s given aside k cs ns raw false false false true one = inl refl
-entry_counts s given aside k cs ns raw false false false false one = inl (unknown_fails (is_ephemeral raw) raw WaitingReplayEntries (machine_fed s given (missing (suc k) aside) cs ns WaitingReplayEntries) refl refl)
+entry_counts s given aside k cs ns raw false false false false one = inl (unknown_fails (is_ephemeral raw) raw WaitingReplayEntries (machine_fed s given (with_missing (suc k) aside) cs ns WaitingReplayEntries) refl refl)
 
-entry_comes : (s : Setup) (given : StateMap) (aside : Aside) (k : ℕ) (cs : List RawMessage) (ns : List Notification) (raw : RawMessage) → Counts s given aside k (cs ++ commands_among (raw ∷ [])) (ns ++ notifications_among (raw ∷ [])) (AcknowledgesNothing raw) (received raw (waiting s given aside (suc k) cs ns))
+entry_comes : (s : Setup) (given : StateMap) (aside : Aside) (k : ℕ) (cs : List RawMessage) (ns : List Notification) (raw : RawMessage) → Counts s given aside k (cs ++ commands_among (raw ∷ [])) (ns ++ notifications_among (raw ∷ [])) (AcknowledgesNothing raw) (received raw (waiting_machine s given aside (suc k) cs ns))
 entry_comes s given aside k cs ns raw =
-    let v = waiting s given aside (suc k) cs ns in
-    subst (Counts s given aside k (cs ++ commands_among (raw ∷ [])) (ns ++ notifications_among (raw ∷ [])) (AcknowledgesNothing raw)) (sym (receives_by v raw refl)) (entry_counts s given aside k cs ns raw (type_number raw.ty == 1) (is_command raw) (is_notification raw) (is_acknowledgement raw) (alone (type_number raw.ty)))
+    let v = waiting_machine s given aside (suc k) cs ns in
+    subst (Counts s given aside k (cs ++ commands_among (raw ∷ [])) (ns ++ notifications_among (raw ∷ [])) (AcknowledgesNothing raw)) (sym (receives_by v raw refl)) (entry_counts s given aside k cs ns raw (type_number raw.ty == 1) (is_command_frame raw) (is_notification raw) (is_acknowledgement raw) (alone (type_number raw.ty)))
 
 -- once all entries have come, a further notification is queued
 queued_stays : (s : Setup) (given : StateMap) (aside : Aside) (cs : List RawMessage) (ns : List Notification) (N : Type 0) → N → (o : Option Notification)
-    → Counts s given aside 0 cs (ns ++ notified_by o []) N (left_by (settled (queued o (λ w. w) (waiting s given aside 0 cs ns))))
+    → Counts s given aside 0 cs (ns ++ notified_by o []) N (left_by (settled (queued o (λ w. w) (waiting_machine s given aside 0 cs ns))))
 queued_stays s given aside cs ns N is None = inl refl
 queued_stays s given aside cs ns N is (Some n) = inr (refl, is)
 
 more_counts : (s : Setup) (given : StateMap) (aside : Aside) (cs : List RawMessage) (ns : List Notification) (raw : RawMessage) (a b c d : Bool) → Alone b c d
-    → Counts s given aside 0 cs (ns ++ cond c (notified_by (notification_in raw.body) []) []) (d ≡ false) (left_by (settled (message_by raw Replaying (waiting s given aside 0 cs ns) a b c d)))
+    → Counts s given aside 0 cs (ns ++ cond c (notified_by (notification_in raw.body) []) []) (d ≡ false) (left_by (settled (message_by raw Replaying (waiting_machine s given aside 0 cs ns) a b c d)))
 more_counts s given aside cs ns raw true b c d one = inl refl
 more_counts s given aside cs ns raw false true c d one = inl refl
 more_counts s given aside cs ns raw false false true d one = queued_stays s given aside cs ns (d ≡ false) (one.note_acknowledges_nothing refl) (notification_in raw.body)
 more_counts s given aside cs ns raw false false false true one = inl refl
-more_counts s given aside cs ns raw false false false false one = inl (unknown_fails (is_ephemeral raw) raw Replaying (waiting s given aside 0 cs ns) refl refl)
+more_counts s given aside cs ns raw false false false false one = inl (unknown_fails (is_ephemeral raw) raw Replaying (waiting_machine s given aside 0 cs ns) refl refl)
 
-more_comes : (s : Setup) (given : StateMap) (aside : Aside) (cs : List RawMessage) (ns : List Notification) (raw : RawMessage) → Counts s given aside 0 cs (ns ++ notifications_among (raw ∷ [])) (AcknowledgesNothing raw) (received raw (waiting s given aside 0 cs ns))
+more_comes : (s : Setup) (given : StateMap) (aside : Aside) (cs : List RawMessage) (ns : List Notification) (raw : RawMessage) → Counts s given aside 0 cs (ns ++ notifications_among (raw ∷ [])) (AcknowledgesNothing raw) (received raw (waiting_machine s given aside 0 cs ns))
 more_comes s given aside cs ns raw =
-    let v = waiting s given aside 0 cs ns in
-    subst (Counts s given aside 0 cs (ns ++ notifications_among (raw ∷ [])) (AcknowledgesNothing raw)) (sym (receives_by v raw refl)) (more_counts s given aside cs ns raw (type_number raw.ty == 1) (is_command raw) (is_notification raw) (is_acknowledgement raw) (alone (type_number raw.ty)))
+    let v = waiting_machine s given aside 0 cs ns in
+    subst (Counts s given aside 0 cs (ns ++ notifications_among (raw ∷ [])) (AcknowledgesNothing raw)) (sym (receives_by v raw refl)) (more_counts s given aside cs ns raw (type_number raw.ty == 1) (is_command_frame raw) (is_notification raw) (is_acknowledgement raw) (alone (type_number raw.ty)))
 
 -- ---- all frames
 
 pub commands_behind : (raw : RawMessage) (raws : List RawMessage) → commands_among (raw ∷ []) ++ commands_among raws ≡ commands_among (raw ∷ raws)
-commands_behind raw raws = by_test (is_command raw)
+commands_behind raw raws = by_test (is_command_frame raw)
   where
     by_test : (b : Bool) → cond b (raw ∷ []) [] ++ commands_among raws ≡ cond b (raw ∷ commands_among raws) (commands_among raws)
     by_test true = refl
@@ -137,35 +137,35 @@ fails_on : (v : Machine) (raws : List RawMessage) → IsSome v.failure → IsSom
 fails_on v raws f = let e = some_failure v f in ap (λ w. is_some w.failure) (failed_stays e.0 v raws e.1) ∙ f
 
 -- behind the known entries all frames are later arrivals
-pub more_come : (s : Setup) (given : StateMap) (aside : Aside) (cs : List RawMessage) (ns : List Notification) (raws : List RawMessage) → Counts s given aside 0 cs (ns ++ notifications_among raws) (AllByRecursion AcknowledgesNothing raws) (all_received raws (waiting s given aside 0 cs ns))
-more_come s given aside cs ns [] = inr ((λ i. waiting s given aside 0 cs (sym (append-nil ns) i)), tt)
+pub more_come : (s : Setup) (given : StateMap) (aside : Aside) (cs : List RawMessage) (ns : List Notification) (raws : List RawMessage) → Counts s given aside 0 cs (ns ++ notifications_among raws) (AllByRecursion AcknowledgesNothing raws) (all_received raws (waiting_machine s given aside 0 cs ns))
+more_come s given aside cs ns [] = inr ((λ i. waiting_machine s given aside 0 cs (sym (append-nil ns) i)), tt)
 more_come s given aside cs ns (raw ∷ raws) =
     ⊎_elim
-    (λ (f : IsSome (received raw (waiting s given aside 0 cs ns)).failure). inl (fails_on (received raw (waiting s given aside 0 cs ns)) raws f))
-    (λ (e : (received raw (waiting s given aside 0 cs ns) ≡ waiting s given aside 0 cs (ns ++ notifications_among (raw ∷ []))) × AcknowledgesNothing raw).
-    subst (λ l. Counts s given aside 0 cs l (AcknowledgesNothing raw × AllByRecursion AcknowledgesNothing raws) (all_received raws (received raw (waiting s given aside 0 cs ns)))) (append_assoc ns (notifications_among (raw ∷ [])) (notifications_among raws) ∙ ap (λ l. ns ++ l) (notifications_behind raw raws))
-    (rw e.0 (also (all_received raws (waiting s given aside 0 cs (ns ++ notifications_among (raw ∷ [])))) e.1 (more_come s given aside cs (ns ++ notifications_among (raw ∷ [])) raws))))
+    (λ (f : IsSome (received raw (waiting_machine s given aside 0 cs ns)).failure). inl (fails_on (received raw (waiting_machine s given aside 0 cs ns)) raws f))
+    (λ (e : (received raw (waiting_machine s given aside 0 cs ns) ≡ waiting_machine s given aside 0 cs (ns ++ notifications_among (raw ∷ []))) × AcknowledgesNothing raw).
+    subst (λ l. Counts s given aside 0 cs l (AcknowledgesNothing raw × AllByRecursion AcknowledgesNothing raws) (all_received raws (received raw (waiting_machine s given aside 0 cs ns)))) (append_assoc ns (notifications_among (raw ∷ [])) (notifications_among raws) ∙ ap (λ l. ns ++ l) (notifications_behind raw raws))
+    (rw e.0 (also (all_received raws (waiting_machine s given aside 0 cs (ns ++ notifications_among (raw ∷ [])))) e.1 (more_come s given aside cs (ns ++ notifications_among (raw ∷ [])) raws))))
     (more_comes s given aside cs ns raw)
   where
     also : (m : Machine) → AcknowledgesNothing raw → Counts s given aside 0 cs ((ns ++ notifications_among (raw ∷ [])) ++ notifications_among raws) (AllByRecursion AcknowledgesNothing raws) m
         → Counts s given aside 0 cs ((ns ++ notifications_among (raw ∷ [])) ++ notifications_among raws) (AcknowledgesNothing raw × AllByRecursion AcknowledgesNothing raws) m
     also m none = ⊎_elim
         (λ (f : IsSome m.failure). inl f)
-        (λ (x : (m ≡ waiting s given aside 0 cs ((ns ++ notifications_among (raw ∷ [])) ++ notifications_among raws)) × AllByRecursion AcknowledgesNothing raws). inr (x.0, (none, x.1)))
+        (λ (x : (m ≡ waiting_machine s given aside 0 cs ((ns ++ notifications_among (raw ∷ [])) ++ notifications_among raws)) × AllByRecursion AcknowledgesNothing raws). inr (x.0, (none, x.1)))
 
-pub entries_come : (s : Setup) (given : StateMap) (aside : Aside) (k : ℕ) (cs : List RawMessage) (ns : List Notification) (raws : List RawMessage) → TakenIn s given aside k cs ns raws (all_received raws (waiting s given aside k cs ns))
+pub entries_come : (s : Setup) (given : StateMap) (aside : Aside) (k : ℕ) (cs : List RawMessage) (ns : List Notification) (raws : List RawMessage) → TakenIn s given aside k cs ns raws (all_received raws (waiting_machine s given aside k cs ns))
 entries_come s given aside zero cs ns raws =
     ⊎_elim
-    (λ (f : IsSome (all_received raws (waiting s given aside 0 cs ns)).failure). inl f)
-    (λ (e : (all_received raws (waiting s given aside 0 cs ns) ≡ waiting s given aside 0 cs (ns ++ notifications_among raws)) × AllByRecursion AcknowledgesNothing raws).
-    inr (inr (record { entries = []; others = raws; split = refl; none_acknowledge = e.1; count = refl; machine = e.0 ∙ λ i. waiting s given aside 0 (sym (append-nil cs) i) (ns ++ notifications_among raws) })))
+    (λ (f : IsSome (all_received raws (waiting_machine s given aside 0 cs ns)).failure). inl f)
+    (λ (e : (all_received raws (waiting_machine s given aside 0 cs ns) ≡ waiting_machine s given aside 0 cs (ns ++ notifications_among raws)) × AllByRecursion AcknowledgesNothing raws).
+    inr (inr (record { entries = []; others = raws; split = refl; none_acknowledge = e.1; count = refl; machine = e.0 ∙ λ i. waiting_machine s given aside 0 (sym (append-nil cs) i) (ns ++ notifications_among raws) })))
     (more_come s given aside cs ns raws)
-entries_come s given aside (suc k) cs ns [] = inr (inl (record { left = k; none_acknowledge = tt; count = sym (zero-add (suc k)); machine = λ i. waiting s given aside (suc k) (sym (append-nil cs) i) (sym (append-nil ns) i) }))
+entries_come s given aside (suc k) cs ns [] = inr (inl (record { left = k; none_acknowledge = tt; count = sym (zero-add (suc k)); machine = λ i. waiting_machine s given aside (suc k) (sym (append-nil cs) i) (sym (append-nil ns) i) }))
 entries_come s given aside (suc k) cs ns (raw ∷ raws) =
     ⊎_elim
-    (λ (f : IsSome (received raw (waiting s given aside (suc k) cs ns)).failure). inl (fails_on (received raw (waiting s given aside (suc k) cs ns)) raws f))
-    (λ (e : (received raw (waiting s given aside (suc k) cs ns) ≡ waiting s given aside k (cs ++ commands_among (raw ∷ [])) (ns ++ notifications_among (raw ∷ []))) × AcknowledgesNothing raw).
-    subst (λ w. TakenIn s given aside (suc k) cs ns (raw ∷ raws) (all_received raws w)) (sym e.0) (goes_on e.1 (all_received raws (waiting s given aside k (cs ++ commands_among (raw ∷ [])) (ns ++ notifications_among (raw ∷ [])))) (entries_come s given aside k (cs ++ commands_among (raw ∷ [])) (ns ++ notifications_among (raw ∷ [])) raws)))
+    (λ (f : IsSome (received raw (waiting_machine s given aside (suc k) cs ns)).failure). inl (fails_on (received raw (waiting_machine s given aside (suc k) cs ns)) raws f))
+    (λ (e : (received raw (waiting_machine s given aside (suc k) cs ns) ≡ waiting_machine s given aside k (cs ++ commands_among (raw ∷ [])) (ns ++ notifications_among (raw ∷ []))) × AcknowledgesNothing raw).
+    subst (λ w. TakenIn s given aside (suc k) cs ns (raw ∷ raws) (all_received raws w)) (sym e.0) (goes_on e.1 (all_received raws (waiting_machine s given aside k (cs ++ commands_among (raw ∷ [])) (ns ++ notifications_among (raw ∷ [])))) (entries_come s given aside k (cs ++ commands_among (raw ∷ [])) (ns ++ notifications_among (raw ∷ [])) raws)))
     (entry_comes s given aside k cs ns raw)
   where
     commands_are : (es : List RawMessage) → (cs ++ commands_among (raw ∷ [])) ++ commands_among es ≡ cs ++ commands_among (raw ∷ es)
@@ -181,9 +181,9 @@ entries_come s given aside (suc k) cs ns (raw ∷ raws) =
         (λ (o : StillWaits s given aside k (cs ++ commands_among (raw ∷ [])) (ns ++ notifications_among (raw ∷ [])) raws m ⊎ HasAll s given aside k (cs ++ commands_among (raw ∷ [])) (ns ++ notifications_among (raw ∷ [])) raws m).
         inr (⊎_elim
         (λ (w : StillWaits s given aside k (cs ++ commands_among (raw ∷ [])) (ns ++ notifications_among (raw ∷ [])) raws m).
-        inl (record { left = w.left; none_acknowledge = (none, w.none_acknowledge); count = ap suc w.count ∙ sym (suc-add (length raws) (suc w.left)); machine = w.machine ∙ λ i. waiting s given aside (suc w.left) (commands_are raws i) (notifications_are i) }))
+        inl (record { left = w.left; none_acknowledge = (none, w.none_acknowledge); count = ap suc w.count ∙ sym (suc-add (length raws) (suc w.left)); machine = w.machine ∙ λ i. waiting_machine s given aside (suc w.left) (commands_are raws i) (notifications_are i) }))
         (λ (h : HasAll s given aside k (cs ++ commands_among (raw ∷ [])) (ns ++ notifications_among (raw ∷ [])) raws m).
-        inr (record { entries = raw ∷ h.entries; others = h.others; split = ap (λ l. raw ∷ l) h.split; none_acknowledge = (none, h.none_acknowledge); count = ap suc h.count; machine = h.machine ∙ λ i. waiting s given aside 0 (commands_are h.entries i) (notifications_are i) }))
+        inr (record { entries = raw ∷ h.entries; others = h.others; split = ap (λ l. raw ∷ l) h.split; none_acknowledge = (none, h.none_acknowledge); count = ap suc h.count; machine = h.machine ∙ λ i. waiting_machine s given aside 0 (commands_are h.entries i) (notifications_are i) }))
         o))
 
 -- ---- from the first frame on
@@ -223,7 +223,7 @@ first_by alloc version options raw false false false true = inl refl
 first_by alloc version options raw false false false false = inl (unknown_fails (is_ephemeral raw) raw WaitingStart (fresh alloc version options) refl refl)
 
 first_comes : (alloc : Global) (version : Version) (options : VMOptions) (raw : RawMessage) → StartCame alloc version options raw (received raw (fresh alloc version options))
-first_comes alloc version options raw = subst (StartCame alloc version options raw) (sym (receives_by (fresh alloc version options) raw refl)) (first_by alloc version options raw (type_number raw.ty == 1) (is_command raw) (is_notification raw) (is_acknowledgement raw))
+first_comes alloc version options raw = subst (StartCame alloc version options raw) (sym (receives_by (fresh alloc version options) raw refl)) (first_by alloc version options raw (type_number raw.ty == 1) (is_command_frame raw) (is_notification raw) (is_acknowledgement raw))
 
 -- frames that come to a new machine
 pub journals_come : (alloc : Global) (version : Version) (options : VMOptions) (first : RawMessage) (raws : List RawMessage) → Started alloc version options first raws (all_received (first ∷ raws) (fresh alloc version options))

@@ -15,7 +15,7 @@ use Rattle.journal_messages.specs.Reading.{input_in}
 use Rattle.journal_errors.specs.Types.{type_number}
 use Rattle.vm_parts.specs.declared.context.StateMap.{StateMap}
 use Rattle.vm_types.specs.declared.steps.Answer.{Answer}
-use Rattle.vm_parts.specs.Counting.{missing as lacking}
+use Rattle.vm_parts.specs.Counting.{with_missing as lacking}
 use Rattle.vm_machine.specs.declared.machine.Machine.{Machine}
 use Rattle.vm_machine.specs.declared.phase.Phase.{Phase}
 use Rattle.vm_machine.specs.declared.phase.Phase.TheVariants.{WaitingStart, WaitingReplayEntries, Replaying, Processing, Closed}
@@ -40,15 +40,15 @@ use Rattle.vm_steps.specs.declared.progress.Progress.{Progress}
 use Rattle.vm_steps.specs.declared.progress.Progress.TheVariants as progress
 use Rattle.vm_steps.specs.declared.progress.Reply.{Reply}
 use Rattle.vm_steps.specs.declared.progress.Reply.TheVariants as reply
-use Rattle.vm_attempt.specs.Agreement.{IsCutShort, IsRefused}
+use Rattle.vm_attempt.specs.Agreement.{IsCutShort, CallRefused}
 use Rattle.vm_attempt.specs.Blames.{Blame, BlamedAt, CannotSkip, IfError, IsBlamed, LacksInput, RefusedCall, first_input, no_input_fault, skip_fault, the_input}
 use Rattle.vm_attempt.specs.Blames.Blame.{Memory, NoInput, NoSkip, Call}
-use Rattle.vm_attempt.specs.Journals.{HasAll, StillWaits, commands_among, machine_fed, missing, notifications_among, setup_for}
+use Rattle.vm_attempt.specs.Journals.{HasAll, StillWaits, commands_among, machine_fed, with_missing, notifications_among, setup_for}
 use Rattle.vm_steps.specs.Record.{Record, Said, all_said, heard}
 use Rattle.vm_steps.specs.Stepping.{Advances, Asks, LacksMemory, Reads, StepAt, StepDoes, StepFrom, StepUnless, step_asked, future_in, progress_of}
 use Rattle.vm_steps.specs.Stepping as stepping
 use Rattle.vm_steps.specs.Steps.{Performs}
-use Rattle.vm_attempt.specs.Told.{BeforeInput, Begun, Came, Comes, HasCome, IsKeptUnder, IsLive, Premises, Runs, begun, frames_fed, handed_out}
+use Rattle.vm_attempt.specs.Told.{BeforeInput, Begun, JournalCame, Comes, HasCome, IsKeptUnder, IsLive, Premises, HandlerRuns, begun, frames_fed, start_state}
 use Rattle.vm_attempt.proofs.Advanced.{runs_of}
 use Rattle.vm_attempt.proofs.Ahead.{Fewer, ahead, ahead_in, fewer_same}
 use Rattle.vm_attempt.proofs.Blamed.{alive_blamed, over_blamed}
@@ -222,7 +222,7 @@ read_lacks fixed fed v b h d u is err ruling = fails (sym (ap input_step h.machi
     cs = commands_among h.entries
 
     x : Machine
-    x = machine_fed s given (missing 0 b.aside) cs (notifications_among b.others) Replaying
+    x = machine_fed s given (with_missing 0 b.aside) cs (notifications_among b.others) Replaying
 
     frames : frames_fed fed ≡ b.first_frame ∷ (h.entries ++ h.others)
     frames = b.frames ∙ ap (λ l. b.first_frame ∷ l) h.split
@@ -288,8 +288,8 @@ reads_blamed fixed old (Err e) new b live (w, does, is) =
 
 -- ---- the handler's call
 
-module _ (fixed : Fixed) (r : Record) (under : Premises fixed (heard fixed.version r)) (k : Runs fixed (heard fixed.version r) r.answers r.waiting r.taken r.vm) (live : IsLive r.vm.machine) (w : View) where
-  refused_call : (e : Error) → IsRefused (setup_for fixed k.journal.start) fixed.handler (handed_out k.journal) k.at r.vm.machine e w.machine → RefusedCall fixed (heard fixed.version r) r.answers e
+module _ (fixed : Fixed) (r : Record) (under : Premises fixed (heard fixed.version r)) (k : HandlerRuns fixed (heard fixed.version r) r.answers r.waiting r.taken r.vm) (live : IsLive r.vm.machine) (w : View) where
+  refused_call : (e : Error) → CallRefused (setup_for fixed k.journal.start) fixed.handler (start_state k.journal) k.at r.vm.machine e w.machine → RefusedCall fixed (heard fixed.version r) r.answers e
   refused_call e g =
       let a = k.agrees live in
       record {
@@ -297,7 +297,7 @@ module _ (fixed : Fixed) (r : Record) (under : Premises fixed (heard fixed.versi
         written = k.written ++ g.made;
         at = g.at;
         moves = k.moves + g.moves.moves;
-        made = made_add (setup_for fixed k.journal.start) fixed.handler (Handed (handed_out k.journal)) k.moves g.moves.moves (begun fixed k.journal) k.written k.at g.made g.at k.run g.moves.run;
+        made = made_add (setup_for fixed k.journal.start) fixed.handler (Handed (start_state k.journal)) k.moves g.moves.moves (begun fixed k.journal) k.written k.at g.made g.at k.run g.moves.run;
         answers = g.moves.answers ∙ append-nil k.at.answers ∙ k.answers;
         why = g.why;
         reason = g.reason;
@@ -310,11 +310,11 @@ module _ (fixed : Fixed) (r : Record) (under : Premises fixed (heard fixed.versi
   call_refused e does =
       let same : step_asked fixed.handler r ≡ fixed.handler k.at.answers = asks_next fixed.handler k.at r.answers r.waiting k.answers k.awaits in
       ⊎_elim
-      (λ (x : IsRefused (setup_for fixed k.journal.start) fixed.handler (handed_out k.journal) k.at r.vm.machine e w.machine). inr (refused_call e x))
-      (λ (x : IsCutShort (setup_for fixed k.journal.start) fixed.handler (handed_out k.journal) k.at r.vm.machine e w.machine). inl x.error)
-      (agreeing_follows (setup_for fixed k.journal.start) fixed.handler (handed_out k.journal) k.written r.vm.machine k.at (Failed e w.machine) (λ future _. (under.queues, under.once k.journal k.moves k.written k.at k.run)) (k.rests live) (k.agrees live) (subst (λ q. Performs q r.vm.machine (Failed e w.machine)) same does) (tt {0}))
+      (λ (x : CallRefused (setup_for fixed k.journal.start) fixed.handler (start_state k.journal) k.at r.vm.machine e w.machine). inr (refused_call e x))
+      (λ (x : IsCutShort (setup_for fixed k.journal.start) fixed.handler (start_state k.journal) k.at r.vm.machine e w.machine). inl x.error)
+      (agreeing_follows (setup_for fixed k.journal.start) fixed.handler (start_state k.journal) k.written r.vm.machine k.at (Failed e w.machine) (λ future _. (under.queues, under.once k.journal k.moves k.written k.at k.run)) (k.rests live) (k.agrees live) (subst (λ q. Performs q r.vm.machine (Failed e w.machine)) same does) (tt {0}))
 
-asks_blamed : (fixed : Fixed) (old : Record) (result : Result Progress Error) (new : Record) → (Premises fixed (heard fixed.version old) → Runs fixed (heard fixed.version old) old.answers old.waiting old.taken old.vm) → IsLive old.vm.machine → Asks fixed.handler old result new → IsBlamed fixed new
+asks_blamed : (fixed : Fixed) (old : Record) (result : Result Progress Error) (new : Record) → (Premises fixed (heard fixed.version old) → HandlerRuns fixed (heard fixed.version old) old.answers old.waiting old.taken old.vm) → IsLive old.vm.machine → Asks fixed.handler old result new → IsBlamed fixed new
 asks_blamed fixed old result new runs live (x, w, does, is, made) = subst (IsBlamed fixed) (sym is) (by_reply x (step_leaves (step_asked fixed.handler old) old.vm.machine live x w.machine does.0.0) does.0.0)
   where
     -- a VM whose handler runs
@@ -345,7 +345,7 @@ advances_blamed fixed old result new k u b live =
     (λ (x : (old.answers ≡ []) × Reads old result new).
     ⊎_elim
     (λ (y : BeforeInput fixed (heard fixed.version old) old.answers old.waiting old.taken old.vm). reads_blamed fixed old result new y live x.1)
-    (λ (y : Came fixed (heard fixed.version old) old.answers old.taken old.vm). absurd (y.answered x.0))
+    (λ (y : JournalCame fixed (heard fixed.version old) old.answers old.taken old.vm). absurd (y.answered x.0))
     k)
     (λ (x : (old.answers ≢ []) × Asks fixed.handler old result new). asks_blamed fixed old result new (λ p. runs_of fixed old (u p) x.0) live x.1)
     o)

@@ -23,9 +23,9 @@ use Rattle.invocation_vm.specs.Views.{StarvesAmong, View, after_closing, after_i
 use Rattle.vm_model.specs.Calls.{Meaning}
 use Rattle.vm_attempt.specs.Blames.{fault_among}
 use Rattle.vm_attempt.specs.Fixed.{Fixed}
-use Rattle.vm_attempt.specs.Courses.{Called, Leads}
-use Rattle.vm_attempt.specs.Courses.Called.{Closing, Feeding, Stepping, Taking, Telling}
-use Rattle.vm_attempt.specs.Journals.{is_acknowledgement, is_command, is_notification}
+use Rattle.vm_attempt.specs.Courses.{OneCall, Leads}
+use Rattle.vm_attempt.specs.Courses.OneCall.{Closing, Feeding, Stepping, Taking, Telling}
+use Rattle.vm_attempt.specs.Journals.{is_acknowledgement, is_command_frame, is_notification}
 use Rattle.vm_steps.specs.declared.progress.Progress.{Progress}
 use Rattle.vm_steps.specs.declared.progress.Progress.TheVariants as progress
 use Rattle.vm_steps.specs.declared.progress.Reply.{Reply}
@@ -67,7 +67,7 @@ one_lives : (raw : RawMessage) (v : Machine) → LivesOn v (received raw v)
 one_lives raw v = by_failure v.failure refl
   where
     o : Outcome Unit
-    o = message_by raw v.phase v (type_number raw.ty == 1) (is_command raw) (is_notification raw) (is_acknowledgement raw)
+    o = message_by raw v.phase v (type_number raw.ty == 1) (is_command_frame raw) (is_notification raw) (is_acknowledgement raw)
 
     by_fault : (f : Option NamedFault) → v.failure ≡ None → Fits f v o → LivesOn v (left_by (settled o))
     by_fault None live (w, done, same, runs) = subst (λ (x : Outcome Unit). LivesOn v (left_by (settled x))) (sym done) (λ none. (live, fewer_equal v w runs.0 runs.1))
@@ -75,7 +75,7 @@ one_lives raw v = by_failure v.failure refl
 
     by_failure : (f : Option Error) → v.failure ≡ f → LivesOn v (received raw v)
     by_failure (Some e) is = subst (LivesOn v) (sym (failed_receives e v raw is)) (lives_same v)
-    by_failure None live = subst (LivesOn v) (sym (receives_by v raw live)) (by_fault (fault_among v.proposals v.phase raw) live (message_fits raw v.phase v (type_number raw.ty == 1) (is_command raw) (is_notification raw) (is_acknowledgement raw)))
+    by_failure None live = subst (LivesOn v) (sym (receives_by v raw live)) (by_fault (fault_among v.proposals v.phase raw) live (message_fits raw v.phase v (type_number raw.ty == 1) (is_command_frame raw) (is_notification raw) (is_acknowledgement raw)))
 
 all_live : (raws : List RawMessage) (v : Machine) → LivesOn v (all_received raws v)
 all_live [] v = lives_same v
@@ -282,7 +282,7 @@ step_hands m old result new does = by_test old.starved does
 
 -- ---- one call after another
 
-call_keeps : (m : Meaning) (old new : Record) → Called m old new → Keeps old new
+call_keeps : (m : Meaning) (old new : Record) → OneCall m old new → Keeps old new
 call_keeps m old new (Feeding piece result does) = feed_keeps piece old result new does
 call_keeps m old new (Closing result does) = close_keeps old result new does
 call_keeps m old new (Stepping result does) = (step_hands m old result new does).keeps

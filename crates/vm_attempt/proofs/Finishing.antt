@@ -49,7 +49,7 @@ use Rattle.vm_steps.specs.Heard.{Heard, acknowledged_from, proposals_among, prop
 use Rattle.vm_attempt.specs.Journals.{HasAll, StillWaits, setup_for}
 use Rattle.vm_steps.specs.Record.{Record, Said, all_heard, all_said, heard}
 use Rattle.vm_steps.specs.Stepping.{FinishDoes, Finishes, Tells, TellsUnless, newly_proposed, noted, noted_at, with_vm}
-use Rattle.vm_attempt.specs.Told.{BeforeInput, Begun, Came, Comes, HasCome, InReplay, IsKept, IsKeptInReplay, IsKeptUnder, IsLive, Journal, Premises, Quiet, ReplayPremises, Runs, StillSleeps, Wrote, arrivals, frames_fed, handed_out}
+use Rattle.vm_attempt.specs.Told.{BeforeInput, Begun, JournalCame, Comes, HasCome, InReplay, IsKept, IsKeptInReplay, IsKeptUnder, IsLive, Journal, Premises, Quiet, ReplayPremises, HandlerRuns, StillSleeps, Wrote, arrivals, frames_fed, start_state}
 use Rattle.vm_attempt.proofs.Advanced.{done_of}
 use Rattle.vm_attempt.proofs.Ahead.{Fewer, LivesOn, ended_fewer, fewer_same}
 use Rattle.vm_attempt.proofs.Blamed.{alive_blamed, none_some, over_blamed}
@@ -355,12 +355,12 @@ module _ (fixed : Fixed) (fed : Heard) (answers : List Answer) (waiting : Option
   abbrev after : View
   after = record vm { machine = proposed_in handle more (proposal id result) vm.machine }
 
-  module _ (c : Came fixed fed answers taken vm) where
+  module _ (c : JournalCame fixed fed answers taken vm) where
     -- each acknowledgement found its proposal
     found_all : (j : Journal fed) → AllFound fed.proposed (j.entries ++ j.others)
     found_all j = subst (AllFound fed.proposed) (same_behind c.journal.first_frame j.first_frame (c.journal.entries ++ c.journal.others) (j.entries ++ j.others) (sym c.journal.frames ∙ j.frames)) (c.keeps live).1
 
-    came_proposes : Came fixed (and_proposed fed more) answers taken after
+    came_proposes : JournalCame fixed (and_proposed fed more) answers taken after
     came_proposes = record {
       journal = journal_as fed more c.journal;
       answered = c.answered;
@@ -378,9 +378,9 @@ module _ (fixed : Fixed) (fed : Heard) (answers : List Answer) (waiting : Option
     }
 
     -- the run with the same arrivals
-    run_with : (s : Setup) (j : Journal fed) (moves : ℕ) (written : List RawMessage) (at : Point) → Made s fixed.handler (Handed (handed_out j)) moves (start s j.input (arrivals j) j.rest) written at
-        → Made s fixed.handler (Handed (handed_out j)) moves (start s j.input (arriving (fed.proposed ++ more) (j.entries ++ j.others)) j.rest) written at
-    run_with s j moves written at run = subst (λ ns. Made s fixed.handler (Handed (handed_out j)) moves (start s j.input ns j.rest) written at) (sym (arriving_more fed.proposed more (j.entries ++ j.others) (found_all j))) run
+    run_with : (s : Setup) (j : Journal fed) (moves : ℕ) (written : List RawMessage) (at : Point) → Made s fixed.handler (Handed (start_state j)) moves (start s j.input (arrivals j) j.rest) written at
+        → Made s fixed.handler (Handed (start_state j)) moves (start s j.input (arriving (fed.proposed ++ more) (j.entries ++ j.others)) j.rest) written at
+    run_with s j moves written at run = subst (λ ns. Made s fixed.handler (Handed (start_state j)) moves (start s j.input ns j.rest) written at) (sym (arriving_more fed.proposed more (j.entries ++ j.others) (found_all j))) run
 
     -- what is asked of the journal was so before the proposal
     premises_less : Premises fixed (and_proposed fed more) → Premises fixed fed
@@ -390,7 +390,7 @@ module _ (fixed : Fixed) (fed : Heard) (answers : List Answer) (waiting : Option
       once = λ j n made q run. p.once (journal_as fed more j) n made q (run_with (setup_for fixed j.start) j n made q run);
     }
 
-    runs_proposes : Runs fixed fed answers waiting taken vm → Runs fixed (and_proposed fed more) answers waiting taken after
+    runs_proposes : HandlerRuns fixed fed answers waiting taken vm → HandlerRuns fixed (and_proposed fed more) answers waiting taken after
     runs_proposes k = record {
       journal = journal_as fed more k.journal;
       written = k.written;
@@ -432,7 +432,7 @@ no_processing fixed fed v c at =
 
 module _ (fixed : Fixed) (handle : NotificationHandle) (exit : RunExitResult) (policy : RetryPolicy) (old new : Record) (came : HasCome fixed old) where
   abbrev OldCame : Type 0
-  OldCame = Came fixed (heard fixed.version old) old.answers old.taken old.vm
+  OldCame = JournalCame fixed (heard fixed.version old) old.answers old.taken old.vm
 
   -- where a result is proposed the handler has read its input
   has_come : ProposesOne handle old new → OldCame
@@ -460,7 +460,7 @@ module _ (fixed : Fixed) (handle : NotificationHandle) (exit : RunExitResult) (p
   proposes_comes : ProposesOne handle old new → HasCome fixed new
   proposes_comes p =
       subst (HasCome fixed) (sym p.is)
-      (inr (told_of (λ h v. Came fixed h old.answers old.taken v) p (came_proposes fixed (heard fixed.version old) old.answers old.waiting old.taken old.vm (is_live p) p.phase handle p.id p.result (further p) (has_come p))))
+      (inr (told_of (λ h v. JournalCame fixed h old.answers old.taken v) p (came_proposes fixed (heard fixed.version old) old.answers old.waiting old.taken old.vm (is_live p) p.phase handle p.id p.result (further p) (has_come p))))
 
   some_failed : (f : FailsBy handle exit policy old new) → is_some f.vm.machine.failure ≡ true
   some_failed f = ap is_some f.fails.failure
@@ -476,12 +476,12 @@ module _ (fixed : Fixed) (handle : NotificationHandle) (exit : RunExitResult) (p
       subst (IsKept fixed) (sym p.is)
       (⊎_elim
       (λ (b : BeforeInput fixed (heard fixed.version old) old.answers old.waiting old.taken old.vm). absurd (c.answered b.answers))
-      (λ (k : Runs fixed (heard fixed.version old) old.answers old.waiting old.taken old.vm).
-      inr (told_of (λ h v. Runs fixed h old.answers old.waiting old.taken v) p (runs_proposes fixed (heard fixed.version old) old.answers old.waiting old.taken old.vm (is_live p) p.phase handle p.id p.result (further p) c k)))
+      (λ (k : HandlerRuns fixed (heard fixed.version old) old.answers old.waiting old.taken old.vm).
+      inr (told_of (λ h v. HandlerRuns fixed h old.answers old.waiting old.taken v) p (runs_proposes fixed (heard fixed.version old) old.answers old.waiting old.taken old.vm (is_live p) p.phase handle p.id p.result (further p) c k)))
       kept)
 
   fails_keeps : IsKept fixed old → FailsBy handle exit policy old new → IsKept fixed new
-  fails_keeps kept f = subst (IsKept fixed) (sym f.is) (dead_same (Runs fixed) (runs_last fixed) fixed old f.vm kept f.fails.quiet (some_failed f))
+  fails_keeps kept f = subst (IsKept fixed) (sym f.is) (dead_same (HandlerRuns fixed) (runs_last fixed) fixed old f.vm kept f.fails.quiet (some_failed f))
 
   proposes_under : IsKeptUnder fixed old → ProposesOne handle old new → IsKeptUnder fixed new
   proposes_under u p q =
@@ -498,7 +498,7 @@ module _ (fixed : Fixed) (handle : NotificationHandle) (exit : RunExitResult) (p
   proposes_in_replay p q =
       ⊎_elim
       (λ (b : BeforeInput fixed (heard fixed.version new) new.answers new.waiting new.taken new.vm). inl b)
-      (λ (c : Came fixed (heard fixed.version new) new.answers new.taken new.vm).
+      (λ (c : JournalCame fixed (heard fixed.version new) new.answers new.taken new.vm).
       inr (record {
         came = c;
         run = λ alive at. absurd (let z : Processing ≡ Replaying = sym p.phase ∙ ap (λ (w : Machine). w.phase) (sym (machine_is p)) ∙ ap (λ (r : Record). r.vm.machine.phase) (sym p.is) ∙ at in cc);

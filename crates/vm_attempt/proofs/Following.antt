@@ -43,7 +43,7 @@ use Rattle.vm_model.specs.Histories.{IsAwaiting}
 use Rattle.vm_model.specs.Moves.{Point, move_at}
 use Rattle.vm_steps.specs.declared.progress.Reply.{Reply}
 use Rattle.vm_steps.specs.declared.progress.Reply.TheVariants as reply
-use Rattle.vm_attempt.specs.Agreement.{Agrees, Aside, Follows, machine_at}
+use Rattle.vm_attempt.specs.Agreement.{Agrees, Aside, CallFollows, machine_at}
 use Rattle.vm_steps.specs.Steps.{IfDone, IsReadable, Performs, PerformsBy, ReadsBack, awakeable_made as made_awakeable, carried, completed, ended, mapped, read_made, signalled, taken}
 use Rattle.vm_attempt.proofs.Leading.{error_written, follows_from, no_move, open_after}
 use Rattle.vm_attempt.proofs.Own.{AsksCommand, asks_command}
@@ -118,7 +118,7 @@ makes_signal s given written aside p name = rw (runs_at p.left) (signals_follow 
 
 -- ---- the end
 
-ends : (s : Setup) (m : Meaning) (given : StateMap) (written : List RawMessage) (aside : Aside) (p : Point) → m p.answers ≡ step.End → (left : List RawMessage) → p.left ≡ left → Follows s m given written p (machine_at s given written aside p) (mapped (λ _. reply.Ended) (called (end_at (phase_after left) (machine_at s given written aside p)) (machine_at s given written aside p)))
+ends : (s : Setup) (m : Meaning) (given : StateMap) (written : List RawMessage) (aside : Aside) (p : Point) → m p.answers ≡ step.End → (left : List RawMessage) → p.left ≡ left → CallFollows s m given written p (machine_at s given written aside p) (mapped (λ _. reply.Ended) (called (end_at (phase_after left) (machine_at s given written aside p)) (machine_at s given written aside p)))
 unfolding called
 ends s m given written aside p is [] e = record { step = is; no_command = e; output = refl; closed = refl }
 ends s m given written aside p is (c ∷ left) e =
@@ -139,7 +139,7 @@ ends s m given written aside p is (c ∷ left) e =
 
 -- ---- all calls
 
-completes : (s : Setup) (m : Meaning) (given : StateMap) (written : List RawMessage) (aside : Aside) (p : Point) (h : NotificationHandle) → s.identity ≡ identity_of aside.start → IsOfOne (ask_of s.version (m p.answers)) → move_at s m p ≡ asked s (ask.Completed h) p.derived → Follows s m given written p (machine_at s given written aside p) (completed h (machine_at s given written aside p))
+completes : (s : Setup) (m : Meaning) (given : StateMap) (written : List RawMessage) (aside : Aside) (p : Point) (h : NotificationHandle) → s.identity ≡ identity_of aside.start → IsOfOne (ask_of s.version (m p.answers)) → move_at s m p ≡ asked s (ask.Completed h) p.derived → CallFollows s m given written p (machine_at s given written aside p) (completed h (machine_at s given written aside p))
 unfolding called
 completes s m given written aside p h identity one is =
     rw (runs_at p.left) (follows_from s m given written aside p answer.Completed (asked s (ask.Completed h) p.derived) (Done (has_result_in s h p.derived) (machine_at s given written aside p)) identity one is (answers s given written aside p answer.Completed (has_result_in s h p.derived) p.derived))
@@ -154,15 +154,15 @@ end_asked version step.End is = refl
 end_asked version st is = absurd cc
 
 -- an outcome is this one, by which a call does what its moves lead to
-comes_so : (s : Setup) (m : Meaning) (given : StateMap) (written : List RawMessage) (aside : Aside) (p : Point) (P : Type 0) (o q : Outcome Reply) → o ≡ q → (IfDone q P → Follows s m given written p (machine_at s given written aside p) q) → IfDone o P → Follows s m given written p (machine_at s given written aside p) o
-comes_so s m given written aside p P o q is follows whole = subst (Follows s m given written p (machine_at s given written aside p)) (sym is) (follows (subst (λ x. IfDone x P) is whole))
+comes_so : (s : Setup) (m : Meaning) (given : StateMap) (written : List RawMessage) (aside : Aside) (p : Point) (P : Type 0) (o q : Outcome Reply) → o ≡ q → (IfDone q P → CallFollows s m given written p (machine_at s given written aside p) q) → IfDone o P → CallFollows s m given written p (machine_at s given written aside p) o
+comes_so s m given written aside p P o q is follows whole = subst (CallFollows s m given written p (machine_at s given written aside p)) (sym is) (follows (subst (λ x. IfDone x P) is whole))
 
 -- where the handler awaits, signals queue and no completion has two results
 abbrev pub IfAwaiting : Setup → Meaning → Point → Type 0
 IfAwaiting s m p = (future : UnresolvedFuture) → IsAwaiting m p future → (s.options.signal_delivery ≡ Queued) × HasNoTwo p
 
 -- what is asked for, in a machine that agrees with a point
-asked_follows : (s : Setup) (m : Meaning) (given : StateMap) (written : List RawMessage) (aside : Aside) (p : Point) → s.identity ≡ identity_of aside.start → IfAwaiting s m p → p.derived.parts ≡ 0 → (a : Ask) → ask_of s.version (m p.answers) ≡ a → AsksCommand a → (o : Outcome Reply) → PerformsBy a (machine_at s given written aside p) o → IfDone o (IsReadable a (machine_at s given written aside p)) → Follows s m given written p (machine_at s given written aside p) o
+asked_follows : (s : Setup) (m : Meaning) (given : StateMap) (written : List RawMessage) (aside : Aside) (p : Point) → s.identity ≡ identity_of aside.start → IfAwaiting s m p → p.derived.parts ≡ 0 → (a : Ask) → ask_of s.version (m p.answers) ≡ a → AsksCommand a → (o : Outcome Reply) → PerformsBy a (machine_at s given written aside p) o → IfDone o (IsReadable a (machine_at s given written aside p)) → CallFollows s m given written p (machine_at s given written aside p) o
 asked_follows s m given written aside p identity awaits rests (ask.Command c) is command o does whole =
     let v = machine_at s given written aside p in
     comes_so s m given written aside p (IsReadable (ask.Command c) v) o (carried c v) does
@@ -198,9 +198,9 @@ asked_follows s m given written aside p identity awaits rests ask.End is command
     (λ _. ends s m given written aside p (end_asked s.version (m p.answers) is) p.left refl) whole
 
 -- In a machine that agrees with a point, the handler's call does what the moves from there lead to.
-call_follows : (s : Setup) (m : Meaning) (given : StateMap) (written : List RawMessage) (aside : Aside) (p : Point) → s.identity ≡ identity_of aside.start → IfAwaiting s m p → p.derived.parts ≡ 0 → (o : Outcome Reply) → Performs (m p.answers) (machine_at s given written aside p) o → IfDone o (ReadsBack (m p.answers) (machine_at s given written aside p)) → Follows s m given written p (machine_at s given written aside p) o
+call_follows : (s : Setup) (m : Meaning) (given : StateMap) (written : List RawMessage) (aside : Aside) (p : Point) → s.identity ≡ identity_of aside.start → IfAwaiting s m p → p.derived.parts ≡ 0 → (o : Outcome Reply) → Performs (m p.answers) (machine_at s given written aside p) o → IfDone o (ReadsBack (m p.answers) (machine_at s given written aside p)) → CallFollows s m given written p (machine_at s given written aside p) o
 call_follows s m given written aside p identity awaits rests = asked_follows s m given written aside p identity awaits rests (ask_of s.version (m p.answers)) refl (asks_command s.version (m p.answers))
 
-pub agreeing_follows : (s : Setup) (m : Meaning) (given : StateMap) (written : List RawMessage) (v : Machine) (p : Point) (o : Outcome Reply) → IfAwaiting s m p → p.derived.parts ≡ 0 → Agrees s given written v p → Performs (m p.answers) v o → IfDone o (ReadsBack (m p.answers) v) → Follows s m given written p v o
+pub agreeing_follows : (s : Setup) (m : Meaning) (given : StateMap) (written : List RawMessage) (v : Machine) (p : Point) (o : Outcome Reply) → IfAwaiting s m p → p.derived.parts ≡ 0 → Agrees s given written v p → Performs (m p.answers) v o → IfDone o (ReadsBack (m p.answers) v) → CallFollows s m given written p v o
 agreeing_follows s m given written v p o awaits rests a does whole =
     rw a.machine (call_follows s m given written a.aside p a.identity awaits rests o (subst (λ (x : Machine). Performs (m p.answers) x o) a.machine does) (subst (λ (x : Machine). IfDone o (ReadsBack (m p.answers) x)) a.machine whole))

@@ -23,7 +23,7 @@ use Rattle.vm_machine.specs.declared.phase.Phase.TheVariants.{WaitingStart, Wait
 use Rattle.vm_machine.specs.Inputs.{acknowledged, acknowledged_by, coverage_of, counted_entry, entries_in, info_of, queued, started, started_with}
 use Rattle.vm_machine.specs.Outcomes.{Done, Failed, Outcome, refused, settled}
 use Rattle.invocation_vm.specs.Views.{all_received, left_by, received}
-use Rattle.vm_attempt.specs.Journals.{is_acknowledgement, is_command, is_ephemeral, is_notification}
+use Rattle.vm_attempt.specs.Journals.{is_acknowledgement, is_command_frame, is_ephemeral, is_notification}
 use Rattle.vm_attempt.specs.Told.{IsLive, NumbersOn, commands_of}
 use Rattle.vm_attempt.proofs.Arriving.{failed_receives, unknown_step}
 use Rattle.vm_attempt.proofs.Entries.{message_by, receives_by}
@@ -111,7 +111,7 @@ received_same raw v = by_failure v.failure refl
     by_failure (Some e) dead = ap (λ (w : Machine). w.counters) (failed_receives e v raw dead)
     by_failure None live =
         ap (λ (w : Machine). w.counters) (receives_by v raw live)
-        ∙ settled_same v (message_by raw v.phase v (type_number raw.ty == 1) (is_command raw) (is_notification raw) (is_acknowledgement raw)) (message_same raw v.phase v (type_number raw.ty == 1) (is_command raw) (is_notification raw) (is_acknowledgement raw))
+        ∙ settled_same v (message_by raw v.phase v (type_number raw.ty == 1) (is_command_frame raw) (is_notification raw) (is_acknowledgement raw)) (message_same raw v.phase v (type_number raw.ty == 1) (is_command_frame raw) (is_notification raw) (is_acknowledgement raw))
 
 pub all_same : (raws : List RawMessage) (v : Machine) → (all_received raws v).counters ≡ v.counters
 all_same [] v = refl

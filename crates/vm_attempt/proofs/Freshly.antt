@@ -3,7 +3,7 @@ use Rattle.std.proofs.Common.{[], ◌∷◌, sym, subst, inl, inr, ⊎_elim}
 use Rattle.vm_asks.specs.Carried.{AreGreater, all_carried}
 use Rattle.vm_parts.specs.Outboxes.{WholeFrames}
 use Rattle.vm_steps.specs.Record.{Record, heard}
-use Rattle.vm_attempt.specs.Told.{BeforeInput, Came, HasCome, NumbersFreshly}
+use Rattle.vm_attempt.specs.Told.{BeforeInput, JournalCame, HasCome, NumbersFreshly}
 use Rattle.vm_attempt.proofs.Fresh.{on_greater}
 use Rattle.vm_attempt.proofs.Written.{written_is}
 use Rattle.vm_attempt.specs.Fixed.{Fixed}
@@ -13,7 +13,7 @@ pub come_fresh : (fixed : Fixed) (r : Record) → HasCome fixed r → WholeFrame
 come_fresh fixed r k f skips =
     ⊎_elim
     (λ (b : BeforeInput fixed (heard fixed.version r) r.answers r.waiting r.taken r.vm). inl (sym (written_is r.taken r.vm.machine.output [] b.wrote f)))
-    (λ (c : Came fixed (heard fixed.version r) r.answers r.taken r.vm).
+    (λ (c : JournalCame fixed (heard fixed.version r) r.answers r.taken r.vm).
     let recorded = c.journal.first ∷ c.journal.rest in
     inr (record {
       journal = c.journal;

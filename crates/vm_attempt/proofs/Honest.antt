@@ -29,10 +29,10 @@ use Rattle.vm_model.proofs.Runs.{made_later}
 use Rattle.journal_attempt.specs.declared.commands.InputCommand.{InputCommand}
 use Rattle.vm_model.specs.Journal.{Entry, Recorded, Notified, commands_in, input_read_from, notifications_in, stored_form}
 use Rattle.vm_steps.specs.Heard.{Heard}
-use Rattle.vm_attempt.specs.Blames.{Began, IsHonest, Place, fault_by, frame_fault, notification_fault, refused_start, start_fault}
-use Rattle.vm_attempt.specs.Honest.{FeedsHonestly, IsEntry, entry_frame, frame_bytes, notification_frame}
+use Rattle.vm_attempt.specs.Blames.{Began, IsHonest, Place, fault_by, phase_fault, notification_fault, refused_start, start_fault}
+use Rattle.vm_attempt.specs.Honest.{FeedsHonestly, CanBeFed, entry_frame, frame_bytes, notification_frame}
 use Rattle.vm_attempt.specs.Journals.{AcknowledgesNothing, is_acknowledgement, as_entries, is_notification, recorded_by, setup_for, told_by}
-use Rattle.vm_attempt.specs.Told.{AreRightlyKinded, Journal, NoneHasTwo, arrivals, begun, bytes_fed, frames_fed, handed_out}
+use Rattle.vm_attempt.specs.Told.{AreRightlyKinded, Journal, NoneHasTwo, arrivals, begun, bytes_fed, frames_fed, start_state}
 use Rattle.std.specs.Prelude.{IsSome}
 use Rattle.std.specs.List.{find}
 use Rattle.journal_attempt.specs.Bodies.{propose_run_completion_ack_format}
@@ -41,8 +41,8 @@ use Rattle.journal_messages.specs.Reading.{acknowledgement_in}
 use Rattle.runs.specs.Kept.{is_for}
 use Rattle.vm_model.specs.Histories.{behind}
 use Rattle.vm_parts.specs.declared.run_state.KeptProposal.{KeptProposal}
-use Rattle.vm_attempt.specs.Arrivals.{AllFound, FindsProposal, IsFound, arriving, kept_after, kept_behind}
-use Rattle.vm_attempt.specs.Blames.{kept_fault, read_fault}
+use Rattle.vm_attempt.specs.Arrivals.{AllFound, FindsProposal, IsOfKept, arriving, kept_after, kept_behind}
+use Rattle.vm_attempt.specs.Blames.{kept_fault, acknowledgement_body_fault}
 use Rattle.vm_attempt.specs.Honest.{Further, further_frame, further_message}
 use Rattle.vm_attempt.specs.Honest.Further.{Acknowledges, Notifies}
 use Rattle.vm_attempt.proofs.Entries.{not_both}
@@ -71,7 +71,7 @@ all_append : (P : RawMessage → Type 0) (xs ys : List RawMessage) → AllByRecu
 all_append P [] ys a b = b
 all_append P (x ∷ xs) ys a b = (a.0, all_append P xs ys a.1 b)
 
-entries_fit : (journal : List Entry) → AllByRecursion IsEntry journal → AllByRecursion Fits (map entry_frame journal)
+entries_fit : (journal : List Entry) → AllByRecursion CanBeFed journal → AllByRecursion Fits (map entry_frame journal)
 entries_fit [] all = tt
 entries_fit (Recorded raw ∷ journal) all = (all.0.1, entries_fit journal all.1)
 entries_fit (Notified n ∷ journal) all = (all.0.1, entries_fit journal all.1)
@@ -112,7 +112,7 @@ reads_note : (n : Notification) → IsWhole (message.Notification n) → notific
 reads_note n whole = notification_read n whole.0
 
 -- the journal is what its frames are read as
-journal_read : (journal : List Entry) → AllByRecursion IsEntry journal → as_entries (map entry_frame journal) ≡ journal
+journal_read : (journal : List Entry) → AllByRecursion CanBeFed journal → as_entries (map entry_frame journal) ≡ journal
 journal_read [] all = refl
 journal_read (Recorded raw ∷ journal) all =
     (λ i. recorded_by (all.0.0 i) raw (cond (not_thirty (type_number raw.ty) all.0.0 i) (told_by (notification_in raw.body) (as_entries (map entry_frame journal))) (as_entries (map entry_frame journal))))
@@ -121,7 +121,7 @@ journal_read (Notified n ∷ journal) all =
     ap (λ o. told_by o (as_entries (map entry_frame journal))) (reads_note n all.0) ∙ ap (λ l. Notified n ∷ l) (journal_read journal all.1)
 
 -- no frame of them is an acknowledgement
-entries_acknowledge : (journal : List Entry) → AllByRecursion IsEntry journal → AllByRecursion AcknowledgesNothing (map entry_frame journal)
+entries_acknowledge : (journal : List Entry) → AllByRecursion CanBeFed journal → AllByRecursion AcknowledgesNothing (map entry_frame journal)
 entries_acknowledge [] all = tt
 entries_acknowledge (Recorded raw ∷ journal) all = (not_both (type_number raw.ty) 6 refl all.0.0, entries_acknowledge journal all.1)
 entries_acknowledge (Notified n ∷ journal) all = (refl, entries_acknowledge journal all.1)
@@ -134,13 +134,13 @@ acknowledgement_read a v = all_read propose_run_completion_ack_format a (propose
 
 -- a frame that is taken while known entries are missing, and one that is taken behind them
 abbrev TakenAsEntry : RawMessage → Type 0
-TakenAsEntry raw = frame_fault WaitingReplayEntries raw ≡ None
+TakenAsEntry raw = phase_fault WaitingReplayEntries raw ≡ None
 
 record TakenBehind (raw : RawMessage) : Type 0 where
-  replaying : is_acknowledgement raw ≡ false → frame_fault Replaying raw ≡ None
-  processing : is_acknowledgement raw ≡ false → frame_fault Processing raw ≡ None
+  replaying : is_acknowledgement raw ≡ false → phase_fault Replaying raw ≡ None
+  processing : is_acknowledgement raw ≡ false → phase_fault Processing raw ≡ None
 
-entries_taken : (journal : List Entry) → AllByRecursion IsEntry journal → AllByRecursion TakenAsEntry (map entry_frame journal)
+entries_taken : (journal : List Entry) → AllByRecursion CanBeFed journal → AllByRecursion TakenAsEntry (map entry_frame journal)
 entries_taken [] all = tt
 entries_taken (Recorded raw ∷ journal) all =
     ((λ i. fault_by [] WaitingReplayEntries raw (other_number (type_number raw.ty) all.0.0 i) (all.0.0 i) (is_notification raw) (is_acknowledgement raw)), entries_taken journal all.1)
@@ -162,7 +162,7 @@ further_readable [] all = tt
 further_readable (Notifies n ∷ more) all = ((λ is. absurd (cc)), further_readable more all.1)
 further_readable (Acknowledges a ∷ more) all = ((λ _. subst IsSome (sym (acknowledgement_read a all.0.0)) refl), further_readable more all.1)
 
-entries_readable : (journal : List Entry) → AllByRecursion IsEntry journal → AllByRecursion IsReadable (map entry_frame journal)
+entries_readable : (journal : List Entry) → AllByRecursion CanBeFed journal → AllByRecursion IsReadable (map entry_frame journal)
 entries_readable [] all = tt
 entries_readable (Recorded raw ∷ journal) all = ((λ is. absurd (let z : false ≡ true = sym (not_both (type_number raw.ty) 6 refl all.0.0) ∙ is in cc)), entries_readable journal all.1)
 entries_readable (Notified n ∷ journal) all = ((λ is. absurd (cc)), entries_readable journal all.1)
@@ -176,7 +176,7 @@ found_at : (kept : List KeptProposal) (before : List RawMessage) (raw : RawMessa
 found_at kept [] raw rest all = all.0
 found_at kept (b ∷ before) raw rest all = found_at (kept_behind kept b) before raw rest all.1
 
-taken_fault : (kept : List KeptProposal) (ack : Option ProposeRunCompletionAck) → IsSome ack → IsFound kept ack → read_fault kept ack ≡ None
+taken_fault : (kept : List KeptProposal) (ack : Option ProposeRunCompletionAck) → IsSome ack → IsOfKept kept ack → acknowledgement_body_fault kept ack ≡ None
 taken_fault kept None readable found = absurd (cc)
 taken_fault kept (Some ack) readable found = by_kept (find (is_for ack.id) kept) found
   where
@@ -240,7 +240,7 @@ module _ (fixed : Fixed) (fed : Heard) (h : FeedsHonestly fixed fed) where
   same_start : (first : RawMessage) (st : Start) → first ≡ S → start_in first.body ≡ Some st → st ≡ h.start
   same_start first st is reads = same_Some st h.start (sym reads ∙ ap (λ (raw : RawMessage). start_in raw.body) is ∙ reads_start)
 
-  start_taken : frame_fault WaitingStart S ≡ None
+  start_taken : phase_fault WaitingStart S ≡ None
   start_taken =
       ap start_fault reads_start ∙ ap (refused_start h.start) h.reads_state
       ∙ (λ i. if (ap (λ n. n == 0) h.known ∙ some_entries h.journal h.history.first h.history.rest h.history.begins) i then Some fault.KnownEntriesIsZero else None)
@@ -254,7 +254,7 @@ module _ (fixed : Fixed) (fed : Heard) (h : FeedsHonestly fixed fed) where
       no_more n l j e known a b c d = omega (arith, a, b, c, d)
 
   -- the frame behind these, where Start is the first
-  behind_start : (others : List RawMessage) (raw : RawMessage) (rest : List RawMessage) → J ++ N ≡ others ++ raw ∷ rest → (phase : Phase) (k : ℕ) → Place phase k (S ∷ others) → is_acknowledgement raw ≡ false → frame_fault phase raw ≡ None
+  behind_start : (others : List RawMessage) (raw : RawMessage) (rest : List RawMessage) → J ++ N ≡ others ++ raw ∷ rest → (phase : Phase) (k : ℕ) → Place phase k (S ∷ others) → is_acknowledgement raw ≡ false → phase_fault phase raw ≡ None
   behind_start others raw rest is WaitingStart k p other = absurd (cc)
   behind_start others raw rest is WaitingReplayEntries k p other =
       among_first TakenAsEntry J N others raw rest is
@@ -268,8 +268,8 @@ module _ (fixed : Fixed) (fed : Heard) (h : FeedsHonestly fixed fed) where
   behind_start others raw rest is Closed k p other = absurd p
 
   -- each frame that was fed is taken in its place
-  placed : (before : List RawMessage) (raw : RawMessage) (rest : List RawMessage) → S ∷ (J ++ N) ≡ before ++ raw ∷ rest → (phase : Phase) (k : ℕ) → Place phase k before → is_acknowledgement raw ≡ false → frame_fault phase raw ≡ None
-  placed [] raw rest is WaitingStart k p other = subst (λ r. frame_fault WaitingStart r ≡ None) (head_same S raw (J ++ N) rest is) start_taken
+  placed : (before : List RawMessage) (raw : RawMessage) (rest : List RawMessage) → S ∷ (J ++ N) ≡ before ++ raw ∷ rest → (phase : Phase) (k : ℕ) → Place phase k before → is_acknowledgement raw ≡ false → phase_fault phase raw ≡ None
+  placed [] raw rest is WaitingStart k p other = subst (λ r. phase_fault WaitingStart r ≡ None) (head_same S raw (J ++ N) rest is) start_taken
   placed [] raw rest is WaitingReplayEntries k p other = no_frames p.first p.others p.is
   placed [] raw rest is Replaying k p other = no_frames p.first p.others p.is
   placed [] raw rest is Processing k p other = no_frames p.first p.others p.is
@@ -289,7 +289,7 @@ module _ (fixed : Fixed) (fed : Heard) (h : FeedsHonestly fixed fed) where
       let quiet = entries_acknowledge h.journal h.journal_is_whole in
       found_append fed.proposed J N (none_found fed.proposed J quiet) (subst (λ ps. AllFound ps N) (sym (kept_all fed.proposed J quiet)) h.found)
 
-  finds : (before : List RawMessage) (raw : RawMessage) (rest : List RawMessage) → S ∷ (J ++ N) ≡ before ++ raw ∷ rest → is_acknowledgement raw ≡ true → read_fault (kept_after fed.proposed (behind before)) (acknowledgement_in raw.body) ≡ None
+  finds : (before : List RawMessage) (raw : RawMessage) (rest : List RawMessage) → S ∷ (J ++ N) ≡ before ++ raw ∷ rest → is_acknowledgement raw ≡ true → acknowledgement_body_fault (kept_after fed.proposed (behind before)) (acknowledgement_in raw.body) ≡ None
   finds [] raw rest is acknowledges = absurd (let z : false ≡ true = ap is_acknowledgement (head_same S raw (J ++ N) rest is) ∙ acknowledges in cc)
   finds (b ∷ before) raw rest is acknowledges =
       let tail = tail_same S b (J ++ N) (before ++ raw ∷ rest) is in
@@ -315,7 +315,7 @@ module _ (fixed : Fixed) (fed : Heard) (h : FeedsHonestly fixed fed) where
   -- of the run over all.
   abbrev Along : Journal fed → Type 0
   Along j = (more : List Notification) × (arrivals j ++ more ≡ all_notes) × (j.rest ≡ h.history.rest)
-      × ((n : ℕ) (made : List RawMessage) (p : Point) → Made (setup_for fixed j.start) fixed.handler (Handed (handed_out j)) n (begun fixed j) made p → Made (setup_for fixed h.start) fixed.handler (Handed given) n (first_point (setup_for fixed h.start) h.history.input all_notes h.history.rest) made (later more p))
+      × ((n : ℕ) (made : List RawMessage) (p : Point) → Made (setup_for fixed j.start) fixed.handler (Handed (start_state j)) n (begun fixed j) made p → Made (setup_for fixed h.start) fixed.handler (Handed given) n (first_point (setup_for fixed h.start) h.history.input all_notes h.history.rest) made (later more p))
 
   along : (j : Journal fed) → Along j
   along j =
@@ -343,7 +343,7 @@ module _ (fixed : Fixed) (fed : Heard) (h : FeedsHonestly fixed fed) where
             subst
             (λ (x : Start × List (List ℕ × Option (List ℕ)) × InputCommand × List Notification × List RawMessage). Made (setup_for fixed x.0) fixed.handler (Handed (record { entries = x.1; coverage = coverage_of x.0.partial })) n (first_point (setup_for fixed x.0) x.2 x.3 x.4) made (later more p))
             (λ i. (same i, state i, input i, notes i, rest i))
-            (made_later (setup_for fixed j.start) fixed.handler (Handed (handed_out j)) more n (begun fixed j) made p run),
+            (made_later (setup_for fixed j.start) fixed.handler (Handed (start_state j)) more n (begun fixed j) made p run),
       )
 
   none_two : NoneHasTwo fixed fed

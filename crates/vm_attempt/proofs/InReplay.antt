@@ -24,7 +24,7 @@ use Rattle.vm_steps.specs.declared.progress.Reply.TheVariants as reply
 use Rattle.vm_steps.specs.Record.{Record, heard}
 use Rattle.vm_steps.specs.Stepping.{Asks, CloseDoes, FeedDoes, IsReplaying, StepDoes, Takes, future_in, replied, step_asked}
 use Rattle.vm_attempt.specs.Journals.{setup_for}
-use Rattle.vm_attempt.specs.Told.{AnswersAreTold, BeforeInput, Came, InReplay, IsKeptInReplay, IsLive, ReplayPremises, Replays, Runs, bytes_fed, frames_fed, handed_out}
+use Rattle.vm_attempt.specs.Told.{AnswersAreTold, BeforeInput, JournalCame, InReplay, IsKeptInReplay, IsLive, ReplayPremises, AnswersInReplay, HandlerRuns, bytes_fed, frames_fed, start_state}
 use Rattle.vm_attempt.proofs.Advanced.{kept_told, reads_done, runs_of, step_replays, steps_keep}
 use Rattle.vm_attempt.proofs.Coming.{asks_come, reads_come}
 use Rattle.vm_attempt.proofs.Kept.{KeptBy, Lasts, close_keeps, feed_keeps, take_keeps}
@@ -39,7 +39,7 @@ use Rattle.vm_attempt.specs.Fixed.{Fixed}
 -- ---- it lasts
 
 -- a piece changes no phase in which the handler runs, unless it fails the VM
-same_phase : (fed : Heard) (v : View) (f : Fed) (fixed : Fixed) (answers : List Answer) (taken : List (List ℕ)) → Came fixed fed answers taken v → (live : IsLive v.machine) → (after_input v f.piece).machine.failure ≡ None → (after_input v f.piece).machine.phase ≡ v.machine.phase
+same_phase : (fed : Heard) (v : View) (f : Fed) (fixed : Fixed) (answers : List Answer) (taken : List (List ℕ)) → JournalCame fixed fed answers taken v → (live : IsLive v.machine) → (after_input v f.piece).machine.failure ≡ None → (after_input v f.piece).machine.phase ≡ v.machine.phase
 same_phase fed v f fixed answers taken k live alive =
     let G = (frames_of (v.undecoded ++ f.piece)).0 in
     let is = (took_in fed f v live.failure (k.tail live) alive).0.machine in
@@ -80,7 +80,7 @@ asks_stay m old result new live at (x, w, does, is, made) = subst StaysOut (sym 
 
 module _ (fixed : Fixed) where
   -- while recorded commands are left no completion has two results
-  none_two : (r : Record) → ReplayPremises fixed (heard fixed.version r) → (k : Runs fixed (heard fixed.version r) r.answers r.waiting r.taken r.vm) → IsLive r.vm.machine → r.vm.machine.phase ≡ Replaying → HasNoTwo k.at
+  none_two : (r : Record) → ReplayPremises fixed (heard fixed.version r) → (k : HandlerRuns fixed (heard fixed.version r) r.answers r.waiting r.taken r.vm) → IsLive r.vm.machine → r.vm.machine.phase ≡ Replaying → HasNoTwo k.at
   none_two r p k live at =
       p.once k.journal k.moves k.written k.at k.run
       (λ none. absurd (let z : Replaying ≡ Processing = sym at ∙ ap (λ (v : Machine). v.phase) (k.agrees live).machine ∙ ap phase_after none in cc))
@@ -89,10 +89,10 @@ module _ (fixed : Fixed) where
   asks_in_replay old result new p k live a =
       ⊎_elim
       (λ (b : BeforeInput fixed (heard fixed.version new) new.answers new.waiting new.taken new.vm). inl b)
-      (λ (c : Came fixed (heard fixed.version new) new.answers new.taken new.vm). inr (record { came = c; run = λ alive at. by_phase old.vm.machine.phase refl c alive at }))
+      (λ (c : JournalCame fixed (heard fixed.version new) new.answers new.taken new.vm). inr (record { came = c; run = λ alive at. by_phase old.vm.machine.phase refl c alive at }))
       (asks_come fixed old result new k.came live a)
     where
-      by_phase : (ph : Phase) → old.vm.machine.phase ≡ ph → Came fixed (heard fixed.version new) new.answers new.taken new.vm → new.vm.machine.failure ≡ None → new.vm.machine.phase ≡ Replaying → Runs fixed (heard fixed.version new) new.answers new.waiting new.taken new.vm
+      by_phase : (ph : Phase) → old.vm.machine.phase ≡ ph → JournalCame fixed (heard fixed.version new) new.answers new.taken new.vm → new.vm.machine.failure ≡ None → new.vm.machine.phase ≡ Replaying → HandlerRuns fixed (heard fixed.version new) new.answers new.waiting new.taken new.vm
       by_phase Replaying is c alive at =
           let run = k.run live.failure is in
           runs_of fixed new (asks_keep fixed old result new p.queues run (none_two old p run live is) live a) c.answered
@@ -123,7 +123,7 @@ module _ (fixed : Fixed) where
         queues = p.queues;
         once = λ j n made q run some.
             fewer_waiting q (more_arrivals j G.0)
-            (p.once (journal_to fed (fed.pieces ++ f ∷ []) G.0 frames j) n made (later (more_arrivals j G.0) q) (run_to (setup_for fixed j.start) fixed.handler (Handed (handed_out j)) fed j G.0 n made q run) some);
+            (p.once (journal_to fed (fed.pieces ++ f ∷ []) G.0 frames j) n made (later (more_arrivals j G.0) q) (run_to (setup_for fixed j.start) fixed.handler (Handed (start_state j)) fed j G.0 n made q run) some);
       }
 
   premises_of : (old new : Heard) → Grows old new → ReplayPremises fixed new → ReplayPremises fixed old
@@ -144,14 +144,14 @@ module _ (fixed : Fixed) where
 
   -- ---- what is said of a handler that is replaying
 
-  runs_in_replay : (r : Record) → IsKeptInReplay fixed r → ReplayPremises fixed (heard fixed.version r) → IsReplaying r → Runs fixed (heard fixed.version r) r.answers r.waiting r.taken r.vm
+  runs_in_replay : (r : Record) → IsKeptInReplay fixed r → ReplayPremises fixed (heard fixed.version r) → IsReplaying r → HandlerRuns fixed (heard fixed.version r) r.answers r.waiting r.taken r.vm
   runs_in_replay r u p is =
       ⊎_elim
       (λ (b : BeforeInput fixed (heard fixed.version r) r.answers r.waiting r.taken r.vm). absurd (is.runs b.answers))
       (λ (k : InReplay fixed (heard fixed.version r) r.answers r.waiting r.taken r.vm). k.run is.failure is.phase)
       (u p)
 
-  pub replays_in_replay : (old : Record) (result : Result Progress Error) (new : Record) → IsKeptInReplay fixed old → IsReplaying old → ReplayPremises fixed (heard fixed.version old) → StepDoes fixed.handler old result new → Replays fixed old result new
+  pub replays_in_replay : (old : Record) (result : Result Progress Error) (new : Record) → IsKeptInReplay fixed old → IsReplaying old → ReplayPremises fixed (heard fixed.version old) → StepDoes fixed.handler old result new → AnswersInReplay fixed old result new
   replays_in_replay old result new u is p does =
       let run = runs_in_replay old u p is in
       step_replays fixed old result new p.queues run (none_two old p run (record { failure = is.failure; phase = ap is_running is.phase }) is.phase) is does

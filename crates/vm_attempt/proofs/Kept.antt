@@ -24,7 +24,7 @@ use Rattle.invocation_vm.proofs.Cuts.{frames_of-append}
 use Rattle.vm_steps.specs.Heard.{Heard, and_piece, with_pieces}
 use Rattle.vm_steps.specs.declared.progress.Fed.{Fed}
 use Rattle.vm_attempt.specs.Agreement.{Aside}
-use Rattle.vm_attempt.specs.Journals.{HasAll, StillWaits, is_command, is_ephemeral, is_notification, setup_for, is_acknowledgement}
+use Rattle.vm_attempt.specs.Journals.{HasAll, StillWaits, is_command_frame, is_ephemeral, is_notification, setup_for, is_acknowledgement}
 use Rattle.vm_steps.specs.Record.{Record, heard}
 use Rattle.vm_steps.specs.Stepping.{CloseDoes, Closes, FeedDoes, Feeds, Takes, emptied, kept, kept_at, with_vm}
 use Rattle.vm_parts.specs.Outboxes.{WholeFrames}
@@ -68,8 +68,8 @@ closed_received raw v closed = by_option v.failure refl
     by_option (Some e) is = ap (λ w. w.phase) (failed_receives e v raw is) ∙ closed
     by_option None is =
         ap (λ w. w.phase) (receives_by v raw is)
-        ∙ ap (λ ph. (left_by (settled (message_by raw ph v (type_number raw.ty == 1) (is_command raw) (is_notification raw) (is_acknowledgement raw)))).phase) closed
-        ∙ closed_by raw v (type_number raw.ty == 1) (is_command raw) (is_notification raw) (is_acknowledgement raw)
+        ∙ ap (λ ph. (left_by (settled (message_by raw ph v (type_number raw.ty == 1) (is_command_frame raw) (is_notification raw) (is_acknowledgement raw)))).phase) closed
+        ∙ closed_by raw v (type_number raw.ty == 1) (is_command_frame raw) (is_notification raw) (is_acknowledgement raw)
         ∙ closed
 
 closed_spoiled : (v : Machine) → v.phase ≡ Closed → (spoiled v).phase ≡ Closed

@@ -20,7 +20,7 @@ use Rattle.vm_attempt.specs.Agreement.{Agrees}
 use Rattle.vm_attempt.specs.Journals.{setup_for}
 use Rattle.vm_steps.specs.Stepping.{emptied}
 use Rattle.vm_parts.specs.Outboxes.{WholeFrames}
-use Rattle.vm_attempt.specs.Told.{IsLive, Quiet, Runs, frames_fed, handed_out, Came}
+use Rattle.vm_attempt.specs.Told.{IsLive, Quiet, HandlerRuns, frames_fed, start_state, JournalCame}
 use Rattle.vm_attempt.proofs.Pieces.{fed_frames, journal_to, keeps_more, more_arrivals, not_failed, run_to, running_fed, still_awaits, took_in}
 use Rattle.vm_attempt.proofs.Quiet.{input_quiet, wrote_quiet}
 use Rattle.vm_attempt.specs.Blames.{FailsAt}
@@ -33,14 +33,14 @@ use Rattle.vm_attempt.specs.Fixed.{Fixed}
 
 -- ---- its run is told
 
-runs_dead : (fixed : Fixed) (fed : Heard) (to : List Fed) (G : List RawMessage) → frames_fed (with_pieces to fed) ≡ frames_fed fed ++ G → (answers : List Answer) (waiting : Option UnresolvedFuture) (taken : List (List ℕ)) (v w : View) → Runs fixed fed answers waiting taken v → Quiet v.machine w.machine → IsSome w.machine.failure → Runs fixed (with_pieces to fed) answers waiting taken w
+runs_dead : (fixed : Fixed) (fed : Heard) (to : List Fed) (G : List RawMessage) → frames_fed (with_pieces to fed) ≡ frames_fed fed ++ G → (answers : List Answer) (waiting : Option UnresolvedFuture) (taken : List (List ℕ)) (v w : View) → HandlerRuns fixed fed answers waiting taken v → Quiet v.machine w.machine → IsSome w.machine.failure → HandlerRuns fixed (with_pieces to fed) answers waiting taken w
 runs_dead fixed fed to G frames answers waiting taken v w k q dead = record {
   journal = journal_to fed to G frames k.journal;
   written = k.written;
   wrote = wrote_quiet taken v.machine w.machine k.written q k.wrote;
   at = later (more_arrivals k.journal G) k.at;
   moves = k.moves;
-  run = run_to (setup_for fixed k.journal.start) fixed.handler (Handed (handed_out k.journal)) fed k.journal G k.moves k.written k.at k.run;
+  run = run_to (setup_for fixed k.journal.start) fixed.handler (Handed (start_state k.journal)) fed k.journal G k.moves k.written k.at k.run;
   answers = k.answers;
   awaits = still_awaits fixed.handler k.at (more_arrivals k.journal G) waiting k.awaits;
   agrees = λ alive. not_failed w.machine dead alive.failure;
@@ -51,7 +51,7 @@ runs_dead fixed fed to G frames answers waiting taken v w k q dead = record {
 }
 
 -- a run whose VM is closed, and stays so
-pub runs_closed : (fixed : Fixed) (fed : Heard) (answers : List Answer) (waiting : Option UnresolvedFuture) (taken : List (List ℕ)) (v w : View) → Runs fixed fed answers waiting taken v → Quiet v.machine w.machine → w.machine.phase ≡ Closed → Runs fixed fed answers waiting taken w
+pub runs_closed : (fixed : Fixed) (fed : Heard) (answers : List Answer) (waiting : Option UnresolvedFuture) (taken : List (List ℕ)) (v w : View) → HandlerRuns fixed fed answers waiting taken v → Quiet v.machine w.machine → w.machine.phase ≡ Closed → HandlerRuns fixed fed answers waiting taken w
 runs_closed fixed fed answers waiting taken v w k q closed = record {
   journal = k.journal;
   written = k.written;
@@ -74,7 +74,7 @@ agrees_emptied s given written v p a = record { aside = record a.aside { output 
 agrees_closed : (s : Setup) (given : StateMap) (written : List RawMessage) (v : Machine) (p : Point) → Agrees s given written v p → Agrees s given written (record v { input_closed = true }) p
 agrees_closed s given written v p a = record { aside = record a.aside { input_closed = true }; machine = ap (λ (w : Machine). record w { input_closed = true }) a.machine; identity = a.identity }
 
-runs_takes : (fixed : Fixed) (fed : Heard) (answers : List Answer) (waiting : Option UnresolvedFuture) (taken : List (List ℕ)) (v : View) → WholeFrames v.machine.output → Runs fixed fed answers waiting taken v → Runs fixed fed answers waiting (taken ++ concat v.machine.output ∷ []) (emptied v)
+runs_takes : (fixed : Fixed) (fed : Heard) (answers : List Answer) (waiting : Option UnresolvedFuture) (taken : List (List ℕ)) (v : View) → WholeFrames v.machine.output → HandlerRuns fixed fed answers waiting taken v → HandlerRuns fixed fed answers waiting (taken ++ concat v.machine.output ∷ []) (emptied v)
 runs_takes fixed fed answers waiting taken v f k = record {
   journal = k.journal;
   written = k.written;
@@ -84,14 +84,14 @@ runs_takes fixed fed answers waiting taken v f k = record {
   run = k.run;
   answers = k.answers;
   awaits = k.awaits;
-  agrees = λ live. agrees_emptied (setup_for fixed k.journal.start) (handed_out k.journal) k.written v.machine k.at (k.agrees (record { failure = live.failure; phase = live.phase }));
+  agrees = λ live. agrees_emptied (setup_for fixed k.journal.start) (start_state k.journal) k.written v.machine k.at (k.agrees (record { failure = live.failure; phase = live.phase }));
   rests = λ live. k.rests (record { failure = live.failure; phase = live.phase });
   keeps = λ live. k.keeps (record { failure = live.failure; phase = live.phase });
   phase = k.phase;
   tail = λ live. k.tail (record { failure = live.failure; phase = live.phase });
 }
 
-runs_closes : (fixed : Fixed) (fed : Heard) (answers : List Answer) (waiting : Option UnresolvedFuture) (taken : List (List ℕ)) (v : View) → Runs fixed fed answers waiting taken v → Runs fixed fed answers waiting taken (record v { machine = record v.machine { input_closed = true } })
+runs_closes : (fixed : Fixed) (fed : Heard) (answers : List Answer) (waiting : Option UnresolvedFuture) (taken : List (List ℕ)) (v : View) → HandlerRuns fixed fed answers waiting taken v → HandlerRuns fixed fed answers waiting taken (record v { machine = record v.machine { input_closed = true } })
 runs_closes fixed fed answers waiting taken v k = record {
   journal = k.journal;
   written = k.written;
@@ -101,7 +101,7 @@ runs_closes fixed fed answers waiting taken v k = record {
   run = k.run;
   answers = k.answers;
   awaits = k.awaits;
-  agrees = λ live. agrees_closed (setup_for fixed k.journal.start) (handed_out k.journal) k.written v.machine k.at (k.agrees (record { failure = live.failure; phase = live.phase }));
+  agrees = λ live. agrees_closed (setup_for fixed k.journal.start) (start_state k.journal) k.written v.machine k.at (k.agrees (record { failure = live.failure; phase = live.phase }));
   rests = λ live. k.rests (record { failure = live.failure; phase = live.phase });
   keeps = λ live. k.keeps (record { failure = live.failure; phase = live.phase });
   phase = k.phase;
@@ -109,7 +109,7 @@ runs_closes fixed fed answers waiting taken v k = record {
 }
 
 -- the run of a handler lasts
-pub runs_last : (fixed : Fixed) → Lasts (Runs fixed)
+pub runs_last : (fixed : Fixed) → Lasts (HandlerRuns fixed)
 runs_last fixed = record {
   dead = runs_dead fixed;
   closed = runs_closed fixed;
@@ -123,7 +123,7 @@ runs_last fixed = record {
 
 -- what came, as a reading of an attempt
 abbrev pub CameBy : Fixed → Reading
-CameBy fixed fed answers waiting taken vm = Came fixed fed answers taken vm
+CameBy fixed fed answers waiting taken vm = JournalCame fixed fed answers taken vm
 
 came_dead : (fixed : Fixed) (fed : Heard) (to : List Fed) (G : List RawMessage) → frames_fed (with_pieces to fed) ≡ frames_fed fed ++ G → (answers : List Answer) (waiting : Option UnresolvedFuture) (taken : List (List ℕ)) (v w : View) → CameBy fixed fed answers waiting taken v → Quiet v.machine w.machine → IsSome w.machine.failure → CameBy fixed (with_pieces to fed) answers waiting taken w
 came_dead fixed fed to G frames answers waiting taken v w k q dead = record {

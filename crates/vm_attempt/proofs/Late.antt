@@ -26,10 +26,10 @@ use Rattle.vm_steps.specs.declared.progress.Reply.{Reply}
 use Rattle.vm_steps.specs.declared.progress.Reply.TheVariants as reply
 use Rattle.vm_attempt.specs.Blames.{BadFrame, Began, BehindEnd, Blame, FailsAt, IfError, IsBlamed, IsLate, LateBy, fault_by, fault_among, unknown_fault}
 use Rattle.vm_attempt.specs.Blames.Blame.{Memory, Frame, NoFrame}
-use Rattle.vm_attempt.specs.Journals.{is_command, is_ephemeral, is_notification, is_acknowledgement}
+use Rattle.vm_attempt.specs.Journals.{is_command_frame, is_ephemeral, is_notification, is_acknowledgement}
 use Rattle.vm_steps.specs.Record.{Record, Said, heard, all_heard, all_said}
 use Rattle.vm_steps.specs.Stepping.{Advances, Asks, CloseDoes, Closes, FeedDoes, Feeds, LacksMemory, Reads, StepAt, StepDoes, StepFrom, StepUnless, Takes, fed_now, future_in, kept, kept_at, replied, step_asked, taken_from, with_vm}
-use Rattle.vm_attempt.specs.Told.{BeforeInput, Came, HasCome, IsKeptUnder, IsLive, bytes_fed, frames_fed}
+use Rattle.vm_attempt.specs.Told.{BeforeInput, JournalCame, HasCome, IsKeptUnder, IsLive, bytes_fed, frames_fed}
 use Rattle.vm_attempt.proofs.Blamed.{closed_blame, closed_now, closing_at, closing_not, none_some, spoils, spoils_not}
 use Rattle.vm_attempt.proofs.Blaming.{frames_fit}
 use Rattle.vm_attempt.proofs.Erring.{Errs, step_blames, step_errs}
@@ -69,7 +69,7 @@ late_frame fixed fed to G frames v m e made closed b f is = record {
   place = began_more (frames_fed fed) f.before b;
   late = inr refl;
   why = f.why;
-  reason = closed_fault (all_received f.before v).proposals _ f.raw (type_number f.raw.ty == 1) (is_command f.raw) (is_notification f.raw) (is_acknowledgement f.raw) f.why (subst (λ ph. fault_among (all_received f.before v).proposals ph f.raw ≡ Some f.why) (closed_all f.before v closed) f.reason);
+  reason = closed_fault (all_received f.before v).proposals _ f.raw (type_number f.raw.ty == 1) (is_command_frame f.raw) (is_notification f.raw) (is_acknowledgement f.raw) f.why (subst (λ ph. fault_among (all_received f.before v).proposals ph f.raw ≡ Some f.why) (closed_all f.before v closed) f.reason);
   error = same_Some e _ (sym is ∙ f.failure) ∙ λ i. ruled_by (made.0 i) (made.1 i) (named_error f.why None);
 }
 
@@ -243,7 +243,7 @@ take_late fixed old (Err e) new k does = subst (IsLate fixed) (sym does) k
 -- ---- a step
 
 -- by this call the attempt is over
-ends_behind : (fixed : Fixed) (r : Record) (w : View) → Came fixed (heard fixed.version r) r.answers r.taken r.vm → IsLive r.vm.machine → r.late ≡ [] → w.undecoded ≡ r.vm.undecoded → w.machine.failure ≡ r.vm.machine.failure → w.machine.phase ≡ Closed → w.machine.version ≡ r.vm.machine.version → w.machine.options ≡ r.vm.machine.options → BehindEnd fixed (all_heard fixed.version r) (all_said r) r.answers w
+ends_behind : (fixed : Fixed) (r : Record) (w : View) → JournalCame fixed (heard fixed.version r) r.answers r.taken r.vm → IsLive r.vm.machine → r.late ≡ [] → w.undecoded ≡ r.vm.undecoded → w.machine.failure ≡ r.vm.machine.failure → w.machine.phase ≡ Closed → w.machine.version ≡ r.vm.machine.version → w.machine.options ≡ r.vm.machine.options → BehindEnd fixed (all_heard fixed.version r) (all_said r) r.answers w
 ends_behind fixed r w c live none und failure at ver opt =
     let j = c.journal in
     let made = c.made_for live in
@@ -260,7 +260,7 @@ ends_behind fixed r w c live none und failure at ver opt =
     enough : (a c n known : ℕ) → a ≡ known → n ≡ a + c → known ≤ n
     enough a c n known e f = omega (arith, e, f)
 
-asks_late : (fixed : Fixed) (old : Record) (result : Result Progress Error) (new : Record) → Came fixed (heard fixed.version old) old.answers old.taken old.vm → IsLive old.vm.machine → old.over ≡ None → old.late ≡ [] → Asks fixed.handler old result new → IsLate fixed new
+asks_late : (fixed : Fixed) (old : Record) (result : Result Progress Error) (new : Record) → JournalCame fixed (heard fixed.version old) old.answers old.taken old.vm → IsLive old.vm.machine → old.over ≡ None → old.late ≡ [] → Asks fixed.handler old result new → IsLate fixed new
 asks_late fixed old result new c live going none (x, w, does, is, made) = subst (IsLate fixed) (sym is) (by_reply x (step_leaves (step_asked fixed.handler old) old.vm.machine live x w.machine does.0.0))
   where
     on : (r : Record) → r.over ≡ old.over → r.late ≡ old.late → IsLate fixed r
@@ -288,7 +288,7 @@ advances_late fixed old result new k live going l none =
     (λ (x : (old.answers ≢ []) × Asks fixed.handler old result new).
     ⊎_elim
     (λ (y : BeforeInput fixed (heard fixed.version old) old.answers old.waiting old.taken old.vm). absurd (x.0 y.answers))
-    (λ (y : Came fixed (heard fixed.version old) old.answers old.taken old.vm). asks_late fixed old result new y live going none x.1)
+    (λ (y : JournalCame fixed (heard fixed.version old) old.answers old.taken old.vm). asks_late fixed old result new y live going none x.1)
     k)
     o)
 

@@ -23,7 +23,7 @@ use Rattle.vm_model.proofs.Parts.{IsOfOne, next_keeps}
 use Rattle.vm_model.proofs.Runs.{made_spent, next_spent}
 use Rattle.vm_model.specs.Refusals.{IsRefusedFor}
 use Rattle.vm_steps.specs.declared.progress.Reply.TheVariants as reply
-use Rattle.vm_attempt.specs.Agreement.{Aside, Beside, Follows, MovesOn, command_frames, machine_at}
+use Rattle.vm_attempt.specs.Agreement.{Aside, Beside, CallFollows, MovesOn, command_frames, machine_at}
 use Rattle.vm_steps.specs.Steps.{mapped}
 
 -- what stands aside, with these frames written
@@ -99,7 +99,7 @@ made_or_spent s m K (suc n) p made q (state, r, rest, knows, is, moves, further)
 
 -- a call whose outcome is what its move leads to
 pub follows_from : {A : Type 0} (s : Setup) (m : Meaning) (given : StateMap) (written : List RawMessage) (aside : Aside) (p : Point) (gives : A → Answer) (mv : Move) (o : Outcome A) → s.identity ≡ identity_of aside.start → IsOfOne (ask_of s.version (m p.answers)) → move_at s m p ≡ mv
-    → Leads s given written aside p mv p.left (supply (state_at given p) mv p.left) (λ a. gives a ∷ []) (moved mv (longer (supply (state_at given p) mv p.left) p)) o → Follows s m given written p (machine_at s given written aside p) (mapped (λ a. reply.Answer (gives a)) (called o (machine_at s given written aside p)))
+    → Leads s given written aside p mv p.left (supply (state_at given p) mv p.left) (λ a. gives a ∷ []) (moved mv (longer (supply (state_at given p) mv p.left) p)) o → CallFollows s m given written p (machine_at s given written aside p) (mapped (λ a. reply.Answer (gives a)) (called o (machine_at s given written aside p)))
 unfolding called
 follows_from s m given written aside p gives mv o identity one is h = by_cases (moved mv (longer (supply (state_at given p) mv p.left) p)) refl o h
   where
@@ -109,7 +109,7 @@ follows_from s m given written aside p gives mv o identity one is h = by_cases (
     leads : (to : Option Point) → moved mv (longer (supply (state_at given p) mv p.left) p) ≡ to → next s m (longer (supplied s m (state_at given p) p) p) ≡ to
     leads to e = ap (λ l. next s m (longer l p)) supplies ∙ ap (λ x. moved x (longer (supply (state_at given p) mv p.left) p)) is ∙ e
 
-    by_cases : (to : Option Point) → moved mv (longer (supply (state_at given p) mv p.left) p) ≡ to → (x : Outcome _) → Leads s given written aside p mv p.left (supply (state_at given p) mv p.left) (λ a. gives a ∷ []) to x → Follows s m given written p (machine_at s given written aside p) (mapped (λ a. reply.Answer (gives a)) (called x (machine_at s given written aside p)))
+    by_cases : (to : Option Point) → moved mv (longer (supply (state_at given p) mv p.left) p) ≡ to → (x : Outcome _) → Leads s given written aside p mv p.left (supply (state_at given p) mv p.left) (λ a. gives a ∷ []) to x → CallFollows s m given written p (machine_at s given written aside p) (mapped (λ a. reply.Answer (gives a)) (called x (machine_at s given written aside p)))
     by_cases (Some q) e (Done a w) g =
         record {
           at = q;

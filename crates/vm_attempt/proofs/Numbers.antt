@@ -75,7 +75,7 @@ use Rattle.vm_model.specs.Journal.{stored_form}
 use Rattle.vm_steps.specs.declared.progress.Reply.{Reply}
 use Rattle.vm_steps.specs.Steps.{AllCarried, Awaited, IsReadable, Performs, PerformsBy, ReadsBack, mapped}
 use Rattle.std.specs.Prelude.{OnOk}
-use Rattle.vm_attempt.specs.Journals.{is_command}
+use Rattle.vm_attempt.specs.Journals.{is_command_frame}
 use Rattle.vm_attempt.specs.Told.{commands_of}
 use Rattle.vm_attempt.proofs.Quiet.{commands_append, map_append}
 
@@ -179,7 +179,7 @@ ids_from id m = tt
 
 -- a message that can be read back carries as a stored command what it carries
 stored_from : (next : ℕ) (m : Message) → IsWhole m → AreFrom next (carried m) → AreFrom next (all_carried (commands_of (m ∷ [])))
-stored_from next m whole h = by_test (is_command (stored_form m))
+stored_from next m whole h = by_test (is_command_frame (stored_form m))
   where
     by_test : (b : Bool) → AreFrom next (all_carried (cond b (stored_form m ∷ []) []))
     by_test true = subst (AreFrom next) (sym (append-nil (read_carried (message_in (type_of m) (body m))))) (subst (λ o. AreFrom next (read_carried o)) (sym (read_back m whole)) h)

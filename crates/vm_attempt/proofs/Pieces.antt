@@ -25,8 +25,8 @@ use Rattle.std.specs.List.{AllByRecursion}
 use Rattle.vm_steps.specs.declared.progress.Fed.{Fed}
 use Rattle.vm_attempt.specs.Agreement.{Agrees, Aside}
 use Rattle.vm_attempt.specs.Arrivals.{AllFound, arriving, kept_after}
-use Rattle.vm_attempt.specs.Journals.{AcknowledgesNothing, HasAll, StartedWith, StillWaits, aside_for, commands_among, notifications_among, setup_for, waiting}
-use Rattle.vm_attempt.specs.Told.{BeforeInput, Begun, Comes, IsLive, Journal, KeepsProposals, Runs, StillAwaits, arrivals, bytes_fed, bytes_in, frames_fed, handed_out}
+use Rattle.vm_attempt.specs.Journals.{AcknowledgesNothing, HasAll, StartedWith, StillWaits, aside_for, commands_among, notifications_among, setup_for, waiting_machine}
+use Rattle.vm_attempt.specs.Told.{BeforeInput, Begun, Comes, IsLive, Journal, KeepsProposals, HandlerRuns, StillAwaits, arrivals, bytes_fed, bytes_in, frames_fed, start_state}
 use Rattle.vm_attempt.proofs.Arriving.{frames_come}
 use Rattle.vm_attempt.proofs.Proposed.{all_keep, arriving_append, found_append, kept_append}
 use Rattle.vm_attempt.proofs.Entries.{commands_behind, entries_come, journals_come, more_come, notifications_behind}
@@ -89,13 +89,13 @@ waits_more s given aside k raws more m w =
     let from = entries_come s given aside (suc w.left) cs ns more in
     subst (λ x. IsSome (all_received more x).failure ⊎ (StillWaits s given aside k [] [] (raws ++ more) (all_received more x) ⊎ HasAll s given aside k [] [] (raws ++ more) (all_received more x))) (sym w.machine)
     (⊎_elim
-    (λ (f : IsSome (all_received more (waiting s given aside (suc w.left) cs ns)).failure). inl f)
-    (λ (o : StillWaits s given aside (suc w.left) cs ns more (all_received more (waiting s given aside (suc w.left) cs ns)) ⊎ HasAll s given aside (suc w.left) cs ns more (all_received more (waiting s given aside (suc w.left) cs ns))).
+    (λ (f : IsSome (all_received more (waiting_machine s given aside (suc w.left) cs ns)).failure). inl f)
+    (λ (o : StillWaits s given aside (suc w.left) cs ns more (all_received more (waiting_machine s given aside (suc w.left) cs ns)) ⊎ HasAll s given aside (suc w.left) cs ns more (all_received more (waiting_machine s given aside (suc w.left) cs ns))).
     inr (⊎_elim
-    (λ (x : StillWaits s given aside (suc w.left) cs ns more (all_received more (waiting s given aside (suc w.left) cs ns))).
-    inl (record { left = x.left; none_acknowledge = none_append raws more w.none_acknowledge x.none_acknowledge; count = counts (length raws) w.left (length more) x.left w.count x.count ∙ ap (λ n. n + suc x.left) (sym (length-append raws more)); machine = x.machine ∙ λ i. waiting s given aside (suc x.left) (sym (commands_append raws more) i) (sym (notifications_append raws more) i) }))
-    (λ (x : HasAll s given aside (suc w.left) cs ns more (all_received more (waiting s given aside (suc w.left) cs ns))).
-    inr (record { entries = raws ++ x.entries; others = x.others; split = ap (λ l. raws ++ l) x.split ∙ sym (append_assoc raws x.entries x.others); none_acknowledge = none_append raws more w.none_acknowledge x.none_acknowledge; count = length-append raws x.entries ∙ ap (λ n. length raws + n) x.count ∙ sym w.count; machine = x.machine ∙ λ i. waiting s given aside 0 (sym (commands_append raws x.entries) i) (sym (notifications_append raws more) i) }))
+    (λ (x : StillWaits s given aside (suc w.left) cs ns more (all_received more (waiting_machine s given aside (suc w.left) cs ns))).
+    inl (record { left = x.left; none_acknowledge = none_append raws more w.none_acknowledge x.none_acknowledge; count = counts (length raws) w.left (length more) x.left w.count x.count ∙ ap (λ n. n + suc x.left) (sym (length-append raws more)); machine = x.machine ∙ λ i. waiting_machine s given aside (suc x.left) (sym (commands_append raws more) i) (sym (notifications_append raws more) i) }))
+    (λ (x : HasAll s given aside (suc w.left) cs ns more (all_received more (waiting_machine s given aside (suc w.left) cs ns))).
+    inr (record { entries = raws ++ x.entries; others = x.others; split = ap (λ l. raws ++ l) x.split ∙ sym (append_assoc raws x.entries x.others); none_acknowledge = none_append raws more w.none_acknowledge x.none_acknowledge; count = length-append raws x.entries ∙ ap (λ n. length raws + n) x.count ∙ sym w.count; machine = x.machine ∙ λ i. waiting_machine s given aside 0 (sym (commands_append raws x.entries) i) (sym (notifications_append raws more) i) }))
     o))
     from)
   where
@@ -109,9 +109,9 @@ has_more s given aside k raws more m h =
     let ns = notifications_among raws in
     subst (λ x. IsSome (all_received more x).failure ⊎ HasAll s given aside k [] [] (raws ++ more) (all_received more x)) (sym h.machine)
     (⊎_elim
-    (λ (f : IsSome (all_received more (waiting s given aside 0 cs ns)).failure). inl f)
-    (λ (e : (all_received more (waiting s given aside 0 cs ns) ≡ waiting s given aside 0 cs (ns ++ notifications_among more)) × AllByRecursion AcknowledgesNothing more).
-    inr (record { entries = h.entries; others = h.others ++ more; split = ap (λ l. l ++ more) h.split ∙ append_assoc h.entries h.others more; none_acknowledge = none_append raws more h.none_acknowledge e.1; count = h.count; machine = e.0 ∙ λ i. waiting s given aside 0 cs (sym (notifications_append raws more) i) }))
+    (λ (f : IsSome (all_received more (waiting_machine s given aside 0 cs ns)).failure). inl f)
+    (λ (e : (all_received more (waiting_machine s given aside 0 cs ns) ≡ waiting_machine s given aside 0 cs (ns ++ notifications_among more)) × AllByRecursion AcknowledgesNothing more).
+    inr (record { entries = h.entries; others = h.others ++ more; split = ap (λ l. l ++ more) h.split ∙ append_assoc h.entries h.others more; none_acknowledge = none_append raws more h.none_acknowledge e.1; count = h.count; machine = e.0 ∙ λ i. waiting_machine s given aside 0 cs (sym (notifications_append raws more) i) }))
     (more_come s given aside cs ns more))
 
 -- ---- pieces
@@ -216,8 +216,8 @@ took_in fed f v live tail alive =
     (takes_in v f.piece live)
 
 -- before the input
-pub before_fed : (fixed : Fixed) (fed : Heard) (answers : List Answer) (waiting : Option UnresolvedFuture) (taken : List (List ℕ)) (v : View) (f : Fed) → BeforeInput fixed fed answers waiting taken v → v.machine.failure ≡ None → BeforeInput fixed (and_piece fed f) answers waiting taken (after_input v f.piece)
-before_fed fixed fed answers waiting taken v f b live =
+pub before_fed : (fixed : Fixed) (fed : Heard) (answers : List Answer) (waiting_machine : Option UnresolvedFuture) (taken : List (List ℕ)) (v : View) (f : Fed) → BeforeInput fixed fed answers waiting_machine taken v → v.machine.failure ≡ None → BeforeInput fixed (and_piece fed f) answers waiting_machine taken (after_input v f.piece)
+before_fed fixed fed answers waiting_machine taken v f b live =
     let w = after_input v f.piece in
     record {
       answers = b.answers;
@@ -264,7 +264,7 @@ run_to s m K fed j G moves written at run =
     let N = more_arrivals j G in
     subst (λ ns. Made s m K moves (start s j.input ns j.rest) written (later N at)) (sym (arrivals_more fed.proposed j.entries j.others G)) (made_later s m K N moves (start s j.input (arrivals j) j.rest) written at run)
 
-pub still_awaits : (m : Meaning) (p : Point) (ns : List Notification) (waiting : Option UnresolvedFuture) → StillAwaits m p waiting → StillAwaits m (later ns p) waiting
+pub still_awaits : (m : Meaning) (p : Point) (ns : List Notification) (waiting_machine : Option UnresolvedFuture) → StillAwaits m p waiting_machine → StillAwaits m (later ns p) waiting_machine
 still_awaits m p ns None a = a
 still_awaits m p ns (Some future) a = a
 
@@ -281,14 +281,14 @@ keeps_more fed to G frames j v w live is alive (kept, found) =
       subst (AllFound fed.proposed) split (found_append fed.proposed (j.entries ++ j.others) G found (subst (λ l. AllFound l G) kept more.1)),
     )
 
-pub running_fed : (fixed : Fixed) (fed : Heard) (answers : List Answer) (waiting : Option UnresolvedFuture) (taken : List (List ℕ)) (v : View) (f : Fed) → Runs fixed fed answers waiting taken v → IsLive v.machine → Runs fixed (and_piece fed f) answers waiting taken (after_input v f.piece)
-running_fed fixed fed answers waiting taken v f k live =
+pub running_fed : (fixed : Fixed) (fed : Heard) (answers : List Answer) (waiting_machine : Option UnresolvedFuture) (taken : List (List ℕ)) (v : View) (f : Fed) → HandlerRuns fixed fed answers waiting_machine taken v → IsLive v.machine → HandlerRuns fixed (and_piece fed f) answers waiting_machine taken (after_input v f.piece)
+running_fed fixed fed answers waiting_machine taken v f k live =
     let w = after_input v f.piece in
     let to = fed.pieces ++ f ∷ [] in
     let G = (frames_of (v.undecoded ++ f.piece)).0 in
     let N = more_arrivals k.journal G in
     let s = setup_for fixed k.journal.start in
-    let given = handed_out k.journal in
+    let given = start_state k.journal in
     let frames : frames_fed (and_piece fed f) ≡ frames_fed fed ++ G = ap (λ p. p.0) (fed_frames fed f v (k.tail live)) in
     let took = took_in fed f v live.failure (k.tail live) in
     let brings : arriving v.machine.proposals G ≡ N = ap (λ kept. arriving kept G) (k.keeps live).0 in
@@ -307,7 +307,7 @@ running_fed fixed fed answers waiting taken v f k live =
       moves = k.moves;
       run = run_to s fixed.handler (Handed given) fed k.journal G k.moves k.written k.at k.run;
       answers = k.answers;
-      awaits = still_awaits fixed.handler k.at N waiting k.awaits;
+      awaits = still_awaits fixed.handler k.at N waiting_machine k.awaits;
       agrees = λ alive. agrees alive.failure;
       rests = λ _. k.rests live;
       keeps = λ alive. keeps_more fed to G frames k.journal v.machine w.machine live (took alive.failure).0.machine alive.failure (k.keeps live);

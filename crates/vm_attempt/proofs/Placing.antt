@@ -29,12 +29,12 @@ use Rattle.vm_machine.specs.Outcomes.{Done, refused, ruled, ruled_by, settled}
 use Rattle.vm_machine.specs.Phases.{is_running}
 use Rattle.invocation_vm.specs.Views.{all_received, left_by, received}
 use Rattle.vm_steps.specs.Heard.{Heard, with_pieces}
-use Rattle.vm_attempt.specs.Journals.{HasAll, StillWaits, is_command, is_ephemeral, is_notification, setup_for, is_acknowledgement}
+use Rattle.vm_attempt.specs.Journals.{HasAll, StillWaits, is_command_frame, is_ephemeral, is_notification, setup_for, is_acknowledgement}
 use Rattle.vm_steps.specs.Record.{Record, heard}
 use Rattle.vm_steps.specs.declared.progress.Fed.{Fed}
 use Rattle.vm_model.specs.Histories.{behind}
 use Rattle.vm_attempt.specs.Arrivals.{kept_after}
-use Rattle.vm_attempt.specs.Told.{BeforeInput, Begun, Came, Comes, HasCome, IsLive, ProposesLate, frames_fed}
+use Rattle.vm_attempt.specs.Told.{BeforeInput, Begun, JournalCame, Comes, HasCome, IsLive, ProposesLate, frames_fed}
 use Rattle.vm_attempt.specs.Blames.{BadFrame, Began, FailsAt, Place, fault_among}
 use Rattle.vm_attempt.proofs.Arriving.{failed_stays, kept_none, unknown_dead, unknown_step}
 use Rattle.vm_attempt.proofs.Blaming.{one_comes}
@@ -143,7 +143,7 @@ next_by F raw Processing v at p false false false true = acknowledged_behind F r
 next_by F raw Processing v at p false false false false = unknown_behind (is_ephemeral raw) F raw v (subst (λ ph. Place ph v.entries_missing (F ++ raw ∷ [])) (sym at) (still_behind F raw p))
 
 place_next : (F : List RawMessage) (raw : RawMessage) (v : Machine) → v.failure ≡ None → Place v.phase v.entries_missing F → Stands (F ++ raw ∷ []) (received raw v)
-place_next F raw v live p = subst (Stands (F ++ raw ∷ [])) (sym (receives_by v raw live)) (next_by F raw v.phase v refl p (type_number raw.ty == 1) (is_command raw) (is_notification raw) (is_acknowledgement raw))
+place_next F raw v live p = subst (Stands (F ++ raw ∷ [])) (sym (receives_by v raw live)) (next_by F raw v.phase v refl p (type_number raw.ty == 1) (is_command_frame raw) (is_notification raw) (is_acknowledgement raw))
 
 -- where a machine stands once further frames have come
 pub place_all : (raws F : List RawMessage) (v : Machine) → v.failure ≡ None → Place v.phase v.entries_missing F → Stands (F ++ raws) (all_received raws v)
@@ -217,7 +217,7 @@ pub come_stands : (fixed : Fixed) (r : Record) → HasCome fixed r → r.vm.mach
 come_stands fixed r k live open_yet =
     ⊎_elim
     (λ (b : BeforeInput fixed (heard fixed.version r) r.answers r.waiting r.taken r.vm). comes_stands fixed (heard fixed.version r) r.vm.machine (b.comes live))
-    (λ (b : Came fixed (heard fixed.version r) r.answers r.taken r.vm).
+    (λ (b : JournalCame fixed (heard fixed.version r) r.answers r.taken r.vm).
     let runs : is_running r.vm.machine.phase ≡ true = ⊎_elim (λ (x : is_running r.vm.machine.phase ≡ true). x) (λ (x : r.vm.machine.phase ≡ Closed). absurd (open_yet x)) (b.phase live) in
     let j = b.journal in
     (running_place r.vm.machine.phase r.vm.machine.entries_missing (frames_fed (heard fixed.version r)) runs (record { first = j.first_frame; others = j.entries ++ j.others; is = j.frames; start = j.start; reads = j.reads_start; counts = enough (length j.entries) (length j.others) (length (j.entries ++ j.others)) j.start.known_entries j.count (length-append j.entries j.others) }), b.made_for (record { failure = live; phase = runs })))
@@ -245,7 +245,7 @@ come_keeps fixed r k live open_yet before alive =
     (λ (b : BeforeInput fixed (heard fixed.version r) r.answers r.waiting r.taken r.vm).
     let frames = behind (frames_fed (heard fixed.version r) ++ before) in
     (all_none before r.vm.machine (comes_none fixed (heard fixed.version r) r.vm.machine (b.comes live)) ∙ sym (ap (λ ps. kept_after ps frames) b.none_proposed ∙ kept_none frames), inl b.none_proposed))
-    (λ (c : Came fixed (heard fixed.version r) r.answers r.taken r.vm).
+    (λ (c : JournalCame fixed (heard fixed.version r) r.answers r.taken r.vm).
     let runs : is_running r.vm.machine.phase ≡ true = ⊎_elim (λ (x : is_running r.vm.machine.phase ≡ true). x) (λ (x : r.vm.machine.phase ≡ Closed). absurd (open_yet x)) (c.phase live) in
     let is_live : IsLive r.vm.machine = record { failure = live; phase = runs } in
     let fed = heard fixed.version r in

@@ -27,9 +27,9 @@ use Rattle.vm_machine.specs.Inputs.{acknowledged, acknowledged_by, acknowledgeme
 use Rattle.vm_machine.specs.Outcomes.{Done, Failed, Outcome, refused, ruled, settled}
 use Rattle.vm_machine.specs.Phases.{is_running}
 use Rattle.invocation_vm.specs.Views.{all_received, left_by, received}
-use Rattle.vm_attempt.specs.Arrivals.{AllFound, FindsProposal, IsFound, arriving, brought_by, kept_after, kept_behind, stands_for, unacknowledged}
+use Rattle.vm_attempt.specs.Arrivals.{AllFound, FindsProposal, IsOfKept, arriving, arrival_of, kept_after, kept_behind, acknowledged_as, unacknowledged}
 use Rattle.vm_attempt.specs.Blames.{fault_among}
-use Rattle.vm_attempt.specs.Journals.{AcknowledgesNothing, is_acknowledgement, is_command, is_ephemeral, is_notification, notifications_among, notified_by}
+use Rattle.vm_attempt.specs.Journals.{AcknowledgesNothing, is_acknowledgement, is_command_frame, is_ephemeral, is_notification, notifications_among, notified_by}
 use Rattle.vm_attempt.proofs.Arriving.{failed_receives, failed_stays, live_receives, unknown_dead, unknown_step}
 use Rattle.vm_attempt.proofs.Blaming.{one_comes as one_fits}
 use Rattle.vm_attempt.proofs.Entries.{message_by, receives_by}
@@ -44,8 +44,8 @@ notified_append (Some n) ms ns = refl
 pub arriving_append : (kept : List KeptProposal) (raws more : List RawMessage) → arriving kept (raws ++ more) ≡ arriving kept raws ++ arriving (kept_after kept raws) more
 arriving_append kept [] more = refl
 arriving_append kept (raw ∷ raws) more =
-    ap (notified_by (brought_by kept raw)) (arriving_append (kept_behind kept raw) raws more)
-    ∙ notified_append (brought_by kept raw) (arriving (kept_behind kept raw) raws) (arriving (kept_after (kept_behind kept raw) raws) more)
+    ap (notified_by (arrival_of kept raw)) (arriving_append (kept_behind kept raw) raws more)
+    ∙ notified_append (arrival_of kept raw) (arriving (kept_behind kept raw) raws) (arriving (kept_after (kept_behind kept raw) raws) more)
 
 pub kept_append : (kept : List KeptProposal) (raws more : List RawMessage) → kept_after kept (raws ++ more) ≡ kept_after (kept_after kept raws) more
 kept_append kept [] more = refl
@@ -65,8 +65,8 @@ pub none_front : (raws more : List RawMessage) → AllByRecursion AcknowledgesNo
 none_front [] more all = tt
 none_front (raw ∷ raws) more all = (all.0, none_front raws more all.1)
 
-brings_notified : (kept : List KeptProposal) (raw : RawMessage) (ns : List Notification) → AcknowledgesNothing raw → notified_by (brought_by kept raw) ns ≡ cond (is_notification raw) (notified_by (notification_in raw.body) ns) ns
-brings_notified kept raw ns none = ap (λ d. notified_by (if is_notification raw then notification_in raw.body else if d then stands_for kept (acknowledgement_in raw.body) else None) ns) none ∙ by_test (is_notification raw)
+brings_notified : (kept : List KeptProposal) (raw : RawMessage) (ns : List Notification) → AcknowledgesNothing raw → notified_by (arrival_of kept raw) ns ≡ cond (is_notification raw) (notified_by (notification_in raw.body) ns) ns
+brings_notified kept raw ns none = ap (λ d. notified_by (if is_notification raw then notification_in raw.body else if d then acknowledged_as kept (acknowledgement_in raw.body) else None) ns) none ∙ by_test (is_notification raw)
   where
     by_test : (b : Bool) → notified_by (if b then notification_in raw.body else None) ns ≡ cond b (notified_by (notification_in raw.body) ns) ns
     by_test true = refl
@@ -106,23 +106,23 @@ without_more p (x ∷ xs) more some = by_test (p x) (without_more p xs more) som
     by_test false on h = ap (λ l. x ∷ l) (on h)
 
 module _ (kept more : List KeptProposal) where
-  stands_more : (ack : Option ProposeRunCompletionAck) → IsFound kept ack → stands_for (kept ++ more) ack ≡ stands_for kept ack
+  stands_more : (ack : Option ProposeRunCompletionAck) → IsOfKept kept ack → acknowledged_as (kept ++ more) ack ≡ acknowledged_as kept ack
   stands_more None found = refl
   stands_more (Some ack) found = ap (option_map (completion_of ack.id)) (find_more (is_for ack.id) kept more found)
 
-  unacknowledged_more : (ack : Option ProposeRunCompletionAck) → IsFound kept ack → unacknowledged (kept ++ more) ack ≡ unacknowledged kept ack ++ more
+  unacknowledged_more : (ack : Option ProposeRunCompletionAck) → IsOfKept kept ack → unacknowledged (kept ++ more) ack ≡ unacknowledged kept ack ++ more
   unacknowledged_more None found = refl
   unacknowledged_more (Some ack) found = without_more (is_for ack.id) kept more found
 
-  found_so : (ack : Option ProposeRunCompletionAck) → IsFound kept ack → IsFound (kept ++ more) ack
+  found_so : (ack : Option ProposeRunCompletionAck) → IsOfKept kept ack → IsOfKept (kept ++ more) ack
   found_so None found = tt
   found_so (Some ack) found = subst IsSome (sym (find_more (is_for ack.id) kept more found)) found
 
-  brought_more : (raw : RawMessage) → FindsProposal kept raw → brought_by (kept ++ more) raw ≡ brought_by kept raw
+  brought_more : (raw : RawMessage) → FindsProposal kept raw → arrival_of (kept ++ more) raw ≡ arrival_of kept raw
   brought_more raw found = by_tests (is_notification raw) (is_acknowledgement raw) found
     where
-      by_tests : (a b : Bool) → (b ≡ true → IsFound kept (acknowledgement_in raw.body))
-          → (if a then notification_in raw.body else if b then stands_for (kept ++ more) (acknowledgement_in raw.body) else None) ≡ (if a then notification_in raw.body else if b then stands_for kept (acknowledgement_in raw.body) else None)
+      by_tests : (a b : Bool) → (b ≡ true → IsOfKept kept (acknowledgement_in raw.body))
+          → (if a then notification_in raw.body else if b then acknowledged_as (kept ++ more) (acknowledgement_in raw.body) else None) ≡ (if a then notification_in raw.body else if b then acknowledged_as kept (acknowledgement_in raw.body) else None)
       by_tests true b f = refl
       by_tests false true f = stands_more (acknowledgement_in raw.body) (f refl)
       by_tests false false f = refl
@@ -130,7 +130,7 @@ module _ (kept more : List KeptProposal) where
   behind_more : (raw : RawMessage) → FindsProposal kept raw → kept_behind (kept ++ more) raw ≡ kept_behind kept raw ++ more
   behind_more raw found = by_test (is_acknowledgement raw) found
     where
-      by_test : (b : Bool) → (b ≡ true → IsFound kept (acknowledgement_in raw.body)) → (if b then unacknowledged (kept ++ more) (acknowledgement_in raw.body) else kept ++ more) ≡ (if b then unacknowledged kept (acknowledgement_in raw.body) else kept) ++ more
+      by_test : (b : Bool) → (b ≡ true → IsOfKept kept (acknowledgement_in raw.body)) → (if b then unacknowledged (kept ++ more) (acknowledgement_in raw.body) else kept ++ more) ≡ (if b then unacknowledged kept (acknowledgement_in raw.body) else kept) ++ more
       by_test true f = unacknowledged_more (acknowledgement_in raw.body) (f refl)
       by_test false f = refl
 
@@ -139,7 +139,7 @@ pub arriving_more : (kept more : List KeptProposal) (raws : List RawMessage) →
 arriving_more kept more [] found = refl
 arriving_more kept more (raw ∷ raws) found =
     (λ i. notified_by (brought_more kept more raw found.0 i) (arriving (behind_more kept more raw found.0 i) raws))
-    ∙ ap (notified_by (brought_by kept raw)) (arriving_more (kept_behind kept raw) more raws found.1)
+    ∙ ap (notified_by (arrival_of kept raw)) (arriving_more (kept_behind kept raw) more raws found.1)
 
 pub kept_more : (kept more : List KeptProposal) (raws : List RawMessage) → AllFound kept raws → kept_after (kept ++ more) raws ≡ kept_after kept raws ++ more
 kept_more kept more [] found = refl
@@ -160,12 +160,12 @@ kept_found : (id : ℕ) (v : Machine) (o : Option KeptProposal) → (left_by (se
 kept_found id v None h = no_failure _ h
 kept_found id v (Some kept) h = (refl, refl)
 
-acknowledged_found : (ack : Option ProposeRunCompletionAck) (v : Machine) → (left_by (settled (acknowledged_by ack v))).failure ≡ None → ((left_by (settled (acknowledged_by ack v))).proposals ≡ unacknowledged v.proposals ack) × IsFound v.proposals ack
+acknowledged_found : (ack : Option ProposeRunCompletionAck) (v : Machine) → (left_by (settled (acknowledged_by ack v))).failure ≡ None → ((left_by (settled (acknowledged_by ack v))).proposals ≡ unacknowledged v.proposals ack) × IsOfKept v.proposals ack
 acknowledged_found None v h = no_failure _ h
 acknowledged_found (Some ack) v h = kept_found ack.id v (find (is_for ack.id) v.proposals) h
 
 acknowledges : (raw : RawMessage) (ph : Phase) (v : Machine) → is_running ph ≡ true → (left_by (settled (acknowledgement_step raw ph v))).failure ≡ None
-    → ((left_by (settled (acknowledgement_step raw ph v))).proposals ≡ unacknowledged v.proposals (acknowledgement_in raw.body)) × IsFound v.proposals (acknowledgement_in raw.body)
+    → ((left_by (settled (acknowledgement_step raw ph v))).proposals ≡ unacknowledged v.proposals (acknowledgement_in raw.body)) × IsOfKept v.proposals (acknowledgement_in raw.body)
 acknowledges raw WaitingStart v runs h = absurd (cc)
 acknowledges raw WaitingReplayEntries v runs h = absurd (cc)
 acknowledges raw Closed v runs h = absurd (cc)
@@ -222,10 +222,10 @@ one_keeps raw v live runs = by_test (is_acknowledgement raw) refl
         let found = acknowledges raw v.phase v runs (ap (λ (w : Machine). w.failure) (sym is) ∙ h) in
         (ap (λ (w : Machine). w.proposals) is ∙ found.0 ∙ sym (ap (λ b. if b then unacknowledged v.proposals (acknowledgement_in raw.body) else v.proposals) e), λ _. found.1)
     by_test false e h =
-        let is : received raw v ≡ left_by (settled (message_by raw v.phase v (type_number raw.ty == 1) (is_command raw) (is_notification raw) false)) =
-        receives_by v raw live ∙ ap (λ d. left_by (settled (message_by raw v.phase v (type_number raw.ty == 1) (is_command raw) (is_notification raw) d))) e
+        let is : received raw v ≡ left_by (settled (message_by raw v.phase v (type_number raw.ty == 1) (is_command_frame raw) (is_notification raw) false)) =
+        receives_by v raw live ∙ ap (λ d. left_by (settled (message_by raw v.phase v (type_number raw.ty == 1) (is_command_frame raw) (is_notification raw) d))) e
         in (
-          ap (λ (w : Machine). w.proposals) is ∙ others_keep raw v.phase v (type_number raw.ty == 1) (is_command raw) (is_notification raw) runs (ap (λ (w : Machine). w.failure) (sym is) ∙ h)
+          ap (λ (w : Machine). w.proposals) is ∙ others_keep raw v.phase v (type_number raw.ty == 1) (is_command_frame raw) (is_notification raw) runs (ap (λ (w : Machine). w.failure) (sym is) ∙ h)
               ∙ sym (ap (λ b. if b then unacknowledged v.proposals (acknowledgement_in raw.body) else v.proposals) e),
           λ t. absurd (let z : false ≡ true = sym e ∙ t in cc),
         )
@@ -326,7 +326,7 @@ received_none raw v none = by_failure v.failure refl
     by_failure (Some e) dead = ap (λ (w : Machine). w.proposals) (failed_receives e v raw dead) ∙ none
     by_failure None live =
         ap (λ (w : Machine). w.proposals) (receives_by v raw live)
-        ∙ settled_none (message_by raw v.phase v (type_number raw.ty == 1) (is_command raw) (is_notification raw) (is_acknowledgement raw)) (message_none raw v.phase v none (type_number raw.ty == 1) (is_command raw) (is_notification raw) (is_acknowledgement raw))
+        ∙ settled_none (message_by raw v.phase v (type_number raw.ty == 1) (is_command_frame raw) (is_notification raw) (is_acknowledgement raw)) (message_none raw v.phase v none (type_number raw.ty == 1) (is_command_frame raw) (is_notification raw) (is_acknowledgement raw))
 
 -- a machine that keeps no proposal keeps none, whatever comes
 pub all_none : (raws : List RawMessage) (v : Machine) → v.proposals ≡ [] → (all_received raws v).proposals ≡ []

@@ -31,7 +31,7 @@ use Rattle.std.proofs.lemmas.Bool.{eqb-true}
 use Rattle.journal_attempt.specs.declared.runs.ProposeRunCompletion.{ProposeRunCompletion}
 use Rattle.vm_model.specs.Journal.{stored_form}
 use Rattle.vm_steps.specs.Heard.{is_proposal, proposal_in, proposals_among, proposed_by}
-use Rattle.vm_attempt.specs.Journals.{is_command}
+use Rattle.vm_attempt.specs.Journals.{is_command_frame}
 use Rattle.vm_attempt.specs.Told.{Quiet, Wrote, commands_of}
 
 pub quiet_same : (old new : Machine) → new.output ≡ old.output → Quiet old new
@@ -47,7 +47,7 @@ proposals_append (raw ∷ raws) more = by_test (proposals_append raws more) (is_
     by_test on true (Some p) = ap (λ l. record { completion_id = p.id; result = p.result } ∷ l) on
 
 -- a command proposes nothing
-pub proposes_nothing : (raw : RawMessage) → is_command raw ≡ true → proposals_among (raw ∷ []) ≡ []
+pub proposes_nothing : (raw : RawMessage) → is_command_frame raw ≡ true → proposals_among (raw ∷ []) ≡ []
 proposes_nothing raw is = ap (λ b. cond b (proposed_by (proposal_in raw.body) []) []) (by_test (is_proposal raw) refl)
   where
     by_test : (b : Bool) → is_proposal raw ≡ b → b ≡ false
@@ -60,7 +60,7 @@ forms_append (m ∷ ms) ns = ap (λ l. stored_form m ∷ l) (forms_append ms ns)
 
 pub commands_append : (ms ns : List Message) → commands_of (ms ++ ns) ≡ commands_of ms ++ commands_of ns
 commands_append [] ns = refl
-commands_append (m ∷ ms) ns = by_test (is_command (record { ty = type_of m; body = body m })) (commands_append ms ns)
+commands_append (m ∷ ms) ns = by_test (is_command_frame (record { ty = type_of m; body = body m })) (commands_append ms ns)
   where
     c : RawMessage
     c = record { ty = type_of m; body = body m }

@@ -26,8 +26,8 @@ use Rattle.vm_steps.specs.Record.{Said}
 use Rattle.vm_steps.specs.declared.progress.Progress.{Progress}
 use Rattle.vm_attempt.specs.Blames.{RefusedCall, Blame, IfError, IsHonest, IsOwnError, first_input}
 use Rattle.vm_attempt.specs.Blames.Blame.{Memory, Frame, NoFrame, ClosedEarly, NoInput, NoSkip, Call, RunResult}
-use Rattle.vm_attempt.specs.Journals.{as_entries, commands_among, is_command, is_notification, notifications_among, notified_by, recorded_by, setup_for, told_by}
-use Rattle.vm_attempt.specs.Told.{Journal, RefusesReplay, arrivals, handed_out}
+use Rattle.vm_attempt.specs.Journals.{as_entries, commands_among, is_command_frame, is_notification, notifications_among, notified_by, recorded_by, setup_for, told_by}
+use Rattle.vm_attempt.specs.Told.{Journal, RefusesReplay, arrivals, start_state}
 use Rattle.vm_attempt.specs.Arrivals.{arriving}
 use Rattle.std.specs.Prelude.{◌==◌, ◌&&◌, nat_le, nat_lt}
 use Rattle.std.proofs.lemmas.Bool.{eqb-true}
@@ -39,7 +39,7 @@ use Rattle.vm_machine.specs.declared.phase.Phase.TheVariants.{Processing}
 use Rattle.vm_model.specs.Histories.{behind}
 use Rattle.vm_parts.specs.declared.run_state.KeptProposal.{KeptProposal}
 use Rattle.vm_attempt.specs.Arrivals.{kept_after}
-use Rattle.vm_attempt.specs.Blames.{BadFrame, fault_among, fault_by, read_fault}
+use Rattle.vm_attempt.specs.Blames.{BadFrame, fault_among, fault_by, acknowledgement_body_fault}
 use Rattle.vm_attempt.specs.Journals.{is_acknowledgement}
 use Rattle.vm_attempt.proofs.Arriving.{kept_none}
 use Rattle.vm_attempt.proofs.Blaming.{none_kept}
@@ -61,7 +61,7 @@ noted_commands false o es = refl
 pub commands_same : (raws : List RawMessage) → commands_in (as_entries raws) ≡ commands_among raws
 commands_same [] = refl
 commands_same (raw ∷ raws) =
-    recorded_commands (is_command raw) raw (cond (is_notification raw) (told_by (notification_in raw.body) (as_entries raws)) (as_entries raws)) (commands_among raws)
+    recorded_commands (is_command_frame raw) raw (cond (is_notification raw) (told_by (notification_in raw.body) (as_entries raws)) (as_entries raws)) (commands_among raws)
     (noted_commands (is_notification raw) (notification_in raw.body) (as_entries raws) ∙ commands_same raws)
 
 recorded_notes : (b : Bool) (raw : RawMessage) (es : List Entry) → notifications_in (recorded_by b raw es) ≡ notifications_in es
@@ -79,7 +79,7 @@ noted_notes false o es ns is = is
 pub notes_same : (raws : List RawMessage) → notifications_in (as_entries raws) ≡ notifications_among raws
 notes_same [] = refl
 notes_same (raw ∷ raws) =
-    recorded_notes (is_command raw) raw (cond (is_notification raw) (told_by (notification_in raw.body) (as_entries raws)) (as_entries raws))
+    recorded_notes (is_command_frame raw) raw (cond (is_notification raw) (told_by (notification_in raw.body) (as_entries raws)) (as_entries raws))
     ∙ noted_notes (is_notification raw) (notification_in raw.body) (as_entries raws) (notifications_among raws) (notes_same raws)
 
 pub head_same : (a b : RawMessage) (xs ys : List RawMessage) → a ∷ xs ≡ b ∷ ys → a ≡ b
@@ -89,7 +89,7 @@ pub tail_same : (a b : RawMessage) (xs ys : List RawMessage) → a ∷ xs ≡ b 
 tail_same a b xs ys e = cc
 
 -- on a history no call is refused while recorded commands are left
-pub history_refuses : (fixed : Fixed) (fed : Heard) (j : Journal fed) (base : StateMap) (moves : ℕ) (written : List RawMessage) (at : Point) → Made (setup_for fixed j.start) fixed.handler (Handed (handed_out j)) moves (start (setup_for fixed j.start) j.input (arrivals j) j.rest) written at
+pub history_refuses : (fixed : Fixed) (fed : Heard) (j : Journal fed) (base : StateMap) (moves : ℕ) (written : List RawMessage) (at : Point) → Made (setup_for fixed j.start) fixed.handler (Handed (start_state j)) moves (start (setup_for fixed j.start) j.input (arrivals j) j.rest) written at
     → (c : RawMessage) (further : List RawMessage) → at.left ≡ c ∷ further → (why : NamedFault) → IsRefusedFor (move_at (setup_for fixed j.start) fixed.handler at) at.left at.queue why → History (setup_for fixed j.start) fixed.handler base (as_entries j.entries) → ⊥
 history_refuses fixed fed j base moves written at run c further left why reason h =
     let s = setup_for fixed j.start in
@@ -102,8 +102,8 @@ history_refuses fixed fed j base moves written at run c further left why reason 
     (λ i. (notes_same j.entries ∙ sym (arriving_notified fed.proposed j.entries j.none_acknowledge)) i ++ arriving (sym (kept_all fed.proposed j.entries j.none_acknowledge) i) j.others)
     ∙ sym (arriving_append fed.proposed j.entries j.others)
     in
-    let made : Made s fixed.handler (Handed (handed_out j)) moves (start s h.input (notifications_in (as_entries j.entries) ++ later) h.rest) written at = subst (λ p. Made s fixed.handler (Handed (handed_out j)) moves p written at) (λ i. start s (sym input i) (sym notes i) (sym rest i)) run in
-    none_refused s fixed.handler base (handed_out j) base (as_entries j.entries) later moves written further c at h made left (refused_stuck s fixed.handler base at why reason)
+    let made : Made s fixed.handler (Handed (start_state j)) moves (start s h.input (notifications_in (as_entries j.entries) ++ later) h.rest) written at = subst (λ p. Made s fixed.handler (Handed (start_state j)) moves p written at) (λ i. start s (sym input i) (sym notes i) (sym rest i)) run in
+    none_refused s fixed.handler base (start_state j) base (as_entries j.entries) later moves written further c at h made left (refused_stuck s fixed.handler base at why reason)
 
 pub history_replayed : (fixed : Fixed) (fed : Heard) (answers : List Answer) (e : Error) (old new : Machine) (x : RefusesReplay fixed fed answers e old new) (c : RawMessage) (further : List RawMessage) → x.at.left ≡ c ∷ further → (base : StateMap) → History (setup_for fixed x.journal.start) fixed.handler base (as_entries x.journal.entries) → ⊥
 history_replayed fixed fed answers e old new x c further left base h = history_refuses fixed fed x.journal base x.moves x.written x.at x.made c further left x.why x.reason h
@@ -134,7 +134,7 @@ honest_refused fixed fed said answers e honest x [] is = inr (inr (inl (record {
   why = x.why;
   reason = own_refusal fixed fed answers e x is;
   expected = λ same.
-      let told = (attempt_is_told (setup_for fixed x.journal.start) fixed.handler (handed_out x.journal) x.journal.input x.moves (arrivals x.journal) x.journal.rest x.written x.at x.made).0 in
+      let told = (attempt_is_told (setup_for fixed x.journal.start) fixed.handler (start_state x.journal) x.journal.input x.moves (arrivals x.journal) x.journal.rest x.written x.at x.made).0 in
       none_unexpected (setup_for fixed x.journal.start) fixed.handler told.0 x.journal.input (arrivals x.journal) (x.journal.rest ++ x.written) x.at told.1 (honest.kinds x.journal x.moves x.written x.at x.made) (own_refusal fixed fed answers e x is ∙ ap Refuses same);
   related = x.related;
   error = x.error;
@@ -142,11 +142,11 @@ honest_refused fixed fed said answers e honest x [] is = inr (inr (inl (record {
 honest_refused fixed fed said answers e honest x (c ∷ further) is = absurd (let h = honest.history x.journal.first_frame x.journal.entries x.journal.others x.journal.start x.journal.frames x.journal.reads_start x.journal.count in history_refuses fixed fed x.journal h.0 x.moves x.written x.at x.made c further is x.why x.reason h.1)
 
 -- an acknowledgement is refused in Processing where its proposal isn't kept
-acknowledged_by_kept : (kept : List KeptProposal) (raw : RawMessage) → is_acknowledgement raw ≡ true → fault_among kept Processing raw ≡ read_fault kept (acknowledgement_in raw.body)
+acknowledged_by_kept : (kept : List KeptProposal) (raw : RawMessage) → is_acknowledgement raw ≡ true → fault_among kept Processing raw ≡ acknowledgement_body_fault kept (acknowledgement_in raw.body)
 acknowledged_by_kept kept raw is = ap (λ n. fault_by kept Processing raw (n == 1) (nat_le 10 n && nat_lt n 30) (n == 30) (n == 6)) (eqb-true (type_number raw.ty) 6 is)
 
 -- where none is kept, it is refused
-none_kept_fault : (ack : Option ProposeRunCompletionAck) → read_fault [] ack ≡ None → ⊥
+none_kept_fault : (ack : Option ProposeRunCompletionAck) → acknowledgement_body_fault [] ack ≡ None → ⊥
 none_kept_fault None h = let z : Some fault.BadMessage ≡ None = h in cc
 none_kept_fault (Some ack) h = let z : Some fault.BadProposeRunCompletionAck ≡ None = h in cc
 
@@ -156,9 +156,9 @@ honest_frame fixed fed e honest x false is =
     let z : None ≡ Some x.why = sym (honest.frames x.before x.raw x.behind x.phase x.missing x.split x.place is) ∙ none_kept (kept_after fed.proposed (behind x.before)) x.phase x.raw x.why x.reason in cc
 honest_frame fixed fed e honest x true is =
     let kept = kept_after fed.proposed (behind x.before) in
-    let taken : read_fault kept (acknowledgement_in x.raw.body) ≡ None = honest.acknowledgements x.before x.raw x.behind x.split is in
+    let taken : acknowledgement_body_fault kept (acknowledgement_in x.raw.body) ≡ None = honest.acknowledgements x.before x.raw x.behind x.split is in
     ⊎_elim
-    (λ (none : fed.proposed ≡ []). none_kept_fault (acknowledgement_in x.raw.body) (ap (λ ps. read_fault ps (acknowledgement_in x.raw.body)) (sym (ap (λ ps. kept_after ps (behind x.before)) none ∙ kept_none (behind x.before))) ∙ taken))
+    (λ (none : fed.proposed ≡ []). none_kept_fault (acknowledgement_in x.raw.body) (ap (λ ps. acknowledgement_body_fault ps (acknowledgement_in x.raw.body)) (sym (ap (λ ps. kept_after ps (behind x.before)) none ∙ kept_none (behind x.before))) ∙ taken))
     (λ (at : x.phase ≡ Processing).
     let z : None ≡ Some x.why = sym taken ∙ sym (acknowledged_by_kept kept x.raw is) ∙ ap (λ ph. fault_among kept ph x.raw) (sym at) ∙ x.reason in cc)
     x.late

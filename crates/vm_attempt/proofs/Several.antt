@@ -32,7 +32,7 @@ use Rattle.vm_model.proofs.Parts.{next_turn, turn_apart}
 use Rattle.vm_model.proofs.Runs.{none_some}
 use Rattle.vm_steps.specs.declared.progress.Reply.{Reply}
 use Rattle.vm_steps.specs.Steps.{AllCarried, IfDone}
-use Rattle.vm_attempt.specs.Agreement.{Answered, Aside, Follows, IsCutShort, IsRefused, MakesMany, MovesOn, command_frames, machine_at}
+use Rattle.vm_attempt.specs.Agreement.{Answered, Aside, CallFollows, IsCutShort, CallRefused, MakesMany, MovesOn, command_frames, machine_at}
 use Rattle.vm_attempt.proofs.Behind.{answered_behind, either_behind, settled_done, settled_failed}
 use Rattle.vm_attempt.proofs.Commanding.{LeadsOn, commands_follow}
 use Rattle.vm_attempt.proofs.Leading.{Leads, Refusing, error_written, no_move, none_or_spent, one_move, open_after, same_rule, state_at, with_beside, with_frames}
@@ -152,7 +152,7 @@ module _ (s : Setup) (m : Meaning) (given : StateMap) (kind : AnswerKind) (first
 
   abbrev OneTo : List RawMessage → Aside → Point → Command → List Command → Derived → Result NotificationHandle Error → Machine → Type 0
   OneTo written aside p c cs before (Ok handle) w = HasMade written aside p c cs before w
-  OneTo written aside p c cs before (Err e) w = IsRefused s m given p (at_with written aside p before) e w ⊎ IsCutShort s m given p (at_with written aside p before) e w
+  OneTo written aside p c cs before (Err e) w = CallRefused s m given p (at_with written aside p before) e w ⊎ IsCutShort s m given p (at_with written aside p before) e w
 
   module _ (written : List RawMessage) (aside : Aside) (p : Point) (c : Command) (cs : List Command) (before : Derived) (is : StandsBefore p c cs before) (command : IsCommand c.message) where
     abbrev v : Machine
@@ -283,7 +283,7 @@ module _ (s : Setup) (m : Meaning) (given : StateMap) (kind : AnswerKind) (first
         machine_so : (q : Point) (beside : Aside) → at_with (written ++ brought) beside q (behind_command s c before) ≡ at_with (written ++ brought) beside (back s kind p c cs before q) (behind_command s c before)
         machine_so q beside = refl
 
-    is_refused : (f : Error) (w : Machine) → PartLeads refusal (Failed f w) → IsRefused s m given p v (ruled w f) (failed (ruled w f) w)
+    is_refused : (f : Error) (w : Machine) → PartLeads refusal (Failed f w) → CallRefused s m given p v (ruled w f) (failed (ruled w f) w)
     is_refused f w g = record {
       at = p;
       made = [];
@@ -303,7 +303,7 @@ module _ (s : Setup) (m : Meaning) (given : StateMap) (kind : AnswerKind) (first
     one_to (Err e) w (does, readable) = ⊎_elim
         (λ (x : called (commanded_before c cs v) v ≡ Failed e w).
         let f = settled_failed (commanded_before c cs v) e w x in
-        inl (subst (λ (z : Error × Machine). IsRefused s m given p v z.0 z.1) (λ i. (sym f.3 i, sym f.4 i)) (is_refused f.0 f.1 (subst (PartLeads refusal) f.2 (by_list cs (failed_done (commanded_before c cs v) Readable f.0 f.1 f.2))))))
+        inl (subst (λ (z : Error × Machine). CallRefused s m given p v z.0 z.1) (λ i. (sym f.3 i, sym f.4 i)) (is_refused f.0 f.1 (subst (PartLeads refusal) f.2 (by_list cs (failed_done (commanded_before c cs v) Readable f.0 f.1 f.2))))))
         (λ (x : IsStarved v e w). inr (record { at = p; made = []; none_before = inl refl; moves = no_move s m given p; many = is.many; error = x.error; output = x.output ∙ sym (append-nil aside.output); failure = x.failure ∙ ap Some (sym x.error) }))
         does
 
@@ -316,7 +316,7 @@ module _ (s : Setup) (m : Meaning) (given : StateMap) (kind : AnswerKind) (first
 
   abbrev AllTo : List RawMessage → Aside → Point → Derived → Result NotificationHandle Error → Machine → Type 0
   AllTo written aside p before (Ok handle) w = AllAnswered written aside p before w
-  AllTo written aside p before (Err e) w = IsRefused s m given p (at_with written aside p before) e w ⊎ IsCutShort s m given p (at_with written aside p before) e w
+  AllTo written aside p before (Err e) w = CallRefused s m given p (at_with written aside p before) e w ⊎ IsCutShort s m given p (at_with written aside p before) e w
 
   -- with the last the call is answered
   last_to : (written : List RawMessage) (aside : Aside) → s.identity ≡ identity_of aside.start → (p : Point) (c : Command) (before : Derived) (r : Result NotificationHandle Error) (w : Machine) → OneTo written aside p c [] before r w → AllTo written aside p before r w
@@ -399,7 +399,7 @@ first_handle c b bs handle v w live (one, mid, makes, on) = by_first one makes o
     by_first (Err e) made (answered, same) = absurd (let z : Ok handle ≡ Err e = answered in cc)
 
 pub several_follow : (s : Setup) (m : Meaning) (given : StateMap) (written : List RawMessage) (aside : Aside) (p : Point) (kind : AnswerKind) (first second : Command) → s.identity ≡ identity_of aside.start → p.derived.parts ≡ 0 → ask_of s.version (m p.answers) ≡ ask.Commands kind first second → EachIs (λ x. IsCommand x.message) first (second ∷ [])
-    → (o : Outcome Reply) → AllCarried kind first (second ∷ []) (machine_at s given written aside p) o → Follows s m given written p (machine_at s given written aside p) o
+    → (o : Outcome Reply) → AllCarried kind first (second ∷ []) (machine_at s given written aside p) o → CallFollows s m given written p (machine_at s given written aside p) o
 several_follow s m given written aside p kind first second identity rests is commands o does = by_outcome o does
   where
     stands : StandsBefore s m given kind first (second ∷ []) p first (second ∷ []) p.derived
@@ -412,9 +412,9 @@ several_follow s m given written aside p kind first second identity rests is com
     to : (r : Result NotificationHandle Error) (w : Machine) → MakesAll first (second ∷ []) r (machine_at s given written aside p) w → AllTo s m given kind first (second ∷ []) written aside p p.derived r w
     to = all_to s m given kind first (second ∷ []) first (second ∷ []) written aside identity p p.derived stands commands
 
-    by_outcome : (o : Outcome Reply) → AllCarried kind first (second ∷ []) (machine_at s given written aside p) o → Follows s m given written p (machine_at s given written aside p) o
+    by_outcome : (o : Outcome Reply) → AllCarried kind first (second ∷ []) (machine_at s given written aside p) o → CallFollows s m given written p (machine_at s given written aside p) o
     by_outcome (Done given_reply w) (handle, made, replied) =
         let same = first_handle first second [] handle (machine_at s given written aside p) w refl made in
-        subst (λ (x : Reply). Follows s m given written p (machine_at s given written aside p) (Done x w)) (sym replied)
+        subst (λ (x : Reply). CallFollows s m given written p (machine_at s given written aside p) (Done x w)) (sym replied)
         (subst (λ h. Answered s m given written p (machine_at s given written aside p) (answer_by kind h) w) (sym same) (to (Ok handle) w made).answered)
     by_outcome (Failed e w) made = to (Err e) w made

@@ -19,7 +19,7 @@ use Rattle.vm_steps.specs.declared.progress.Reply.TheVariants as reply
 use Rattle.vm_attempt.specs.Blames.{IsLate, LateBy}
 use Rattle.vm_steps.specs.Record.{Record, heard}
 use Rattle.vm_steps.specs.Stepping.{Advances, Asks, CloseDoes, Closes, FeedDoes, Feeds, IfWaits, LacksMemory, Reads, StepAt, StepDoes, StepFrom, StepUnless, Takes, future_in, kept, kept_at, progress_of, replied, step_asked, taken_from, with_vm}
-use Rattle.vm_attempt.specs.Told.{IsKeptUnder, NothingWakes, Premises, Quiet, Sleeps, StillSleeps}
+use Rattle.vm_attempt.specs.Told.{IsKeptUnder, NothingWakes, Premises, Quiet, AwaitWaits, StillSleeps}
 use Rattle.vm_attempt.proofs.Advanced.{asleep_waits, step_waits}
 use Rattle.invocation_vm.proofs.Feeds.{among_output}
 use Rattle.vm_attempt.proofs.Quiet.{closing_quiet, input_quiet, quiet_same, wrote_quiet}
@@ -39,7 +39,7 @@ waits_map P Q f (Ok progress.Ended) h = tt
 waits_map P Q f (Err e) h = tt
 
 -- what an attempt is asleep by, with another view of its VM that has written no command more
-sleeps_quiet : (fixed : Fixed) (fed : Heard) (answers : List Answer) (taken : List (List ℕ)) (v w : View) → Quiet v.machine w.machine → Sleeps fixed fed answers taken v → Sleeps fixed fed answers taken w
+sleeps_quiet : (fixed : Fixed) (fed : Heard) (answers : List Answer) (taken : List (List ℕ)) (v w : View) → Quiet v.machine w.machine → AwaitWaits fixed fed answers taken v → AwaitWaits fixed fed answers taken w
 sleeps_quiet fixed fed answers taken v w q (written, wrote, asleep) = (written, wrote_quiet taken v.machine w.machine written q wrote, asleep)
 
 pub still_quiet : (fixed : Fixed) (r : Record) (w : View) → Quiet r.vm.machine w.machine → StillSleeps fixed r → StillSleeps fixed (with_vm w r)
@@ -107,7 +107,7 @@ close_sleeps fixed old result new s does = by_test old.starved does
     by_test true d = subst (StillSleeps fixed) (sym d.1) s
     by_test false d = closes_sleeps fixed old result new s d
 
-sleeps_taken : (fixed : Fixed) (r : Record) → WholeFrames r.vm.machine.output → Sleeps fixed (heard fixed.version r) r.answers r.taken r.vm → (let n = taken_from r in Sleeps fixed (heard fixed.version n) n.answers n.taken n.vm)
+sleeps_taken : (fixed : Fixed) (r : Record) → WholeFrames r.vm.machine.output → AwaitWaits fixed (heard fixed.version r) r.answers r.taken r.vm → (let n = taken_from r in AwaitWaits fixed (heard fixed.version n) n.answers n.taken n.vm)
 sleeps_taken fixed r f (written, wrote, asleep) = (written, takes_wrote r.taken r.vm.machine.output written f wrote, asleep)
 
 pub take_sleeps : (fixed : Fixed) (old : Record) (result : Result (List ℕ) AllocError) (new : Record) → StillSleeps fixed old → Takes old result new → StillSleeps fixed new
@@ -180,16 +180,16 @@ over_repeats m made old result new over does = by_test old.starved does
     by_test false d = repeats_unless m made old result new old.vm.machine.failure (subst (λ o. StepUnless old.vm.machine.failure o m old result new) over d)
 
 -- where a step waits, the attempt sleeps
-step_asleep : (fixed : Fixed) (old : Record) (result : Result Progress Error) (new : Record) → IsKeptUnder fixed old → StillSleeps fixed old → StepDoes fixed.handler old result new → Premises fixed (heard fixed.version old) → IfWaits result (Sleeps fixed (heard fixed.version new) new.answers new.taken new.vm)
+step_asleep : (fixed : Fixed) (old : Record) (result : Result Progress Error) (new : Record) → IsKeptUnder fixed old → StillSleeps fixed old → StepDoes fixed.handler old result new → Premises fixed (heard fixed.version old) → IfWaits result (AwaitWaits fixed (heard fixed.version new) new.answers new.taken new.vm)
 step_asleep fixed old result new u s does p = by_over old.over refl
   where
-    by_over : (over : Option Progress) → old.over ≡ over → IfWaits result (Sleeps fixed (heard fixed.version new) new.answers new.taken new.vm)
+    by_over : (over : Option Progress) → old.over ≡ over → IfWaits result (AwaitWaits fixed (heard fixed.version new) new.answers new.taken new.vm)
     by_over None going = step_waits fixed old result new p (u p) going does
     by_over (Some made) over =
         let r = over_repeats fixed.handler made old result new over does in
         ⊎_elim
-        (λ (x : result ≡ Ok made). subst (λ z. IfWaits z (Sleeps fixed (heard fixed.version new) new.answers new.taken new.vm)) (sym x) (subst (λ (n : Record). IfWaits (Ok made) (Sleeps fixed (heard fixed.version n) n.answers n.taken n.vm)) (sym r.0) (s p made over)))
-        (λ (x : (e : Error) × (result ≡ Err e)). subst (λ z. IfWaits z (Sleeps fixed (heard fixed.version new) new.answers new.taken new.vm)) (sym x.1) tt)
+        (λ (x : result ≡ Ok made). subst (λ z. IfWaits z (AwaitWaits fixed (heard fixed.version new) new.answers new.taken new.vm)) (sym x) (subst (λ (n : Record). IfWaits (Ok made) (AwaitWaits fixed (heard fixed.version n) n.answers n.taken n.vm)) (sym r.0) (s p made over)))
+        (λ (x : (e : Error) × (result ≡ Err e)). subst (λ z. IfWaits z (AwaitWaits fixed (heard fixed.version new) new.answers new.taken new.vm)) (sym x.1) tt)
         r.1
 
 pub step_sleeps : (fixed : Fixed) (old : Record) (result : Result Progress Error) (new : Record) → IsKeptUnder fixed old → StillSleeps fixed old → StepDoes fixed.handler old result new → StillSleeps fixed new
@@ -201,7 +201,7 @@ step_sleeps fixed old result new u s does = by_over old.over refl
         (λ (x : new.over ≡ old.over). absurd (let z : None ≡ Some made = sym going ∙ sym x ∙ over in cc))
         (λ (x : (q : Progress) × (result ≡ Ok q) × (new.over ≡ Some q)).
         let same : x.0 ≡ made = same_Some x.0 made (sym x.2 ∙ over) in
-        subst (λ z. IfWaits z (Sleeps fixed (heard fixed.version new) new.answers new.taken new.vm)) (x.1 ∙ ap (λ q. Ok q) same)
+        subst (λ z. IfWaits z (AwaitWaits fixed (heard fixed.version new) new.answers new.taken new.vm)) (x.1 ∙ ap (λ q. Ok q) same)
         (step_asleep fixed old result new u s does (subst (λ fed. Premises fixed fed) (step_fed fixed.version fixed.handler old result new does) p)))
         (open_ends fixed.handler old result new going does)
     by_over (Some made) over = subst (StillSleeps fixed) (sym (over_repeats fixed.handler made old result new over does).0) s

@@ -23,7 +23,7 @@ use Rattle.vm_machine.specs.Outcomes.{settled, ruled}
 use Rattle.vm_machine.specs.Phases.{is_running}
 use Rattle.invocation_vm.specs.Views.{all_received, left_by, received}
 use Rattle.vm_attempt.specs.Blames.{fault_among}
-use Rattle.vm_attempt.specs.Journals.{is_command, is_ephemeral, is_notification, is_acknowledgement}
+use Rattle.vm_attempt.specs.Journals.{is_command_frame, is_ephemeral, is_notification, is_acknowledgement}
 use Rattle.vm_attempt.proofs.Arriving.{failed_stays, unknown_dead, unknown_step}
 use Rattle.vm_attempt.proofs.Blaming.{one_comes}
 use Rattle.vm_attempt.proofs.Entries.{message_by, receives_by}
@@ -75,7 +75,7 @@ message_stays raw Replaying runs v false false false false = λ h. unknown_dead 
 message_stays raw Processing runs v false false false false = unknown_stays (is_ephemeral raw) raw v
 
 pub one_stays : (raw : RawMessage) (v : Machine) → v.failure ≡ None → is_running v.phase ≡ true → StaysAt v (received raw v)
-one_stays raw v live runs = subst (StaysAt v) (sym (receives_by v raw live)) (message_stays raw v.phase runs v (type_number raw.ty == 1) (is_command raw) (is_notification raw) (is_acknowledgement raw))
+one_stays raw v live runs = subst (StaysAt v) (sym (receives_by v raw live)) (message_stays raw v.phase runs v (type_number raw.ty == 1) (is_command_frame raw) (is_notification raw) (is_acknowledgement raw))
 
 pub all_stay : (raws : List RawMessage) (v : Machine) → v.failure ≡ None → is_running v.phase ≡ true → StaysAt v (all_received raws v)
 all_stay [] v live runs h = refl

@@ -31,7 +31,7 @@ use Rattle.vm_steps.specs.declared.progress.Reply.TheVariants as reply
 use Rattle.vm_steps.specs.Heard.{proposals_among, proposals_in}
 use Rattle.vm_steps.specs.Record.{Record, bytes_written, heard}
 use Rattle.vm_steps.specs.Stepping.{Advances, Asks, CloseDoes, Closes, FeedDoes, Feeds, LacksMemory, MakesAttempt, Reads, StepAt, StepDoes, StepFrom, StepUnless, Takes, fresh_record, future_in, kept, kept_at, replied, step_asked, taken_from, with_vm}
-use Rattle.vm_attempt.specs.Told.{BeforeInput, Came, HasCome, IsLive, Quiet, Wrote}
+use Rattle.vm_attempt.specs.Told.{BeforeInput, JournalCame, HasCome, IsLive, Quiet, Wrote}
 use Rattle.vm_attempt.proofs.Advanced.{done_of, failed_quiet, input_silent}
 use Rattle.vm_attempt.proofs.Quiet.{Silent, closing_quiet, input_quiet}
 use Rattle.vm_attempt.proofs.Sending.{IsLeft, Sends, step_leaves}
@@ -161,7 +161,7 @@ pub wrote_of : (fixed : Fixed) (r : Record) → HasCome fixed r → (written : L
 wrote_of fixed r =
     ⊎_elim
     (λ (b : BeforeInput fixed (heard fixed.version r) r.answers r.waiting r.taken r.vm). ([], b.wrote))
-    (λ (c : Came fixed (heard fixed.version r) r.answers r.taken r.vm). (c.written, c.wrote))
+    (λ (c : JournalCame fixed (heard fixed.version r) r.answers r.taken r.vm). (c.written, c.wrote))
 
 steady : (old new : Record) (written : List RawMessage) → Wrote old.taken old.vm.machine.output written → WholeFrames old.vm.machine.output → WholeFrames new.vm.machine.output → Writes old new → all_proposed new ≡ all_proposed old
 steady old new written w f g x =

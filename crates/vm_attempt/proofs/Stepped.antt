@@ -58,12 +58,12 @@ use Rattle.vm_steps.specs.Heard.{Heard}
 use Rattle.vm_steps.specs.declared.progress.Progress.{Progress}
 use Rattle.vm_steps.specs.declared.progress.Reply.{Reply}
 use Rattle.vm_steps.specs.declared.progress.Reply.TheVariants as reply
-use Rattle.vm_attempt.specs.Agreement.{Agrees, Answered, Follows, HasEnded, IsCutShort, IsRefused, IsSuspended, MovesOn, StillAgrees, Waits, command_frames, suspended_on, waiting_on}
-use Rattle.vm_attempt.specs.Journals.{is_command, setup_for}
+use Rattle.vm_attempt.specs.Agreement.{Agrees, Answered, CallFollows, HasEnded, IsCutShort, CallRefused, IsSuspended, MovesOn, StillAgrees, Waits, command_frames, suspended_on, waiting_on}
+use Rattle.vm_attempt.specs.Journals.{is_command_frame, setup_for}
 use Rattle.vm_steps.specs.Record.{Record, heard}
 use Rattle.vm_steps.specs.Stepping.{Asks, IfWaits, step_asked, asked_from, future_in, progress_of, replied, with_vm}
 use Rattle.vm_steps.specs.Steps.{IfDone, Performs, ReadsBack, StepMade}
-use Rattle.vm_attempt.specs.Told.{IsKept, IsLive, RefusesReplay, Replays, Runs, Sleeps, StarvesReplay, StillAwaits, Wrote, arrivals, commands_of, handed_out}
+use Rattle.vm_attempt.specs.Told.{IsKept, IsLive, RefusesReplay, AnswersInReplay, HandlerRuns, AwaitWaits, StarvesReplay, StillAwaits, Wrote, arrivals, commands_of, start_state}
 use Rattle.vm_model.proofs.Parts.{IsOfOne, turn_is}
 use Rattle.vm_model.proofs.Rests.{made_keeps}
 use Rattle.vm_attempt.proofs.Following.{agreeing_follows}
@@ -77,7 +77,7 @@ use Rattle.vm_attempt.specs.Fixed.{Fixed}
 -- ---- what a call needs is a command
 
 abbrev NeedsCommand : Move → Type 0
-NeedsCommand (Needs demand gives d) = (state : StateMap) → is_command (stored_form (own state demand)) ≡ true
+NeedsCommand (Needs demand gives d) = (state : StateMap) → is_command_frame (stored_form (own state demand)) ≡ true
 NeedsCommand (Answers gives d) = Unit {0}
 NeedsCommand Awaits = Unit {0}
 NeedsCommand Ends = Unit {0}
@@ -205,17 +205,17 @@ made_made s m K (suc n) p made q (state, r, rest, knows, is, moves, further) =
 
 -- ---- a run that goes on
 
-runs_on : (fixed : Fixed) (fed : Heard) (answers : List Answer) (waiting to_wait : Option UnresolvedFuture) (taken : List (List ℕ)) (v w : View) (k : Runs fixed fed answers waiting taken v) → IsLive v.machine → w.undecoded ≡ v.undecoded
-    → (to : Point) (gives : List Answer) (made : List RawMessage) → MovesOn (setup_for fixed k.journal.start) fixed.handler (handed_out k.journal) k.at gives made to → (ms : List Message) → commands_of ms ≡ made → w.machine.output ≡ v.machine.output ++ map encoding ms
-    → StillAwaits fixed.handler to to_wait → (IsLive w.machine → Agrees (setup_for fixed k.journal.start) (handed_out k.journal) (k.written ++ made) w.machine to) → (IsLive w.machine → to.derived.parts ≡ 0) → (IsLive w.machine → w.machine.proposals ≡ v.machine.proposals) → (w.machine.failure ≡ None → (is_running w.machine.phase ≡ true) ⊎ (w.machine.phase ≡ Closed))
-    → Runs fixed fed (answers ++ gives) to_wait taken w
+runs_on : (fixed : Fixed) (fed : Heard) (answers : List Answer) (waiting to_wait : Option UnresolvedFuture) (taken : List (List ℕ)) (v w : View) (k : HandlerRuns fixed fed answers waiting taken v) → IsLive v.machine → w.undecoded ≡ v.undecoded
+    → (to : Point) (gives : List Answer) (made : List RawMessage) → MovesOn (setup_for fixed k.journal.start) fixed.handler (start_state k.journal) k.at gives made to → (ms : List Message) → commands_of ms ≡ made → w.machine.output ≡ v.machine.output ++ map encoding ms
+    → StillAwaits fixed.handler to to_wait → (IsLive w.machine → Agrees (setup_for fixed k.journal.start) (start_state k.journal) (k.written ++ made) w.machine to) → (IsLive w.machine → to.derived.parts ≡ 0) → (IsLive w.machine → w.machine.proposals ≡ v.machine.proposals) → (w.machine.failure ≡ None → (is_running w.machine.phase ≡ true) ⊎ (w.machine.phase ≡ Closed))
+    → HandlerRuns fixed fed (answers ++ gives) to_wait taken w
 runs_on fixed fed answers waiting to_wait taken v w k live und to gives made mo ms commands output awaits agrees rests kept phase = record {
   journal = k.journal;
   written = k.written ++ made;
   wrote = subst (Wrote taken w.machine.output) (ap (λ l. k.written ++ l) commands) (wrote_more taken v.machine.output w.machine.output ms k.written output k.wrote);
   at = to;
   moves = k.moves + mo.moves;
-  run = made_add (setup_for fixed k.journal.start) fixed.handler (Handed (handed_out k.journal)) k.moves mo.moves (start (setup_for fixed k.journal.start) k.journal.input (arrivals k.journal) k.journal.rest) k.written k.at made to k.run mo.run;
+  run = made_add (setup_for fixed k.journal.start) fixed.handler (Handed (start_state k.journal)) k.moves mo.moves (start (setup_for fixed k.journal.start) k.journal.input (arrivals k.journal) k.journal.rest) k.written k.at made to k.run mo.run;
   answers = mo.answers ∙ ap (λ l. l ++ gives) k.answers;
   awaits = awaits;
   agrees = agrees;
@@ -266,49 +266,49 @@ no_command_said true s executing left d = by_test (says_so s.version s.options.a
 
 -- ---- what the VM replies
 
-module _ (fixed : Fixed) (r : Record) (k : Runs fixed (heard fixed.version r) r.answers r.waiting r.taken r.vm) (live : IsLive r.vm.machine) (w : View) (und : w.undecoded ≡ r.vm.undecoded) where
+module _ (fixed : Fixed) (r : Record) (k : HandlerRuns fixed (heard fixed.version r) r.answers r.waiting r.taken r.vm) (live : IsLive r.vm.machine) (w : View) (und : w.undecoded ≡ r.vm.undecoded) where
   abbrev s : Setup
   s = setup_for fixed k.journal.start
 
-  answered_keeps : (a : Answer) → Answered s fixed.handler (handed_out k.journal) k.written k.at r.vm.machine a w.machine → Runs fixed (heard fixed.version r) (r.answers ++ a ∷ []) None r.taken w
+  answered_keeps : (a : Answer) → Answered s fixed.handler (start_state k.journal) k.written k.at r.vm.machine a w.machine → HandlerRuns fixed (heard fixed.version r) (r.answers ++ a ∷ []) None r.taken w
   answered_keeps a f =
-      let made = made_made s fixed.handler (Handed (handed_out k.journal)) f.moves.moves k.at f.made f.at f.moves.run in
-      runs_on fixed (heard fixed.version r) r.answers r.waiting None r.taken r.vm w k live und f.at (a ∷ []) f.made f.moves made.0 made.1.commands (f.output ∙ ap (λ l. r.vm.machine.output ++ l) (sym made.1.frames)) tt (λ _. f.agrees) (λ _. f.rests (k.rests live)) (λ _. f.kept) (λ _. inl (agrees_running s (handed_out k.journal) (k.written ++ f.made) w.machine f.at f.agrees))
+      let made = made_made s fixed.handler (Handed (start_state k.journal)) f.moves.moves k.at f.made f.at f.moves.run in
+      runs_on fixed (heard fixed.version r) r.answers r.waiting None r.taken r.vm w k live und f.at (a ∷ []) f.made f.moves made.0 made.1.commands (f.output ∙ ap (λ l. r.vm.machine.output ++ l) (sym made.1.frames)) tt (λ _. f.agrees) (λ _. f.rests (k.rests live)) (λ _. f.kept) (λ _. inl (agrees_running s (start_state k.journal) (k.written ++ f.made) w.machine f.at f.agrees))
 
   -- an await that waits has made no part of a call
-  waits_rest : (q : Point) → Waits s fixed.handler (handed_out k.journal) k.at q → q.derived.parts ≡ 0
+  waits_rest : (q : Point) → Waits s fixed.handler (start_state k.journal) k.at q → q.derived.parts ≡ 0
   waits_rest q ws =
       let same : q.answers ≡ k.at.answers = ws.moves.answers ∙ append-nil k.at.answers in
       let is : fixed.handler k.at.answers ≡ step.Await ws.future = ap fixed.handler (sym same) ∙ ws.awaits in
-      made_keeps s fixed.handler (Handed (handed_out k.journal)) ws.moves.moves k.at [] q (subst (λ st. IsOfOne (ask_of s.version st)) (sym is) tt) same ws.moves.run ∙ k.rests live
+      made_keeps s fixed.handler (Handed (start_state k.journal)) ws.moves.moves k.at [] q (subst (λ st. IsOfOne (ask_of s.version st)) (sym is) tt) same ws.moves.run ∙ k.rests live
 
-  no_answer : (waiting : Option UnresolvedFuture) → Runs fixed (heard fixed.version r) (r.answers ++ []) waiting r.taken w → Runs fixed (heard fixed.version r) r.answers waiting r.taken w
-  no_answer waiting = subst (λ l. Runs fixed (heard fixed.version r) l waiting r.taken w) (append-nil r.answers)
+  no_answer : (waiting : Option UnresolvedFuture) → HandlerRuns fixed (heard fixed.version r) (r.answers ++ []) waiting r.taken w → HandlerRuns fixed (heard fixed.version r) r.answers waiting r.taken w
+  no_answer waiting = subst (λ l. HandlerRuns fixed (heard fixed.version r) l waiting r.taken w) (append-nil r.answers)
 
-  waits_keeps : (input : Bool) (st : Step) → fixed.handler k.at.answers ≡ st → StillAgrees input s fixed.handler (handed_out k.journal) k.written k.at r.vm.machine w.machine → Runs fixed (heard fixed.version r) r.answers (future_in st) r.taken w
+  waits_keeps : (input : Bool) (st : Step) → fixed.handler k.at.answers ≡ st → StillAgrees input s fixed.handler (start_state k.journal) k.written k.at r.vm.machine w.machine → HandlerRuns fixed (heard fixed.version r) r.answers (future_in st) r.taken w
   waits_keeps input st is f =
       no_answer (future_in st)
       (runs_on fixed (heard fixed.version r) r.answers r.waiting (future_in st) r.taken r.vm w k live und f.at [] [] f.waits.moves (waiting_on input s (list_any is_executing w.machine.runs) f.left f.at.derived) (no_command_said input s (list_any is_executing w.machine.runs) f.left f.at.derived) f.output (future_awaits fixed.handler k.at f.at st is f.waits.moves.answers)
-      (λ _. subst (λ l. Agrees s (handed_out k.journal) l w.machine f.at) (sym (append-nil k.written)) f.agrees)
+      (λ _. subst (λ l. Agrees s (start_state k.journal) l w.machine f.at) (sym (append-nil k.written)) f.agrees)
       (λ _. waits_rest f.at f.waits)
       (λ _. f.kept)
-      (λ _. inl (agrees_running s (handed_out k.journal) k.written w.machine f.at f.agrees)))
+      (λ _. inl (agrees_running s (start_state k.journal) k.written w.machine f.at f.agrees)))
 
-  suspended_keeps : IsSuspended s fixed.handler (handed_out k.journal) k.at r.vm.machine w.machine → Runs fixed (heard fixed.version r) r.answers r.waiting r.taken w
+  suspended_keeps : IsSuspended s fixed.handler (start_state k.journal) k.at r.vm.machine w.machine → HandlerRuns fixed (heard fixed.version r) r.answers r.waiting r.taken w
   suspended_keeps f =
       no_answer r.waiting
       (runs_on fixed (heard fixed.version r) r.answers r.waiting r.waiting r.taken r.vm w k live und f.at [] [] f.waits.moves (message.Suspension (suspended_on f.left f.at.derived) ∷ []) refl f.output (same_awaits fixed.handler k.at f.at r.waiting f.waits.moves.answers k.awaits)
       (λ alive. not_live w.machine f.closed alive) (λ alive. not_live w.machine f.closed alive) (λ alive. not_live w.machine f.closed alive) (λ _. inr f.closed))
 
-  ended_keeps : HasEnded fixed.handler k.at r.vm.machine w.machine → Runs fixed (heard fixed.version r) r.answers r.waiting r.taken w
+  ended_keeps : HasEnded fixed.handler k.at r.vm.machine w.machine → HandlerRuns fixed (heard fixed.version r) r.answers r.waiting r.taken w
   ended_keeps f =
       no_answer r.waiting
-      (runs_on fixed (heard fixed.version r) r.answers r.waiting r.waiting r.taken r.vm w k live und k.at [] [] (no_move s fixed.handler (handed_out k.journal) k.at) (message.End ∷ []) refl f.output k.awaits (λ alive. not_live w.machine f.closed alive) (λ alive. not_live w.machine f.closed alive) (λ alive. not_live w.machine f.closed alive) (λ _. inr f.closed))
+      (runs_on fixed (heard fixed.version r) r.answers r.waiting r.waiting r.taken r.vm w k live und k.at [] [] (no_move s fixed.handler (start_state k.journal) k.at) (message.End ∷ []) refl f.output k.awaits (λ alive. not_live w.machine f.closed alive) (λ alive. not_live w.machine f.closed alive) (λ alive. not_live w.machine f.closed alive) (λ _. inr f.closed))
 
   -- what a call that failed has made is kept
-  failed_keeps : (e : Error) (at : Point) (made : List RawMessage) → MovesOn s fixed.handler (handed_out k.journal) k.at [] made at → (behind : List Message) → commands_of behind ≡ [] → w.machine.output ≡ r.vm.machine.output ++ (command_frames made ++ map encoding behind) → w.machine.failure ≡ Some e → IsKept fixed (with_vm w r)
+  failed_keeps : (e : Error) (at : Point) (made : List RawMessage) → MovesOn s fixed.handler (start_state k.journal) k.at [] made at → (behind : List Message) → commands_of behind ≡ [] → w.machine.output ≡ r.vm.machine.output ++ (command_frames made ++ map encoding behind) → w.machine.failure ≡ Some e → IsKept fixed (with_vm w r)
   failed_keeps e at made mo behind quiet output failure =
-      let ms = made_made s fixed.handler (Handed (handed_out k.journal)) mo.moves k.at made at mo.run in
+      let ms = made_made s fixed.handler (Handed (start_state k.journal)) mo.moves k.at made at mo.run in
       let commands : commands_of (ms.0 ++ behind) ≡ made = commands_append ms.0 behind ∙ (λ i. ms.1.commands i ++ quiet i) ∙ append-nil made in
       let frames : w.machine.output ≡ r.vm.machine.output ++ map encoding (ms.0 ++ behind) = output ∙ ap (λ l. r.vm.machine.output ++ l) (ap (λ l. l ++ map encoding behind) (sym ms.1.frames) ∙ sym (map_append ms.0 behind)) in
       inr
@@ -319,14 +319,14 @@ module _ (fixed : Fixed) (r : Record) (k : Runs fixed (heard fixed.version r) r.
       (λ alive. absurd (let z : None ≡ Some e = sym alive.failure ∙ failure in cc))
       (λ none. absurd (let z : None ≡ Some e = sym none ∙ failure in cc))))
 
-  refused_keeps : (e : Error) → IsRefused s fixed.handler (handed_out k.journal) k.at r.vm.machine e w.machine → IsKept fixed (with_vm w r)
+  refused_keeps : (e : Error) → CallRefused s fixed.handler (start_state k.journal) k.at r.vm.machine e w.machine → IsKept fixed (with_vm w r)
   refused_keeps e f = failed_keeps e f.at f.made f.moves (message.Error (error_message e) ∷ []) refl f.output f.failure
 
-  cut_keeps : (e : Error) → IsCutShort s fixed.handler (handed_out k.journal) k.at r.vm.machine e w.machine → IsKept fixed (with_vm w r)
+  cut_keeps : (e : Error) → IsCutShort s fixed.handler (start_state k.journal) k.at r.vm.machine e w.machine → IsKept fixed (with_vm w r)
   cut_keeps e f = failed_keeps e f.at f.made f.moves [] refl (f.output ∙ ap (λ l. r.vm.machine.output ++ l) (sym (append-nil (command_frames f.made)))) f.failure
 
   abbrev Following : Outcome Reply → Type 0
-  Following = Follows s fixed.handler (handed_out k.journal) k.written k.at r.vm.machine
+  Following = CallFollows s fixed.handler (start_state k.journal) k.written k.at r.vm.machine
 
   -- whatever the call comes to, it does what the moves lead to
   abbrev AllFollow : Type 0 → (Outcome Reply → Type 0) → Type 0
@@ -341,18 +341,18 @@ module _ (fixed : Fixed) (r : Record) (k : Runs fixed (heard fixed.version r) r.
   replied_keeps P st is (Err e) R f does h =
       ⊎_elim
       (λ (x : R (Failed e w.machine)).
-      let g : IsRefused s fixed.handler (handed_out k.journal) k.at r.vm.machine e w.machine ⊎ IsCutShort s fixed.handler (handed_out k.journal) k.at r.vm.machine e w.machine = f (Failed e w.machine) x (tt {0}) in
-      ⊎_elim (λ (y : IsRefused s fixed.handler (handed_out k.journal) k.at r.vm.machine e w.machine). refused_keeps e y) (λ (y : IsCutShort s fixed.handler (handed_out k.journal) k.at r.vm.machine e w.machine). cut_keeps e y) g)
-      (λ (x : IsStarved r.vm.machine e w.machine). dead_same (Runs fixed) (runs_last fixed) fixed r w (inr k) (quiet_same r.vm.machine w.machine x.output) (rw x.failure refl))
+      let g : CallRefused s fixed.handler (start_state k.journal) k.at r.vm.machine e w.machine ⊎ IsCutShort s fixed.handler (start_state k.journal) k.at r.vm.machine e w.machine = f (Failed e w.machine) x (tt {0}) in
+      ⊎_elim (λ (y : CallRefused s fixed.handler (start_state k.journal) k.at r.vm.machine e w.machine). refused_keeps e y) (λ (y : IsCutShort s fixed.handler (start_state k.journal) k.at r.vm.machine e w.machine). cut_keeps e y) g)
+      (λ (x : IsStarved r.vm.machine e w.machine). dead_same (HandlerRuns fixed) (runs_last fixed) fixed r w (inr k) (quiet_same r.vm.machine w.machine x.output) (rw x.failure refl))
       does
 
   -- ---- what waits
 
-  waits_so : (q : Point) → Waits s fixed.handler (handed_out k.journal) k.at q → (ms : List Message) → commands_of ms ≡ [] → w.machine.output ≡ r.vm.machine.output ++ map encoding ms → Sleeps fixed (heard fixed.version r) r.answers r.taken w
+  waits_so : (q : Point) → Waits s fixed.handler (start_state k.journal) k.at q → (ms : List Message) → commands_of ms ≡ [] → w.machine.output ≡ r.vm.machine.output ++ map encoding ms → AwaitWaits fixed (heard fixed.version r) r.answers r.taken w
   waits_so q ws ms commands output =
       let written = k.written ++ [] in
-      let run = made_add s fixed.handler (Handed (handed_out k.journal)) k.moves ws.moves.moves (start s k.journal.input (arrivals k.journal) k.journal.rest) k.written k.at [] q k.run ws.moves.run in
-      let told = attempt_is_told s fixed.handler (handed_out k.journal) k.journal.input (k.moves + ws.moves.moves) (arrivals k.journal) k.journal.rest written q run in
+      let run = made_add s fixed.handler (Handed (start_state k.journal)) k.moves ws.moves.moves (start s k.journal.input (arrivals k.journal) k.journal.rest) k.written k.at [] q k.run ws.moves.run in
+      let told = attempt_is_told s fixed.handler (start_state k.journal) k.journal.input (k.moves + ws.moves.moves) (arrivals k.journal) k.journal.rest written q run in
       let same : q.answers ≡ r.answers = ws.moves.answers ∙ append-nil k.at.answers ∙ k.answers in
       let wrote : Wrote r.taken w.machine.output written = subst (Wrote r.taken w.machine.output) (ap (λ l. k.written ++ l) commands) (wrote_more r.taken r.vm.machine.output w.machine.output ms k.written output k.wrote) in (
         written,
@@ -371,24 +371,24 @@ module _ (fixed : Fixed) (r : Record) (k : Runs fixed (heard fixed.version r) r.
         },
       )
 
-  replied_waits : (P : Type 0) (x : Result Reply Error) → (R : Outcome Reply → Type 0) → AllFollow P R → DoesBy R x r.vm.machine w.machine → OnOk x P → IfWaits (progress_of x) (Sleeps fixed (heard fixed.version r) r.answers r.taken w)
+  replied_waits : (P : Type 0) (x : Result Reply Error) → (R : Outcome Reply → Type 0) → AllFollow P R → DoesBy R x r.vm.machine w.machine → OnOk x P → IfWaits (progress_of x) (AwaitWaits fixed (heard fixed.version r) r.answers r.taken w)
   replied_waits P (Ok (reply.Answer a)) R f does h = tt
   replied_waits P (Ok (reply.Waiting input run)) R f does h =
-      let g : StillAgrees input s fixed.handler (handed_out k.journal) k.written k.at r.vm.machine w.machine = f (Done (reply.Waiting input run) w.machine) does h in
+      let g : StillAgrees input s fixed.handler (start_state k.journal) k.written k.at r.vm.machine w.machine = f (Done (reply.Waiting input run) w.machine) does h in
       let executing = list_any is_executing w.machine.runs in
       waits_so g.at g.waits (waiting_on input s executing g.left g.at.derived) (no_command_said input s executing g.left g.at.derived) g.output
   replied_waits P (Ok (reply.Execute run)) R f does h =
-      let g : StillAgrees false s fixed.handler (handed_out k.journal) k.written k.at r.vm.machine w.machine = f (Done (reply.Execute run) w.machine) does h in
+      let g : StillAgrees false s fixed.handler (start_state k.journal) k.written k.at r.vm.machine w.machine = f (Done (reply.Execute run) w.machine) does h in
       waits_so g.at g.waits [] refl g.output
   replied_waits P (Ok reply.Suspended) R f does h =
-      let g : IsSuspended s fixed.handler (handed_out k.journal) k.at r.vm.machine w.machine = f (Done reply.Suspended w.machine) does h in
+      let g : IsSuspended s fixed.handler (start_state k.journal) k.at r.vm.machine w.machine = f (Done reply.Suspended w.machine) does h in
       waits_so g.at g.waits (message.Suspension (suspended_on g.left g.at.derived) ∷ []) refl g.output
   replied_waits P (Ok reply.Ended) R f does h = tt
   replied_waits P (Err e) R f does h = tt
 
   -- ---- what is replayed
 
-  nothing_made : (a : Answer) → Answered s fixed.handler (handed_out k.journal) k.written k.at r.vm.machine a w.machine → (w.machine.output ≡ r.vm.machine.output) ⊎ (w.machine.phase ≡ Processing)
+  nothing_made : (a : Answer) → Answered s fixed.handler (start_state k.journal) k.written k.at r.vm.machine a w.machine → (w.machine.output ≡ r.vm.machine.output) ⊎ (w.machine.phase ≡ Processing)
   nothing_made a g =
       ⊎_elim
       (λ (none : g.made ≡ []). inl (g.output ∙ ap (λ l. r.vm.machine.output ++ command_frames l) none ∙ append-nil r.vm.machine.output))
@@ -400,16 +400,16 @@ module _ (fixed : Fixed) (r : Record) (k : Runs fixed (heard fixed.version r) r.
   none_written c further some = ⊎_elim
       (λ (x : k.written ≡ []). x)
       (λ (x : k.at.left ≡ []). absurd (let z : [] ≡ c ∷ further = sym x ∙ some in cc))
-      (attempt_is_told s fixed.handler (handed_out k.journal) k.journal.input k.moves (arrivals k.journal) k.journal.rest k.written k.at k.run).1
+      (attempt_is_told s fixed.handler (start_state k.journal) k.journal.input k.moves (arrivals k.journal) k.journal.rest k.written k.at k.run).1
 
   -- the run to where a call failed
-  run_there : (c : RawMessage) (further : List RawMessage) → k.at.left ≡ c ∷ further → (at : Point) (made : List RawMessage) (mo : MovesOn s fixed.handler (handed_out k.journal) k.at [] made at) → Made s fixed.handler (Handed (handed_out k.journal)) (k.moves + mo.moves) (start s k.journal.input (arrivals k.journal) k.journal.rest) made at
+  run_there : (c : RawMessage) (further : List RawMessage) → k.at.left ≡ c ∷ further → (at : Point) (made : List RawMessage) (mo : MovesOn s fixed.handler (start_state k.journal) k.at [] made at) → Made s fixed.handler (Handed (start_state k.journal)) (k.moves + mo.moves) (start s k.journal.input (arrivals k.journal) k.journal.rest) made at
   run_there c further some at made mo =
       let first = start s k.journal.input (arrivals k.journal) k.journal.rest in
-      subst (λ l. Made s fixed.handler (Handed (handed_out k.journal)) (k.moves + mo.moves) first (l ++ made) at) (none_written c further some) (made_add s fixed.handler (Handed (handed_out k.journal)) k.moves mo.moves first k.written k.at made at k.run mo.run)
+      subst (λ l. Made s fixed.handler (Handed (start_state k.journal)) (k.moves + mo.moves) first (l ++ made) at) (none_written c further some) (made_add s fixed.handler (Handed (start_state k.journal)) k.moves mo.moves first k.written k.at made at k.run mo.run)
 
   -- a refusal, at the point that the run comes to
-  refuses_there : (e : Error) (c : RawMessage) (further : List RawMessage) → k.at.left ≡ c ∷ further → IsRefused s fixed.handler (handed_out k.journal) k.at r.vm.machine e w.machine → RefusesReplay fixed (heard fixed.version r) r.answers e r.vm.machine w.machine
+  refuses_there : (e : Error) (c : RawMessage) (further : List RawMessage) → k.at.left ≡ c ∷ further → CallRefused s fixed.handler (start_state k.journal) k.at r.vm.machine e w.machine → RefusesReplay fixed (heard fixed.version r) r.answers e r.vm.machine w.machine
   refuses_there e c further some g = record {
     journal = k.journal;
     at = g.at;
@@ -427,7 +427,7 @@ module _ (fixed : Fixed) (r : Record) (k : Runs fixed (heard fixed.version r) r.
   }
 
   -- and want of memory
-  starves_there : (e : Error) (c : RawMessage) (further : List RawMessage) → k.at.left ≡ c ∷ further → IsCutShort s fixed.handler (handed_out k.journal) k.at r.vm.machine e w.machine → StarvesReplay fixed (heard fixed.version r) r.answers e r.vm.machine w.machine
+  starves_there : (e : Error) (c : RawMessage) (further : List RawMessage) → k.at.left ≡ c ∷ further → IsCutShort s fixed.handler (start_state k.journal) k.at r.vm.machine e w.machine → StarvesReplay fixed (heard fixed.version r) r.answers e r.vm.machine w.machine
   starves_there e c further some g = record {
     journal = k.journal;
     at = g.at;
@@ -442,18 +442,18 @@ module _ (fixed : Fixed) (r : Record) (k : Runs fixed (heard fixed.version r) r.
     failure = g.failure;
   }
 
-  replied_replays : (P : Type 0) (future : Option UnresolvedFuture) (c : RawMessage) (further : List RawMessage) → k.at.left ≡ c ∷ further → (x : Result Reply Error) → (R : Outcome Reply → Type 0) → AllFollow P R → DoesBy R x r.vm.machine w.machine → OnOk x P → Replays fixed r (progress_of x) (replied r future x w)
+  replied_replays : (P : Type 0) (future : Option UnresolvedFuture) (c : RawMessage) (further : List RawMessage) → k.at.left ≡ c ∷ further → (x : Result Reply Error) → (R : Outcome Reply → Type 0) → AllFollow P R → DoesBy R x r.vm.machine w.machine → OnOk x P → AnswersInReplay fixed r (progress_of x) (replied r future x w)
   replied_replays P future c further some (Ok (reply.Answer a)) R f does h = nothing_made a (f (Done (reply.Answer a) w.machine) does h)
   replied_replays P future c further some (Ok (reply.Waiting input run)) R f does h =
-      let g : StillAgrees input s fixed.handler (handed_out k.journal) k.written k.at r.vm.machine w.machine = f (Done (reply.Waiting input run) w.machine) does h in
+      let g : StillAgrees input s fixed.handler (start_state k.journal) k.written k.at r.vm.machine w.machine = f (Done (reply.Waiting input run) w.machine) does h in
       let z : [] ≡ c ∷ further = sym g.waits.none_recorded ∙ some in
       cc
   replied_replays P future c further some (Ok (reply.Execute run)) R f does h =
-      let g : StillAgrees false s fixed.handler (handed_out k.journal) k.written k.at r.vm.machine w.machine = f (Done (reply.Execute run) w.machine) does h in
+      let g : StillAgrees false s fixed.handler (start_state k.journal) k.written k.at r.vm.machine w.machine = f (Done (reply.Execute run) w.machine) does h in
       let z : [] ≡ c ∷ further = sym g.waits.none_recorded ∙ some in
       cc
   replied_replays P future c further some (Ok reply.Suspended) R f does h =
-      let g : IsSuspended s fixed.handler (handed_out k.journal) k.at r.vm.machine w.machine = f (Done reply.Suspended w.machine) does h in
+      let g : IsSuspended s fixed.handler (start_state k.journal) k.at r.vm.machine w.machine = f (Done reply.Suspended w.machine) does h in
       let z : [] ≡ c ∷ further = sym g.waits.none_recorded ∙ some in
       cc
   replied_replays P future c further some (Ok reply.Ended) R f does h =
@@ -463,18 +463,18 @@ module _ (fixed : Fixed) (r : Record) (k : Runs fixed (heard fixed.version r) r.
   replied_replays P future c further some (Err e) R f does h =
       ⊎_elim
       (λ (x : R (Failed e w.machine)).
-      let g : IsRefused s fixed.handler (handed_out k.journal) k.at r.vm.machine e w.machine ⊎ IsCutShort s fixed.handler (handed_out k.journal) k.at r.vm.machine e w.machine = f (Failed e w.machine) x (tt {0}) in
+      let g : CallRefused s fixed.handler (start_state k.journal) k.at r.vm.machine e w.machine ⊎ IsCutShort s fixed.handler (start_state k.journal) k.at r.vm.machine e w.machine = f (Failed e w.machine) x (tt {0}) in
       inr
       (inr
       (⊎_elim
-      (λ (y : IsRefused s fixed.handler (handed_out k.journal) k.at r.vm.machine e w.machine). inr (refuses_there e c further some y))
-      (λ (y : IsCutShort s fixed.handler (handed_out k.journal) k.at r.vm.machine e w.machine). inl (starves_there e c further some y))
+      (λ (y : CallRefused s fixed.handler (start_state k.journal) k.at r.vm.machine e w.machine). inr (refuses_there e c further some y))
+      (λ (y : IsCutShort s fixed.handler (start_state k.journal) k.at r.vm.machine e w.machine). inl (starves_there e c further some y))
       g)))
       (λ (x : IsStarved r.vm.machine e w.machine). inr (inl x))
       does
 
 -- a step of a handler that runs
-pub asks_keep : (fixed : Fixed) (old : Record) (result : Result Progress Error) (new : Record) → fixed.options.signal_delivery ≡ Queued → (k : Runs fixed (heard fixed.version old) old.answers old.waiting old.taken old.vm) → HasNoTwo k.at → IsLive old.vm.machine → Asks fixed.handler old result new → IsKept fixed new
+pub asks_keep : (fixed : Fixed) (old : Record) (result : Result Progress Error) (new : Record) → fixed.options.signal_delivery ≡ Queued → (k : HandlerRuns fixed (heard fixed.version old) old.answers old.waiting old.taken old.vm) → HasNoTwo k.at → IsLive old.vm.machine → Asks fixed.handler old result new → IsKept fixed new
 asks_keep fixed old result new queues k two live (x, w, does, is, progress) =
     let s = setup_for fixed k.journal.start in
     let st = fixed.handler k.at.answers in
@@ -482,11 +482,11 @@ asks_keep fixed old result new queues k two live (x, w, does, is, progress) =
     let made : StepMade st x old.vm w = subst (λ q. StepMade q x old.vm w) same does in
     subst (IsKept fixed) (sym is)
     (subst (λ q. IsKept fixed (replied old (future_in q) x w)) (sym same)
-    (replied_keeps fixed old k live w made.0.1 (ReadsBack st old.vm.machine) st refl x (Performs st old.vm.machine) (λ o. agreeing_follows s fixed.handler (handed_out k.journal) k.written old.vm.machine k.at o (λ future _. (queues, two)) (k.rests live) (k.agrees live)) made.0.0 made.1))
+    (replied_keeps fixed old k live w made.0.1 (ReadsBack st old.vm.machine) st refl x (Performs st old.vm.machine) (λ o. agreeing_follows s fixed.handler (start_state k.journal) k.written old.vm.machine k.at o (λ future _. (queues, two)) (k.rests live) (k.agrees live)) made.0.0 made.1))
 
 -- what a step that waits leaves of the record
-settled_waits : (fixed : Fixed) (old : Record) (future : Option UnresolvedFuture) (w : View) (x : Result Reply Error) → IfWaits (progress_of x) (Sleeps fixed (heard fixed.version old) old.answers old.taken w)
-    → IfWaits (progress_of x) (Sleeps fixed (heard fixed.version (replied old future x w)) (replied old future x w).answers (replied old future x w).taken (replied old future x w).vm)
+settled_waits : (fixed : Fixed) (old : Record) (future : Option UnresolvedFuture) (w : View) (x : Result Reply Error) → IfWaits (progress_of x) (AwaitWaits fixed (heard fixed.version old) old.answers old.taken w)
+    → IfWaits (progress_of x) (AwaitWaits fixed (heard fixed.version (replied old future x w)) (replied old future x w).answers (replied old future x w).taken (replied old future x w).vm)
 settled_waits fixed old future w (Ok (reply.Answer a)) h = tt
 settled_waits fixed old future w (Ok (reply.Waiting input run)) h = h
 settled_waits fixed old future w (Ok (reply.Execute run)) h = h
@@ -494,7 +494,7 @@ settled_waits fixed old future w (Ok reply.Suspended) h = h
 settled_waits fixed old future w (Ok reply.Ended) h = tt
 settled_waits fixed old future w (Err e) h = tt
 
-module _ (fixed : Fixed) (old : Record) (result : Result Progress Error) (new : Record) (queues : fixed.options.signal_delivery ≡ Queued) (k : Runs fixed (heard fixed.version old) old.answers old.waiting old.taken old.vm) (two : HasNoTwo k.at) (live : IsLive old.vm.machine) where
+module _ (fixed : Fixed) (old : Record) (result : Result Progress Error) (new : Record) (queues : fixed.options.signal_delivery ≡ Queued) (k : HandlerRuns fixed (heard fixed.version old) old.answers old.waiting old.taken old.vm) (two : HasNoTwo k.at) (live : IsLive old.vm.machine) where
   abbrev made_here : Setup
   made_here = setup_for fixed k.journal.start
 
@@ -502,15 +502,15 @@ module _ (fixed : Fixed) (old : Record) (result : Result Progress Error) (new : 
   is_next : step_asked fixed.handler old ≡ fixed.handler k.at.answers
   is_next = asks_next fixed.handler k.at old.answers old.waiting k.answers k.awaits
 
-  follows_here : (o : Outcome Reply) → Performs (fixed.handler k.at.answers) old.vm.machine o → IfDone o (ReadsBack (fixed.handler k.at.answers) old.vm.machine) → Follows made_here fixed.handler (handed_out k.journal) k.written k.at old.vm.machine o
-  follows_here o = agreeing_follows made_here fixed.handler (handed_out k.journal) k.written old.vm.machine k.at o (λ future _. (queues, two)) (k.rests live) (k.agrees live)
+  follows_here : (o : Outcome Reply) → Performs (fixed.handler k.at.answers) old.vm.machine o → IfDone o (ReadsBack (fixed.handler k.at.answers) old.vm.machine) → CallFollows made_here fixed.handler (start_state k.journal) k.written k.at old.vm.machine o
+  follows_here o = agreeing_follows made_here fixed.handler (start_state k.journal) k.written old.vm.machine k.at o (λ future _. (queues, two)) (k.rests live) (k.agrees live)
 
   -- a step waits only where nothing wakes
-  pub asks_wait : Asks fixed.handler old result new → IfWaits result (Sleeps fixed (heard fixed.version new) new.answers new.taken new.vm)
+  pub asks_wait : Asks fixed.handler old result new → IfWaits result (AwaitWaits fixed (heard fixed.version new) new.answers new.taken new.vm)
   asks_wait (x, w, does, is, progress) =
       let made : StepMade (fixed.handler k.at.answers) x old.vm w = subst (λ q. StepMade q x old.vm w) is_next does in
-      subst (λ z. IfWaits z (Sleeps fixed (heard fixed.version new) new.answers new.taken new.vm)) (sym progress)
-      (subst (λ (n : Record). IfWaits (progress_of x) (Sleeps fixed (heard fixed.version n) n.answers n.taken n.vm)) (sym is)
+      subst (λ z. IfWaits z (AwaitWaits fixed (heard fixed.version new) new.answers new.taken new.vm)) (sym progress)
+      (subst (λ (n : Record). IfWaits (progress_of x) (AwaitWaits fixed (heard fixed.version n) n.answers n.taken n.vm)) (sym is)
       (settled_waits fixed old (future_in (step_asked fixed.handler old)) w x
       (replied_waits fixed old k live w made.0.1 (ReadsBack (fixed.handler k.at.answers) old.vm.machine) x (Performs (fixed.handler k.at.answers) old.vm.machine) follows_here made.0.0 made.1)))
 
@@ -522,10 +522,10 @@ module _ (fixed : Fixed) (old : Record) (result : Result Progress Error) (new : 
       absurd (cc)
 
   -- a step while recorded commands are left
-  pub asks_replay : old.vm.machine.phase ≡ Replaying → Asks fixed.handler old result new → Replays fixed old result new
+  pub asks_replay : old.vm.machine.phase ≡ Replaying → Asks fixed.handler old result new → AnswersInReplay fixed old result new
   asks_replay replaying (x, w, does, is, progress) =
       let made : StepMade (fixed.handler k.at.answers) x old.vm w = subst (λ q. StepMade q x old.vm w) is_next does in
       let some = some_left replaying k.at.left refl in
-      subst (λ z. Replays fixed old z new) (sym progress)
-      (subst (Replays fixed old (progress_of x)) (sym is)
+      subst (λ z. AnswersInReplay fixed old z new) (sym progress)
+      (subst (AnswersInReplay fixed old (progress_of x)) (sym is)
       (replied_replays fixed old k live w made.0.1 (ReadsBack (fixed.handler k.at.answers) old.vm.machine) (future_in (step_asked fixed.handler old)) some.0 some.1 some.2 x (Performs (fixed.handler k.at.answers) old.vm.machine) follows_here made.0.0 made.1))

@@ -22,7 +22,7 @@ use Rattle.vm_steps.specs.declared.progress.Progress.{Progress}
 use Rattle.vm_attempt.specs.Journals.{setup_for}
 use Rattle.vm_steps.specs.Record.{Record, heard}
 use Rattle.vm_steps.specs.Stepping.{Advances, Asks, CloseDoes, Closes, FeedDoes, Feeds, LacksMemory, Reads, StepAt, StepDoes, StepFrom, StepUnless, Takes, kept, kept_at, step_asked, future_in, replied, with_vm}
-use Rattle.vm_attempt.specs.Told.{IsKeptUnder, Premises, Runs, bytes_fed, frames_fed, handed_out}
+use Rattle.vm_attempt.specs.Told.{IsKeptUnder, Premises, HandlerRuns, bytes_fed, frames_fed, start_state}
 use Rattle.vm_steps.specs.declared.progress.Reply.{Reply}
 use Rattle.vm_steps.specs.declared.progress.Reply.TheVariants as reply
 use Rattle.await_trees.specs.declared.tree.UnresolvedFuture.{UnresolvedFuture}
@@ -52,7 +52,7 @@ premises_before fixed fed f p =
       queues = p.queues;
       once = λ j n made q run.
           fewer_waiting q (more_arrivals j G.0)
-          (p.once (journal_to fed (fed.pieces ++ f ∷ []) G.0 frames j) n made (later (more_arrivals j G.0) q) (run_to (setup_for fixed j.start) fixed.handler (Handed (handed_out j)) fed j G.0 n made q run));
+          (p.once (journal_to fed (fed.pieces ++ f ∷ []) G.0 frames j) n made (later (more_arrivals j G.0) q) (run_to (setup_for fixed j.start) fixed.handler (Handed (start_state j)) fed j G.0 n made q run));
     }
 
 -- ---- what was fed
@@ -151,13 +151,13 @@ module _ (version : Version) where
 -- ---- each call
 
 pub feed_under : (fixed : Fixed) (piece : List ℕ) (old : Record) (result : Result Unit AllocError) (new : Record) → IsKeptUnder fixed old → FeedDoes old.starved piece old result new → IsKeptUnder fixed new
-feed_under fixed piece old result new u does p = feed_keeps (Runs fixed) (runs_last fixed) fixed piece old result new (u (premises_of fixed (heard fixed.version old) (heard fixed.version new) (feed_grows fixed.version piece old result new does) p)) does
+feed_under fixed piece old result new u does p = feed_keeps (HandlerRuns fixed) (runs_last fixed) fixed piece old result new (u (premises_of fixed (heard fixed.version old) (heard fixed.version new) (feed_grows fixed.version piece old result new does) p)) does
 
 pub close_under : (fixed : Fixed) (old : Record) (result : Result Unit AllocError) (new : Record) → IsKeptUnder fixed old → CloseDoes old.starved old result new → IsKeptUnder fixed new
-close_under fixed old result new u does p = close_keeps (Runs fixed) (runs_last fixed) fixed old result new (u (premises_of fixed (heard fixed.version old) (heard fixed.version new) (inl (close_fed fixed.version old result new does)) p)) does
+close_under fixed old result new u does p = close_keeps (HandlerRuns fixed) (runs_last fixed) fixed old result new (u (premises_of fixed (heard fixed.version old) (heard fixed.version new) (inl (close_fed fixed.version old result new does)) p)) does
 
 pub take_under : (fixed : Fixed) (old : Record) (result : Result (List ℕ) AllocError) (new : Record) → IsKeptUnder fixed old → Takes old result new → IsKeptUnder fixed new
-take_under fixed old result new u does p = take_keeps (Runs fixed) (runs_last fixed) fixed old result new (u (premises_of fixed (heard fixed.version old) (heard fixed.version new) (inl (take_fed fixed.version old result new does)) p)) does
+take_under fixed old result new u does p = take_keeps (HandlerRuns fixed) (runs_last fixed) fixed old result new (u (premises_of fixed (heard fixed.version old) (heard fixed.version new) (inl (take_fed fixed.version old result new does)) p)) does
 
 pub step_under : (fixed : Fixed) (old : Record) (result : Result Progress Error) (new : Record) → IsKeptUnder fixed old → StepDoes fixed.handler old result new → IsKeptUnder fixed new
 step_under fixed old result new u does p =

@@ -18,9 +18,9 @@ use Rattle.invocation_vm.specs.Frames.{Rest, frames_from, frames_of}
 use Rattle.invocation_vm.proofs.Cuts.{frames_of-next}
 use Rattle.vm_model.specs.Journal.{stored_form}
 use Rattle.vm_attempt.specs.Honest.{frame_bytes}
-use Rattle.vm_attempt.specs.Journals.{commands_among, is_command}
+use Rattle.vm_attempt.specs.Journals.{commands_among, is_command_frame}
 use Rattle.vm_steps.specs.Record.{Record, bytes_written, heard}
-use Rattle.vm_attempt.specs.Told.{BeforeInput, Came, HasCome, Wrote, commands_of, written_by}
+use Rattle.vm_attempt.specs.Told.{BeforeInput, JournalCame, HasCome, Wrote, commands_of, written_by}
 use Rattle.journal_attempt.specs.Bodies.{propose_run_completion_format}
 use Rattle.journal_attempt.specs.declared.runs.ProposeRunCompletion.{ProposeRunCompletion}
 use Rattle.journal_messages.specs.declared.message.Message.TheVariants as message
@@ -103,12 +103,12 @@ same_commands [] [] e all = refl
 same_commands [] (n ∷ ns) e all = absurd (cc)
 same_commands (m ∷ ms) [] e all = absurd (cc)
 same_commands (m ∷ ms) (n ∷ ns) e all =
-    ap (λ c. cond (is_command c) (c ∷ commands_of ms) (commands_of ms)) (same_form m n (ap first_of e) all.0)
-    ∙ ap (λ l. cond (is_command (stored_form n)) (stored_form n ∷ l) l) (same_commands ms ns (ap others_of e) all.1)
+    ap (λ c. cond (is_command_frame c) (c ∷ commands_of ms) (commands_of ms)) (same_form m n (ap first_of e) all.0)
+    ∙ ap (λ l. cond (is_command_frame (stored_form n)) (stored_form n ∷ l) l) (same_commands ms ns (ap others_of e) all.1)
 
 commands_stored : (ms : List Message) → commands_of ms ≡ commands_among (map stored_form ms)
 commands_stored [] = refl
-commands_stored (m ∷ ms) = ap (λ l. cond (is_command (stored_form m)) (stored_form m ∷ l) l) (commands_stored ms)
+commands_stored (m ∷ ms) = ap (λ l. cond (is_command_frame (stored_form m)) (stored_form m ∷ l) l) (commands_stored ms)
 
 -- ---- all output
 
@@ -206,7 +206,7 @@ pub writes_whole : (fixed : Fixed) (r : Record) → HasCome fixed r → WholeFra
 writes_whole fixed r k f =
     ⊎_elim
     (λ (b : BeforeInput fixed (heard fixed.version r) r.answers r.waiting r.taken r.vm). stream_of r.taken r.vm.machine.output [] b.wrote f)
-    (λ (c : Came fixed (heard fixed.version r) r.answers r.taken r.vm). stream_of r.taken r.vm.machine.output c.written c.wrote f)
+    (λ (c : JournalCame fixed (heard fixed.version r) r.answers r.taken r.vm). stream_of r.taken r.vm.machine.output c.written c.wrote f)
     k
 
 -- before the input no command is written
@@ -214,5 +214,5 @@ pub none_before_input : (fixed : Fixed) (r : Record) → HasCome fixed r → Who
 none_before_input fixed r k f none =
     ⊎_elim
     (λ (b : BeforeInput fixed (heard fixed.version r) r.answers r.waiting r.taken r.vm). sym (written_is r.taken r.vm.machine.output [] b.wrote f))
-    (λ (c : Came fixed (heard fixed.version r) r.answers r.taken r.vm). absurd (c.answered none))
+    (λ (c : JournalCame fixed (heard fixed.version r) r.answers r.taken r.vm). absurd (c.answered none))
     k

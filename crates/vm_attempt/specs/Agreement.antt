@@ -196,7 +196,7 @@ pub record HasEnded (m : Meaning) (p : Point) (v w : Machine) : Type 0 where
 -- A call was refused: the run comes to a point from which no move leads on, and one Error is
 -- written, behind the commands that were made up to there: none, or no recorded one is left. The
 -- error is that of the reason, by the error rule.
-pub record IsRefused (s : Setup) (m : Meaning) (given : StateMap) (p : Point) (v : Machine) (e : Error) (w : Machine) : Type 0 where
+pub record CallRefused (s : Setup) (m : Meaning) (given : StateMap) (p : Point) (v : Machine) (e : Error) (w : Machine) : Type 0 where
   pub at : Point
   pub made : List RawMessage
   pub none_before : (made ≡ []) ⊎ (at.left ≡ [])
@@ -228,14 +228,16 @@ pub record IsCutShort (s : Setup) (m : Meaning) (given : StateMap) (p : Point) (
   pub failure : w.failure ≡ Some e
 
 -- What a call does, by what it answers.
-abbrev pub Follows : Setup → Meaning → StateMap → List RawMessage → Point → Machine → Outcome Reply
+abbrev pub CallFollows : Setup → Meaning → StateMap → List RawMessage → Point → Machine
+    → Outcome Reply
     → Type 0
-Follows s m given written p v (Done (reply.Answer a) w) = Answered s m given written p v a w
-Follows s m given written p v (Done (reply.Waiting input run) w) = StillAgrees input s m given
+CallFollows s m given written p v (Done (reply.Answer a) w) = Answered s m given written p v a w
+CallFollows s m given written p v (Done (reply.Waiting input run) w) = StillAgrees input s m given
     written p v w
-Follows s m given written p v (Done (reply.Execute run) w) = StillAgrees false s m given written p v
+CallFollows s m given written p v (Done (reply.Execute run) w) = StillAgrees false s m given written
+    p v
     w
-Follows s m given written p v (Done reply.Suspended w) = IsSuspended s m given p v w
-Follows s m given written p v (Done reply.Ended w) = HasEnded m p v w
-Follows s m given written p v (Failed e w) = IsRefused s m given p v e w
+CallFollows s m given written p v (Done reply.Suspended w) = IsSuspended s m given p v w
+CallFollows s m given written p v (Done reply.Ended w) = HasEnded m p v w
+CallFollows s m given written p v (Failed e w) = CallRefused s m given p v e w
     ⊎ IsCutShort s m given p v e w

@@ -14,15 +14,16 @@ use Rattle.vm_machine.specs.Inputs.{completion_of}
 use Rattle.vm_attempt.specs.Journals.{is_acknowledgement, is_notification, notified_by}
 
 -- the completion that an acknowledgement stands for, where a result was proposed under its id
-abbrev pub stands_for : List KeptProposal → Option ProposeRunCompletionAck → Option Notification
-stands_for kept None = None
-stands_for kept (Some ack) = option_map (completion_of ack.id) (find (is_for ack.id) kept)
+abbrev pub acknowledged_as : List KeptProposal → Option ProposeRunCompletionAck
+    → Option Notification
+acknowledged_as kept None = None
+acknowledged_as kept (Some ack) = option_map (completion_of ack.id) (find (is_for ack.id) kept)
 
 -- the arrival that a frame brings, if it brings one
-abbrev pub brought_by : List KeptProposal → RawMessage → Option Notification
-brought_by kept raw =
+abbrev pub arrival_of : List KeptProposal → RawMessage → Option Notification
+arrival_of kept raw =
     if is_notification raw then notification_in raw.body
-    else if is_acknowledgement raw then stands_for kept (acknowledgement_in raw.body)
+    else if is_acknowledgement raw then acknowledged_as kept (acknowledgement_in raw.body)
     else None
 
 -- the proposals that aren't acknowledged yet
@@ -38,7 +39,7 @@ kept_behind kept raw =
 -- the arrivals that frames bring, in order
 abbrev pub arriving : List KeptProposal → List RawMessage → List Notification
 arriving kept [] = []
-arriving kept (raw ∷ raws) = notified_by (brought_by kept raw)
+arriving kept (raw ∷ raws) = notified_by (arrival_of kept raw)
     (arriving (kept_behind kept raw) raws)
 
 -- what is kept behind them
@@ -47,13 +48,13 @@ kept_after kept [] = kept
 kept_after kept (raw ∷ raws) = kept_after (kept_behind kept raw) raws
 
 -- an acknowledgement is of a proposal that is kept
-abbrev pub IsFound : List KeptProposal → Option ProposeRunCompletionAck → Type 0
-IsFound kept None = Unit {0}
-IsFound kept (Some ack) = IsSome (find (is_for ack.id) kept)
+abbrev pub IsOfKept : List KeptProposal → Option ProposeRunCompletionAck → Type 0
+IsOfKept kept None = Unit {0}
+IsOfKept kept (Some ack) = IsSome (find (is_for ack.id) kept)
 
 -- the frame is no acknowledgement, or one of a proposal that is kept
 abbrev pub FindsProposal : List KeptProposal → RawMessage → Type 0
-FindsProposal kept raw = is_acknowledgement raw ≡ true → IsFound kept (acknowledgement_in raw.body)
+FindsProposal kept raw = is_acknowledgement raw ≡ true → IsOfKept kept (acknowledgement_in raw.body)
 
 -- each acknowledgement among some frames finds its proposal
 abbrev pub AllFound : List KeptProposal → List RawMessage → Type 0

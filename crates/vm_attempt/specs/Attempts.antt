@@ -5,7 +5,7 @@ use Rattle.vm_steps.specs.declared.progress.Progress.{Progress}
 use Rattle.vm_steps.specs.Record.{Record, all_heard, all_said, heard}
 use Rattle.vm_attempt.specs.Fixed.{Fixed}
 use Rattle.vm_attempt.specs.Blames.{Blame, IsHonest, IsOwnError}
-use Rattle.vm_attempt.specs.Told.{AnswersAreTold, NothingWakes, NumbersFreshly, Premises, ReplayPremises, Replays}
+use Rattle.vm_attempt.specs.Told.{AnswersAreTold, NothingWakes, NumbersFreshly, Premises, ReplayPremises, AnswersInReplay}
 
 -- ---- what is asked
 
@@ -35,7 +35,7 @@ WaitsRightly fixed r = NothingWakes fixed r
 -- The handler's next call is answered from the journal, or it is refused where the journal tells no
 -- more.
 abbrev pub StepReplays : Fixed → Record → Result Progress Error → Record → Type 0
-StepReplays fixed old result new = Replays fixed old result new
+StepReplays fixed old result new = AnswersInReplay fixed old result new
 
 -- The error has one of the causes that an attempt's error can have.
 abbrev pub HasCause : Fixed → Record → Error → Type 0

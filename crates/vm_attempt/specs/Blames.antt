@@ -45,7 +45,7 @@ use Rattle.vm_model.specs.Refusals.{IsRefusedFor}
 use Rattle.vm_attempt.specs.Arrivals.{kept_after}
 use Rattle.vm_steps.specs.Heard.{Heard}
 use Rattle.vm_steps.specs.declared.progress.Progress.{Progress}
-use Rattle.vm_attempt.specs.Journals.{as_entries, commands_among, is_acknowledgement, is_command, is_ephemeral, is_notification, setup_for}
+use Rattle.vm_attempt.specs.Journals.{as_entries, commands_among, is_acknowledgement, is_command_frame, is_ephemeral, is_notification, setup_for}
 use Rattle.vm_steps.specs.Record.{Record, Said, all_heard, all_said, heard}
 use Rattle.vm_attempt.specs.Told.{AreRightlyKinded, ProposesLate, Journal, Premises, bytes_fed, frames_fed, MovesTo, next_move}
 use Rattle.vm_attempt.specs.Fixed.{Fixed}
@@ -78,13 +78,15 @@ kept_fault None = Some fault.BadProposeRunCompletionAck
 kept_fault (Some kept) = None
 
 -- why a body is refused as an acknowledgement, where these proposals are kept
-abbrev pub read_fault : List KeptProposal → Option ProposeRunCompletionAck → Option NamedFault
-read_fault kept None = Some fault.BadMessage
-read_fault kept (Some ack) = kept_fault (find (is_for ack.id) kept)
+abbrev pub acknowledgement_body_fault : List KeptProposal → Option ProposeRunCompletionAck
+    → Option NamedFault
+acknowledgement_body_fault kept None = Some fault.BadMessage
+acknowledgement_body_fault kept (Some ack) = kept_fault (find (is_for ack.id) kept)
 
 -- why an acknowledgement is refused in this phase
 abbrev pub acknowledgement_fault : List KeptProposal → Phase → RawMessage → Option NamedFault
-acknowledgement_fault kept Processing raw = read_fault kept (acknowledgement_in raw.body)
+acknowledgement_fault kept Processing raw =
+    acknowledgement_body_fault kept (acknowledgement_in raw.body)
 acknowledgement_fault kept Closed raw = None
 acknowledgement_fault kept phase raw = Some fault.UnexpectedState
 
@@ -94,13 +96,13 @@ found_fault None = Some fault.EmptyGetStateEphemeralNotification
 found_fault (Some found) = None
 
 -- why a body is refused as the notification of an ephemeral read
-abbrev pub completion_fault : Option GetStateEphemeralNotification → Option NamedFault
-completion_fault None = Some fault.BadMessage
-completion_fault (Some n) = found_fault n.result
+abbrev pub ephemeral_body_fault : Option GetStateEphemeralNotification → Option NamedFault
+ephemeral_body_fault None = Some fault.BadMessage
+ephemeral_body_fault (Some n) = found_fault n.result
 
 -- why the notification of an ephemeral read is refused in this phase
 abbrev pub ephemeral_fault : Phase → RawMessage → Option NamedFault
-ephemeral_fault Processing raw = completion_fault (ephemeral_notification_in raw.body)
+ephemeral_fault Processing raw = ephemeral_body_fault (ephemeral_notification_in raw.body)
 ephemeral_fault Closed raw = None
 ephemeral_fault phase raw = Some fault.UnexpectedState
 
@@ -130,12 +132,13 @@ fault_by kept phase raw false false false d = other_fault kept phase raw d
 
 -- why a frame is refused in this phase, where these proposals are kept, if it is
 abbrev pub fault_among : List KeptProposal → Phase → RawMessage → Option NamedFault
-fault_among kept phase raw = fault_by kept phase raw (type_number raw.ty == 1) (is_command raw)
+fault_among kept phase raw =
+    fault_by kept phase raw (type_number raw.ty == 1) (is_command_frame raw)
     (is_notification raw) (is_acknowledgement raw)
 
 -- why a frame that acknowledges nothing is refused in this phase of an attempt, if it is
-abbrev pub frame_fault : Phase → RawMessage → Option NamedFault
-frame_fault phase raw = fault_among [] phase raw
+abbrev pub phase_fault : Phase → RawMessage → Option NamedFault
+phase_fault phase raw = fault_among [] phase raw
 
 -- The first of the frames that is refused in the phase in which it comes; the machine has failed
 -- for that reason.
@@ -184,8 +187,8 @@ pub record BadFrame (fixed : Fixed) (fed : Heard) (e : Error) : Type 0 where
   pub error : e ≡ ruled_for fixed (named_error why None)
 
 -- known entries are missing
-abbrev pub IsShort : List RawMessage → Type 0
-IsShort frames = (frames ≡ []) ⊎ Began frames (λ n known. n < known)
+abbrev pub LacksEntries : List RawMessage → Type 0
+LacksEntries frames = (frames ≡ []) ⊎ Began frames (λ n known. n < known)
 
 -- ---- calls
 
@@ -281,7 +284,7 @@ pub data Blame (fixed : Fixed) (fed : Heard) (said : Said) (answers : List Answe
   Frame : BadFrame fixed fed e → Blame fixed fed said answers e
   NoFrame : (frames_of (bytes_fed fed)).1 ≡ Garbage → e
       ≡ ruled_for fixed (named_error fault.BadMessage None) → Blame fixed fed said answers e
-  ClosedEarly : said.closed ≡ true → IsShort (frames_fed fed) → e
+  ClosedEarly : said.closed ≡ true → LacksEntries (frames_fed fed) → e
       ≡ ruled_for fixed (named_error fault.InputClosedWhileWaitingEntries None)
       → Blame fixed fed said answers e
   NoInput : LacksInput fixed (frames_fed fed) e → Blame fixed fed said answers e
@@ -333,10 +336,11 @@ pub record IsHonest (fixed : Fixed) (fed : Heard) : Type 0 where
   pub kinds : AreRightlyKinded fixed fed
   pub frames : (before : List RawMessage) (raw : RawMessage) (behind : List RawMessage)
       (phase : Phase) (k : ℕ) → frames_fed fed ≡ before ++ raw ∷ behind → Place phase k before
-      → is_acknowledgement raw ≡ false → frame_fault phase raw ≡ None
+      → is_acknowledgement raw ≡ false → phase_fault phase raw ≡ None
   pub acknowledgements : (before : List RawMessage) (raw : RawMessage) (behind : List RawMessage)
       → frames_fed fed ≡ before ++ raw ∷ behind → is_acknowledgement raw ≡ true
-      → read_fault (kept_after fed.proposed (behind_first before)) (acknowledgement_in raw.body)
+      → acknowledgement_body_fault (kept_after fed.proposed (behind_first before))
+      (acknowledgement_in raw.body)
       ≡ None
   pub whole : (frames_of (bytes_fed fed)).1 ≢ Garbage
   pub history : (first : RawMessage) (entries others : List RawMessage) (st : Start)
@@ -365,6 +369,6 @@ pub record RefusedItself (fixed : Fixed) (fed : Heard) (answers_so_far : List An
 abbrev pub IsOwnError : Fixed → Heard → Said → List Answer → Error → Type 0
 IsOwnError fixed fed said answers e =
     (e ≡ no_memory)
-    ⊎ (((said.closed ≡ true) × IsShort (frames_fed fed)
+    ⊎ (((said.closed ≡ true) × LacksEntries (frames_fed fed)
     × (e ≡ ruled_for fixed (named_error fault.InputClosedWhileWaitingEntries None)))
     ⊎ (RefusedItself fixed fed answers e ⊎ RefusedResult fixed said.failed_by e))

@@ -10,18 +10,18 @@ use Rattle.vm_steps.specs.Record.{Record}
 use Rattle.vm_steps.specs.Stepping.{CloseDoes, FeedDoes, FinishDoes, Meaning, StepDoes, Takes}
 
 -- One call of an attempt did this to its record, whichever call it was and whatever it answered.
-pub data Called (m : Meaning) (old new : Record) : Type 0 where
+pub data OneCall (m : Meaning) (old new : Record) : Type 0 where
   Feeding : (piece : List ℕ) (result : Result Unit AllocError)
-      → FeedDoes old.starved piece old result new → Called m old new
+      → FeedDoes old.starved piece old result new → OneCall m old new
   Closing : (result : Result Unit AllocError) → CloseDoes old.starved old result new
-      → Called m old new
-  Stepping : (result : Result Progress Error) → StepDoes m old result new → Called m old new
+      → OneCall m old new
+  Stepping : (result : Result Progress Error) → StepDoes m old result new → OneCall m old new
   Telling : (handle : NotificationHandle) (exit : RunExitResult) (policy : RetryPolicy)
       (result : Result Unit Error) → FinishDoes old.starved handle exit policy old result new
-      → Called m old new
-  Taking : (result : Result (List ℕ) AllocError) → Takes old result new → Called m old new
+      → OneCall m old new
+  Taking : (result : Result (List ℕ) AllocError) → Takes old result new → OneCall m old new
 
 -- So many calls of an attempt, one after another, lead from one record to another.
 abbrev pub Leads : Meaning → ℕ → Record → Record → Type 0
 Leads m zero old new = new ≡ old
-Leads m (suc n) old new = (mid : Record) × Called m old mid × Leads m n mid new
+Leads m (suc n) old new = (mid : Record) × OneCall m old mid × Leads m n mid new

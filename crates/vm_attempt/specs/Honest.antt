@@ -20,14 +20,14 @@ use Rattle.journal_attempt.specs.declared.runs.ProposeRunCompletionAck.{ProposeR
 use Rattle.journal_messages.specs.declared.message.Message.{Message}
 use Rattle.vm_attempt.specs.Arrivals.{AllFound, arriving}
 use Rattle.vm_steps.specs.Heard.{Heard}
-use Rattle.vm_attempt.specs.Journals.{is_command, setup_for}
+use Rattle.vm_attempt.specs.Journals.{is_command_frame, setup_for}
 use Rattle.vm_attempt.specs.Told.{bytes_fed}
 use Rattle.vm_attempt.specs.Fixed.{Fixed}
 
 -- an entry that can be fed: the frame of a command, or a whole notification
-abbrev pub IsEntry : Entry → Type 0
-IsEntry (Recorded raw) = (is_command raw ≡ true) × (length raw.body < 2 ^ 64)
-IsEntry (Notified n) = IsWhole (message.Notification n)
+abbrev pub CanBeFed : Entry → Type 0
+CanBeFed (Recorded raw) = (is_command_frame raw ≡ true) × (length raw.body < 2 ^ 64)
+CanBeFed (Notified n) = IsWhole (message.Notification n)
 
 -- a notification as a frame
 abbrev pub notification_frame : Notification → RawMessage
@@ -77,7 +77,7 @@ pub record FeedsHonestly (fixed : Fixed) (fed : Heard) : Type 0 where
   pub known : start.known_entries ≡ length journal
   pub state : List (List ℕ × Option (List ℕ))
   pub reads_state : entries_in start.state ≡ Some state
-  pub journal_is_whole : AllByRecursion IsEntry journal
+  pub journal_is_whole : AllByRecursion CanBeFed journal
   pub more_is_whole : AllByRecursion (λ f. IsWhole (further_message f)) more
   pub found : AllFound fed.proposed (map further_frame more)
   pub base : StateMap

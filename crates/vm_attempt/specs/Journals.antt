@@ -28,8 +28,8 @@ use Rattle.vm_attempt.specs.Agreement.{Agrees, Aside}
 use Rattle.vm_attempt.specs.Fixed.{Fixed}
 
 -- the frame is one of a command
-abbrev pub is_command : RawMessage → Bool
-is_command raw = nat_le 10 (type_number raw.ty) && nat_lt (type_number raw.ty) 30
+abbrev pub is_command_frame : RawMessage → Bool
+is_command_frame raw = nat_le 10 (type_number raw.ty) && nat_lt (type_number raw.ty) 30
 
 -- the frame is one of a notification
 abbrev pub is_notification : RawMessage → Bool
@@ -50,7 +50,7 @@ AcknowledgesNothing raw = is_acknowledgement raw ≡ false
 -- the commands among some frames
 abbrev pub commands_among : List RawMessage → List RawMessage
 commands_among [] = []
-commands_among (raw ∷ raws) = cond (is_command raw) (raw
+commands_among (raw ∷ raws) = cond (is_command_frame raw) (raw
     ∷ commands_among raws) (commands_among raws)
 
 -- with the notification that was read, if there was one
@@ -78,7 +78,7 @@ told_by (Some n) es = Notified n ∷ es
 -- frames as the entries of a journal; a notification's body that spells none is no entry
 abbrev pub as_entries : List RawMessage → List Entry
 as_entries [] = []
-as_entries (raw ∷ raws) = recorded_by (is_command raw) raw
+as_entries (raw ∷ raws) = recorded_by (is_command_frame raw) raw
     (cond (is_notification raw) (told_by (notification_in raw.body) (as_entries raws))
     (as_entries raws))
 
@@ -122,8 +122,8 @@ BeginsOrFails s given aside rest ns None (Done i w) = ⊥
 -- ---- the machine as its journal comes
 
 -- what stands aside while so many entries are missing
-abbrev pub missing : ℕ → Aside → Aside
-missing k aside = record aside { entries_missing = k }
+abbrev pub with_missing : ℕ → Aside → Aside
+with_missing k aside = record aside { entries_missing = k }
 
 -- the phase while so many are missing
 abbrev pub phase_missing : ℕ → Phase
@@ -131,8 +131,10 @@ phase_missing zero = Replaying
 phase_missing (suc k) = WaitingReplayEntries
 
 -- a machine to which so many entries are missing
-abbrev pub waiting : Setup → StateMap → Aside → ℕ → List RawMessage → List Notification → Machine
-waiting s given aside k cs ns = machine_fed s given (missing k aside) cs ns (phase_missing k)
+abbrev pub waiting_machine : Setup → StateMap → Aside → ℕ → List RawMessage → List Notification
+    → Machine
+waiting_machine s given aside k cs ns =
+    machine_fed s given (with_missing k aside) cs ns (phase_missing k)
 
 -- What frames make of a machine that waits: it has failed; or it waits for those that are missing;
 -- or the journal is the first of them, as many as were missing, and all their notifications are
@@ -141,7 +143,7 @@ pub record StillWaits (s : Setup) (given : StateMap) (aside : Aside) (k : ℕ) (
   pub left : ℕ
   pub count : k ≡ length raws + suc left
   pub none_acknowledge : AllByRecursion AcknowledgesNothing raws
-  pub machine : m ≡ waiting s given aside (suc left) (cs ++ commands_among raws) (ns
+  pub machine : m ≡ waiting_machine s given aside (suc left) (cs ++ commands_among raws) (ns
       ++ notifications_among raws)
 
 -- the known entries have all come
@@ -151,7 +153,7 @@ pub record HasAll (s : Setup) (given : StateMap) (aside : Aside) (k : ℕ) (cs :
   pub split : raws ≡ entries ++ others
   pub none_acknowledge : AllByRecursion AcknowledgesNothing raws
   pub count : length entries ≡ k
-  pub machine : m ≡ waiting s given aside 0 (cs ++ commands_among entries) (ns
+  pub machine : m ≡ waiting_machine s given aside 0 (cs ++ commands_among entries) (ns
       ++ notifications_among raws)
 
 -- what frames make of a machine that waits
@@ -193,7 +195,7 @@ pub record HasStarted (alloc : Global) (version : Version) (options : VMOptions)
   pub entries : List (List ℕ × Option (List ℕ))
   pub reads : start_in raw.body ≡ Some start
   pub keys : entries_in start.state ≡ Some entries
-  pub machine : m ≡ waiting (setup_with version options start)
+  pub machine : m ≡ waiting_machine (setup_with version options start)
       (record { entries = entries; coverage = coverage_of start.partial })
       (aside_for alloc version options start) start.known_entries [] []
 

@@ -42,7 +42,7 @@ use Rattle.vm_steps.specs.declared.progress.Progress.{Progress}
 use Rattle.vm_steps.specs.declared.progress.Progress.TheVariants as progress
 use Rattle.vm_asks.specs.Asks.{ask_of}
 use Rattle.vm_attempt.specs.Agreement.{Agrees, Aside, MakesMany, command_frames}
-use Rattle.vm_attempt.specs.Journals.{AcknowledgesNothing, HasAll, StillWaits, commands_among, is_command, setup_for}
+use Rattle.vm_attempt.specs.Journals.{AcknowledgesNothing, HasAll, StillWaits, commands_among, is_command_frame, setup_for}
 use Rattle.vm_types.specs.declared.steps.Answer.{Answer}
 use Rattle.invocation_vm.specs.Views.{View}
 use Rattle.vm_attempt.specs.Arrivals.{AllFound, arriving, kept_after}
@@ -69,7 +69,7 @@ frames_fed fed = (frames_of (bytes_fed fed)).0
 -- the commands among some messages, as they are stored
 abbrev pub commands_of : List Message → List RawMessage
 commands_of [] = []
-commands_of (m ∷ ms) = cond (is_command (stored_form m)) (stored_form m
+commands_of (m ∷ ms) = cond (is_command_frame (stored_form m)) (stored_form m
     ∷ commands_of ms) (commands_of ms)
 
 -- messages were written, none of them a command or a proposal
@@ -122,8 +122,8 @@ abbrev pub arrivals_of : Heard → List Notification
 arrivals_of fed = arriving fed.proposed (behind (frames_fed fed))
 
 -- the state that Start handed out
-abbrev pub handed_out : {fed : Heard} → Journal fed → StateMap
-handed_out j = record { entries = j.state; coverage = coverage_of j.start.partial }
+abbrev pub start_state : {fed : Heard} → Journal fed → StateMap
+start_state j = record { entries = j.state; coverage = coverage_of j.start.partial }
 
 -- What an attempt begins with: the point after the input, with all arrivals, and the recorded
 -- commands behind the input.
@@ -132,7 +132,7 @@ begun fixed j = start (setup_for fixed j.start) j.input (arrivals j) j.rest
 
 -- So many moves of the handler's run lead from there to this point, and made these commands.
 abbrev pub MovesTo : {fed : Heard} → Fixed → Journal fed → ℕ → List RawMessage → Point → Type 0
-MovesTo fixed j moves made p = Made (setup_for fixed j.start) fixed.handler (Handed (handed_out j))
+MovesTo fixed j moves made p = Made (setup_for fixed j.start) fixed.handler (Handed (start_state j))
     moves (begun fixed j) made p
 
 -- the move that the handler's run makes at a point
@@ -193,8 +193,8 @@ AreRightlyKinded fixed fed =
 
 -- A point is told by an attempt's journal followed by what it wrote, with the arrivals that it was
 -- fed.
-abbrev pub Tells : {fed : Heard} → Fixed → Journal fed → List RawMessage → Point → Type 0
-Tells fixed j written p =
+abbrev pub IsToldPoint : {fed : Heard} → Fixed → Journal fed → List RawMessage → Point → Type 0
+IsToldPoint fixed j written p =
     Told (setup_for fixed j.start) fixed.handler j.input (arrivals j) (j.rest ++ written) p
 
 -- The answers of an attempt are those of a point that is told; what it wrote are just the commands
@@ -203,7 +203,7 @@ Tells fixed j written p =
 pub record ToldBy (fixed : Fixed) (fed : Heard) (answers_so_far : List Answer) (written : List RawMessage) : Type 0 where
   pub journal : Journal fed
   pub at : Point
-  pub told : Tells fixed journal written at
+  pub told : IsToldPoint fixed journal written at
   pub answers : at.answers ≡ answers_so_far
   pub moves : ℕ
   pub made : MovesTo fixed journal moves written at
@@ -219,9 +219,9 @@ pub record IsAsleep (fixed : Fixed) (fed : Heard) (answers_so_far : List Answer)
   pub journal : Journal fed
   pub future : UnresolvedFuture
   pub awaits : fixed.handler answers_so_far ≡ step.Await future
-  pub asleep : (p : Point) → Tells fixed journal written p → IsPrefix p.answers answers_so_far
+  pub asleep : (p : Point) → IsToldPoint fixed journal written p → IsPrefix p.answers answers_so_far
   pub at : Point
-  pub told : Tells fixed journal written at
+  pub told : IsToldPoint fixed journal written at
   pub answers : at.answers ≡ answers_so_far
   pub no_arrival : at.queue ≡ []
   pub no_command : at.left ≡ []
@@ -232,8 +232,8 @@ abbrev pub NothingWakes : Fixed → Record → Type 0
 NothingWakes fixed r = IsAsleep fixed (heard fixed.version r) r.answers (written_by r)
 
 -- an await waits rightly, by what was written
-abbrev pub Sleeps : Fixed → Heard → List Answer → List (List ℕ) → View → Type 0
-Sleeps fixed fed answers taken vm = (written : List RawMessage)
+abbrev pub AwaitWaits : Fixed → Heard → List Answer → List (List ℕ) → View → Type 0
+AwaitWaits fixed fed answers taken vm = (written : List RawMessage)
     × Wrote taken vm.machine.output written × IsAsleep fixed fed answers written
 
 -- A call is refused that began while recorded commands were left: the run comes to a point with
@@ -274,15 +274,16 @@ pub record StarvesReplay (fixed : Fixed) (fed : Heard) (answers_so_far : List An
 
 -- While recorded commands are left, the handler's call is answered, and nothing is written, or no
 -- recorded command is left any more; or it is refused; or memory is lacking.
-abbrev pub Replays : Fixed → Record → Result Progress Error → Record → Type 0
-Replays fixed old (Ok progress.Stepped) new = (new.vm.machine.output ≡ old.vm.machine.output)
+abbrev pub AnswersInReplay : Fixed → Record → Result Progress Error → Record → Type 0
+AnswersInReplay fixed old (Ok progress.Stepped) new = (new.vm.machine.output
+    ≡ old.vm.machine.output)
     ⊎ (new.vm.machine.phase ≡ Processing)
-Replays fixed old (Ok progress.NotReady) new = ⊥
-Replays fixed old (Ok (progress.Waiting input run)) new = ⊥
-Replays fixed old (Ok (progress.ExecuteRun run)) new = ⊥
-Replays fixed old (Ok progress.Suspended) new = ⊥
-Replays fixed old (Ok progress.Ended) new = ⊥
-Replays fixed old (Err e) new =
+AnswersInReplay fixed old (Ok progress.NotReady) new = ⊥
+AnswersInReplay fixed old (Ok (progress.Waiting input run)) new = ⊥
+AnswersInReplay fixed old (Ok (progress.ExecuteRun run)) new = ⊥
+AnswersInReplay fixed old (Ok progress.Suspended) new = ⊥
+AnswersInReplay fixed old (Ok progress.Ended) new = ⊥
+AnswersInReplay fixed old (Err e) new =
     (new.starved ≡ true)
     ⊎ (IsStarved old.vm.machine e new.vm.machine
     ⊎ (StarvesReplay fixed (heard fixed.version old) old.answers e old.vm.machine new.vm.machine
@@ -311,7 +312,7 @@ StillAwaits m p (Some future) = m p.answers ≡ step.Await future
 -- The handler runs: so many moves lead from the point after the input to one with the attempt's
 -- answers, and made what was written; and as long as the VM can make calls it agrees with that
 -- point.
-pub record Runs (fixed : Fixed) (fed : Heard) (answers_so_far : List Answer) (waiting : Option UnresolvedFuture) (taken : List (List ℕ)) (vm : View) : Type 0 where
+pub record HandlerRuns (fixed : Fixed) (fed : Heard) (answers_so_far : List Answer) (waiting : Option UnresolvedFuture) (taken : List (List ℕ)) (vm : View) : Type 0 where
   pub journal : Journal fed
   pub written : List RawMessage
   pub wrote : Wrote taken vm.machine.output written
@@ -321,7 +322,7 @@ pub record Runs (fixed : Fixed) (fed : Heard) (answers_so_far : List Answer) (wa
   pub answers : at.answers ≡ answers_so_far
   pub awaits : StillAwaits fixed.handler at waiting
   pub agrees : IsLive vm.machine
-      → Agrees (setup_for fixed journal.start) (handed_out journal) written vm.machine at
+      → Agrees (setup_for fixed journal.start) (start_state journal) written vm.machine at
   pub rests : IsLive vm.machine → at.derived.parts ≡ 0
   pub keeps : IsLive vm.machine → KeepsProposals journal vm.machine
   pub phase : vm.machine.failure ≡ None → (is_running vm.machine.phase ≡ true)
@@ -339,7 +340,7 @@ pub record NumbersOn (recorded written : List RawMessage) (v : Machine) : Type 0
 -- The handler has read its input, which the journal begins with. What was written are the frames of
 -- messages. The VM was made for this version and these options; it runs, or it is closed or has
 -- failed.
-pub record Came (fixed : Fixed) (fed : Heard) (answers_so_far : List Answer) (taken : List (List ℕ)) (vm : View) : Type 0 where
+pub record JournalCame (fixed : Fixed) (fed : Heard) (answers_so_far : List Answer) (taken : List (List ℕ)) (vm : View) : Type 0 where
   pub journal : Journal fed
   pub answered : answers_so_far ≢ []
   pub written : List RawMessage
@@ -391,12 +392,12 @@ pub record BeforeInput (fixed : Fixed) (fed : Heard) (answers_so_far : List Answ
 -- what came and what was written, whatever the options are and whatever comes
 abbrev pub HasCome : Fixed → Record → Type 0
 HasCome fixed r = BeforeInput fixed (heard fixed.version r) r.answers r.waiting r.taken r.vm
-    ⊎ Came fixed (heard fixed.version r) r.answers r.taken r.vm
+    ⊎ JournalCame fixed (heard fixed.version r) r.answers r.taken r.vm
 
 -- what each call of an attempt keeps of its handler's run
 abbrev pub IsKept : Fixed → Record → Type 0
 IsKept fixed r = BeforeInput fixed (heard fixed.version r) r.answers r.waiting r.taken r.vm
-    ⊎ Runs fixed (heard fixed.version r) r.answers r.waiting r.taken r.vm
+    ⊎ HandlerRuns fixed (heard fixed.version r) r.answers r.waiting r.taken r.vm
 
 -- the same, under the premises
 abbrev pub IsKeptUnder : Fixed → Record → Type 0
@@ -404,9 +405,9 @@ IsKeptUnder fixed r = Premises fixed (heard fixed.version r) → IsKept fixed r
 
 -- The handler has read its input, and as long as recorded commands are left it runs.
 pub record InReplay (fixed : Fixed) (fed : Heard) (answers_so_far : List Answer) (waiting : Option UnresolvedFuture) (taken : List (List ℕ)) (vm : View) : Type 0 where
-  pub came : Came fixed fed answers_so_far taken vm
+  pub came : JournalCame fixed fed answers_so_far taken vm
   pub run : vm.machine.failure ≡ None → vm.machine.phase ≡ Replaying
-      → Runs fixed fed answers_so_far waiting taken vm
+      → HandlerRuns fixed fed answers_so_far waiting taken vm
 
 -- what each call of an attempt keeps in replay, under the premises of replay
 abbrev pub IsKeptInReplay : Fixed → Record → Type 0
@@ -418,4 +419,5 @@ IsKeptInReplay fixed r =
 -- once the handler's await was suspended it waits rightly, under the premises
 abbrev pub StillSleeps : Fixed → Record → Type 0
 StillSleeps fixed r = Premises fixed (heard fixed.version r) → (made : Progress) → r.over
-    ≡ Some made → IfWaits (Ok made) (Sleeps fixed (heard fixed.version r) r.answers r.taken r.vm)
+    ≡ Some made → IfWaits (Ok made)
+    (AwaitWaits fixed (heard fixed.version r) r.answers r.taken r.vm)

@@ -21,7 +21,7 @@ ghost use Rattle.vm_model.specs.Journal.{input_read_from};
 ghost use Rattle.vm_model.specs.Moves.{Point, later};
 ghost use Rattle.vm_parts.specs.declared.context.StateMap.{StateMap};
 ghost use Rattle.vm_parts.specs.Outboxes.{WholeFrames};
-ghost use Rattle.vm_attempt.specs.Agreement.{Agrees, Aside, Follows};
+ghost use Rattle.vm_attempt.specs.Agreement.{Agrees, Aside, CallFollows};
 ghost use Rattle.vm_attempt.specs.Courses.{Leads};
 ghost use Rattle.vm_attempt.specs.Fixed.{Fixed};
 ghost use Rattle.vm_attempt.specs.Blames.{Blame, FailsAt, IsHonest, IsOwnError};
@@ -59,7 +59,7 @@ pub fn calls_follow()
         → ((future : UnresolvedFuture) → IsAwaiting m p future
         → (s.options.signal_delivery ≡ Queued) × HasNoTwo p) → p.derived.parts ≡ 0
         → Agrees s given written v p → Performs (m p.answers) v o
-        → IfDone o (ReadsBack (m p.answers) v) → Follows s m given written p v o }
+        → IfDone o (ReadsBack (m p.answers) v) → CallFollows s m given written p v o }
 {}
 
 /// Frames that come to a machine that agrees with a point are arrivals: a notification as it is, and an acknowledgement as the completion

@@ -15,24 +15,32 @@ use Rattle.vm_machine.specs.Outcomes.{CalledBy, Does, DoesBy, called}
 
 -- one result of the cancel handle is taken
 abbrev pub cancel_taken : Machine → Machine
-cancel_taken v = record v { results = taken_by v.options.signal_delivery 1 (id_at 1 v.results.handles) (result_at 1 v) v.results }
+cancel_taken v = record v {
+  results = taken_by v.options.signal_delivery 1 (id_at 1 v.results.handles) (result_at 1 v)
+      v.results;
+}
 
 -- an invocation is sent the cancel signal; what was written can be read back
 abbrev pub SendsCancel : List ℕ → Result NotificationHandle Error → Machine → Machine → Type 0
 SendsCancel id sent old new =
-    Does (called (commanded (cancel_invocation_command id) old) old) sent old new × OnOk sent (CanBeRead (cancel_invocation_command id).message old)
+    Does (called (commanded (cancel_invocation_command id) old) old) sent old new
+    × OnOk sent (CanBeRead (cancel_invocation_command id).message old)
 
 -- what comes behind a call that was answered; an error stays
-abbrev pub Onward : (Result (Result AwaitResponse Error) Error → Machine → Machine → Type 0) → Result NotificationHandle Error → Result (Result AwaitResponse Error) Error → Machine → Machine → Type 0
+abbrev pub Onward : (Result (Result AwaitResponse Error) Error → Machine → Machine → Type 0)
+    → Result NotificationHandle Error → Result (Result AwaitResponse Error) Error → Machine
+    → Machine → Type 0
 Onward Next (Ok handle) r mid new = Next r mid new
 Onward Next (Err e) r mid new = (r ≡ Err e) × (new ≡ mid)
 
--- These invocations are sent the cancel signal, one after another, each by a call of its own; then one result of the cancel handle is
--- taken, and the await is answered.
-abbrev pub Cancels : List (List ℕ) → Result (Result AwaitResponse Error) Error → Machine → Machine → Type 0
+-- These invocations are sent the cancel signal, one after another, each by a call of its own; then
+-- one result of the cancel handle is taken, and the await is answered.
+abbrev pub Cancels : List (List ℕ) → Result (Result AwaitResponse Error) Error → Machine → Machine
+    → Type 0
 Cancels [] r old new = (r ≡ Ok (Ok CancelSignalReceived)) × (new ≡ cancel_taken old)
 Cancels (id ∷ ids) r old new =
-    (sent : Result NotificationHandle Error) × (mid : Machine) × SendsCancel id sent old mid × Onward (Cancels ids) sent r mid new
+    (sent : Result NotificationHandle Error) × (mid : Machine) × SendsCancel id sent old mid
+    × Onward (Cancels ids) sent r mid new
 
 -- an await whose ids are known sends its cancel signals next
 abbrev pub sends_cancels : Result (Result AwaitResponse Error) Error → Bool
@@ -45,15 +53,20 @@ sends_cancels (Ok (Err e)) = false
 sends_cancels (Err e) = false
 
 -- It sends them, and no call is tracked any more; each other answer stays.
-abbrev pub FinishesIf : Bool → Result (Result AwaitResponse Error) Error → Result (Result AwaitResponse Error) Error → Machine → Machine → Type 0
-FinishesIf true first r mid new = Cancels (invocation_ids mid.tracked) r (record mid { tracked = [] }) new
+abbrev pub FinishesIf : Bool → Result (Result AwaitResponse Error) Error
+    → Result (Result AwaitResponse Error) Error → Machine → Machine → Type 0
+FinishesIf true first r mid new =
+    Cancels (invocation_ids mid.tracked) r (record mid { tracked = [] }) new
 FinishesIf false first r mid new = (r ≡ first) × (new ≡ mid)
 
 -- what comes behind the first part of an await
-abbrev pub Finishes : Result (Result AwaitResponse Error) Error → Result (Result AwaitResponse Error) Error → Machine → Machine → Type 0
+abbrev pub Finishes : Result (Result AwaitResponse Error) Error
+    → Result (Result AwaitResponse Error) Error → Machine → Machine → Type 0
 Finishes first r mid new = FinishesIf (sends_cancels first) first r mid new
 
 -- the whole call of an await
-abbrev pub AwaitsWhole : Tree → Result (Result AwaitResponse Error) Error → Machine → Machine → Type 0
+abbrev pub AwaitsWhole : Tree → Result (Result AwaitResponse Error) Error → Machine → Machine
+    → Type 0
 AwaitsWhole t r old new =
-    (first : Result (Result AwaitResponse Error) Error) × (mid : Machine) × DoesBy (CalledBy (Awaits t old) old) first old mid × Finishes first r mid new
+    (first : Result (Result AwaitResponse Error) Error) × (mid : Machine)
+    × DoesBy (CalledBy (Awaits t old) old) first old mid × Finishes first r mid new

@@ -85,7 +85,12 @@ fn or_cancelled(alloc: Global, future: UnresolvedFuture) -> Result<UnresolvedFut
 
 /// Writes a suspension on what is left of a tree.
 fn suspend_on(machine: &mut Machine, left: &Residue) -> Result<(), AllocError>
-    ensures ok { OnOk result (machine.new ≡ record machine.old { output = machine.old.output ++ encoding (message.Suspension (record { future = sent (ids machine.old.results) (tree_left left.now) })) ∷ [] }) }
+    ensures ok { OnOk result (machine.new
+        ≡ record machine.old {
+          output = machine.old.output
+              ++ encoding (message.Suspension
+              (record { future = sent (ids machine.old.results) (tree_left left.now) })) ∷ [];
+        }) }
     ensures err { OnErr result (machine.new ≡ machine.old) }
 {
     let future = future_of(machine.alloc, &machine.results, left)?;
@@ -95,7 +100,9 @@ fn suspend_on(machine: &mut Machine, left: &Residue) -> Result<(), AllocError>
 
 /// Whether an await that waits says what for.
 fn says_so(machine: &Machine, left: &Residue) -> Result<bool, AllocError>
-    ensures { IfOk result (λ says. says ≡ says_so machine.now.version machine.now.options.awaiting_on_policy (list_any is_executing machine.now.runs) (tree_left left.now)) }
+    ensures { IfOk result (λ says. says
+        ≡ says_so machine.now.version machine.now.options.awaiting_on_policy
+        (list_any is_executing machine.now.runs) (tree_left left.now)) }
 {
     let executing = machine.runs.any_executing();
     if machine.version < Version::V7 || !allows(machine.options.awaiting_on_policy, executing) {
@@ -122,7 +129,8 @@ fn wait_on(machine: &mut Machine, left: &Residue) -> Result<(), AllocError>
 
 /// The pending run of a handle that wasn't taken, as an error that relates to its command shows it.
 fn related_run(machine: &Machine, handle: u32) -> Result<Option<RelatedCommand>, AllocError>
-    ensures { IfOk result (λ related. related ≡ option_map run_command (run_at handle machine.now)) }
+    ensures { IfOk result (λ related. related
+        ≡ option_map run_command (run_at handle machine.now)) }
 {
     if machine.results.find(handle).is_none() {
         return Ok(None);
@@ -142,7 +150,8 @@ fn last_related_run(
     machine: &Machine,
     handles: &[u32],
 ) -> Result<Option<RelatedCommand>, AllocError>
-    ensures { IfOk result (λ related. related ≡ option_map run_command (last_run handles.now machine.now)) }
+    ensures { IfOk result (λ related. related
+        ≡ option_map run_command (last_run handles.now machine.now)) }
 {
     let mut found = None;
     for handle in handles {
@@ -166,7 +175,8 @@ fn execute_run(machine: &mut Machine, handles: &[u32]) -> Option<NotificationHan
 /// An await waits for input and for the results of runs, by whether a run that it waits for is executing. Where no input comes any more,
 /// no ephemeral read may be in flight; where no run's result can come either, the invocation is suspended.
 fn wait_or_suspend(machine: &mut Machine, left: &Residue, executing: bool) -> Result<Awaited, Fault>
-    ensures { Gives (waits_by machine.old.input_closed (any_in_flight machine.old.ephemeral) executing (tree_left left.now) machine.old) result machine.old machine.new }
+    ensures { Gives (waits_by machine.old.input_closed (any_in_flight machine.old.ephemeral)
+        executing (tree_left left.now) machine.old) result machine.old machine.new }
 {
     if !machine.input_closed {
         wait_on(machine, left)?;
@@ -264,7 +274,8 @@ fn read_id(machine: &mut Machine, handle: u32) -> Result<Awaited, Fault>
 
 /// Reads the ids of tracked calls that aren't known, as they come.
 fn gather_ids(machine: &mut Machine) -> Result<Awaited, Fault>
-    ensures { GivesBy (Gathers (unresolved machine.old.tracked) machine.old) result machine.old machine.new }
+    ensures { GivesBy (Gathers (unresolved machine.old.tracked) machine.old) result machine.old
+        machine.new }
 {
     while let Some(handle) = machine.tracked.first_unresolved() {
         let answer = read_id(machine, handle)?;

@@ -112,7 +112,8 @@ fn keep_start(machine: &mut Machine, start: Start) -> Result<(), Fault>
 }
 
 fn receive_start(machine: &mut Machine, raw: &RawMessage) -> Result<(), Fault>
-    ensures step { Gives (start_step raw.now machine.old.phase machine.old) result machine.old machine.new }
+    ensures step { Gives (start_step raw.now machine.old.phase machine.old) result machine.old
+        machine.new }
     ensures quiet { machine.new.output ≡ machine.old.output }
     ensures failure { machine.new.failure ≡ machine.old.failure }
 {
@@ -139,7 +140,8 @@ fn count_entry(machine: &mut Machine)
 }
 
 fn receive_command(machine: &mut Machine, raw: RawMessage) -> Result<(), Fault>
-    ensures step { Gives (entry_step raw machine.old.phase machine.old) result machine.old machine.new }
+    ensures step { Gives (entry_step raw machine.old.phase machine.old) result machine.old
+        machine.new }
     ensures quiet { machine.new.output ≡ machine.old.output }
     ensures failure { machine.new.failure ≡ machine.old.failure }
 {
@@ -152,7 +154,8 @@ fn receive_command(machine: &mut Machine, raw: RawMessage) -> Result<(), Fault>
 }
 
 fn receive_notification(machine: &mut Machine, raw: &RawMessage) -> Result<(), Fault>
-    ensures step { Gives (notification_step raw.now machine.old.phase machine.old) result machine.old machine.new }
+    ensures step { Gives (notification_step raw.now machine.old.phase machine.old) result
+        machine.old machine.new }
     ensures quiet { machine.new.output ≡ machine.old.output }
     ensures failure { machine.new.failure ≡ machine.old.failure }
 {
@@ -175,7 +178,8 @@ fn receive_notification(machine: &mut Machine, raw: &RawMessage) -> Result<(), F
 
 /// The proposal of this id is acknowledged: its result comes as the run's completion.
 fn acknowledge(machine: &mut Machine, id: u32) -> Result<(), Fault>
-    ensures step { Gives (acknowledged id (find (is_for id) machine.old.proposals) machine.old) result machine.old machine.new }
+    ensures step { Gives (acknowledged id (find (is_for id) machine.old.proposals) machine.old)
+        result machine.old machine.new }
     ensures quiet { machine.new.output ≡ machine.old.output }
     ensures failure { machine.new.failure ≡ machine.old.failure }
 {
@@ -190,7 +194,8 @@ fn acknowledge(machine: &mut Machine, id: u32) -> Result<(), Fault>
 }
 
 fn receive_acknowledgement(machine: &mut Machine, raw: &RawMessage) -> Result<(), Fault>
-    ensures step { Gives (acknowledgement_step raw.now machine.old.phase machine.old) result machine.old machine.new }
+    ensures step { Gives (acknowledgement_step raw.now machine.old.phase machine.old) result
+        machine.old machine.new }
     ensures quiet { machine.new.output ≡ machine.old.output }
     ensures failure { machine.new.failure ≡ machine.old.failure }
 {
@@ -217,7 +222,8 @@ fn read_ephemeral_notification(
 }
 
 fn receive_ephemeral_notification(machine: &mut Machine, raw: &RawMessage) -> Result<(), Fault>
-    ensures step { Gives (ephemeral_notification_step raw.now machine.old.phase machine.old) result machine.old machine.new }
+    ensures step { Gives (ephemeral_notification_step raw.now machine.old.phase machine.old) result
+        machine.old machine.new }
     ensures quiet { machine.new.output ≡ machine.old.output }
     ensures failure { machine.new.failure ≡ machine.old.failure }
 {

@@ -1,4 +1,5 @@
--- What a call with a deadline leaves, as who reads the journal sees it: a call, a sleep after it, and their three handles.
+-- What a call with a deadline leaves, as who reads the journal sees it: a call, a sleep after it,
+-- and their three handles.
 use Rattle.std.specs.Prelude.{◌≡◌, ◌⊎◌, ℕ, ◌+◌, Bool, true, false, List, [], ◌∷◌, ◌++◌, Some, Ok}
 use Rattle.journal_messages.specs.declared.message.Message.{Message}
 use Rattle.journal_messages.specs.declared.message.Message.TheVariants as message
@@ -45,8 +46,9 @@ IsEntered m ignore old new = IsWritten m old new ⊎ IsPopped m ignore old new
 abbrev pub stands_for : NotificationHandle → ℕ → Mapping
 stands_for handle id = record { handle = handle.0; id = CompletionId id }
 
--- A call with the next two completion ids was made, and after it a sleep with the third. The handles that were answered stand for the
--- invocation's id, the call's result and the sleep, in this order.
+-- A call with the next two completion ids was made, and after it a sleep with the third. The
+-- handles that were answered stand for the invocation's id, the call's result and the sleep, in
+-- this order.
 pub record DeadlineCalled (unstable : Bool) (h : DeadlineCallHandle) (old new : Machine) : Type 0 where
   pub call : Message
   pub deadline : Message

@@ -15,7 +15,8 @@ is_terminal m = nat_le 2 (type_number (type_of m)) && nat_le (type_number (type_
 abbrev pub is_over : Machine → Bool
 is_over v = is_some v.failure || is_closed v.phase
 
--- behind a terminal message nothing comes, and it is over; behind another one, what the others may do
+-- behind a terminal message nothing comes, and it is over; behind another one, what the others may
+-- do
 abbrev pub EndsIf : Bool → List Message → Bool → Type 0 → Type 0
 EndsIf true messages after others = (messages ≡ []) × (after ≡ true)
 EndsIf false messages after others = others
@@ -24,7 +25,8 @@ EndsIf false messages after others = others
 abbrev pub EndsOnce : Bool → List Message → Bool → Type 0
 EndsOnce true messages after = (messages ≡ []) × (after ≡ true)
 EndsOnce false [] after = Unit {0}
-EndsOnce false (m ∷ messages) after = EndsIf (is_terminal m) messages after (EndsOnce false messages after)
+EndsOnce false (m ∷ messages) after = EndsIf (is_terminal m) messages after
+    (EndsOnce false messages after)
 
 -- messages are written behind the output, at most the last of them terminal
 pub record Writes (old new : Machine) : Type 0 where

@@ -25,8 +25,9 @@ abbrev pub is_unknown : Known → Bool
 is_unknown Unknown = true
 is_unknown other = false
 
--- Why a read of a key may be refused, in the order in which it is looked for: before version 8; in replay; before the journal is there;
--- after the end; for a key of which nothing is known, once the input is closed; and if no id is left.
+-- Why a read of a key may be refused, in the order in which it is looked for: before version 8; in
+-- replay; before the journal is there; after the end; for a key of which nothing is known, once the
+-- input is closed; and if no id is left.
 abbrev pub reasons : List ℕ → Machine → List (Bool × NamedFault)
 reasons key v =
     (not (is_from_v8 v.version), fault.UnsupportedFeatureForNegotiatedVersion)
@@ -60,15 +61,18 @@ value_of_result (stored.Value bytes) = value.Success bytes
 
 -- a notification brings this result for the read with this id
 abbrev pub Brings : ℕ → VoidOrValue → RawMessage → Type 0
-Brings id found raw = ephemeral_notification_in raw.body ≡ Some (record { id = id; result = Some found })
+Brings id found raw =
+    ephemeral_notification_in raw.body ≡ Some (record { id = id; result = Some found })
 
--- A read of a key with this id, from one machine to the next, by what is known of the key. If its value is known, or that it has none,
--- a take gives that at once, and nothing is written. Else the command of the read is written, and once a notification brings its result,
--- a take gives that.
+-- A read of a key with this id, from one machine to the next, by what is known of the key. If its
+-- value is known, or that it has none, a take gives that at once, and nothing is written. Else the
+-- command of the read is written, and once a notification brings its result, a take gives that.
 abbrev pub IsAnswered : List ℕ → Known → ℕ → Machine → Machine → Type 0
 IsAnswered key (Holds bytes) id v w = TakeGives id (value.Success bytes) w × (w.output ≡ v.output)
 IsAnswered key Empty id v w = TakeGives id value.Void w × (w.output ≡ v.output)
 IsAnswered key Unknown id v w =
-    (w.output ≡ v.output ++ encoding (message.GetStateEphemeralCommand (record { id = id; key = key })) ∷ [])
+    (w.output ≡ v.output ++ encoding
+    (message.GetStateEphemeralCommand (record { id = id; key = key })) ∷ [])
     × ((raw : RawMessage) (found : VoidOrValue) → Brings id found raw
-    → (u : Machine) × (ephemeral_notification_step raw w.phase w ≡ Done tt u) × TakeGives id (value_of_result found) u)
+    → (u : Machine) × (ephemeral_notification_step raw w.phase w ≡ Done tt u)
+    × TakeGives id (value_of_result found) u)

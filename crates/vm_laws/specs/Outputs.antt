@@ -1,4 +1,5 @@
--- All that a VM writes, over any list of calls, has at most one terminal message, and nothing behind it.
+-- All that a VM writes, over any list of calls, has at most one terminal message, and nothing
+-- behind it.
 use Rattle.std.specs.Prelude.{◌≡◌, ℕ, false, List, ◌++◌}
 use Rattle.std.specs.List.{concat, flat_map}
 use Rattle.journal_messages.specs.declared.message.Message.{Message}
@@ -6,8 +7,8 @@ use Rattle.journal_messages.specs.Message.{encoding}
 use Rattle.vm_laws.specs.Endings.{EndsOnce, is_over}
 use Rattle.invocation_vm.specs.Views.{View}
 
--- What was taken of the output and what waits are whole messages, at most the last of them terminal; once one is, the
--- VM is over.
+-- What was taken of the output and what waits are whole messages, at most the last of them
+-- terminal; once one is, the VM is over.
 pub record EndsOnceAfter (taken : List ℕ) (v : View) : Type 0 where
   pub messages : List Message
   pub bytes : taken ++ concat v.machine.output ≡ flat_map encoding messages

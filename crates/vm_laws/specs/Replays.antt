@@ -35,7 +35,8 @@ is_of_its_type raw m v = type_number raw.ty == type_number (type_of (command_at 
 abbrev pub is_header_equal : Message → Message → Bool → Machine → Bool
 is_header_equal recorded m unstable v = header_equal recorded (command_at m v) (ignores v unstable)
 
--- The next recorded command is header-equal to the call's. It was popped, and it alone, and nothing was written.
+-- The next recorded command is header-equal to the call's. It was popped, and it alone, and nothing
+-- was written.
 pub record Pops (m : Message) (unstable : Bool) (old new : Machine) : Type 0 where
   pub raw : RawMessage
   pub recorded : Message
@@ -44,7 +45,8 @@ pub record Pops (m : Message) (unstable : Bool) (old new : Machine) : Type 0 whe
   pub popped : old.commands ≡ raw ∷ new.commands
   pub output : new.output ≡ old.output
 
--- The call fails with this error, which relates to its command, and nothing was written before the error rule.
+-- The call fails with this error, which relates to its command, and nothing was written before the
+-- error rule.
 pub record Refuses (name : NamedFault) (m : Message) (unstable : Bool) (v : Machine) : Type 0 where
   pub left : Machine
   pub outcome : issued m unstable v ≡ Failed (about_next name (shown_type m) (name_of m) v) left

@@ -8,5 +8,6 @@ ghost use Rattle.vm_laws.specs.Deadlines.{MakesBoth};
 /// A call with a deadline that is answered made a call with the next two completion ids and after it a sleep with the third, in replay as
 /// in Processing. Its three handles stand for these ids, in this order.
 pub fn deadlines_follow_their_calls()
-    ensures { (c : Command) (call : CallCommand) (millis : ℕ) → c.message ≡ message.Call call → MakesBoth c millis }
+    ensures { (c : Command) (call : CallCommand) (millis : ℕ) → c.message ≡ message.Call call
+        → MakesBoth c millis }
 {}

@@ -49,7 +49,9 @@ ghost use Rattle.vm_laws.specs.Ephemerals.{LeavesJournal};
 /// The calls that change the state do so, whether their command is written or popped.
 #[tactic(auto, using(crate::proofs::Carried::issued_changes))]
 pub fn state_is_changed()
-    ensures { (m : Message) (unstable : Bool) (h : NotificationHandle) (v w : Machine) → issued m unstable v ≡ Done h w → w.state ≡ changed (with_ids v.counters.completion m) v.state }
+    ensures { (m : Message) (unstable : Bool) (h : NotificationHandle) (v w : Machine)
+        → issued m unstable v ≡ Done h w → w.state
+        ≡ changed (with_ids v.counters.completion m) v.state }
 {}
 
 /// Numbers are given in order, each once: a call takes as many completion ids and handles as its commands have, an
@@ -57,33 +59,50 @@ pub fn state_is_changed()
 /// handle that came next. A state read leaves the state as it is. An ephemeral read is given the next of its own ids.
 #[tactic(auto, using(crate::proofs::Carried::issued_counts, crate::proofs::Carried::issued_handle, crate::proofs::Carried::awakeable_makes, crate::proofs::Carried::signal_makes, crate::proofs::Carried::read_gives, crate::proofs::Ephemerals::read_counts, crate::proofs::SeveralCalls::several_count))]
 pub fn numbers_are_in_order()
-    ensures calls { (m : Message) (unstable : Bool) (h : NotificationHandle) (v w : Machine) → issued m unstable v ≡ Done h w → Counted (ids_of m) 0 (ids_of m) v.counters w.counters }
-    ensures handles { (m : Message) (unstable : Bool) (h : NotificationHandle) (v w : Machine) → issued m unstable v ≡ Done h w → h.0 ≡ v.counters.handle }
+    ensures calls { (m : Message) (unstable : Bool) (h : NotificationHandle) (v w : Machine)
+        → issued m unstable v ≡ Done h w → Counted (ids_of m) 0 (ids_of m) v.counters w.counters }
+    ensures handles { (m : Message) (unstable : Bool) (h : NotificationHandle) (v w : Machine)
+        → issued m unstable v ≡ Done h w → h.0 ≡ v.counters.handle }
     ensures several { (c : Command) (cs : List Command) (h : NotificationHandle) (v w : Machine)
         → MakesAll c cs (Ok h) v w → Counted (all_ids c cs) 0 (all_ids c cs) v.counters w.counters
         × (h.0 ≡ v.counters.handle) }
-    ensures reads { (r : StateRead) (h : NotificationHandle) (v w : Machine) → read_step r v ≡ Done h w → Counted 1 0 1 v.counters w.counters × (h.0 ≡ v.counters.handle) × (w.state ≡ v.state) }
-    ensures awakeables { (a : AwakeableHandle) (v w : Machine) → awakeable_step v ≡ Done a w → Counted 0 1 1 v.counters w.counters × (a.handle.0 ≡ v.counters.handle) }
-    ensures signals { (name : List ℕ) (h : NotificationHandle) (v w : Machine) → signal_step name v ≡ Done h w → Counted 0 0 1 v.counters w.counters × (h.0 ≡ v.counters.handle) }
-    ensures ephemeral_reads { (key : List ℕ) (id : EphemeralCompletionId) (v w : Machine) → ephemeral_step key v ≡ Done id w → (w.counters.ephemeral ≡ v.counters.ephemeral + 1) × (id.0 ≡ v.counters.ephemeral) }
+    ensures reads { (r : StateRead) (h : NotificationHandle) (v w : Machine) → read_step r v
+        ≡ Done h w → Counted 1 0 1 v.counters w.counters × (h.0 ≡ v.counters.handle)
+        × (w.state ≡ v.state) }
+    ensures awakeables { (a : AwakeableHandle) (v w : Machine) → awakeable_step v ≡ Done a w
+        → Counted 0 1 1 v.counters w.counters × (a.handle.0 ≡ v.counters.handle) }
+    ensures signals { (name : List ℕ) (h : NotificationHandle) (v w : Machine) → signal_step name v
+        ≡ Done h w → Counted 0 0 1 v.counters w.counters × (h.0 ≡ v.counters.handle) }
+    ensures ephemeral_reads { (key : List ℕ) (id : EphemeralCompletionId) (v w : Machine)
+        → ephemeral_step key v ≡ Done id w → (w.counters.ephemeral ≡ v.counters.ephemeral + 1)
+        × (id.0 ≡ v.counters.ephemeral) }
 {}
 
 /// Whatever happens to a machine, at most one Suspension, Error or End is written, and nothing behind it: nothing on a
 /// machine that has failed, has ended or is suspended, and a machine that writes one of them is so.
 pub fn output_ends_once()
-    ensures commands { (m : Message) (unstable : Bool) (v : Machine) → is_terminal m ≡ false → EventWrites v (called (issued m unstable v) v) }
+    ensures commands { (m : Message) (unstable : Bool) (v : Machine) → is_terminal m ≡ false
+        → EventWrites v (called (issued m unstable v) v) }
     ensures awakeables { (v : Machine) → EventWrites v (called (awakeable_step v) v) }
-    ensures signals { (name : List ℕ) (v : Machine) → EventWrites v (called (signal_step name v) v) }
+    ensures signals { (name : List ℕ) (v : Machine)
+        → EventWrites v (called (signal_step name v) v) }
     ensures reads { (r : StateRead) (v : Machine) → EventWrites v (called (read_step r v) v) }
-    ensures awaits { (t : Tree) (v : Machine) (o : Outcome (Result AwaitResponse Error)) → Awaits t v o → EventWrites v (called o v) }
+    ensures awaits { (t : Tree) (v : Machine) (o : Outcome (Result AwaitResponse Error))
+        → Awaits t v o → EventWrites v (called o v) }
     ensures takes { (handle : ℕ) (v : Machine) → EventWrites v (called (take_step handle v) v) }
-    ensures ephemeral_reads { (key : List ℕ) (v : Machine) → EventWrites v (called (ephemeral_step key v) v) }
-    ensures ephemeral_takes { (id : ℕ) (v : Machine) → EventWrites v (called (take_ephemeral_step id v) v) }
+    ensures ephemeral_reads { (key : List ℕ) (v : Machine)
+        → EventWrites v (called (ephemeral_step key v) v) }
+    ensures ephemeral_takes { (id : ℕ) (v : Machine)
+        → EventWrites v (called (take_ephemeral_step id v) v) }
     ensures inputs { (v : Machine) → EventWrites v (called (input_step v) v) }
     ensures ends { (v : Machine) → EventWrites v (called (end_step v) v) }
-    ensures reports { (e : Error) (relationship : Option CommandRelationship) (v : Machine) → EventWrites v (called (report_step e relationship v) v) }
-    ensures proposals { (handle : NotificationHandle) (exit : RunExitResult) (policy : RetryPolicy) (v : Machine) (o : Outcome Unit) → Proposes handle exit policy v o → EventWrites v (called o v) }
-    ensures messages { (raw : RawMessage) (v : Machine) → EventWrites v (called (message_step raw v) v) }
+    ensures reports { (e : Error) (relationship : Option CommandRelationship) (v : Machine)
+        → EventWrites v (called (report_step e relationship v) v) }
+    ensures proposals { (handle : NotificationHandle) (exit : RunExitResult) (policy : RetryPolicy)
+        (v : Machine) (o : Outcome Unit) → Proposes handle exit policy v o
+        → EventWrites v (called o v) }
+    ensures messages { (raw : RawMessage) (v : Machine)
+        → EventWrites v (called (message_step raw v) v) }
     ensures malformed { (v : Machine) → EventWrites v (called (malformed_step v) v) }
     ensures closings { (v : Machine) → EventWrites v (called (close_step v) v) }
 {}
@@ -91,17 +110,26 @@ pub fn output_ends_once()
 /// Ephemeral reads leave the journal's side as it was: the commands, their numbers and the last of them, whether one was written, the
 /// phase, the state and the results. So do the takes of their values, and the notifications that bring them.
 pub fn ephemeral_reads_leave_the_journal()
-    ensures reads { (key : List ℕ) (id : EphemeralCompletionId) (v w : Machine) → ephemeral_step key v ≡ Done id w → LeavesJournal v w }
-    ensures takes { (id : ℕ) (r : Option Value) (v w : Machine) → take_ephemeral_step id v ≡ Done r w → LeavesJournal v w }
-    ensures notifications { (raw : RawMessage) (phase : Phase) (v w : Machine) → ephemeral_notification_step raw phase v ≡ Done tt w → LeavesJournal v w }
+    ensures reads { (key : List ℕ) (id : EphemeralCompletionId) (v w : Machine)
+        → ephemeral_step key v ≡ Done id w → LeavesJournal v w }
+    ensures takes { (id : ℕ) (r : Option Value) (v w : Machine) → take_ephemeral_step id v
+        ≡ Done r w → LeavesJournal v w }
+    ensures notifications { (raw : RawMessage) (phase : Phase) (v w : Machine)
+        → ephemeral_notification_step raw phase v ≡ Done tt w → LeavesJournal v w }
 {}
 
 /// In Processing an acknowledgement brings the proposed result, once, as the completion of its run, and is refused where none is kept;
 /// one is kept only from version 7 on.
 pub fn acknowledgements_bring_what_was_proposed()
-    ensures kept { (raw : RawMessage) (id : ℕ) (kept : KeptProposal) (v : Machine) → Acknowledges raw id v → find (is_for id) v.proposals ≡ Some kept → message_step raw v ≡ Done tt (enqueued (completion_of id kept) (record v { proposals = without_first (is_for id) v.proposals })) }
-    ensures none { (raw : RawMessage) (id : ℕ) (v : Machine) → Acknowledges raw id v → find (is_for id) v.proposals ≡ None → message_step raw v ≡ refused fault.BadProposeRunCompletionAck v }
-    ensures early { (id : ℕ) (result : ValueOrFailure) (v : Machine) → is_from_v7 v.version ≡ false → (proposed id result v).proposals ≡ v.proposals }
+    ensures kept { (raw : RawMessage) (id : ℕ) (kept : KeptProposal) (v : Machine)
+        → Acknowledges raw id v → find (is_for id) v.proposals ≡ Some kept → message_step raw v
+        ≡ Done tt (enqueued (completion_of id kept)
+        (record v { proposals = without_first (is_for id) v.proposals })) }
+    ensures none { (raw : RawMessage) (id : ℕ) (v : Machine) → Acknowledges raw id v
+        → find (is_for id) v.proposals ≡ None → message_step raw v
+        ≡ refused fault.BadProposeRunCompletionAck v }
+    ensures early { (id : ℕ) (result : ValueOrFailure) (v : Machine) → is_from_v7 v.version ≡ false
+        → (proposed id result v).proposals ≡ v.proposals }
 {}
 
 /// The command of a call is no Suspension, Error or End.
@@ -113,11 +141,21 @@ pub fn commands_end_nothing()
 /// A replayed command writes nothing, and the next recorded command is popped only where it is header-equal to the
 /// call's; else the call is refused with the error that says why.
 pub fn replay_pops_what_is_equal()
-    ensures popped { (m : Message) (unstable : Bool) (h : NotificationHandle) (v w : Machine) → v.phase ≡ Replaying → issued m unstable v ≡ Done h w → Pops m unstable v w }
-    ensures none_left { (m : Message) (unstable : Bool) (v : Machine) → MayReplay m v → v.commands ≡ [] → Refuses fault.UnavailableEntry m unstable v }
-    ensures other_type { (m : Message) (unstable : Bool) (raw : RawMessage) (rest : List RawMessage) (v : Machine) → MayReplay m v → v.commands ≡ raw ∷ rest → is_of_its_type raw m v ≡ false → Refuses fault.CommandTypeMismatch m unstable v }
-    ensures not_read { (m : Message) (unstable : Bool) (raw : RawMessage) (rest : List RawMessage) (v : Machine) → MayReplay m v → v.commands ≡ raw ∷ rest → is_of_its_type raw m v ≡ true → message_in raw.ty raw.body ≡ None → Refuses fault.BadMessage m unstable v }
-    ensures not_equal { (m : Message) (unstable : Bool) (raw : RawMessage) (rest : List RawMessage) (recorded : Message) (v : Machine) → MayReplay m v → v.commands ≡ raw ∷ rest → is_of_its_type raw m v ≡ true → message_in raw.ty raw.body ≡ Some recorded → is_header_equal recorded m unstable v ≡ false → Refuses fault.CommandMismatch m unstable v }
+    ensures popped { (m : Message) (unstable : Bool) (h : NotificationHandle) (v w : Machine)
+        → v.phase ≡ Replaying → issued m unstable v ≡ Done h w → Pops m unstable v w }
+    ensures none_left { (m : Message) (unstable : Bool) (v : Machine) → MayReplay m v → v.commands
+        ≡ [] → Refuses fault.UnavailableEntry m unstable v }
+    ensures other_type { (m : Message) (unstable : Bool) (raw : RawMessage) (rest : List RawMessage)
+        (v : Machine) → MayReplay m v → v.commands ≡ raw ∷ rest → is_of_its_type raw m v ≡ false
+        → Refuses fault.CommandTypeMismatch m unstable v }
+    ensures not_read { (m : Message) (unstable : Bool) (raw : RawMessage) (rest : List RawMessage)
+        (v : Machine) → MayReplay m v → v.commands ≡ raw ∷ rest → is_of_its_type raw m v ≡ true
+        → message_in raw.ty raw.body ≡ None → Refuses fault.BadMessage m unstable v }
+    ensures not_equal { (m : Message) (unstable : Bool) (raw : RawMessage) (rest : List RawMessage)
+        (recorded : Message) (v : Machine) → MayReplay m v → v.commands ≡ raw ∷ rest
+        → is_of_its_type raw m v ≡ true → message_in raw.ty raw.body ≡ Some recorded
+        → is_header_equal recorded m unstable v ≡ false
+        → Refuses fault.CommandMismatch m unstable v }
 {}
 
 /// Once a machine has failed, has ended or is suspended nothing is written: each event writes as `output_ends_once`
@@ -130,5 +168,6 @@ pub fn nothing_follows()
 /// A machine that has failed answers its first error to each event, whatever its answers are, and stays as it is.
 #[tactic(auto, using(vm_machine::proofs::Calling::answers_first))]
 pub fn first_error_stays<A>()
-    ensures { (o : Outcome A) (e : Error) (v : Machine) → v.failure ≡ Some e → called o v ≡ Failed e v }
+    ensures { (o : Outcome A) (e : Error) (v : Machine) → v.failure ≡ Some e → called o v
+        ≡ Failed e v }
 {}

@@ -1,4 +1,5 @@
--- What a call with a command does: in Processing its command is written, in replay the recorded one is popped.
+-- What a call with a command does: in Processing its command is written, in replay the recorded one
+-- is popped.
 use Rattle.std.specs.Prelude.{◌≡◌, ℕ, zero, suc, ◌+◌, ◌<◌, ◌^◌, Bool, true, false, ◌||◌, ◌==◌, if◌then◌else◌, List, [], ◌∷◌, ◌++◌, Option, Some, None, Result, IfOk, OnOk}
 use Rattle.journal_errors.specs.declared.error.Error.{Error}
 use Rattle.journal_errors.specs.declared.faults.NamedFault.{NamedFault}
@@ -42,7 +43,8 @@ entered ty name v =
 
 -- an error that relates to the command that would come next
 abbrev pub about_next : NamedFault → MessageType → List ℕ → Machine → Error
-about_next name ty command v = named_error name (Some (record { index = next_index v.counters.command; ty = ty; name = command }))
+about_next name ty command v = named_error name
+    (Some (record { index = next_index v.counters.command; ty = ty; name = command }))
 
 -- a command is written
 abbrev pub written : Message → Machine → Machine
@@ -57,9 +59,12 @@ checks_are_off checks.Enabled = false
 abbrev pub ignores_payloads : NonDeterministicChecksOption → Bool → Bool
 ignores_payloads option unstable = checks_are_off option || unstable
 
--- The pending runs after a command, by its handle, its completion id and its index: a run is pending unless its result is known.
-abbrev pub runs_after : Message → NotificationHandle → ℕ → ℕ → Bool → List PendingRun → List PendingRun
-runs_after (message.Run c) handle id index known runs = if known then runs else runs ++ to_execute handle id index c.name ∷ []
+-- The pending runs after a command, by its handle, its completion id and its index: a run is
+-- pending unless its result is known.
+abbrev pub runs_after : Message → NotificationHandle → ℕ → ℕ → Bool → List PendingRun
+    → List PendingRun
+runs_after (message.Run c) handle id index known runs = if known then runs else runs
+    ++ to_execute handle id index c.name ∷ []
 runs_after m handle id index known runs = runs
 
 -- the machine is in Processing once the last recorded command is popped
@@ -76,7 +81,8 @@ typed raw ty v =
 -- the first of these commands is popped
 abbrev pub popped_from : List RawMessage → MessageType → Machine → Outcome RawMessage
 popped_from [] ty v = Failed (about_last fault.UnavailableEntry v) v
-popped_from (raw ∷ rest) ty v = typed raw ty (record v { commands = rest; phase = phase_after rest })
+popped_from (raw ∷ rest) ty v = typed raw ty
+    (record v { commands = rest; phase = phase_after rest })
 
 -- the next recorded command is popped; it has to be of this type
 unfoldable pub popped : MessageType → Machine → Outcome RawMessage
@@ -91,7 +97,8 @@ compared m ignore (Some recorded) v =
 
 -- a recorded command is replayed
 unfoldable pub replayed : Message → Bool → Machine → Outcome Unit
-replayed m ignore v = popped (type_of m) v >>= λ raw w. compared m ignore (message_in raw.ty raw.body) w
+replayed m ignore v =
+    popped (type_of m) v >>= λ raw w. compared m ignore (message_in raw.ty raw.body) w
 
 -- a command is written, or in replay popped
 unfoldable pub carried_out : Message → Bool → Machine → Outcome Unit
@@ -101,7 +108,8 @@ carried_out m ignore v =
 -- so many handles, from this one on, each for a completion id, from this one on
 abbrev pub mapped_from : ℕ → ℕ → ℕ → List Mapping
 mapped_from zero handle id = []
-mapped_from (suc n) handle id = record { handle = handle; id = CompletionId id } ∷ mapped_from n (handle + 1) (id + 1)
+mapped_from (suc n) handle id = record { handle = handle; id = CompletionId id }
+    ∷ mapped_from n (handle + 1) (id + 1)
 
 -- so many completion ids are given, with a handle for each
 abbrev pub given_on : ℕ → Counters → Counters
@@ -111,7 +119,10 @@ given_on n c = record c { completion = c.completion + n; handle = c.handle + n }
 abbrev pub handed_out : ℕ → Machine → Machine
 handed_out n v =
     record v {
-      results = record v.results { handles = v.results.handles ++ mapped_from n v.counters.handle v.counters.completion };
+      results = record v.results {
+        handles = v.results.handles
+            ++ mapped_from n v.counters.handle v.counters.completion;
+      };
       counters = given_on n v.counters;
     }
 
@@ -119,13 +130,15 @@ handed_out n v =
 abbrev pub knows_next : Machine → Bool
 knows_next v = is_known (CompletionId v.counters.completion) v.results
 
--- what a call changes before its command: it is counted and shown, its numbers are given, it is tracked where its invocation is
--- cancelled with the handler's, it is pending where it is a run without a result, and the state is changed
+-- what a call changes before its command: it is counted and shown, its numbers are given, it is
+-- tracked where its invocation is cancelled with the handler's, it is pending where it is a run
+-- without a result, and the state is changed
 abbrev pub prepared : Message → Machine → Machine
 prepared m v =
     (let w = handed_out (ids_of m) (entered (shown_type m) (name_of m) v) in record w {
       tracked = tracked_after v.options.implicit_cancellation m v.counters.handle v.tracked;
-      runs = runs_after m (record { 0 = v.counters.handle }) v.counters.completion (next_index v.counters.command) (knows_next v) v.runs;
+      runs = runs_after m (record { 0 = v.counters.handle }) v.counters.completion
+          (next_index v.counters.command) (knows_next v) v.runs;
       state = changed (with_ids v.counters.completion m) v.state;
     })
 
@@ -133,17 +146,19 @@ prepared m v =
 abbrev pub counted : Option NamedFault → Message → Bool → Machine → Outcome NotificationHandle
 counted (Some name) m unstable v = Failed (about_next name (shown_type m) (name_of m) v) v
 counted None m unstable v =
-    carried_out (with_ids v.counters.completion m) (ignores_payloads v.options.non_determinism_checks unstable) (prepared m v)
+    carried_out (with_ids v.counters.completion m)
+    (ignores_payloads v.options.non_determinism_checks unstable) (prepared m v)
     >>= λ _ w. Done (record { 0 = v.counters.handle }) w
 
--- A call that has a command, given without its numbers, and whether its payload may differ from one attempt to the next;
--- it answers its first handle, where it has one.
+-- A call that has a command, given without its numbers, and whether its payload may differ from one
+-- attempt to the next; it answers its first handle, where it has one.
 unfoldable pub issued : Message → Bool → Machine → Outcome NotificationHandle
 issued m unstable v =
     if is_running v.phase then counted (missing (ids_of m) 0 (ids_of m) v.counters) m unstable v
     else (let w = entered (shown_type m) (name_of m) v in Failed (about_last (state_fault v.phase) w) w)
 
--- Where a call's command is written, its frame can be read back: each field and the length fit their places.
+-- Where a call's command is written, its frame can be read back: each field and the length fit
+-- their places.
 abbrev pub CanBeRead : Message → Machine → Type 0
 CanBeRead m v = is_processing v.phase ≡ true → IsWhole (with_ids v.counters.completion m)
 
@@ -153,10 +168,12 @@ Fits m handle = handle.0 + ids_of m < 2 ^ 32
 
 -- A call that has a command: what it wrote can be read back, and its handles fit.
 abbrev pub Issues : Message → Bool → Result NotificationHandle Fault → Machine → Machine → Type 0
-Issues m unstable r old new = Gives (issued m unstable old) r old new × OnOk r (CanBeRead m old) × IfOk r (Fits m)
+Issues m unstable r old new =
+    Gives (issued m unstable old) r old new × OnOk r (CanBeRead m old) × IfOk r (Fits m)
 
 -- a call that has a command, unless it is refused
-abbrev pub commanded_unless : Option NamedFault → Message → Bool → Machine → Outcome NotificationHandle
+abbrev pub commanded_unless : Option NamedFault → Message → Bool → Machine
+    → Outcome NotificationHandle
 commanded_unless (Some name) m unstable v = refused name v
 commanded_unless None m unstable v = issued m unstable v
 
@@ -166,7 +183,8 @@ commanded c v = commanded_unless c.refusal c.message c.unstable v
 
 -- A call that has a command: what it wrote can be read back, and its handles fit.
 abbrev pub Carries : Command → Result NotificationHandle Fault → Machine → Machine → Type 0
-Carries c r old new = Gives (commanded c old) r old new × OnOk r (CanBeRead c.message old) × IfOk r (Fits c.message)
+Carries c r old new =
+    Gives (commanded c old) r old new × OnOk r (CanBeRead c.message old) × IfOk r (Fits c.message)
 
 -- a call that is answered by this of its answer
 abbrev pub answered_by : {A B : Type 0} → (A → B) → Outcome A → Outcome B

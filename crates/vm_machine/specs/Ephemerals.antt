@@ -1,4 +1,5 @@
--- Ephemeral reads of the state, which leave nothing in the journal: no command is counted or shown for them, and no error relates to one.
+-- Ephemeral reads of the state, which leave nothing in the journal: no command is counted or shown
+-- for them, and no error relates to one.
 use Rattle.std.specs.Prelude.{ℕ, ◌+◌, Bool, true, false, not, ◌&&◌, if◌then◌else◌, List, [], ◌∷◌, ◌++◌, Option, Some, None, is_some}
 use Rattle.std.specs.Option.{option_map, option_or}
 use Rattle.journal_errors.specs.declared.faults.NamedFault.{NamedFault}
@@ -36,12 +37,14 @@ abbrev pub asked_for : List ℕ → Machine → Machine
 asked_for key v =
     record (id_given v) {
       ephemeral = with_in_flight v.counters.ephemeral v.ephemeral;
-      output = v.output ++ encoding (message.GetStateEphemeralCommand (record { id = v.counters.ephemeral; key = key })) ∷ [];
+      output = v.output ++ encoding
+          (message.GetStateEphemeralCommand (record { id = v.counters.ephemeral; key = key })) ∷ [];
     }
 
 -- the read has its value at once
 abbrev pub ready_at_once : Option (List ℕ) → Machine → Machine
-ready_at_once found v = record (id_given v) { ephemeral = with_ready v.counters.ephemeral found v.ephemeral }
+ready_at_once found v =
+    record (id_given v) { ephemeral = with_ready v.counters.ephemeral found v.ephemeral }
 
 -- by what is known of the key
 abbrev pub read_of : List ℕ → Known → Machine → Machine
@@ -55,13 +58,15 @@ asking_fault true Unknown = Some fault.EphemeralStateGetWithClosedInput
 asking_fault closed k = None
 
 -- by why it can't be done
-abbrev pub read_numbered : Option NamedFault → List ℕ → Known → Machine → Outcome EphemeralCompletionId
+abbrev pub read_numbered : Option NamedFault → List ℕ → Known → Machine
+    → Outcome EphemeralCompletionId
 read_numbered (Some name) key k v = refused name v
 read_numbered None key k v = Done (record { 0 = v.counters.ephemeral }) (read_of key k v)
 
 -- a key of which this is known is read
 abbrev pub read_known : List ℕ → Known → Machine → Outcome EphemeralCompletionId
-read_known key k v = read_numbered (option_or (asking_fault v.input_closed k) (missing_ephemeral v.counters)) key k v
+read_known key k v =
+    read_numbered (option_or (asking_fault v.input_closed k) (missing_ephemeral v.counters)) key k v
 
 -- a key is read in this phase
 abbrev pub read_in : Phase → List ℕ → Machine → Outcome EphemeralCompletionId
@@ -69,7 +74,8 @@ read_in Processing key v = read_known key (known key v.state) v
 read_in Replaying key v = refused fault.EphemeralCommandDuringReplay v
 read_in phase key v = refused (state_fault phase) v
 
--- The handler reads a key of its state and leaves nothing of it in the journal: from version 8 on, and not in replay.
+-- The handler reads a key of its state and leaves nothing of it in the journal: from version 8 on,
+-- and not in replay.
 unfoldable pub ephemeral_step : List ℕ → Machine → Outcome EphemeralCompletionId
 ephemeral_step key v =
     if is_from_v8 v.version then read_in v.phase key v
@@ -86,7 +92,8 @@ value_found (Some bytes) = value.Success bytes
 unfoldable pub take_ephemeral_step : ℕ → Machine → Outcome (Option Value)
 take_ephemeral_step id v =
     if is_processing v.phase
-    then Done (option_map value_found (value_at id v.ephemeral)) (record v { ephemeral = without_ready id v.ephemeral })
+    then Done (option_map value_found (value_at id v.ephemeral))
+    (record v { ephemeral = without_ready id v.ephemeral })
     else refused (state_fault v.phase) v
 
 -- an await answers before all else that some read's value is there
@@ -111,7 +118,8 @@ found_of (stored.Value bytes) = Some bytes
 -- a read's result comes; there has to be one, whatever the id
 abbrev pub result_comes : ℕ → Option VoidOrValue → Machine → Outcome Unit
 result_comes id None v = refused fault.EmptyGetStateEphemeralNotification v
-result_comes id (Some found) v = Done tt (record v { ephemeral = completed id (found_of found) v.ephemeral })
+result_comes id (Some found) v = Done tt
+    (record v { ephemeral = completed id (found_of found) v.ephemeral })
 
 -- a notification that was read
 abbrev pub completed_by : Option GetStateEphemeralNotification → Machine → Outcome Unit

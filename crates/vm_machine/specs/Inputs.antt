@@ -47,8 +47,8 @@ abbrev pub from_version : {A : Type 0} → Bool → Option A → Option A
 from_version true x = x
 from_version false x = None
 
--- What is kept of Start: before V6 the options' seed takes the place of the one handed out, and before V7 there is no
--- scope, limit key or idempotency key.
+-- What is kept of Start: before V6 the options' seed takes the place of the one handed out, and
+-- before V7 there is no scope, limit key or idempotency key.
 abbrev pub info_of : Version → ℕ → Start → StartInfo
 info_of version seed s = record {
   id = s.id;
@@ -106,7 +106,8 @@ counted_entry v =
 
 -- a command comes, as long as known entries are missing
 abbrev pub entry_step : RawMessage → Phase → Machine → Outcome Unit
-entry_step raw WaitingReplayEntries v = Done tt (counted_entry (record v { commands = v.commands ++ raw ∷ [] }))
+entry_step raw WaitingReplayEntries v =
+    Done tt (counted_entry (record v { commands = v.commands ++ raw ∷ [] }))
 entry_step raw _ v = refused fault.UnexpectedEntryMessage v
 
 -- ---- notifications
@@ -134,10 +135,13 @@ notification_step raw Closed v = Done tt v
 abbrev pub completion_of : ℕ → KeptProposal → Notification
 completion_of id kept = record { id = CompletionId id; result = completion_result kept.result }
 
--- The first kept proposal of this id, if there is one, comes as the run's completion, and isn't kept any more.
+-- The first kept proposal of this id, if there is one, comes as the run's completion, and isn't
+-- kept any more.
 abbrev pub acknowledged : ℕ → Option KeptProposal → Machine → Outcome Unit
 acknowledged id None v = refused fault.BadProposeRunCompletionAck v
-acknowledged id (Some kept) v = Done tt (enqueued (completion_of id kept) (record v { proposals = without_first (is_for id) v.proposals }))
+acknowledged id (Some kept) v = Done tt
+    (enqueued (completion_of id kept)
+    (record v { proposals = without_first (is_for id) v.proposals }))
 
 -- an acknowledgement that was read
 abbrev pub acknowledged_by : Option ProposeRunCompletionAck → Machine → Outcome Unit
@@ -156,7 +160,8 @@ acknowledgement_step raw phase v = refused fault.UnexpectedState v
 unfoldable pub message_step : RawMessage → Machine → Outcome Unit
 message_step raw v =
     if type_number raw.ty == 1 then start_step raw v.phase v
-    else if nat_le 10 (type_number raw.ty) && nat_lt (type_number raw.ty) 30 then entry_step raw v.phase v
+    else if nat_le 10 (type_number raw.ty) && nat_lt (type_number raw.ty) 30
+    then entry_step raw v.phase v
     else if type_number raw.ty == 30 then notification_step raw v.phase v
     else if type_number raw.ty == 6 then acknowledgement_step raw v.phase v
     else if type_number raw.ty == 9 then ephemeral_notification_step raw v.phase v
@@ -202,14 +207,16 @@ input_read (Some c) v = Done (input_of v.start c) v
 abbrev pub input_counted : Option NamedFault → Machine → Outcome Input
 input_counted (Some name) v = Failed (about_next name type.InputCommand [] v) v
 input_counted None v =
-    popped type.InputCommand (entered type.InputCommand [] v) >>= λ raw w. input_read (input_in raw.body) w
+    popped type.InputCommand (entered type.InputCommand [] v)
+    >>= λ raw w. input_read (input_in raw.body) w
 
 -- the input is read and the commands behind it are dropped, by the counters that this leaves
 abbrev pub input_numbered : Result Counters NamedFault → Machine → Outcome Input
 input_numbered (Err name) v = Failed (about_next name type.InputCommand [] v) v
 input_numbered (Ok counters) v = input_counted None v >>= λ input w. Done input (skipped counters w)
 
--- the same, by the completion id that is next past those that the dropped commands carry; each of them has to be readable
+-- the same, by the completion id that is next past those that the dropped commands carry; each of
+-- them has to be readable
 abbrev pub input_past : Option ℕ → Machine → Outcome Input
 input_past None v = let w = entered type.InputCommand [] v in Failed (about_last fault.BadMessage w) w
 input_past (Some id) v = input_numbered (counters_past (length (drop 1 v.commands)) id v.counters) v
@@ -224,7 +231,8 @@ abbrev pub input_at : Phase → Machine → Outcome Input
 input_at Replaying v = input_by (skips_replay v.options.journal_replay) v
 input_at phase v = let w = entered type.InputCommand [] v in Failed (about_last (state_fault phase) w) w
 
--- The handler reads its input: it pops the first recorded command, and drops the others where they aren't replayed.
+-- The handler reads its input: it pops the first recorded command, and drops the others where they
+-- aren't replayed.
 unfoldable pub input_step : Machine → Outcome Input
 input_step v = input_at v.phase v
 
@@ -232,7 +240,8 @@ input_step v = input_at v.phase v
 
 -- one End is written, and the machine is closed
 abbrev pub ended : Machine → Machine
-ended v = record v { output = v.output ++ encoding message.End ∷ []; output_ended = true; phase = Closed }
+ended v =
+    record v { output = v.output ++ encoding message.End ∷ []; output_ended = true; phase = Closed }
 
 -- the end, in this phase
 abbrev pub end_at : Phase → Machine → Outcome Unit
@@ -246,8 +255,10 @@ end_step v = end_at v.phase v
 
 -- ---- calls that answer nothing but want of memory
 
--- what the error rule leaves of an inner function's answer, in a call that began with these counters
-abbrev pub Quiets : Counters → Result Unit Fault → Result Unit AllocError → Machine → Machine → Type 0
+-- what the error rule leaves of an inner function's answer, in a call that began with these
+-- counters
+abbrev pub Quiets : Counters → Result Unit Fault → Result Unit AllocError → Machine → Machine
+    → Type 0
 Quiets before (Ok a) r old new = (r ≡ Ok tt) × (new ≡ old)
 Quiets before (Err stopped.Memory) r old new = IsErr r × (new ≡ starved before old)
 Quiets before (Err (stopped.Refused e)) r old new =

@@ -1,4 +1,5 @@
--- What an event does to a machine, and what the error rule makes of it. These words are said once, for all events.
+-- What an event does to a machine, and what the error rule makes of it. These words are said once,
+-- for all events.
 use Rattle.std.specs.Prelude.{◌≡◌, ◌⊎◌, ℕ, true, ◌&&◌, ◌==◌, if◌then◌else◌, List, [], ◌∷◌, ◌++◌, Option, Some, None, unwrap_or, Result, Ok, Err}
 use Rattle.journal_errors.specs.declared.error.Error.{Error}
 use Rattle.journal_errors.specs.declared.error.ErrorBehavior.{ErrorBehavior}
@@ -41,17 +42,24 @@ pub record Lasting : Type 0 where
 
 -- these parts of a machine
 abbrev pub lasting : Machine → Lasting
-lasting v = record { version = v.version; options = v.options; start = v.start; failure = v.failure; output = v.output }
+lasting v = record {
+  version = v.version;
+  options = v.options;
+  start = v.start;
+  failure = v.failure;
+  output = v.output;
+}
 
--- What an inner function answers and leaves: the event's outcome, or want of memory; where it isn't done, what lasts is as
--- it was.
+-- What an inner function answers and leaves: the event's outcome, or want of memory; where it isn't
+-- done, what lasts is as it was.
 abbrev pub Gives : {A : Type 0} → Outcome A → Result A Fault → Machine → Machine → Type 0
 Gives o (Ok a) old new = o ≡ Done a new
 Gives o (Err (fault.Refused e)) old new = (o ≡ Failed e new) × (lasting new ≡ lasting old)
 Gives o (Err fault.Memory) old new = lasting new ≡ lasting old
 
 -- The same of an event that may come to several outcomes.
-abbrev pub GivesBy : {A : Type 0} → (Outcome A → Type 0) → Result A Fault → Machine → Machine → Type 0
+abbrev pub GivesBy : {A : Type 0} → (Outcome A → Type 0) → Result A Fault → Machine → Machine
+    → Type 0
 GivesBy R (Ok a) old new = R (Done a new)
 GivesBy R (Err (fault.Refused e)) old new = R (Failed e new) × (lasting new ≡ lasting old)
 GivesBy R (Err fault.Memory) old new = lasting new ≡ lasting old
@@ -62,7 +70,11 @@ refused name v = Failed (named_error name None) v
 
 -- the last command, as an error that relates to it shows it: index 0 and Start before any
 abbrev pub last_related : Machine → RelatedCommand
-last_related v = record { index = unwrap_or v.counters.command 0; ty = v.last_command.ty; name = v.last_command.name }
+last_related v = record {
+  index = unwrap_or v.counters.command 0;
+  ty = v.last_command.ty;
+  name = v.last_command.name;
+}
 
 -- a refusal that relates to the last command
 abbrev pub about_last : NamedFault → Machine → Error
@@ -77,7 +89,8 @@ mismatch_behavior mismatch.FollowRetryPolicy = Retry
 -- From V7 on, the options say what becomes of an invocation whose journal doesn't fit.
 abbrev pub ruled_by : Version → VMOptions → Error → Error
 ruled_by version options e =
-    if (e.code == 570) && is_from_v7 version then record e { behavior = mismatch_behavior options.journal_mismatch_retry_behavior }
+    if (e.code == 570) && is_from_v7 version
+    then record e { behavior = mismatch_behavior options.journal_mismatch_retry_behavior }
     else e
 
 -- the error as the machine's version and options have it
@@ -89,7 +102,8 @@ abbrev pub failed : Error → Machine → Machine
 failed e v =
     record v {
       failure = Some e;
-      output = if is_closed v.phase then v.output else v.output ++ encoding (message.Error (error_message e)) ∷ [];
+      output = if is_closed v.phase then v.output else v.output
+          ++ encoding (message.Error (error_message e)) ∷ [];
       output_ended = true;
     }
 
@@ -107,13 +121,14 @@ abbrev pub called_at : {A : Type 0} → Option Error → Outcome A → Machine �
 called_at None o v = settled o
 called_at (Some e) o v = Failed e v
 
--- A call: a failed machine answers its first error and stays as it is; else comes the event, and the error rule.
+-- A call: a failed machine answers its first error and stays as it is; else comes the event, and
+-- the error rule.
 unfoldable pub called : {A : Type 0} → Outcome A → Machine → Outcome A
 called o v = called_at v.failure o v
 
--- Want of memory was answered, once this state was reached. The first error is what it was, or else want of memory; there
--- is no frame more than those of that state; version, options, Start and counters are as they were. A machine that had failed
--- before stays as it was.
+-- Want of memory was answered, once this state was reached. The first error is what it was, or else
+-- want of memory; there is no frame more than those of that state; version, options, Start and
+-- counters are as they were. A machine that had failed before stays as it was.
 pub record IsStarved (reached : Machine) (e : Error) (new : Machine) : Type 0 where
   pub error : e ≡ no_memory
   pub failure : new.failure ≡ Some (unwrap_or reached.failure no_memory)
@@ -130,7 +145,8 @@ Does o (Ok a) old new = o ≡ Done a new
 Does o (Err e) old new = (o ≡ Failed e new) ⊎ IsStarved old e new
 
 -- a call whose event may come to several outcomes, by whether the machine has failed before
-abbrev pub CalledAt : {A : Type 0} → Option Error → (Outcome A → Type 0) → Machine → Outcome A → Type 0
+abbrev pub CalledAt : {A : Type 0} → Option Error → (Outcome A → Type 0) → Machine → Outcome A
+    → Type 0
 CalledAt {A} None R v o = (event : Outcome A) × R event × (o ≡ settled event)
 CalledAt (Some e) R v o = o ≡ Failed e v
 
@@ -139,7 +155,8 @@ abbrev pub CalledBy : {A : Type 0} → (Outcome A → Type 0) → Machine → Ou
 CalledBy R v o = CalledAt v.failure R v o
 
 -- A call does one of the outcomes that it may come to, or finds no memory.
-abbrev pub DoesBy : {A : Type 0} → (Outcome A → Type 0) → Result A Error → Machine → Machine → Type 0
+abbrev pub DoesBy : {A : Type 0} → (Outcome A → Type 0) → Result A Error → Machine → Machine
+    → Type 0
 DoesBy R (Ok a) old new = R (Done a new)
 DoesBy R (Err e) old new = R (Failed e new) ⊎ IsStarved old e new
 
@@ -148,18 +165,23 @@ abbrev pub Lives : Option Error → Result Unit Error → Type 0
 Lives None r = r ≡ Ok tt
 Lives (Some e) r = (r ≡ Err e) ⊎ (r ≡ Err no_memory)
 
--- what the error rule answers and leaves where an event wasn't carried out, in a call that began with these counters
+-- what the error rule answers and leaves where an event wasn't carried out, in a call that began
+-- with these counters
 abbrev pub Rules : Counters → Fault → Error → Machine → Machine → Type 0
 Rules before fault.Memory e old new = (e ≡ no_memory) × (new ≡ starved before old)
 Rules before (fault.Refused said) e old new =
-    ((e ≡ ruled old said) × (new ≡ failed (ruled old said) old)) ⊎ ((e ≡ no_memory) × (new ≡ starved before old))
+    ((e ≡ ruled old said) × (new ≡ failed (ruled old said) old))
+    ⊎ ((e ≡ no_memory) × (new ≡ starved before old))
 
--- what the error rule leaves of an inner function's answer, in a call that began with these counters
-abbrev pub Settles : {A : Type 0} → Counters → Result A Fault → Result A Error → Machine → Machine → Type 0
+-- what the error rule leaves of an inner function's answer, in a call that began with these
+-- counters
+abbrev pub Settles : {A : Type 0} → Counters → Result A Fault → Result A Error → Machine → Machine
+    → Type 0
 Settles before (Ok a) r old new = (r ≡ Ok a) × (new ≡ old)
 Settles before (Err fault.Memory) r old new = (r ≡ Err no_memory) × (new ≡ starved before old)
 Settles before (Err (fault.Refused e)) r old new =
-    ((r ≡ Err (ruled old e)) × (new ≡ failed (ruled old e) old)) ⊎ ((r ≡ Err no_memory) × (new ≡ starved before old))
+    ((r ≡ Err (ruled old e)) × (new ≡ failed (ruled old e) old))
+    ⊎ ((r ≡ Err no_memory) × (new ≡ starved before old))
 
 -- an answer that is an error, as an error
 abbrev pub flattened : {A : Type 0} → Result (Result A Error) Error → Result A Error

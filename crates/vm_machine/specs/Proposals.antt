@@ -29,25 +29,36 @@ use Rattle.journal_errors.specs.Versions.{is_from_v6, is_from_v7}
 
 -- the pending run of a handle that wasn't taken
 abbrev pub run_at : ℕ → Machine → Option PendingRun
-run_at handle v = if is_some (id_at handle v.results.handles) then find (has_handle (record { 0 = handle })) v.runs else None
+run_at handle v = if is_some (id_at handle v.results.handles)
+    then find (has_handle (record { 0 = handle })) v.runs else None
 
--- why a version can't take a result: metadata on a failure needs V6, and a policy that may pause V7, whatever the result is
+-- why a version can't take a result: metadata on a failure needs V6, and a policy that may pause
+-- V7, whatever the result is
 abbrev pub proposal_fault : RunExitResult → RetryPolicy → Version → Option NamedFault
 proposal_fault exit policy version =
-    if (has_metadata exit && not (is_from_v6 version)) || (pauses_on_max policy && not (is_from_v7 version)) then Some fault.UnsupportedFeatureForNegotiatedVersion
+    if (has_metadata exit && not (is_from_v6 version))
+    || (pauses_on_max policy && not (is_from_v7 version))
+    then Some fault.UnsupportedFeatureForNegotiatedVersion
     else None
 
 -- From V7 on a proposed result is kept until it is acknowledged.
 abbrev pub kept : ℕ → ValueOrFailure → Machine → Machine
-kept id result v = if is_from_v7 v.version then record v { proposals = v.proposals ++ record { completion_id = id; result = result } ∷ [] } else v
+kept id result v = if is_from_v7 v.version
+    then record v { proposals = v.proposals ++ record { completion_id = id; result = result } ∷ [] }
+    else v
 
 -- a result is proposed under the run's completion id
 abbrev pub proposed : ℕ → ValueOrFailure → Machine → Machine
-proposed id result v = record (kept id result v) { output = v.output ++ encoding (message.ProposeRunCompletion (record { id = id; result = result })) ∷ [] }
+proposed id result v = record (kept id result v) {
+  output = v.output
+      ++ encoding (message.ProposeRunCompletion (record { id = id; result = result })) ∷ [];
+}
 
 -- what becomes of a run is done: a result is proposed, by a frame from which it can be read back
 abbrev pub SettlesAs : ℕ → Settlement → Machine → Outcome Unit → Type 0
-SettlesAs id (settlement.Proposed result) v o = IsWhole (message.ProposeRunCompletion (record { id = id; result = result })) × (o ≡ Done tt (proposed id result v))
+SettlesAs id (settlement.Proposed result) v o = IsWhole
+    (message.ProposeRunCompletion (record { id = id; result = result }))
+    × (o ≡ Done tt (proposed id result v))
 SettlesAs id (settlement.Failed e) v o = o ≡ Failed e v
 
 -- the run of this handle isn't pending any more
@@ -55,24 +66,30 @@ abbrev pub without_run : NotificationHandle → Machine → Machine
 without_run handle v = record v { runs = without_first (has_handle handle) v.runs }
 
 -- what the run of a handle came to, if there is a pending one
-abbrev pub Settled : NotificationHandle → RunExitResult → RetryPolicy → Option PendingRun → Machine → Outcome Unit → Type 0
+abbrev pub Settled : NotificationHandle → RunExitResult → RetryPolicy → Option PendingRun → Machine
+    → Outcome Unit → Type 0
 Settled handle exit policy None v o = o ≡ refused fault.NoPendingRun v
 Settled handle exit policy (Some run) v o =
-    (s : Settlement) × Becomes run exit policy v.start v.wrote_command s × SettlesAs run.completion_id s (without_run handle v) o
+    (s : Settlement) × Becomes run exit policy v.start v.wrote_command s
+    × SettlesAs run.completion_id s (without_run handle v) o
 
 -- Outside Processing what a run came to is ignored.
-abbrev pub SettledAt : Phase → NotificationHandle → RunExitResult → RetryPolicy → Machine → Outcome Unit → Type 0
+abbrev pub SettledAt : Phase → NotificationHandle → RunExitResult → RetryPolicy → Machine
+    → Outcome Unit → Type 0
 SettledAt Processing handle exit policy v o = Settled handle exit policy (run_at handle.0 v) v o
 SettledAt phase handle exit policy v o = o ≡ Done tt v
 
 -- unless the version can't take it
-abbrev pub SettledUnless : Option NamedFault → NotificationHandle → RunExitResult → RetryPolicy → Machine → Outcome Unit → Type 0
+abbrev pub SettledUnless : Option NamedFault → NotificationHandle → RunExitResult → RetryPolicy
+    → Machine → Outcome Unit → Type 0
 SettledUnless (Some name) handle exit policy v o = o ≡ refused name v
 SettledUnless None handle exit policy v o = SettledAt v.phase handle exit policy v o
 
 -- what it may come to that a run's result is told
-abbrev pub Proposes : NotificationHandle → RunExitResult → RetryPolicy → Machine → Outcome Unit → Type 0
-Proposes handle exit policy v o = SettledUnless (proposal_fault exit policy v.version) handle exit policy v o
+abbrev pub Proposes : NotificationHandle → RunExitResult → RetryPolicy → Machine → Outcome Unit
+    → Type 0
+Proposes handle exit policy v o =
+    SettledUnless (proposal_fault exit policy v.version) handle exit policy v o
 
 -- ---- acknowledgements
 

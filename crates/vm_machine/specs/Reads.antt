@@ -1,4 +1,5 @@
--- State reads: eager where the state is known, lazy where it isn't; in replay the recorded form decides.
+-- State reads: eager where the state is known, lazy where it isn't; in replay the recorded form
+-- decides.
 use Rattle.std.specs.Prelude.{◌≡◌, ℕ, true, if◌then◌else◌, List, [], ◌∷◌, Option, Some, None, Result, Ok, Err, OnOk}
 use Rattle.journal_errors.specs.declared.faults.NamedFault.{NamedFault}
 use Rattle.journal_errors.specs.declared.faults.NamedFault.TheVariants as fault
@@ -23,7 +24,8 @@ use Rattle.vm_machine.specs.Phases.{is_processing, is_running, state_fault}
 -- a result that a read brings is ready at once
 abbrev pub with_result : ℕ → Option NotificationResult → Machine → Machine
 with_result id None v = v
-with_result id (Some result) v = record v { results = record v.results { ready = with_eager id result v.results.ready } }
+with_result id (Some result) v = record v
+    { results = record v.results { ready = with_eager id result v.results.ready } }
 
 -- what a read's own command brings
 abbrev pub own_result : Result (Option NotificationResult) NamedFault → Option NotificationResult
@@ -32,10 +34,12 @@ own_result (Err name) = None
 
 -- in Processing a read writes its own command
 abbrev pub read_written : StateRead → ℕ → Message → Machine → Machine
-read_written r id m v = with_result id (own_result (result_in m)) (written m (handed_out 1 (entered (type_of m) (name_read r) v)))
+read_written r id m v = with_result id (own_result (result_in m))
+    (written m (handed_out 1 (entered (type_of m) (name_read r) v)))
 
 -- a recorded command that fits, or doesn't
-abbrev pub read_back : ℕ → ℕ → Result (Option NotificationResult) NamedFault → Machine → Outcome NotificationHandle
+abbrev pub read_back : ℕ → ℕ → Result (Option NotificationResult) NamedFault → Machine
+    → Outcome NotificationHandle
 read_back handle id (Err name) v = Failed (about_last name v) v
 read_back handle id (Ok result) v = Done (record { 0 = handle }) (with_result id result v)
 
@@ -43,13 +47,21 @@ read_back handle id (Ok result) v = Done (record { 0 = handle }) (with_result id
 abbrev pub read_popped : StateRead → ℕ → ℕ → List RawMessage → Machine → Outcome NotificationHandle
 read_popped r handle id [] v = Failed (about_last fault.UnavailableEntry v) v
 read_popped r handle id (raw ∷ rest) v =
-    read_back handle id (recorded_as r id raw) (record v { commands = rest; phase = phase_after rest; last_command = record { ty = recorded_type r raw; name = [] } })
+    read_back handle id (recorded_as r id raw)
+    (record v {
+      commands = rest;
+      phase = phase_after rest;
+      last_command = record { ty = recorded_type r raw; name = [] };
+    })
 
 -- a read that has its numbers
 abbrev pub read_numbered : StateRead → Machine → Outcome NotificationHandle
 read_numbered r v =
-    if is_processing v.phase then Done (record { 0 = v.counters.handle }) (read_written r v.counters.completion (own_form r v.counters.completion v.state) v)
-    else read_popped r v.counters.handle v.counters.completion v.commands (handed_out 1 (entered (eager_type r) [] v))
+    if is_processing v.phase
+    then Done (record { 0 = v.counters.handle })
+    (read_written r v.counters.completion (own_form r v.counters.completion v.state) v)
+    else read_popped r v.counters.handle v.counters.completion v.commands
+    (handed_out 1 (entered (eager_type r) [] v))
 
 -- the name that a refusal for want of numbers shows: none in replay
 abbrev pub name_shown : StateRead → Machine → List ℕ
@@ -62,11 +74,13 @@ read_counted None r v = read_numbered r v
 
 -- where a read's command is written, its frame can be read back
 abbrev pub ReadCanBeRead : StateRead → Machine → Type 0
-ReadCanBeRead r v = is_processing v.phase ≡ true → IsWhole (own_form r v.counters.completion v.state)
+ReadCanBeRead r v =
+    is_processing v.phase ≡ true → IsWhole (own_form r v.counters.completion v.state)
 
 -- a read that has its numbers: what it wrote can be read back
 abbrev pub ReadsNumbered : StateRead → Result NotificationHandle Fault → Machine → Machine → Type 0
-ReadsNumbered r result old new = Gives (read_numbered r old) result old new × OnOk result (ReadCanBeRead r old)
+ReadsNumbered r result old new =
+    Gives (read_numbered r old) result old new × OnOk result (ReadCanBeRead r old)
 
 -- A state read answers one handle. Where the state refuses it no command is counted.
 unfoldable pub read_step : StateRead → Machine → Outcome NotificationHandle

@@ -16,8 +16,16 @@ use Rattle.journal_errors.specs.Versions.{is_from_v7}
 -- the command that the error relates to; an absent name is empty
 abbrev pub related_by : CommandRelationship → Machine → RelatedCommand
 related_by Last v = last_related v
-related_by (Next ty name) v = record { index = next_index v.counters.command; ty = message_type ty; name = unwrap_or name [] }
-related_by (Specific index ty name) v = record { index = index; ty = message_type ty; name = unwrap_or name [] }
+related_by (Next ty name) v = record {
+  index = next_index v.counters.command;
+  ty = message_type ty;
+  name = unwrap_or name [];
+}
+related_by (Specific index ty name) v = record {
+  index = index;
+  ty = message_type ty;
+  name = unwrap_or name [];
+}
 
 -- the command that a reported error relates to
 abbrev pub related_to : Option CommandRelationship → Error → Machine → Error
@@ -33,5 +41,6 @@ is_retry Fail = false
 -- An error is reported; before V7 it can only be retried.
 abbrev pub report_step : Error → Option CommandRelationship → Machine → Outcome Unit
 report_step e relationship v =
-    if not (is_retry e.behavior) && not (is_from_v7 v.version) then refused fault.UnsupportedFeatureForNegotiatedVersion v
+    if not (is_retry e.behavior) && not (is_from_v7 v.version)
+    then refused fault.UnsupportedFeatureForNegotiatedVersion v
     else Failed (related_to relationship e v) v

@@ -1,4 +1,5 @@
--- A call that has several commands: what all of them need is looked for before the first is made, and each is made by a call of its own.
+-- A call that has several commands: what all of them need is looked for before the first is made,
+-- and each is made by a call of its own.
 use Rattle.std.specs.Prelude.{◌≡◌, ℕ, suc, ◌-◌, ◌+◌, ◌<◌, ◌^◌, if◌then◌else◌, nat_lt, List, [], ◌∷◌, length, Option, Some, None, unwrap_or, Result, Ok, Err, OnOk}
 use Rattle.std.specs.Option.{option_or}
 use Rattle.journal_errors.specs.declared.error.Error.{Error}
@@ -19,15 +20,18 @@ use Rattle.vm_machine.specs.Phases.{is_running, state_fault}
 
 -- fewer command indexes are left than so many
 abbrev pub missing_indexes : ℕ → Counters → Option NamedFault
-missing_indexes n k = if nat_lt (most - unwrap_or k.command 0) n then Some ExhaustedCommandIndexes else None
+missing_indexes n k =
+    if nat_lt (most - unwrap_or k.command 0) n then Some ExhaustedCommandIndexes else None
 
 -- the first kind of number of which a command and those behind it need more than are left
 abbrev pub missing_for : Command → List Command → Counters → Option NamedFault
-missing_for c cs k = option_or (missing (all_ids c cs) 0 (all_ids c cs) k) (missing_indexes (suc (length cs)) k)
+missing_for c cs k =
+    option_or (missing (all_ids c cs) 0 (all_ids c cs) k) (missing_indexes (suc (length cs)) k)
 
 -- the numbers are left; or the call is refused, and relates to its first command
 abbrev pub numbers_left : Option NamedFault → Command → Machine → Outcome Unit
-numbers_left (Some name) c v = Failed (about_next name (shown_type c.message) (name_of c.message) v) v
+numbers_left (Some name) c v = Failed (about_next name (shown_type c.message) (name_of c.message) v)
+    v
 numbers_left None c v = Done tt v
 
 -- the state, and then the numbers
@@ -41,7 +45,8 @@ abbrev pub foreseen_unless : Option NamedFault → Command → List Command → 
 foreseen_unless (Some name) c cs v = refused name v
 foreseen_unless None c cs v = looked_for c cs v
 
--- What a command and those behind it need is looked for, before it is made: the first reason that there is refuses the call.
+-- What a command and those behind it need is looked for, before it is made: the first reason that
+-- there is refuses the call.
 unfoldable pub foreseen : Command → List Command → Machine → Outcome Unit
 foreseen c cs v = foreseen_unless (any_refusal c cs) c cs v
 
@@ -53,8 +58,10 @@ commanded_before c (b ∷ bs) v = foreseen c (b ∷ bs) v >>= λ _ w. commanded 
 -- ---- the whole call
 
 -- one of the commands, by a call of its own; what it wrote can be read back
-abbrev pub MakesOne : Command → List Command → Result NotificationHandle Error → Machine → Machine → Type 0
-MakesOne c cs r old new = Does (called (commanded_before c cs old) old) r old new × OnOk r (CanBeRead c.message old)
+abbrev pub MakesOne : Command → List Command → Result NotificationHandle Error → Machine → Machine
+    → Type 0
+MakesOne c cs r old new =
+    Does (called (commanded_before c cs old) old) r old new × OnOk r (CanBeRead c.message old)
 
 -- a result with this answer
 abbrev pub answered_so : {A B : Type 0} → B → Result A Error → Result B Error
@@ -62,14 +69,19 @@ answered_so b (Ok a) = Ok b
 answered_so b (Err e) = Err e
 
 -- what comes behind the first command: the call is answered by its handle; an error stays
-abbrev pub BehindFirst : (Result NotificationHandle Error → Machine → Machine → Type 0) → Result NotificationHandle Error → Result NotificationHandle Error → Machine → Machine → Type 0
-BehindFirst Next (Ok handle) r mid new = (given : Result NotificationHandle Error) × Next given mid new × (r ≡ answered_so handle given)
+abbrev pub BehindFirst : (Result NotificationHandle Error → Machine → Machine → Type 0)
+    → Result NotificationHandle Error → Result NotificationHandle Error → Machine → Machine → Type 0
+BehindFirst Next (Ok handle) r mid new = (given : Result NotificationHandle Error)
+    × Next given mid new × (r ≡ answered_so handle given)
 BehindFirst Next (Err e) r mid new = (r ≡ Err e) × (new ≡ mid)
 
--- A command and those behind it are made, one after another, each by a call of its own; the call is answered by the first one's handle.
-abbrev pub MakesAll : Command → List Command → Result NotificationHandle Error → Machine → Machine → Type 0
+-- A command and those behind it are made, one after another, each by a call of its own; the call is
+-- answered by the first one's handle.
+abbrev pub MakesAll : Command → List Command → Result NotificationHandle Error → Machine → Machine
+    → Type 0
 MakesAll c [] r old new = MakesOne c [] r old new
-MakesAll c (b ∷ bs) r old new = (first : Result NotificationHandle Error) × (mid : Machine) × MakesOne c (b ∷ bs) first old mid × BehindFirst (MakesAll b bs) first r mid new
+MakesAll c (b ∷ bs) r old new = (first : Result NotificationHandle Error) × (mid : Machine)
+    × MakesOne c (b ∷ bs) first old mid × BehindFirst (MakesAll b bs) first r mid new
 
 -- all handles of a call fit, from its first on
 abbrev pub AllFit : Command → List Command → NotificationHandle → Type 0

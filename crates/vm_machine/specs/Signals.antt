@@ -1,4 +1,5 @@
--- Signals that the handler waits for: awakeables, which are signals of the invocation's own, and signals by name.
+-- Signals that the handler waits for: awakeables, which are signals of the invocation's own, and
+-- signals by name.
 use Rattle.std.specs.Prelude.{ℕ, ◌+◌, if◌then◌else◌, List, [], ◌∷◌, ◌++◌, codes, Option, Some, None}
 use Rattle.std.specs.Int.{w32, to_be_bytes}
 use Rattle.base64.specs.Engines.{url_safe_no_pad}
@@ -12,24 +13,32 @@ use Rattle.vm_machine.specs.declared.machine.Machine.{Machine}
 use Rattle.vm_machine.specs.Outcomes.{Outcome, Done, refused}
 use Rattle.vm_machine.specs.Phases.{is_running, state_fault}
 
--- The id by which others complete an awakeable: behind a fixed text the invocation's id and its signal's in four
--- bytes, in the base64 of URLs without padding.
+-- The id by which others complete an awakeable: behind a fixed text the invocation's id and its
+-- signal's in four bytes, in the base64 of URLs without padding.
 unfoldable pub awakeable_id : List ℕ → ℕ → List ℕ
-awakeable_id invocation signal = codes "sign_1" ++ encode_of url_safe_no_pad (invocation ++ to_be_bytes w32 signal)
+awakeable_id invocation signal =
+    codes "sign_1" ++ encode_of url_safe_no_pad (invocation ++ to_be_bytes w32 signal)
 
 -- the next handle stands for the next signal id
 abbrev pub signal_handed_out : Machine → Machine
 signal_handed_out v =
     record v {
-      results = record v.results { handles = v.results.handles ++ record { handle = v.counters.handle; id = SignalId v.counters.signal } ∷ [] };
-      counters = record v.counters { signal = v.counters.signal + 1; handle = v.counters.handle + 1 };
+      results = record v.results {
+        handles = v.results.handles
+            ++ record { handle = v.counters.handle; id = SignalId v.counters.signal } ∷ [];
+      };
+      counters =
+          record v.counters { signal = v.counters.signal + 1; handle = v.counters.handle + 1 };
     }
 
 -- an awakeable, where its numbers are left
 abbrev pub awakeable_counted : Option NamedFault → Machine → Outcome AwakeableHandle
 awakeable_counted (Some name) v = refused name v
 awakeable_counted None v =
-    Done (record { id = awakeable_id v.start.id v.counters.signal; handle = record { 0 = v.counters.handle } }) (signal_handed_out v)
+    Done (record {
+      id = awakeable_id v.start.id v.counters.signal;
+      handle = record { 0 = v.counters.handle };
+    }) (signal_handed_out v)
 
 -- An awakeable is made, in replay too; it has no command.
 unfoldable pub awakeable_step : Machine → Outcome AwakeableHandle
@@ -41,7 +50,10 @@ awakeable_step v =
 abbrev pub name_handed_out : List ℕ → Machine → Machine
 name_handed_out name v =
     record v {
-      results = record v.results { handles = v.results.handles ++ record { handle = v.counters.handle; id = SignalName name } ∷ [] };
+      results = record v.results {
+        handles = v.results.handles
+            ++ record { handle = v.counters.handle; id = SignalName name } ∷ [];
+      };
       counters = record v.counters { handle = v.counters.handle + 1 };
     }
 

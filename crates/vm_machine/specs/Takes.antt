@@ -31,7 +31,8 @@ result_taken handle (Some result) v = value_taken handle (value_of result) v
 abbrev pub taken_at : ℕ → Option NotificationId → Machine → Outcome (Option Value)
 taken_at handle id v =
     let found = present_for v.options.signal_delivery id v.results.ready in
-    result_taken handle found (record v { results = taken_by v.options.signal_delivery handle id found v.results })
+    result_taken handle found
+    (record v { results = taken_by v.options.signal_delivery handle id found v.results })
 
 -- a take of a handle's present result
 unfoldable pub take_step : ℕ → Machine → Outcome (Option Value)

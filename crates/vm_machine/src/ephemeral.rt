@@ -49,7 +49,12 @@ fn found_of(stored: VoidOrValue) -> Option<Bytes>
 impl Machine {
     /// Writes the command that asks for a key's value.
     fn ask_for(&mut self, id: u32, key: &Text) -> Result<(), AllocError>
-        ensures ok { OnOk result (self.new ≡ record self.old { ephemeral = with_in_flight id self.old.ephemeral; output = self.old.output ++ encoding (message.GetStateEphemeralCommand (record { id = id; key = key.now })) ∷ [] }) }
+        ensures ok { OnOk result (self.new
+            ≡ record self.old {
+              ephemeral = with_in_flight id self.old.ephemeral;
+              output = self.old.output
+                  ++ encoding (message.GetStateEphemeralCommand (record { id = id; key = key.now })) ∷ [];
+            }) }
         ensures err { OnErr result (lasting self.new ≡ lasting self.old) }
     {
         let key = copy_of(key)?;

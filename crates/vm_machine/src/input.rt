@@ -77,7 +77,8 @@ impl Machine {
 
     /// Reads the input where recorded commands are replayed.
     fn replay_input(&mut self) -> Result<Input, Fault>
-        ensures { Gives (input_counted (missing 0 0 0 self.old.counters) self.old) result self.old self.new }
+        ensures { Gives (input_counted (missing 0 0 0 self.old.counters) self.old) result self.old
+            self.new }
     {
         if let Some(fault) = self.counters.missing(0, 0, 0) {
             return Err(self.refuse_input(fault));
@@ -87,7 +88,9 @@ impl Machine {
 
     /// Reads the input and drops the recorded commands behind it.
     fn skip_input(&mut self) -> Result<Input, Fault>
-        ensures { Gives (input_past (past_all self.old.counters.completion (drop 1 self.old.commands)) self.old) result self.old self.new }
+        ensures { Gives (input_past
+            (past_all self.old.counters.completion (drop 1 self.old.commands)) self.old) result
+            self.old self.new }
     {
         let Some(next) = self.next_past()? else {
             self.enter(MessageType::InputCommand, Text::empty(self.alloc));

@@ -74,7 +74,11 @@ impl Machine {
     /// Pops the next recorded command, if one is left; behind the last the machine is in Processing.
     pub fn pop_next(&mut self) -> Option<RawMessage>
         ensures none { IfNone result ((self.old.commands ≡ []) × (self.new ≡ self.old)) }
-        ensures some { IfSome result (λ raw. (self.old.commands ≡ raw ∷ self.new.commands) × (self.new ≡ record self.old { commands = self.new.commands; phase = phase_after self.new.commands })) }
+        ensures some { IfSome result (λ raw. (self.old.commands ≡ raw ∷ self.new.commands)
+            × (self.new ≡ record self.old {
+              commands = self.new.commands;
+              phase = phase_after self.new.commands;
+            })) }
     {
         let raw = self.commands.pop()?;
         self.phase = phase_after(&self.commands);
@@ -129,7 +133,8 @@ impl Machine {
 
     #[tactic(auto, unfolding(crate::specs::Commands::carried_out))]
     fn carry_out(&mut self, message: &Message, ignore_payloads: bool) -> Result<(), Fault>
-        ensures does { Gives (carried_out message.now ignore_payloads self.old) result self.old self.new }
+        ensures does { Gives (carried_out message.now ignore_payloads self.old) result self.old
+            self.new }
         ensures whole { OnOk result (is_processing self.old.phase ≡ true → IsWhole message.now) }
     {
         if self.phase.is_processing() {
@@ -157,7 +162,11 @@ impl Machine {
 
     /// Keeps the first handle of a command whose invocation is cancelled with the handler's.
     fn track(&mut self, command: &Message, handle: NotificationHandle) -> Result<(), AllocError>
-        ensures ok { OnOk result (self.new ≡ record self.old { tracked = tracked_after self.old.options.implicit_cancellation command.now handle.0 self.old.tracked }) }
+        ensures ok { OnOk result (self.new
+            ≡ record self.old {
+              tracked = tracked_after self.old.options.implicit_cancellation
+                  command.now handle.0 self.old.tracked;
+            }) }
         ensures err { OnErr result (lasting self.new ≡ lasting self.old) }
     {
         if is_cancelled_with(self.options.implicit_cancellation, command) {
@@ -181,7 +190,11 @@ impl Machine {
         handle: NotificationHandle,
         index: u32,
     ) -> Result<(), AllocError>
-        ensures ok { OnOk result (self.new ≡ record self.old { runs = runs_after command.now handle self.old.counters.completion index (knows_next self.old) self.old.runs }) }
+        ensures ok { OnOk result (self.new
+            ≡ record self.old {
+              runs = runs_after command.now handle self.old.counters.completion
+                  index (knows_next self.old) self.old.runs;
+            }) }
         ensures err { OnErr result (lasting self.new ≡ lasting self.old) }
     {
         if let Message::Run(run) = command {
@@ -196,7 +209,8 @@ impl Machine {
 
     /// What a command changes of the state.
     fn change(&mut self, command: &Message) -> Result<(), AllocError>
-        ensures ok { OnOk result (self.new ≡ record self.old { state = changed command.now self.old.state }) }
+        ensures ok { OnOk result (self.new
+            ≡ record self.old { state = changed command.now self.old.state }) }
         ensures err { OnErr result (lasting self.new ≡ lasting self.old) }
     {
         match command {

@@ -48,7 +48,8 @@ impl Machine {
     /// A result is proposed under the run's completion id.
     fn propose(&mut self, id: u32, given: ValueOrFailure) -> Result<(), AllocError>
         ensures ok { OnOk result (self.new ≡ proposed id given self.old) }
-        ensures whole { OnOk result (IsWhole (message.ProposeRunCompletion (record { id = id; result = given }))) }
+        ensures whole { OnOk result
+            (IsWhole (message.ProposeRunCompletion (record { id = id; result = given }))) }
         ensures err { OnErr result (lasting self.new ≡ lasting self.old) }
     {
         self.keep_proposal(id, &given)?;
@@ -90,7 +91,8 @@ impl Machine {
         exit: RunExitResult,
         policy: &RetryPolicy,
     ) -> Result<(), Fault>
-        ensures { GivesBy (Settled handle exit policy.now (run_at handle.0 self.old) self.old) result self.old self.new }
+        ensures { GivesBy (Settled handle exit policy.now (run_at handle.0 self.old) self.old)
+            result self.old self.new }
     {
         let Some(run) = self.take_run(handle) else {
             return Err(refuse(NamedFault::NoPendingRun));

@@ -51,7 +51,8 @@ impl Machine {
         handle: u32,
         id: u32,
     ) -> Result<NotificationHandle, Fault>
-        ensures { Gives (read_popped read.now handle id self.old.commands self.old) result self.old self.new }
+        ensures { Gives (read_popped read.now handle id self.old.commands self.old) result self.old
+            self.new }
     {
         let Some(raw) = self.pop_next() else {
             return Err(Fault::Refused(self.about_last(NamedFault::UnavailableEntry)?));

@@ -64,7 +64,11 @@ impl Machine {
     }
 
     fn write_error(&mut self, error: &Error) -> Result<(), AllocError>
-        ensures ok { OnOk result (self.new ≡ record self.old { output = self.old.output ++ encoding (message.Error (error_message error.now)) ∷ [] }) }
+        ensures ok { OnOk result (self.new
+            ≡ record self.old {
+              output = self.old.output
+                  ++ encoding (message.Error (error_message error.now)) ∷ [];
+            }) }
         ensures err { OnErr result (self.new ≡ self.old) }
     {
         let message = Message::Error(error.to_message(self.alloc)?);

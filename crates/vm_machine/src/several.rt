@@ -17,7 +17,8 @@ impl Machine {
     /// The first kind of number of which both commands need more than are left.
     fn missing_for(&self, first: &Command, second: &Command) -> Option<NamedFault>
         ensures found { result ≡ missing_for first.now (second.now ∷ []) self.now.counters }
-        ensures handles { IfNone result (self.now.counters.handle + all_ids first.now (second.now ∷ []) < 2 ^ 32) }
+        ensures handles { IfNone result
+            (self.now.counters.handle + all_ids first.now (second.now ∷ []) < 2 ^ 32) }
     {
         let ids = ids_of(&first.message) + ids_of(&second.message);
         if let Some(fault) = self.counters.missing(ids, 0, ids) {
@@ -32,9 +33,11 @@ impl Machine {
     /// Looks for what both commands need.
     #[tactic(auto, unfolding(crate::specs::Several::foreseen))]
     fn foresee(&mut self, first: &Command, second: &Command) -> Result<(), Fault>
-        ensures does { Gives (foreseen first.now (second.now ∷ []) self.old) result self.old self.new }
+        ensures does { Gives (foreseen first.now (second.now ∷ []) self.old) result self.old
+            self.new }
         ensures same { OnOk result (self.new ≡ self.old) }
-        ensures handles { OnOk result (self.old.counters.handle + all_ids first.now (second.now ∷ []) < 2 ^ 32) }
+        ensures handles { OnOk result
+            (self.old.counters.handle + all_ids first.now (second.now ∷ []) < 2 ^ 32) }
     {
         if let Some(fault) = first.refusal.or(second.refusal) {
             return Err(refuse(fault));
@@ -59,7 +62,8 @@ impl Machine {
         first: &mut Command,
         second: &Command,
     ) -> Result<NotificationHandle, Fault>
-        ensures does { Gives (commanded_before first.old (second.now ∷ []) self.old) result self.old self.new }
+        ensures does { Gives (commanded_before first.old (second.now ∷ []) self.old) result self.old
+            self.new }
         ensures whole { OnOk result (CanBeRead first.old.message self.old) }
         ensures fits { IfOk result (AllFit first.old (second.now ∷ [])) }
     {

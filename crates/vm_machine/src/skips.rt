@@ -63,7 +63,8 @@ impl Machine {
     /// The completion id that is next past those that the recorded commands behind the first carry; none where one of them can't
     /// be read.
     pub fn next_past(&self) -> Result<Option<u64>, AllocError>
-        ensures { IfOk result (λ id. id ≡ past_all self.now.counters.completion (drop 1 self.now.commands)) }
+        ensures { IfOk result (λ id. id
+            ≡ past_all self.now.counters.completion (drop 1 self.now.commands)) }
     {
         let commands = self.commands.items();
         let mut next = u64::from(self.counters.completion);

@@ -1,4 +1,5 @@
--- What comes of each step of a handler, from what is known so far: one row a kind of what steps ask for.
+-- What comes of each step of a handler, from what is known so far: one row a kind of what steps ask
+-- for.
 use Rattle.std.specs.Prelude.{ℕ, zero, suc, ◌+◌, ◌==◌, Bool, true, false, ◌&&◌, cond, List, [], ◌∷◌, ◌++◌, Option, Some, None, is_some}
 use Rattle.journal_errors.specs.declared.faults.NamedFault.{NamedFault}
 use Rattle.journal_errors.specs.declared.faults.NamedFault.TheVariants as fault
@@ -55,7 +56,15 @@ pub record Identity : Type 0 where
 
 -- the part of Start that stays the same
 abbrev pub identity_of : StartInfo → Identity
-identity_of s = record { id = s.id; debug_id = s.debug_id; key = s.key; random_seed = s.random_seed; scope = s.scope; limit_key = s.limit_key; idempotency_key = s.idempotency_key }
+identity_of s = record {
+  id = s.id;
+  debug_id = s.debug_id;
+  key = s.key;
+  random_seed = s.random_seed;
+  scope = s.scope;
+  limit_key = s.limit_key;
+  idempotency_key = s.idempotency_key;
+}
 
 -- what a run is made with
 pub record Setup : Type 0 where
@@ -69,14 +78,16 @@ Meaning = List Answer → Step
 
 -- ---- what follows from the steps and answers so far
 
--- an arrival was used by an await, an eager read gave a completion id its result, or the present result of an id was taken
+-- an arrival was used by an await, an eager read gave a completion id its result, or the present
+-- result of an id was taken
 pub data Usage : Type 0 where
   Used : Notification → Usage
   Read : ℕ → NotificationResult → Usage
   Taken : NotificationId → Usage
 
--- The next numbers, the id that each handle stands for, what was used and taken, the newest first, the calls whose invocations
--- are cancelled with the handler's, and how many commands were made of a call that has several and isn't answered yet.
+-- The next numbers, the id that each handle stands for, what was used and taken, the newest first,
+-- the calls whose invocations are cancelled with the handler's, and how many commands were made of
+-- a call that has several and isn't answered yet.
 pub record Derived : Type 0 where
   pub counters : Counters
   pub handles : List Mapping
@@ -101,7 +112,8 @@ has_result_in s handle d = has_result_for (id_at handle.0 d.handles) (ready_in s
 
 -- what a leaf has come to: by the present result of its handle's id
 abbrev pub leaf_in : Setup → Derived → ℕ → Outcome
-leaf_in s d h = result_outcome (present_for s.options.signal_delivery (id_at h d.handles) (ready_in s d))
+leaf_in s d h =
+    result_outcome (present_for s.options.signal_delivery (id_at h d.handles) (ready_in s d))
 
 -- whether a tree wakes
 abbrev pub tree_wakes : Setup → Tree → Derived → Bool
@@ -113,14 +125,15 @@ is_awake s future d = tree_wakes s (tree_of future) d
 
 -- ---- what a step asks for
 
--- what a call needs: this command, and whether its payload may differ from the recorded one's; or a state read with this completion id
+-- what a call needs: this command, and whether its payload may differ from the recorded one's; or a
+-- state read with this completion id
 pub data Demand : Type 0 where
   Exactly : Message → Bool → Demand
   Reads : StateRead → ℕ → Demand
 
--- What comes next: an answer with nothing used; an answer once the next command is what is needed; one more arrival is used; or
--- nothing, since the handler ends or its call is refused for this reason: an argument or version check, a kind of number
--- that ran out, a state key that is no text.
+-- What comes next: an answer with nothing used; an answer once the next command is what is needed;
+-- one more arrival is used; or nothing, since the handler ends or its call is refused for this
+-- reason: an argument or version check, a kind of number that ran out, a state key that is no text.
 pub data Move : Type 0 where
   Answers : List Answer → Derived → Move
   Needs : Demand → List Answer → Derived → Move
@@ -130,7 +143,8 @@ pub data Move : Type 0 where
 
 -- ---- calls with a command
 
--- what a command leaves: it is counted, and so many completion ids are given, with a handle for each
+-- what a command leaves: it is counted, and so many completion ids are given, with a handle for
+-- each
 abbrev pub counted : ℕ → Derived → Derived
 counted ids d = record d {
   counters = given_on ids (record d.counters { command = Some (next_index d.counters.command) });
@@ -139,15 +153,19 @@ counted ids d = record d {
 
 -- the command of a call, by the next numbers
 abbrev pub demand_of : Setup → Command → Derived → Demand
-demand_of s c d = Exactly (with_ids d.counters.completion c.message) (ignores_payloads s.options.non_determinism_checks c.unstable)
+demand_of s c d = Exactly (with_ids d.counters.completion c.message)
+    (ignores_payloads s.options.non_determinism_checks c.unstable)
 
 -- a command is answered by its first handles
 abbrev pub answer_of : Command → Derived → Answer
 answer_of c d = command_answer c.message (record { 0 = d.counters.handle })
 
--- what follows behind a command: it is counted and given its numbers, and tracked where its invocation is cancelled with the handler's
+-- what follows behind a command: it is counted and given its numbers, and tracked where its
+-- invocation is cancelled with the handler's
 abbrev pub behind_command : Setup → Command → Derived → Derived
-behind_command s c d = record (counted (ids_of c.message) d) { tracked = tracked_after s.options.implicit_cancellation c.message d.counters.handle d.tracked }
+behind_command s c d = record (counted (ids_of c.message) d) {
+  tracked = tracked_after s.options.implicit_cancellation c.message d.counters.handle d.tracked;
+}
 
 -- a call with a command, by the first kind of number that is missing
 abbrev pub numbered : Setup → Command → Option NamedFault → Derived → Move
@@ -165,13 +183,16 @@ commanding s c None d = requested s c d
 
 -- ---- calls with several commands
 
--- Why a command isn't made that has these behind it, where the next numbers are these: the first reason that there is for all of them, of
--- arguments and then of numbers, and then its own.
+-- Why a command isn't made that has these behind it, where the next numbers are these: the first
+-- reason that there is for all of them, of arguments and then of numbers, and then its own.
 abbrev pub refused_before : Command → List Command → Counters → Option NamedFault
 refused_before c [] k = option_or c.refusal (missing (ids_of c.message) 0 (ids_of c.message) k)
-refused_before c (b ∷ bs) k = option_or (option_or (any_refusal c (b ∷ bs)) (missing_for c (b ∷ bs) k)) (option_or c.refusal (missing (ids_of c.message) 0 (ids_of c.message) k))
+refused_before c (b ∷ bs) k = option_or
+    (option_or (any_refusal c (b ∷ bs)) (missing_for c (b ∷ bs) k))
+    (option_or c.refusal (missing (ids_of c.message) 0 (ids_of c.message) k))
 
--- where a call with several commands stands: the command that comes next, those behind it, and what follows behind those before it
+-- where a call with several commands stands: the command that comes next, those behind it, and what
+-- follows behind those before it
 pub record Turn : Type 0 where
   pub command : Command
   pub behind : List Command
@@ -183,10 +204,12 @@ turn_after s zero c behind d = record { command = c; behind = behind; before = d
 turn_after s (suc n) c [] d = record { command = c; behind = []; before = d }
 turn_after s (suc n) c (b ∷ bs) d = turn_after s n b bs (behind_command s c d)
 
--- A command of such a call is needed. With the last the call is answered, and so the numbers of all are given; before, one part more of it is
--- made, and nothing else.
+-- A command of such a call is needed. With the last the call is answered, and so the numbers of all
+-- are given; before, one part more of it is made, and nothing else.
 abbrev pub part : Setup → AnswerKind → Command → List Command → Derived → Derived → Move
-part s kind c [] before d = Needs (demand_of s c before) (answer_by kind (record { 0 = d.counters.handle }) ∷ []) (record (behind_command s c before) { parts = 0 })
+part s kind c [] before d = Needs (demand_of s c before)
+    (answer_by kind (record { 0 = d.counters.handle }) ∷ [])
+    (record (behind_command s c before) { parts = 0 })
 part s kind c (b ∷ bs) before d = Needs (demand_of s c before) [] (record d { parts = suc d.parts })
 
 -- the same, unless it is refused
@@ -207,7 +230,8 @@ calling s kind c behind d = turn_taken s kind (turn_after s d.parts c behind d) 
 -- a state read, by the first kind of number that is missing
 abbrev pub reading : StateRead → Option NamedFault → Derived → Move
 reading r (Some name) d = Refuses name
-reading r None d = Needs (Reads r d.counters.completion) (answer.Handle (record { 0 = d.counters.handle }) ∷ []) (counted 1 d)
+reading r None d = Needs (Reads r d.counters.completion)
+    (answer.Handle (record { 0 = d.counters.handle }) ∷ []) (counted 1 d)
 
 -- ---- calls without a command
 
@@ -215,9 +239,15 @@ reading r None d = Needs (Reads r d.counters.completion) (answer.Handle (record 
 abbrev pub awakeable_made : Setup → Option NamedFault → Derived → Move
 awakeable_made s (Some name) d = Refuses name
 awakeable_made s None d =
-    Answers (answer.Awakeable (record { id = awakeable_id s.identity.id d.counters.signal; handle = record { 0 = d.counters.handle } }) ∷ []) (record d {
-      handles = d.handles ++ record { handle = d.counters.handle; id = SignalId d.counters.signal } ∷ [];
-      counters = record d.counters { signal = d.counters.signal + 1; handle = d.counters.handle + 1 };
+    Answers (answer.Awakeable
+    (record {
+      id = awakeable_id s.identity.id d.counters.signal;
+      handle = record { 0 = d.counters.handle };
+    }) ∷ []) (record d {
+      handles =
+          d.handles ++ record { handle = d.counters.handle; id = SignalId d.counters.signal } ∷ [];
+      counters =
+          record d.counters { signal = d.counters.signal + 1; handle = d.counters.handle + 1 };
     })
 
 -- an awakeable is made; it isn't supported if recorded commands are skipped, and so not replayed
@@ -243,7 +273,8 @@ awaiting false d = Awaits
 
 -- the handler is cancelled: the cancel signal ends awaits, and one is there
 abbrev pub is_cancelled_in : Setup → Derived → Bool
-is_cancelled_in s d = ends_awaits s.options.implicit_cancellation && is_some (present_for s.options.signal_delivery (id_at 1 d.handles) (ready_in s d))
+is_cancelled_in s d = ends_awaits s.options.implicit_cancellation
+    && is_some (present_for s.options.signal_delivery (id_at 1 d.handles) (ready_in s d))
 
 -- a tracked call's result was read: it has to be its invocation's id, which is then known
 abbrev pub id_read : Option (List ℕ) → Derived → Move
@@ -255,10 +286,12 @@ abbrev pub id_awaited : Option NotificationResult → Derived → Move
 id_awaited None d = Awaits
 id_awaited (Some result) d = id_read (id_of_result result) d
 
--- the cancel signal is sent to the invocation of the first tracked call, which then isn't tracked any more
+-- the cancel signal is sent to the invocation of the first tracked call, which then isn't tracked
+-- any more
 abbrev pub cancel_sent : Setup → List ℕ → Option NamedFault → Derived → Move
 cancel_sent s id (Some name) d = Refuses name
-cancel_sent s id None d = Needs (demand_of s (cancel_invocation_command id) d) [] (record (counted 0 d) { tracked = without_first_call d.tracked })
+cancel_sent s id None d = Needs (demand_of s (cancel_invocation_command id) d) []
+    (record (counted 0 d) { tracked = without_first_call d.tracked })
 
 -- one result of the cancel handle is taken
 abbrev pub cancel_taken : Option NotificationId → Derived → Derived
@@ -267,13 +300,16 @@ cancel_taken (Some id) d = record d { usage = Taken id ∷ d.usage }
 
 -- the cancel signal is sent to these invocations, one after another; then the await is answered
 abbrev pub cancelling : Setup → List (List ℕ) → Derived → Move
-cancelling s [] d = Answers (answer.Cancelled ∷ []) (cancel_taken (id_at 1 d.handles) (record d { tracked = [] }))
+cancelling s [] d = Answers (answer.Cancelled ∷ [])
+    (cancel_taken (id_at 1 d.handles) (record d { tracked = [] }))
 cancelling s (id ∷ ids) d = cancel_sent s id (missing 0 0 0 d.counters) d
 
--- an await of a cancelled handler, by the handles of the tracked calls whose ids aren't known: these are read first
+-- an await of a cancelled handler, by the handles of the tracked calls whose ids aren't known:
+-- these are read first
 abbrev pub cancelled : Setup → List ℕ → Derived → Move
 cancelled s [] d = cancelling s (invocation_ids d.tracked) d
-cancelled s (handle ∷ handles) d = id_awaited (present_for s.options.signal_delivery (id_at handle d.handles) (ready_in s d)) d
+cancelled s (handle ∷ handles) d = id_awaited
+    (present_for s.options.signal_delivery (id_at handle d.handles) (ready_in s d)) d
 
 -- an await, by whether the handler is cancelled
 abbrev pub awaited : Setup → Bool → UnresolvedFuture → Derived → Move
@@ -282,8 +318,10 @@ awaited s false future d = awaiting (is_awake s future d) d
 
 -- ---- takes
 
--- a taken result leaves, and its handle with it, but for the cancel handle, by what is then known of the tracked calls
-abbrev pub value_noted : NotificationHandle → NotificationId → Value → Option (List TrackedCall) → Derived → Move
+-- a taken result leaves, and its handle with it, but for the cancel handle, by what is then known
+-- of the tracked calls
+abbrev pub value_noted : NotificationHandle → NotificationId → Value → Option (List TrackedCall)
+    → Derived → Move
 value_noted handle id value None d = Refuses fault.UnexpectedInvocationIdResult
 value_noted handle id value (Some tracked) d =
     Answers (answer.Taken (Some value) ∷ []) (record d {
@@ -295,17 +333,20 @@ value_noted handle id value (Some tracked) d =
 -- a taken result: a state key has to be a text, and a tracked call's result its invocation's id
 abbrev pub value_taken : NotificationHandle → NotificationId → Option Value → Derived → Move
 value_taken handle id None d = Refuses fault.StateKeyIsNotUtf8
-value_taken handle id (Some value) d = value_noted handle id value (noted handle.0 (id_of_value value) d.tracked) d
+value_taken handle id (Some value) d = value_noted handle id value
+    (noted handle.0 (id_of_value value) d.tracked) d
 
 -- a take, by the id of its handle and its present result
-abbrev pub result_taken : NotificationHandle → Option NotificationId → Option NotificationResult → Derived → Move
+abbrev pub result_taken : NotificationHandle → Option NotificationId → Option NotificationResult
+    → Derived → Move
 result_taken handle (Some id) (Some result) d = value_taken handle id (value_of result) d
 result_taken handle (Some id) None d = Answers (answer.Taken None ∷ []) d
 result_taken handle None result d = Answers (answer.Taken None ∷ []) d
 
 -- a take of a handle
 abbrev pub taking : Setup → NotificationHandle → Option NotificationId → Derived → Move
-taking s handle id d = result_taken handle id (present_for s.options.signal_delivery id (ready_in s d)) d
+taking s handle id d =
+    result_taken handle id (present_for s.options.signal_delivery id (ready_in s d)) d
 
 -- ---- the table
 

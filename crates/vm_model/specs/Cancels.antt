@@ -1,4 +1,5 @@
--- How an await of a cancelled handler ends: which results it reads, and to which invocations it sends the cancel signal.
+-- How an await of a cancelled handler ends: which results it reads, and to which invocations it
+-- sends the cancel signal.
 use Rattle.std.specs.Prelude.{◌≡◌, ℕ, Bool, true, ◌&&◌, is_some, List, [], ◌∷◌, ◌++◌, drop, take, Option, Some, None, option_and_then}
 use Rattle.std.specs.Option.{option_or}
 use Rattle.journal_messages.specs.declared.message.Message.{Message}
@@ -18,7 +19,8 @@ use Rattle.vm_model.specs.Moves.{Point, after}
 
 -- the present result of a handle
 abbrev pub present_in : Setup → ℕ → Derived → Option NotificationResult
-present_in s handle d = present_for s.options.signal_delivery (id_at handle d.handles) (ready_in s d)
+present_in s handle d =
+    present_for s.options.signal_delivery (id_at handle d.handles) (ready_in s d)
 
 -- each of these handles has a present result
 abbrev pub all_present : Setup → List ℕ → Derived → Bool
@@ -36,14 +38,18 @@ abbrev pub with_unresolved : Option (List ℕ) → ℕ → List ℕ → List ℕ
 with_unresolved None handle handles = handles ++ handle ∷ []
 with_unresolved (Some id) handle handles = handles
 
--- A call's invocation: the one that is known; else the present result of its handle at the least number of these arrivals by which
--- each of these handles has one, its own among them.
-abbrev pub IsInvocation : Setup → Derived → List Notification → List ℕ → ℕ → Option (List ℕ) → List ℕ → Type 0
-IsInvocation s d queue handles handle None id = (n : ℕ) × IsLeast (all_present s handles) d queue n × (id_in s handle (arrivals_used (take n queue) d) ≡ Some id)
+-- A call's invocation: the one that is known; else the present result of its handle at the least
+-- number of these arrivals by which each of these handles has one, its own among them.
+abbrev pub IsInvocation : Setup → Derived → List Notification → List ℕ → ℕ → Option (List ℕ)
+    → List ℕ → Type 0
+IsInvocation s d queue handles handle None id = (n : ℕ) × IsLeast (all_present s handles) d queue n
+    × (id_in s handle (arrivals_used (take n queue) d) ≡ Some id)
 IsInvocation s d queue handles handle (Some known) id = id ≡ known
 
--- The invocations of tracked calls, one for one, where results are read in the order of the calls, those of these handles first.
-abbrev pub AreInvocations : Setup → Derived → List Notification → List ℕ → List TrackedCall → List (List ℕ) → Type 0
+-- The invocations of tracked calls, one for one, where results are read in the order of the calls,
+-- those of these handles first.
+abbrev pub AreInvocations : Setup → Derived → List Notification → List ℕ → List TrackedCall
+    → List (List ℕ) → Type 0
 AreInvocations s d queue before [] ids = ids ≡ []
 AreInvocations s d queue before (t ∷ ts) [] = ⊥
 AreInvocations s d queue before (t ∷ ts) (id ∷ ids) =
@@ -53,7 +59,8 @@ AreInvocations s d queue before (t ∷ ts) (id ∷ ids) =
 abbrev pub AreInvocationsIn : Setup → Derived → List TrackedCall → List (List ℕ) → Type 0
 AreInvocationsIn s d [] ids = ids ≡ []
 AreInvocationsIn s d (t ∷ ts) [] = ⊥
-AreInvocationsIn s d (t ∷ ts) (id ∷ ids) = (option_or t.invocation_id (id_in s t.handle d) ≡ Some id) × AreInvocationsIn s d ts ids
+AreInvocationsIn s d (t ∷ ts) (id ∷ ids) = (option_or t.invocation_id (id_in s t.handle d)
+    ≡ Some id) × AreInvocationsIn s d ts ids
 
 -- a cancel command to each of these invocations, in order
 abbrev pub cancel_commands : List (List ℕ) → List Message
@@ -62,22 +69,27 @@ cancel_commands (id ∷ ids) = (cancel_invocation_command id).message ∷ cancel
 
 -- ---- the await
 
--- From this point on an await of a cancelled handler was answered. It used the least number of the next arrivals by which each
--- tracked call whose id isn't known has a present result. Its commands cancel the tracked calls' invocations, in order; where no
--- completion has two results, they are those that are present by that number. Behind its answer, which is Cancelled, one result
--- of the cancel handle is taken, and no call is tracked.
+-- From this point on an await of a cancelled handler was answered. It used the least number of the
+-- next arrivals by which each tracked call whose id isn't known has a present result. Its commands
+-- cancel the tracked calls' invocations, in order; where no completion has two results, they are
+-- those that are present by that number. Behind its answer, which is Cancelled, one result of the
+-- cancel handle is taken, and no call is tracked.
 pub record CancelledAwait (s : Setup) (m : Meaning) (p : Point) (a : Answer) : Type 0 where
   pub answered : a ≡ answer.Cancelled
   pub arrivals : ℕ
   pub least : IsLeast (all_present s (unresolved p.derived.tracked)) p.derived p.queue arrivals
   pub invocations : List (List ℕ)
   pub are : AreInvocations s p.derived p.queue [] p.derived.tracked invocations
-  pub are_present : s.options.signal_delivery ≡ Queued → HasNoTwo p → AreInvocationsIn s (arrivals_used (take arrivals p.queue) p.derived) p.derived.tracked invocations
+  pub are_present : s.options.signal_delivery ≡ Queued → HasNoTwo p
+      → AreInvocationsIn s (arrivals_used (take arrivals p.queue) p.derived) p.derived.tracked
+      invocations
   pub moves : ℕ
   pub to : Point
   pub leads : after s m moves p ≡ Some to
   pub answers : to.answers ≡ p.answers ++ a ∷ []
   pub said : to.said ≡ p.said ++ cancel_commands invocations
   pub queue : to.queue ≡ drop arrivals p.queue
-  pub usage : to.derived.usage ≡ (cancel_taken (id_at 1 p.derived.handles) (arrivals_used (take arrivals p.queue) p.derived)).usage
+  pub usage : to.derived.usage
+      ≡ (cancel_taken (id_at 1 p.derived.handles)
+      (arrivals_used (take arrivals p.queue) p.derived)).usage
   pub tracked : to.derived.tracked ≡ []

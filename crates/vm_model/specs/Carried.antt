@@ -1,4 +1,5 @@
--- Which completion ids a journal's commands carry, for whose results notifications come, and of which kind these are.
+-- Which completion ids a journal's commands carry, for whose results notifications come, and of
+-- which kind these are.
 use Rattle.std.specs.Prelude.{◌≡◌, ◌≤◌, ◌==◌, ℕ, Bool, true, false, List, [], length, Option, Some, None, IsSome}
 use Rattle.std.specs.List.{AllByRecursion, list_any}
 use Rattle.arrivals.specs.Results.{results_of}
@@ -49,6 +50,8 @@ is_for_invocation id cs = list_any (λ c. names_invocation id (message_in c.ty c
 abbrev pub IsInvocationId : NotificationResult → Type 0
 IsInvocationId result = IsSome (id_of_result result)
 
--- each result of an id that a call or a one-way call carries for its invocation's is an invocation's id
+-- each result of an id that a call or a one-way call carries for its invocation's is an
+-- invocation's id
 abbrev pub AreOfTheirKind : List Notification → List RawMessage → Type 0
-AreOfTheirKind ns cs = (id : ℕ) → is_for_invocation id cs ≡ true → AllByRecursion IsInvocationId (results_of (CompletionId id) ns)
+AreOfTheirKind ns cs = (id : ℕ) → is_for_invocation id cs ≡ true
+    → AllByRecursion IsInvocationId (results_of (CompletionId id) ns)

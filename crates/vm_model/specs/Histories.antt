@@ -22,12 +22,14 @@ use Rattle.vm_model.specs.Journal.{Entry, commands_in, notifications_in, input_r
 use Rattle.vm_model.specs.Moves.{Point, after, next, start, supplied, longer, arrival_used, changed_by}
 
 -- A point is told by a journal: so many moves lead to it from the point after the input.
-abbrev pub Told : Setup → Meaning → InputCommand → List Notification → List RawMessage → Point → Type 0
+abbrev pub Told : Setup → Meaning → InputCommand → List Notification → List RawMessage → Point
+    → Type 0
 Told s m input ns cs p = (n : ℕ) × (after s m n (start s input ns cs) ≡ Some p)
 
 -- ---- what is known of the state
 
--- What is known of a state, an ordered map, is so in this one: each key is unknown or as there, and so are all keys together.
+-- What is known of a state, an ordered map, is so in this one: each key is unknown or as there, and
+-- so are all keys together.
 pub record IsTrueOf (now state : StateMap) : Type 0 where
   pub in_order : IsInOrder state.entries
   pub at : (key : List ℕ) → (known key state ≡ Unknown) ⊎ (known key state ≡ known key now)
@@ -57,8 +59,10 @@ Whole base state said = IsAllOf (changed_by said base) state
 
 -- A recorded command that is an eager read is stored just as this state gives it.
 abbrev pub Fits : StateMap → RawMessage → Option Message → Type 0
-Fits state raw (Some (message.GetEagerState c)) = (id : ℕ) → raw ≡ stored_form (own_form (reads.Value c.key c.name) id state)
-Fits state raw (Some (message.GetEagerStateKeys c)) = (id : ℕ) → raw ≡ stored_form (own_form (reads.Keys c.name) id state)
+Fits state raw (Some (message.GetEagerState c)) = (id : ℕ) → raw
+    ≡ stored_form (own_form (reads.Value c.key c.name) id state)
+Fits state raw (Some (message.GetEagerStateKeys c)) = (id : ℕ) → raw
+    ≡ stored_form (own_form (reads.Keys c.name) id state)
 Fits state raw m = Unit {0}
 
 -- the result that an eager read records of a key of which so much is known
@@ -70,12 +74,14 @@ recorded_value (Value value) = Some (stands.Value value)
 -- each recorded eager read is as the state is there, by the recorded commands before it
 abbrev pub EagerFrom : StateMap → List RawMessage → Type 0
 EagerFrom state [] = Unit {0}
-EagerFrom state (c ∷ cs) = Fits state c (message_in c.ty c.body) × EagerFrom (changed_by (messages_in (c ∷ [])) state) cs
+EagerFrom state (c ∷ cs) = Fits state c (message_in c.ty c.body)
+    × EagerFrom (changed_by (messages_in (c ∷ [])) state) cs
 
 -- ---- histories
 
--- The journal is one history of the handler, each command once: it begins with an input, some point that it tells with its own
--- notifications uses all its commands, and each eager read is as the state is there, from the base on.
+-- The journal is one history of the handler, each command once: it begins with an input, some point
+-- that it tells with its own notifications uses all its commands, and each eager read is as the
+-- state is there, from the base on.
 pub record History (s : Setup) (m : Meaning) (base : StateMap) (journal : List Entry) : Type 0 where
   pub first : RawMessage
   pub input : InputCommand
@@ -87,8 +93,8 @@ pub record History (s : Setup) (m : Meaning) (base : StateMap) (journal : List E
   pub uses_all : at.left ≡ []
   pub eager : EagerFrom base rest
 
--- So many moves from p to q, where each command that is needed and not recorded is the call's own, by a state that it may go by:
--- those are made.
+-- So many moves from p to q, where each command that is needed and not recorded is the call's own,
+-- by a state that it may go by: those are made.
 abbrev pub Made : Setup → Meaning → Knowledge → ℕ → Point → List RawMessage → Point → Type 0
 Made s m Knows zero p made q = (made ≡ []) × (p ≡ q)
 Made s m Knows (suc n) p made q =
@@ -99,8 +105,10 @@ Made s m Knows (suc n) p made q =
     × Made s m Knows n r rest q
 
 -- these are the first commands of a run that nothing disturbs: its reads go by all of the base
-abbrev pub Undisturbed : Setup → Meaning → StateMap → InputCommand → List Notification → List RawMessage → Type 0
-Undisturbed s m base input ns cs = (n : ℕ) × (q : Point) × Made s m (Whole base) n (start s input ns []) cs q
+abbrev pub Undisturbed : Setup → Meaning → StateMap → InputCommand → List Notification
+    → List RawMessage → Type 0
+Undisturbed s m base input ns cs =
+    (n : ℕ) × (q : Point) × Made s m (Whole base) n (start s input ns []) cs q
 
 -- no move comes next, not even with the call's own command, where so much of the state is known
 abbrev pub IsStuck : Setup → Meaning → StateMap → Point → Type 0

@@ -10,8 +10,9 @@ use Rattle.vm_model.specs.Journal.{Entry, Recorded, Notified, commands_in, notif
 use Rattle.vm_model.specs.Moves.{Point, start}
 use Rattle.vm_model.specs.Histories.{Handed, IsPrefix, Knowledge, Made, behind}
 
--- One run made the journal, whose calls went by so much of the state: it begins with an input, and the commands behind it are
--- the very ones that the handler's calls define, by the journal's notifications and with nothing recorded.
+-- One run made the journal, whose calls went by so much of the state: it begins with an input, and
+-- the commands behind it are the very ones that the handler's calls define, by the journal's
+-- notifications and with nothing recorded.
 pub record IsOneRun (s : Setup) (m : Meaning) (Knows : Knowledge) (journal : List Entry) : Type 0 where
   pub first : RawMessage
   pub input : InputCommand
@@ -22,15 +23,17 @@ pub record IsOneRun (s : Setup) (m : Meaning) (Knows : Knowledge) (journal : Lis
   pub at : Point
   pub made : Made s m Knows moves (start s input (notifications_in journal) []) rest at
 
--- An attempt on a journal: the state that it was handed; its course, which is the notifications that were delivered to it behind
--- the journal's and the commands that it wrote, in the order in which this happened; and its answers.
+-- An attempt on a journal: the state that it was handed; its course, which is the notifications
+-- that were delivered to it behind the journal's and the commands that it wrote, in the order in
+-- which this happened; and its answers.
 pub record Attempted : Type 0 where
   pub given : StateMap
   pub course : List Entry
   pub answers : List Answer
 
--- The attempt is told by the journal and by what it was handed: with the journal's notifications and the delivered ones, so many
--- moves made what it wrote, and its answers are those of the point that they lead to, or it hasn't read its input.
+-- The attempt is told by the journal and by what it was handed: with the journal's notifications
+-- and the delivered ones, so many moves made what it wrote, and its answers are those of the point
+-- that they lead to, or it hasn't read its input.
 pub record IsToldOn (s : Setup) (m : Meaning) (journal : List Entry) (a : Attempted) : Type 0 where
   pub first : RawMessage
   pub input : InputCommand
@@ -39,7 +42,9 @@ pub record IsToldOn (s : Setup) (m : Meaning) (journal : List Entry) (a : Attemp
   pub begins : commands_in journal ≡ first ∷ rest
   pub moves : ℕ
   pub at : Point
-  pub made : Made s m (Handed a.given) moves (start s input (notifications_in journal ++ notifications_in a.course) rest) (commands_in a.course) at
+  pub made : Made s m (Handed a.given) moves
+      (start s input (notifications_in journal ++ notifications_in a.course) rest)
+      (commands_in a.course) at
   pub answered : (a.answers ≡ []) ⊎ (a.answers ≡ at.answers)
 
 -- the notifications in front of the command with this index, from 0
@@ -49,9 +54,10 @@ ahead_of n (Notified x ∷ es) = x ∷ ahead_of n es
 ahead_of zero (Recorded c ∷ es) = []
 ahead_of (suc n) (Recorded c ∷ es) = ahead_of n es
 
--- An honest round, by what was delivered and written: the new journal begins with the old one; its new notifications are the
--- delivered ones, and behind them some that weren't delivered; its new commands are a beginning of the written ones; and each
--- of them stands behind all notifications that were delivered before it was written.
+-- An honest round, by what was delivered and written: the new journal begins with the old one; its
+-- new notifications are the delivered ones, and behind them some that weren't delivered; its new
+-- commands are a beginning of the written ones; and each of them stands behind all notifications
+-- that were delivered before it was written.
 pub record HonestRound (before : List Entry) (course : List Entry) (after : List Entry) : Type 0 where
   pub added : List Entry
   pub extends : after ≡ before ++ added
@@ -59,14 +65,18 @@ pub record HonestRound (before : List Entry) (course : List Entry) (after : List
   pub notifications : notifications_in added ≡ notifications_in course ++ undelivered
   pub stored : ℕ
   pub commands : commands_in added ≡ take stored (commands_in course)
-  pub order : (n : ℕ) → n < length (commands_in added) → IsPrefix (ahead_of n course) (ahead_of n added)
+  pub order : (n : ℕ) → n < length (commands_in added)
+      → IsPrefix (ahead_of n course) (ahead_of n added)
 
 -- what the attempt was handed is as this says, behind what the journal's commands say
 abbrev pub IsHanded : Knowledge → List Entry → Attempted → Type 0
 IsHanded Knows journal a = Knows a.given (messages_in (behind (commands_in journal)))
 
--- Honest rounds, one after another, each of an attempt that is told and that was handed so much of the state.
-abbrev pub HonestRounds : Setup → Meaning → Knowledge → List Entry → List Attempted → List Entry → Type 0
+-- Honest rounds, one after another, each of an attempt that is told and that was handed so much of
+-- the state.
+abbrev pub HonestRounds : Setup → Meaning → Knowledge → List Entry → List Attempted → List Entry
+    → Type 0
 HonestRounds s m Knows before [] after = after ≡ before
 HonestRounds s m Knows before (a ∷ more) after =
-    (mid : List Entry) × IsHanded Knows before a × IsToldOn s m before a × HonestRound before a.course mid × HonestRounds s m Knows mid more after
+    (mid : List Entry) × IsHanded Knows before a × IsToldOn s m before a
+    × HonestRound before a.course mid × HonestRounds s m Knows mid more after

@@ -32,7 +32,8 @@ stored_form m = record { ty = type_of m; body = body m }
 
 -- the input that a stored command is; none where it is another command
 abbrev pub input_read_from : RawMessage → Option InputCommand
-input_read_from raw = if type_number raw.ty == type_number type.InputCommand then input_in raw.body else None
+input_read_from raw =
+    if type_number raw.ty == type_number type.InputCommand then input_in raw.body else None
 
 -- a message that was read comes first
 abbrev pub read_before : Option Message → List Message → List Message

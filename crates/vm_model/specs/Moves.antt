@@ -1,5 +1,5 @@
--- A point of a handler's run over two lists, the recorded commands and the arrivals that aren't used yet, and the
--- moves from one point to the next.
+-- A point of a handler's run over two lists, the recorded commands and the arrivals that aren't
+-- used yet, and the moves from one point to the next.
 use Rattle.std.specs.Prelude.{ℕ, zero, suc, ◌==◌, Bool, if◌then◌else◌, List, [], ◌∷◌, ◌++◌, Option, Some, None, Result, Ok, Err}
 use Rattle.journal_attempt.specs.declared.commands.InputCommand.{InputCommand}
 use Rattle.journal_errors.specs.declared.faults.NamedFault.{NamedFault}
@@ -26,8 +26,8 @@ use Rattle.vm_model.specs.Calls.Usage.{Used, Read}
 use Rattle.vm_model.specs.Calls.Move.{Answers, Needs, Awaits, Ends, Refuses}
 use Rattle.vm_model.specs.Journal.{stored_form}
 
--- The answers so far, what follows from them, the commands of the calls so far, the arrivals that no await has used,
--- and the recorded commands that no call has used.
+-- The answers so far, what follows from them, the commands of the calls so far, the arrivals that
+-- no await has used, and the recorded commands that no call has used.
 pub record Point : Type 0 where
   pub answers : List Answer
   pub derived : Derived
@@ -37,15 +37,19 @@ pub record Point : Type 0 where
 
 -- ---- a recorded command
 
--- a recorded command that has to be header-equal to this one: it brings no result, or why it doesn't stand for it
-abbrev pub reads_as : Bool → Message → Option Message → Result (Option NotificationResult) NamedFault
+-- a recorded command that has to be header-equal to this one: it brings no result, or why it
+-- doesn't stand for it
+abbrev pub reads_as : Bool → Message → Option Message
+    → Result (Option NotificationResult) NamedFault
 reads_as ignore command None = Err fault.BadMessage
-reads_as ignore command (Some recorded) = if header_equal recorded command ignore then Ok None else Err fault.CommandMismatch
+reads_as ignore command (Some recorded) = if header_equal recorded command ignore then Ok None
+    else Err fault.CommandMismatch
 
--- What a recorded command does for what a call needs: the result that it brings, or why it doesn't stand for it. A command's type
--- has to be the same; of a state read the recorded form decides.
+-- What a recorded command does for what a call needs: the result that it brings, or why it doesn't
+-- stand for it. A command's type has to be the same; of a state read the recorded form decides.
 abbrev pub found : Demand → RawMessage → Result (Option NotificationResult) NamedFault
-found (Exactly command ignore) raw = if type_number raw.ty == type_number (type_of command) then reads_as ignore command (message_in raw.ty raw.body) else Err fault.CommandTypeMismatch
+found (Exactly command ignore) raw = if type_number raw.ty == type_number (type_of command)
+    then reads_as ignore command (message_in raw.ty raw.body) else Err fault.CommandTypeMismatch
 found (Reads r id) raw = recorded_as r id raw
 
 -- what a call says: its command; of a state read the lazy form, for it changes no state
@@ -65,10 +69,18 @@ brought id None d = d
 brought id (Some result) d = record d { usage = Read id result ∷ d.usage }
 
 -- the call is answered, where the recorded command stands for its own
-abbrev pub command_used : Result (Option NotificationResult) NamedFault → Demand → List Answer → Derived → List RawMessage → Point → Option Point
+abbrev pub command_used : Result (Option NotificationResult) NamedFault → Demand → List Answer
+    → Derived → List RawMessage → Point → Option Point
 command_used (Err name) demand gives d left p = None
 command_used (Ok result) demand gives d left p =
-    Some (record { answers = p.answers ++ gives; derived = brought p.derived.counters.completion result d; said = p.said ++ said_of demand ∷ []; queue = p.queue; left = left })
+    Some (record {
+      answers = p.answers ++ gives;
+      derived = brought p.derived.counters.completion result d;
+      said = p.said
+          ++ said_of demand ∷ [];
+      queue = p.queue;
+      left = left;
+    })
 
 -- the next recorded command is used, where it stands for the call's
 abbrev pub uses_command : Demand → List Answer → Derived → List RawMessage → Point → Option Point
@@ -133,7 +145,13 @@ first_derived = record {
 
 -- the point after the input, which is the journal's first command
 abbrev pub start : Setup → InputCommand → List Notification → List RawMessage → Point
-start s input ns cs = record { answers = answer.Input (told_input s.identity input) ∷ []; derived = first_derived; said = []; queue = ns; left = cs }
+start s input ns cs = record {
+  answers = answer.Input (told_input s.identity input) ∷ [];
+  derived = first_derived;
+  said = [];
+  queue = ns;
+  left = cs;
+}
 
 -- ---- the state
 

@@ -1,4 +1,5 @@
--- For which ids the handles of an answer stand: for those in the fields of the commands that its call made.
+-- For which ids the handles of an answer stand: for those in the fields of the commands that its
+-- call made.
 use Rattle.std.specs.Prelude.{◌≡◌, ◌⊎◌, ℕ, List, [], ◌∷◌, ◌++◌, Some}
 use Rattle.journal_attempt.specs.declared.commands.SleepCommand.{SleepCommand}
 use Rattle.journal_calls.specs.declared.calls.CallCommand.{CallCommand}
@@ -24,31 +25,36 @@ use Rattle.vm_model.specs.Moves.{Point, next}
 abbrev pub StandsFor : NotificationHandle → ℕ → Point → Type 0
 StandsFor handle id q = id_at handle.0 q.derived.handles ≡ Some (CompletionId id)
 
--- The command of a call: one handle stands for the id that it has for the invocation's id, the other for the one that it has for the result.
+-- The command of a call: one handle stands for the id that it has for the invocation's id, the
+-- other for the one that it has for the result.
 pub record NamesCall (h : CallHandle) (p q : Point) : Type 0 where
   pub command : CallCommand
   pub said : q.said ≡ p.said ++ message.Call command ∷ []
-  pub invocation : StandsFor h.invocation_id_notification_handle command.request.invocation_id_notification_idx q
+  pub invocation : StandsFor h.invocation_id_notification_handle
+      command.request.invocation_id_notification_idx q
   pub result : StandsFor h.call_notification_handle command.result_completion_id q
 
 -- The command of a send: its handle stands for the id that it has for the invocation's id.
 pub record NamesSend (h : SendHandle) (p q : Point) : Type 0 where
   pub command : OneWayCallCommand
   pub said : q.said ≡ p.said ++ message.OneWayCall command ∷ []
-  pub invocation : StandsFor h.invocation_id_notification_handle command.request.invocation_id_notification_idx q
+  pub invocation : StandsFor h.invocation_id_notification_handle
+      command.request.invocation_id_notification_idx q
 
--- The commands of a call with a deadline, a call and a sleep: the handles stand for the ids of the invocation's id, of the result, and of
--- the sleep's end.
+-- The commands of a call with a deadline, a call and a sleep: the handles stand for the ids of the
+-- invocation's id, of the result, and of the sleep's end.
 pub record NamesDeadlineCall (h : DeadlineCallHandle) (q : Point) : Type 0 where
   pub before : List Message
   pub call : CallCommand
   pub sleep : SleepCommand
   pub said : q.said ≡ before ++ message.Call call ∷ message.Sleep sleep ∷ []
-  pub invocation : StandsFor h.invocation_id_notification_handle call.request.invocation_id_notification_idx q
+  pub invocation : StandsFor h.invocation_id_notification_handle
+      call.request.invocation_id_notification_idx q
   pub result : StandsFor h.call_notification_handle call.result_completion_id q
   pub deadline : StandsFor h.deadline_notification_handle sleep.result_completion_id q
 
--- The command of another call, or of a read of the state in its lazy form: it carries one id, for which the handle stands.
+-- The command of another call, or of a read of the state in its lazy form: it carries one id, for
+-- which the handle stands.
 pub record NamesOne (h : NotificationHandle) (p q : Point) : Type 0 where
   pub command : Message
   pub said : q.said ≡ p.said ++ command ∷ []

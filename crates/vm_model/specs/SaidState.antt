@@ -1,4 +1,5 @@
--- What commands say of the state. For a key that is what the last of them says that touches the key. A clear of all touches each key.
+-- What commands say of the state. For a key that is what the last of them says that touches the
+-- key. A clear of all touches each key.
 use Rattle.std.specs.Prelude.{◌≡◌, ℕ, Bool, true, false, List, ◌∷◌, ◌++◌}
 use Rattle.std.specs.List.{AllByRecursion, list_any}
 use Rattle.std.specs.List.Sorted.{IsStrictlySortedBy}

@@ -47,7 +47,8 @@ abbrev pub calls_after : Meaning → List Answer → List Answer → List Step
 calls_after m before [] = []
 calls_after m before (a ∷ answers) = m before ∷ calls_after m (before ++ a ∷ []) answers
 
--- the calls that brought a handler its answers; the first answer is its input, which no call brought
+-- the calls that brought a handler its answers; the first answer is its input, which no call
+-- brought
 abbrev pub calls_for : Meaning → List Answer → List Step
 calls_for m [] = []
 calls_for m (input ∷ answers) = calls_after m (input ∷ []) answers

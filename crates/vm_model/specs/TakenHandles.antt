@@ -19,10 +19,11 @@ pub record TookValue (s : Setup) (m : Meaning) (handle : NotificationHandle) (p 
 -- these handles without this one
 abbrev pub without : ℕ → List ℕ → List ℕ
 without handle [] = []
-without handle (other ∷ others) = if other == handle then without handle others else other ∷ without handle others
+without handle (other ∷ others) = if other == handle then without handle others else other
+    ∷ without handle others
 
--- The handle stands for nothing any more, unless it is the cancel handle, which is 1. The calls whose invocations' ids aren't known are
--- those that they were, without the call of this handle.
+-- The handle stands for nothing any more, unless it is the cancel handle, which is 1. The calls
+-- whose invocations' ids aren't known are those that they were, without the call of this handle.
 pub record IsGone (handle : NotificationHandle) (p q : Point) : Type 0 where
   pub handles : handle.0 ≢ 1 → id_at handle.0 q.derived.handles ≡ None
   pub calls : unresolved q.derived.tracked ≡ without handle.0 (unresolved p.derived.tracked)

@@ -32,7 +32,8 @@ use Rattle.vm_model.specs.Sums.{completion_ids, signal_ids}
 
 -- what a command needs recorded, where this is the next completion id
 abbrev pub needed_for : Setup → ℕ → Command → Demand
-needed_for s id c = Exactly (with_ids id c.message) (ignores_payloads s.options.non_determinism_checks c.unstable)
+needed_for s id c =
+    Exactly (with_ids id c.message) (ignores_payloads s.options.non_determinism_checks c.unstable)
 
 -- and what it needs with those behind it
 abbrev pub all_needed : Setup → ℕ → Command → List Command → List Demand
@@ -49,16 +50,22 @@ needed_by s id a = []
 -- what is needed recorded where the cancel signal is sent to these invocations, in order
 abbrev pub cancels_needed : Setup → List (List ℕ) → List Demand
 cancels_needed s [] = []
-cancels_needed s (id ∷ ids) = Exactly (cancel_invocation_command id).message (ignores_payloads s.options.non_determinism_checks (cancel_invocation_command id).unstable) ∷ cancels_needed s ids
+cancels_needed s (id ∷ ids) = Exactly (cancel_invocation_command id).message
+    (ignores_payloads s.options.non_determinism_checks (cancel_invocation_command id).unstable)
+    ∷ cancels_needed s ids
 
--- What calls need recorded, in order, where for each of them the cancel signal is sent to such invocations: the completion ids of
--- each stand behind so many, and behind those of the calls before it.
+-- What calls need recorded, in order, where for each of them the cancel signal is sent to such
+-- invocations: the completion ids of each stand behind so many, and behind those of the calls
+-- before it.
 abbrev pub needed : Setup → ℕ → List Step → List (List (List ℕ)) → List Demand
 needed s before [] cancels = []
-needed s before (st ∷ steps) [] = needed_by s (1 + before) (ask_of s.version st) ++ needed s (before + completion_ids s.version st) steps []
-needed s before (st ∷ steps) (sent ∷ cancels) = needed_by s (1 + before) (ask_of s.version st) ++ (cancels_needed s sent ++ needed s (before + completion_ids s.version st) steps cancels)
+needed s before (st ∷ steps) [] = needed_by s (1 + before) (ask_of s.version st)
+    ++ needed s (before + completion_ids s.version st) steps []
+needed s before (st ∷ steps) (sent ∷ cancels) = needed_by s (1 + before) (ask_of s.version st)
+    ++ (cancels_needed s sent ++ needed s (before + completion_ids s.version st) steps cancels)
 
--- a call with this answer sends the cancel signal to these invocations: to none but where it is answered Cancelled
+-- a call with this answer sends the cancel signal to these invocations: to none but where it is
+-- answered Cancelled
 abbrev pub IsSentBy : Answer → List (List ℕ) → Type 0
 IsSentBy answer.Cancelled sent = Unit {0}
 IsSentBy a sent = sent ≡ []
@@ -69,14 +76,18 @@ AreSentBy [] cancels = cancels ≡ []
 AreSentBy (a ∷ answers) [] = ⊥
 AreSentBy (a ∷ answers) (sent ∷ cancels) = IsSentBy a sent × AreSentBy answers cancels
 
--- the cancel signal was sent to these invocations by the call that comes next: to none but where that is an await
+-- the cancel signal was sent to these invocations by the call that comes next: to none but where
+-- that is an await
 abbrev pub IsSentFor : Step → List (List ℕ) → Type 0
 IsSentFor (step.Await future) sent = Unit {0}
 IsSentFor st sent = sent ≡ []
 
--- a recorded command stands for what is needed: it has the type of the command and is header-equal to it, or is a form of the read
+-- a recorded command stands for what is needed: it has the type of the command and is header-equal
+-- to it, or is a form of the read
 abbrev pub Stands : Demand → RawMessage → Type 0
-Stands (Exactly command ignore) raw = (type_number raw.ty ≡ type_number (type_of command)) × ((recorded : Message) × (message_in raw.ty raw.body ≡ Some recorded) × (header_equal recorded command ignore ≡ true))
+Stands (Exactly command ignore) raw = (type_number raw.ty ≡ type_number (type_of command))
+    × ((recorded : Message) × (message_in raw.ty raw.body ≡ Some recorded)
+    × (header_equal recorded command ignore ≡ true))
 Stands (Reads r id) raw = (result : Option NotificationResult) × (recorded_as r id raw ≡ Ok result)
 
 -- recorded commands stand for what is needed, one for one
@@ -105,17 +116,21 @@ ids_from (suc n) id = CompletionId id ∷ ids_from n (id + 1)
 -- the ids that are given, where these are the next completion id and the next signal id
 abbrev pub given_for : ℕ → ℕ → Ask → List NotificationId
 given_for completion signal (ask.Command c) = ids_from (ids_of c.message) completion
-given_for completion signal (ask.Commands kind first second) = ids_from (all_ids first (second ∷ [])) completion
+given_for completion signal (ask.Commands kind first second) = ids_from
+    (all_ids first (second ∷ [])) completion
 given_for completion signal (ask.Read r) = CompletionId completion ∷ []
 given_for completion signal ask.Awakeable = SignalId signal ∷ []
 given_for completion signal (ask.Signal name) = SignalName name ∷ []
 given_for completion signal a = []
 
--- The ids that calls were given, in order: completion ids from 1 and signal ids from 17, behind so many of each.
+-- The ids that calls were given, in order: completion ids from 1 and signal ids from 17, behind so
+-- many of each.
 abbrev pub ids_given : Version → ℕ → ℕ → List Step → List NotificationId
 ids_given version completions signals [] = []
 ids_given version completions signals (st ∷ steps) =
-    given_for (1 + completions) (17 + signals) (ask_of version st) ++ ids_given version (completions + completion_ids version st) (signals + signal_ids version st) steps
+    given_for (1 + completions) (17 + signals) (ask_of version st)
+    ++ ids_given version (completions + completion_ids version st)
+    (signals + signal_ids version st) steps
 
 -- the item with this index, from 0
 abbrev pub item : {A : Type 0} → ℕ → List A → Option A
@@ -123,10 +138,14 @@ item n [] = None
 item zero (x ∷ xs) = Some x
 item (suc n) (x ∷ xs) = item n xs
 
--- A handle stands for its id: 1 for the cancel signal, and from 17 on each for the id that was given in its turn.
+-- A handle stands for its id: 1 for the cancel signal, and from 17 on each for the id that was
+-- given in its turn.
 abbrev pub IsGiven : List NotificationId → ℕ → NotificationId → Type 0
-IsGiven given handle id = ((handle ≡ 1) × (id ≡ SignalId 1)) ⊎ ((k : ℕ) × (handle ≡ 17 + k) × (item k given ≡ Some id))
+IsGiven given handle id =
+    ((handle ≡ 1) × (id ≡ SignalId 1)) ⊎ ((k : ℕ) × (handle ≡ 17 + k) × (item k given ≡ Some id))
 
 -- a take of the handle was answered with a value
 abbrev pub WasTaken : Meaning → ℕ → List Answer → Type 0
-WasTaken m handle answers = (before : List Answer) × (value : Value) × (behind : List Answer) × (answers ≡ before ++ answer.Taken (Some value) ∷ behind) × (m before ≡ step.Take (record { 0 = handle }))
+WasTaken m handle answers = (before : List Answer) × (value : Value) × (behind : List Answer)
+    × (answers ≡ before ++ answer.Taken (Some value) ∷ behind)
+    × (m before ≡ step.Take (record { 0 = handle }))

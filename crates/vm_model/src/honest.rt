@@ -17,8 +17,15 @@ ghost use Rattle.vm_model.specs.Sums.{calls_for};
 /// Honest rounds of attempts that are told, each handed a state of which what is known is so, leave a journal that one run of
 /// the handler made, the very commands of its calls; and such a journal is a sound history.
 pub fn honest_rounds()
-    ensures round { (s : Setup) (m : Meaning) (base : StateMap) (before : List Entry) (a : Attempted) (after : List Entry) → IsInOrder base.entries → IsOneRun s m (Honest base) before → IsHanded (Honest base) before a → IsToldOn s m before a → HonestRound before a.course after → IsOneRun s m (Honest base) after }
-    ensures rounds { (s : Setup) (m : Meaning) (base : StateMap) (before : List Entry) (attempts : List Attempted) (after : List Entry) → IsInOrder base.entries → IsOneRun s m (Honest base) before → HonestRounds s m (Honest base) before attempts after → IsOneRun s m (Honest base) after }
+    ensures round { (s : Setup) (m : Meaning) (base : StateMap) (before : List Entry)
+        (a : Attempted) (after : List Entry) → IsInOrder base.entries
+        → IsOneRun s m (Honest base) before → IsHanded (Honest base) before a
+        → IsToldOn s m before a → HonestRound before a.course after
+        → IsOneRun s m (Honest base) after }
+    ensures rounds { (s : Setup) (m : Meaning) (base : StateMap) (before : List Entry)
+        (attempts : List Attempted) (after : List Entry) → IsInOrder base.entries
+        → IsOneRun s m (Honest base) before → HonestRounds s m (Honest base) before attempts after
+        → IsOneRun s m (Honest base) after }
     ensures sound { (s : Setup) (m : Meaning) (base : StateMap) (journal : List Entry)
         → IsOneRun s m (Honest base) journal → SoundHistory s m base journal }
 {}
@@ -46,25 +53,41 @@ pub fn compared_histories_are_sound()
 /// Where each attempt is handed all of the state, the commands stay those of an undisturbed run: where the rounds stopped leaves
 /// no trace. Those behind the input are its first ones.
 pub fn whole_rounds()
-    ensures round { (s : Setup) (m : Meaning) (base : StateMap) (before : List Entry) (a : Attempted) (after : List Entry) → IsInOrder base.entries → IsOneRun s m (Whole base) before → IsHanded (Whole base) before a → IsToldOn s m before a → HonestRound before a.course after → IsOneRun s m (Whole base) after }
-    ensures rounds { (s : Setup) (m : Meaning) (base : StateMap) (before : List Entry) (attempts : List Attempted) (after : List Entry) → IsInOrder base.entries → IsOneRun s m (Whole base) before → HonestRounds s m (Whole base) before attempts after → IsOneRun s m (Whole base) after }
-    ensures undisturbed { (s : Setup) (m : Meaning) (base : StateMap) (journal : List Entry) (h : IsOneRun s m (Whole base) journal) → Undisturbed s m base h.input (notifications_in journal) h.rest }
+    ensures round { (s : Setup) (m : Meaning) (base : StateMap) (before : List Entry)
+        (a : Attempted) (after : List Entry) → IsInOrder base.entries
+        → IsOneRun s m (Whole base) before → IsHanded (Whole base) before a → IsToldOn s m before a
+        → HonestRound before a.course after → IsOneRun s m (Whole base) after }
+    ensures rounds { (s : Setup) (m : Meaning) (base : StateMap) (before : List Entry)
+        (attempts : List Attempted) (after : List Entry) → IsInOrder base.entries
+        → IsOneRun s m (Whole base) before → HonestRounds s m (Whole base) before attempts after
+        → IsOneRun s m (Whole base) after }
+    ensures undisturbed { (s : Setup) (m : Meaning) (base : StateMap) (journal : List Entry)
+        (h : IsOneRun s m (Whole base) journal)
+        → Undisturbed s m base h.input (notifications_in journal) h.rest }
 {}
 
 /// Of two undisturbed runs one makes a beginning of the other's commands, also where more arrives.
 pub fn one_undisturbed()
-    ensures { (s : Setup) (m : Meaning) (base : StateMap) (input : InputCommand) (ns more : List Notification) (cs ds : List RawMessage) → Undisturbed s m base input ns cs → Undisturbed s m base input (ns ++ more) ds → OneBegins cs ds }
+    ensures { (s : Setup) (m : Meaning) (base : StateMap) (input : InputCommand)
+        (ns more : List Notification) (cs ds : List RawMessage) → Undisturbed s m base input ns cs
+        → Undisturbed s m base input (ns ++ more) ds → OneBegins cs ds }
 {}
 
 /// In the journal that an honest round leaves, each new command stands behind all that was delivered before it was written. Cut the
 /// course in front of a command, and what was added in front of the one with the same index: it is the same command, and what was
 /// delivered in front of it stands in front of it.
 pub fn commands_stand_behind()
-    ensures { (before course after : List Entry) → HonestRound before course after → (ahead behind earlier later : List Entry) (command written : RawMessage) → after ≡ before ++ (ahead ++ Recorded command ∷ behind) → course ≡ earlier ++ Recorded written ∷ later → length (commands_in ahead) ≡ length (commands_in earlier)
+    ensures { (before course after : List Entry) → HonestRound before course after
+        → (ahead behind earlier later : List Entry) (command written : RawMessage) → after ≡ before
+        ++ (ahead ++ Recorded command ∷ behind) → course ≡ earlier ++ Recorded written ∷ later
+        → length (commands_in ahead) ≡ length (commands_in earlier)
         → (command ≡ written) × IsPrefix (notifications_in earlier) (notifications_in ahead) }
 {}
 
 /// What an earlier journal tells and what a later attempt was answered: one begins the other.
 pub fn attempts_agree()
-    ensures { (s : Setup) (m : Meaning) (journal more : List Entry) (a : Attempted) (t : IsToldOn s m (journal ++ more) a) (rest : List RawMessage) → commands_in journal ≡ t.first ∷ rest → (p : Point) → Told s m t.input (notifications_in journal) rest p → OneBegins p.answers a.answers }
+    ensures { (s : Setup) (m : Meaning) (journal more : List Entry) (a : Attempted)
+        (t : IsToldOn s m (journal ++ more) a) (rest : List RawMessage) → commands_in journal
+        ≡ t.first ∷ rest → (p : Point) → Told s m t.input (notifications_in journal) rest p
+        → OneBegins p.answers a.answers }
 {}

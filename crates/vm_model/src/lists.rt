@@ -25,10 +25,19 @@ ghost use Rattle.vm_model.specs.Uses.{AreSentBy, IsGiven, IsSentFor, StandFor, W
 /// may have sent it to some; a call with several commands that comes next may have used the first of what it needs. The arrivals are
 /// those that awaits used and those that wait.
 pub fn lists_are_used()
-    ensures commands { (s : Setup) (m : Meaning) (n : ℕ) (input : InputCommand) (ns : List Notification) (cs : List RawMessage) (q : Point) → after s m n (start s input ns cs) ≡ Some q
-        → (used : List RawMessage) × (cancels : List (List (List ℕ))) × (sent : List (List ℕ)) × (cs ≡ used ++ q.left) × AreSentBy (behind q.answers) cancels × IsSentFor (m q.answers) sent
-        × StandFor (needed s 0 (calls_for m q.answers) cancels ++ (cancels_needed s sent ++ take q.derived.parts (needed_by s q.derived.counters.completion (ask_of s.version (m q.answers))))) used }
-    ensures arrivals { (s : Setup) (m : Meaning) (n : ℕ) (input : InputCommand) (ns : List Notification) (cs : List RawMessage) (q : Point) → after s m n (start s input ns cs) ≡ Some q
+    ensures commands { (s : Setup) (m : Meaning) (n : ℕ) (input : InputCommand)
+        (ns : List Notification) (cs : List RawMessage) (q : Point)
+        → after s m n (start s input ns cs) ≡ Some q
+        → (used : List RawMessage) × (cancels : List (List (List ℕ))) × (sent : List (List ℕ))
+        × (cs ≡ used ++ q.left) × AreSentBy (behind q.answers) cancels
+        × IsSentFor (m q.answers) sent
+        × StandFor (needed s 0 (calls_for m q.answers) cancels
+        ++ (cancels_needed s sent
+        ++ take q.derived.parts
+        (needed_by s q.derived.counters.completion (ask_of s.version (m q.answers))))) used }
+    ensures arrivals { (s : Setup) (m : Meaning) (n : ℕ) (input : InputCommand)
+        (ns : List Notification) (cs : List RawMessage) (q : Point)
+        → after s m n (start s input ns cs) ≡ Some q
         → ns ≡ arrivals_in q.derived.usage ++ q.queue }
 {}
 
@@ -36,13 +45,21 @@ pub fn lists_are_used()
 /// completion ids, signal ids and names that the calls were given, in order. Each of these stands for it until it is taken, and 1
 /// stands for the cancel signal at each point.
 pub fn handles_stand_for_ids()
-    ensures stands { (s : Setup) (m : Meaning) (n : ℕ) (input : InputCommand) (ns : List Notification) (cs : List RawMessage) (q : Point) → after s m n (start s input ns cs) ≡ Some q
-        → (handle : ℕ) (id : NotificationId) → id_at handle q.derived.handles ≡ Some id → IsGiven (ids_given s.version 0 0 (calls_for m q.answers)) handle id }
-    ensures cancel { (s : Setup) (m : Meaning) (n : ℕ) (input : InputCommand) (ns : List Notification)
+    ensures stands { (s : Setup) (m : Meaning) (n : ℕ) (input : InputCommand)
+        (ns : List Notification) (cs : List RawMessage) (q : Point)
+        → after s m n (start s input ns cs) ≡ Some q
+        → (handle : ℕ) (id : NotificationId) → id_at handle q.derived.handles ≡ Some id
+        → IsGiven (ids_given s.version 0 0 (calls_for m q.answers)) handle id }
+    ensures cancel { (s : Setup) (m : Meaning) (n : ℕ) (input : InputCommand)
+        (ns : List Notification)
         (cs : List RawMessage) (q : Point) → after s m n (start s input ns cs) ≡ Some q
         → id_at 1 q.derived.handles ≡ Some (SignalId 1) }
-    ensures stays { (s : Setup) (m : Meaning) (n : ℕ) (input : InputCommand) (ns : List Notification) (cs : List RawMessage) (q : Point) → after s m n (start s input ns cs) ≡ Some q
-        → (k : ℕ) (id : NotificationId) → item k (ids_given s.version 0 0 (calls_for m q.answers)) ≡ Some id → (id_at (17 + k) q.derived.handles ≡ Some id) ⊎ WasTaken m (17 + k) q.answers }
+    ensures stays { (s : Setup) (m : Meaning) (n : ℕ) (input : InputCommand)
+        (ns : List Notification) (cs : List RawMessage) (q : Point)
+        → after s m n (start s input ns cs) ≡ Some q
+        → (k : ℕ) (id : NotificationId) → item k (ids_given s.version 0 0 (calls_for m q.answers))
+        ≡ Some id → (id_at (17 + k) q.derived.handles ≡ Some id)
+        ⊎ WasTaken m (17 + k) q.answers }
 {}
 
 /// No completion id has two results at any point of a run, where some point uses all recorded commands, and the arrivals have one
@@ -52,18 +69,30 @@ pub fn handles_stand_for_ids()
 /// commands that don't all fit, where the arrivals have one result at most for each completion id, and none for an id to which the run
 /// itself has given the result of an eager read.
 pub fn completions_come_once()
-    ensures told { (s : Setup) (m : Meaning) (n k : ℕ) (input : InputCommand) (ns : List Notification) (cs : List RawMessage) (p q : Point) → after s m n (start s input ns cs) ≡ Some p → after s m k (start s input ns cs) ≡ Some q → q.left ≡ []
+    ensures told { (s : Setup) (m : Meaning) (n k : ℕ) (input : InputCommand)
+        (ns : List Notification) (cs : List RawMessage) (p q : Point)
+        → after s m n (start s input ns cs) ≡ Some p → after s m k (start s input ns cs) ≡ Some q
+        → q.left ≡ []
         → ComeOnce ns → AreCarried ns cs → HasNoTwo p }
-    ensures attempts { (s : Setup) (m : Meaning) (given : StateMap) (input : InputCommand) (ns : List Notification) (cs : List RawMessage) (k : ℕ) (q : Point) → after s m k (start s input ns cs) ≡ Some q → q.left ≡ [] → ComeOnce ns
-        → (l : ℕ) (written : List RawMessage) (at : Point) → Made s m (Handed given) l (start s input ns cs) written at → AreCarried ns (cs ++ written)
-        → (n : ℕ) (made : List RawMessage) (p : Point) → Made s m (Handed given) n (start s input ns cs) made p → HasNoTwo p }
-    ensures replayed { (s : Setup) (m : Meaning) (n : ℕ) (input : InputCommand) (ns : List Notification) (cs : List RawMessage) (p : Point) → after s m n (start s input ns cs) ≡ Some p → ComeOnce ns
-        → ((id : ℕ) → was_read id p.derived.usage ≡ true → results_of (CompletionId id) ns ≡ []) → HasNoTwo p }
+    ensures attempts { (s : Setup) (m : Meaning) (given : StateMap) (input : InputCommand)
+        (ns : List Notification) (cs : List RawMessage) (k : ℕ) (q : Point)
+        → after s m k (start s input ns cs) ≡ Some q → q.left ≡ [] → ComeOnce ns
+        → (l : ℕ) (written : List RawMessage) (at : Point)
+        → Made s m (Handed given) l (start s input ns cs) written at
+        → AreCarried ns (cs ++ written)
+        → (n : ℕ) (made : List RawMessage) (p : Point)
+        → Made s m (Handed given) n (start s input ns cs) made p → HasNoTwo p }
+    ensures replayed { (s : Setup) (m : Meaning) (n : ℕ) (input : InputCommand)
+        (ns : List Notification) (cs : List RawMessage) (p : Point)
+        → after s m n (start s input ns cs) ≡ Some p → ComeOnce ns
+        → ((id : ℕ) → was_read id p.derived.usage ≡ true → results_of (CompletionId id) ns ≡ [])
+        → HasNoTwo p }
 {}
 
 /// Where each result of an id that a call or a one-way call carries for its invocation's is an invocation's id, no take and no cancelled
 /// await of a run is refused since it is none.
 pub fn no_result_is_unexpected()
-    ensures { (s : Setup) (m : Meaning) (n : ℕ) (input : InputCommand) (ns : List Notification) (cs : List RawMessage) (q : Point) → after s m n (start s input ns cs) ≡ Some q
+    ensures { (s : Setup) (m : Meaning) (n : ℕ) (input : InputCommand) (ns : List Notification)
+        (cs : List RawMessage) (q : Point) → after s m n (start s input ns cs) ≡ Some q
         → AreOfTheirKind ns cs → move_at s m q ≢ Refuses fault.UnexpectedInvocationIdResult }
 {}

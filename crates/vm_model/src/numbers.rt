@@ -10,6 +10,11 @@ ghost use Rattle.vm_model.specs.Sums.{calls_for, completion_ids, handles, signal
 /// The next numbers of a run are sums over the calls that brought its answers: completion ids from 1, signal ids and
 /// handles from 17.
 pub fn numbers_are_sums()
-    ensures { (s : Setup) (m : Meaning) (n : ℕ) (input : InputCommand) (ns : List Notification) (cs : List RawMessage) (q : Point) → after s m n (start s input ns cs) ≡ Some q
-        → (q.derived.counters.completion ≡ 1 + total (completion_ids s.version) (calls_for m q.answers)) × (q.derived.counters.signal ≡ 17 + total (signal_ids s.version) (calls_for m q.answers)) × (q.derived.counters.handle ≡ 17 + total (handles s.version) (calls_for m q.answers)) }
+    ensures { (s : Setup) (m : Meaning) (n : ℕ) (input : InputCommand) (ns : List Notification)
+        (cs : List RawMessage) (q : Point) → after s m n (start s input ns cs) ≡ Some q
+        → (q.derived.counters.completion
+        ≡ 1 + total (completion_ids s.version) (calls_for m q.answers))
+        × (q.derived.counters.signal
+        ≡ 17 + total (signal_ids s.version) (calls_for m q.answers))
+        × (q.derived.counters.handle ≡ 17 + total (handles s.version) (calls_for m q.answers)) }
 {}

@@ -21,15 +21,26 @@ ghost use Rattle.vm_model.specs.Histories.{History, Honest, Whole, recorded_valu
 /// What was handed out honestly behind some commands is honest with these and further ones applied to it again: what is known is
 /// so. And so it is with a state of which all was handed out.
 pub fn handed_stays_so()
-    ensures honest { (base given : StateMap) (said more : List Message) → IsInOrder base.entries → Honest base given said → Honest base (changed_by (said ++ more) given) (said ++ more) }
-    ensures whole { (base given : StateMap) (said more : List Message) → IsInOrder base.entries → Whole base given said → Whole base (changed_by (said ++ more) given) (said ++ more) }
+    ensures honest { (base given : StateMap) (said more : List Message) → IsInOrder base.entries
+        → Honest base given said → Honest base (changed_by (said ++ more) given) (said ++ more) }
+    ensures whole { (base given : StateMap) (said more : List Message) → IsInOrder base.entries
+        → Whole base given said → Whole base (changed_by (said ++ more) given) (said ++ more) }
 {}
 
 /// In a history a recorded eager read of a key brings what the base has there, where the recorded commands before the read have
 /// changed it: nothing, or the value. A read of the keys brings the keys that have a value there, if they can be encoded.
 pub fn eager_reads_are_so()
-    ensures values { (s : Setup) (m : Meaning) (base : StateMap) (journal : List Entry) (h : History s m base journal) (before behind : List RawMessage) (raw : RawMessage) (c : GetEagerStateCommand) → h.rest ≡ before ++ raw ∷ behind → message_in raw.ty raw.body ≡ Some (message.GetEagerState c)
-        → (known c.key (changed_by (messages_in before) base) ≡ Unknown → ⊥) × (c.result ≡ recorded_value (known c.key (changed_by (messages_in before) base))) }
-    ensures keys { (s : Setup) (m : Meaning) (base : StateMap) (journal : List Entry) (h : History s m base journal) (before behind : List RawMessage) (raw : RawMessage) (c : GetEagerStateKeysCommand) → h.rest ≡ before ++ raw ∷ behind → message_in raw.ty raw.body ≡ Some (message.GetEagerStateKeys c)
-        → IsWhole (own_form (reads.Keys c.name) 0 (changed_by (messages_in before) base)) → (known_keys (changed_by (messages_in before) base) ≡ None → ⊥) × (c.value ≡ known_keys (changed_by (messages_in before) base)) }
+    ensures values { (s : Setup) (m : Meaning) (base : StateMap) (journal : List Entry)
+        (h : History s m base journal) (before behind : List RawMessage) (raw : RawMessage)
+        (c : GetEagerStateCommand) → h.rest ≡ before ++ raw ∷ behind → message_in raw.ty raw.body
+        ≡ Some (message.GetEagerState c)
+        → (known c.key (changed_by (messages_in before) base) ≡ Unknown → ⊥)
+        × (c.result ≡ recorded_value (known c.key (changed_by (messages_in before) base))) }
+    ensures keys { (s : Setup) (m : Meaning) (base : StateMap) (journal : List Entry)
+        (h : History s m base journal) (before behind : List RawMessage) (raw : RawMessage)
+        (c : GetEagerStateKeysCommand) → h.rest ≡ before ++ raw ∷ behind
+        → message_in raw.ty raw.body ≡ Some (message.GetEagerStateKeys c)
+        → IsWhole (own_form (reads.Keys c.name) 0 (changed_by (messages_in before) base))
+        → (known_keys (changed_by (messages_in before) base) ≡ None → ⊥)
+        × (c.value ≡ known_keys (changed_by (messages_in before) base)) }
 {}

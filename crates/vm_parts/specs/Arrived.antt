@@ -3,8 +3,8 @@ use Rattle.std.specs.Prelude.{List}
 use Rattle.journal_values.specs.declared.notification.Notification.{Notification}
 use Rattle.vm_parts.specs.declared.async_results.Mapping.{Mapping}
 
--- The results that are ready, and not taken: those that an await used, and those that eager reads gave, which were never
--- delivered.
+-- The results that are ready, and not taken: those that an await used, and those that eager reads
+-- gave, which were never delivered.
 pub record Ready : Type 0 where
   pub delivered : List Notification
   pub eager : List Notification

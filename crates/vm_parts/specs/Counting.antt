@@ -4,7 +4,8 @@ use Rattle.journal_errors.specs.declared.faults.NamedFault.{NamedFault}
 use Rattle.journal_errors.specs.declared.faults.NamedFault.TheVariants.{ExhaustedCompletionIds, ExhaustedSignalIds, ExhaustedHandles, ExhaustedCommandIndexes, ExhaustedEphemeralIds}
 use Rattle.vm_parts.specs.declared.context.Counters.{Counters}
 
--- Command indexes count from 0, completion and ephemeral ids from 1, signal ids and handles from 17.
+-- Command indexes count from 0, completion and ephemeral ids from 1, signal ids and handles from
+-- 17.
 abbrev pub fresh_counters : Counters
 fresh_counters = record { command = None; completion = 1; signal = 17; handle = 17; ephemeral = 1 }
 

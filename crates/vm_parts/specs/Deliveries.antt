@@ -1,5 +1,5 @@
--- Which result a handle has: notifications are used in order of arrival, and each id has a present result among
--- the used ones that were not taken.
+-- Which result a handle has: notifications are used in order of arrival, and each id has a present
+-- result among the used ones that were not taken.
 use Rattle.std.specs.Prelude.{ℕ, ◌≡◌, ◌==◌, Bool, true, false, ◌||◌, cond, List, [], ◌∷◌, ◌++◌, take, Option, Some, None}
 use Rattle.std.specs.Option.{option_or}
 use Rattle.journal_values.specs.declared.notification.Notification.{Notification}
@@ -20,7 +20,11 @@ none_ready = record { delivered = []; eager = [] }
 
 -- before any notification: the cancel handle stands for signal 1
 abbrev pub no_results : Arrived
-no_results = record { queued = []; ready = none_ready; handles = record { handle = 1; id = SignalId 1 } ∷ [] }
+no_results = record {
+  queued = [];
+  ready = none_ready;
+  handles = record { handle = 1; id = SignalId 1 } ∷ [];
+}
 
 -- the id that a handle stands for
 abbrev pub id_at : ℕ → List Mapping → Option NotificationId
@@ -45,8 +49,8 @@ abbrev pub has_result_for : Option NotificationId → Ready → Bool
 has_result_for None r = false
 has_result_for (Some id) r = has_result id r
 
--- the deliveries of a signal are taken one by one, unless the newest is to replace the others; of a completion the
--- newest stands
+-- the deliveries of a signal are taken one by one, unless the newest is to replace the others; of a
+-- completion the newest stands
 abbrev pub is_listed : SignalDelivery → NotificationId → Bool
 is_listed Overwrite id = false
 is_listed Queued (CompletionId _) = false
@@ -54,12 +58,15 @@ is_listed Queued (SignalId _) = true
 is_listed Queued (SignalName _) = true
 
 -- the present result of an id among these
-abbrev pub present_among : SignalDelivery → NotificationId → List Notification → Option NotificationResult
-present_among delivery id ns = cond (is_listed delivery id) (first (results_of id ns)) (newest (results_of id ns))
+abbrev pub present_among : SignalDelivery → NotificationId → List Notification
+    → Option NotificationResult
+present_among delivery id ns =
+    cond (is_listed delivery id) (first (results_of id ns)) (newest (results_of id ns))
 
 -- the present result of an id: what was delivered, else what its eager read gave
 abbrev pub present : SignalDelivery → NotificationId → Ready → Option NotificationResult
-present delivery id r = option_or (present_among delivery id r.delivered) (present_among delivery id r.eager)
+present delivery id r =
+    option_or (present_among delivery id r.delivered) (present_among delivery id r.eager)
 
 -- what stays among these when the present result of an id is taken
 abbrev pub left_among : SignalDelivery → NotificationId → List Notification → List Notification
@@ -67,15 +74,22 @@ left_among delivery id ns = cond (is_listed delivery id) (without_first id ns) (
 
 -- what stays ready when the present result of an id is taken
 abbrev pub left_ready : SignalDelivery → NotificationId → Ready → Ready
-left_ready delivery id r = record { delivered = left_among delivery id r.delivered; eager = left_among delivery id r.eager }
+left_ready delivery id r = record {
+  delivered = left_among delivery id r.delivered;
+  eager = left_among delivery id r.eager;
+}
 
 -- one more is delivered
 abbrev pub with_delivered : Notification → Ready → Ready
 with_delivered n r = record r { delivered = r.delivered ++ n ∷ [] }
 
--- An eager read gave the result of a completion id: it takes the place of what was delivered before.
+-- An eager read gave the result of a completion id: it takes the place of what was delivered
+-- before.
 abbrev pub with_eager : ℕ → NotificationResult → Ready → Ready
-with_eager id result r = record { delivered = without_all (CompletionId id) r.delivered; eager = r.eager ++ record { id = CompletionId id; result = result } ∷ [] }
+with_eager id result r = record {
+  delivered = without_all (CompletionId id) r.delivered;
+  eager = r.eager ++ record { id = CompletionId id; result = result } ∷ [];
+}
 
 -- the oldest notification that waits is used
 abbrev pub next_used : Arrived → Arrived
@@ -86,7 +100,10 @@ next_used v =
 -- a take: the present result leaves, and the handle with it, but for the cancel handle
 abbrev pub taken_from : SignalDelivery → ℕ → NotificationId → Arrived → Arrived
 taken_from delivery handle id v =
-    record v { ready = left_ready delivery id v.ready; handles = cond (handle == 1) v.handles (unmapped handle v.handles) }
+    record v {
+      ready = left_ready delivery id v.ready;
+      handles = cond (handle == 1) v.handles (unmapped handle v.handles);
+    }
 
 -- the result that a handle has
 abbrev pub present_for : SignalDelivery → Option NotificationId → Ready → Option NotificationResult
@@ -94,20 +111,24 @@ present_for delivery None r = None
 present_for delivery (Some id) r = present delivery id r
 
 -- what a take leaves, where there was a result
-abbrev pub taken_by : SignalDelivery → ℕ → Option NotificationId → Option NotificationResult → Arrived → Arrived
+abbrev pub taken_by : SignalDelivery → ℕ → Option NotificationId → Option NotificationResult
+    → Arrived → Arrived
 taken_by delivery handle (Some id) (Some result) v = taken_from delivery handle id v
 taken_by delivery handle _ _ v = v
 
 -- what a take of a handle answers and leaves
 pub record Taken (delivery : SignalDelivery) (handle : ℕ) (old : Arrived) (answer : Option NotificationResult) (new : Arrived) : Type 0 where
   pub result : answer ≡ present_for delivery (id_at handle old.handles) old.ready
-  pub left : new ≡ taken_by delivery handle (id_at handle old.handles) (present_for delivery (id_at handle old.handles) old.ready) old
+  pub left : new ≡ taken_by delivery handle (id_at handle old.handles)
+      (present_for delivery (id_at handle old.handles) old.ready) old
 
 -- what is ready once the first n that wait are used
 abbrev pub ready_after : ℕ → Arrived → Ready
 ready_after n v = record v.ready { delivered = v.ready.delivered ++ take n v.queued }
 
 -- the present result of a handle, or else the first that waits of its id
-abbrev pub first_result_for : SignalDelivery → Option NotificationId → Arrived → Option NotificationResult
+abbrev pub first_result_for : SignalDelivery → Option NotificationId → Arrived
+    → Option NotificationResult
 first_result_for delivery None v = None
-first_result_for delivery (Some id) v = option_or (present delivery id v.ready) (first (results_of id v.queued))
+first_result_for delivery (Some id) v = option_or (present delivery id v.ready)
+    (first (results_of id v.queued))

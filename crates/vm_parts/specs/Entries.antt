@@ -1,4 +1,5 @@
--- The state's entries: a list with one entry a key, a value or none, in the order of the keys' bytes.
+-- The state's entries: a list with one entry a key, a value or none, in the order of the keys'
+-- bytes.
 use Rattle.std.specs.Prelude.{ℕ, Bool, List, [], Option, Some}
 use Rattle.std.specs.Option.{is_some}
 use Rattle.std.specs.declared.cmp.Ordering.{Ordering}
@@ -22,7 +23,8 @@ abbrev pub entry_of : List ℕ → List (List ℕ × Option (List ℕ)) → Opti
 entry_of key entries = lookup (is_at (by_bytes key)) entries
 
 -- a key gets this entry, in the place of the one that it had
-abbrev pub with_entry : List ℕ → Option (List ℕ) → List (List ℕ × Option (List ℕ)) → List (List ℕ × Option (List ℕ))
+abbrev pub with_entry : List ℕ → Option (List ℕ) → List (List ℕ × Option (List ℕ))
+    → List (List ℕ × Option (List ℕ))
 with_entry key value entries = insert_entry by_bytes entries key value
 
 -- the keys whose entry has a value, in order

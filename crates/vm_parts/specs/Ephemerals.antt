@@ -1,4 +1,5 @@
--- Ephemeral reads of the state, by their ids: those whose result hasn't come, and those whose value is there and wasn't taken.
+-- Ephemeral reads of the state, by their ids: those whose result hasn't come, and those whose value
+-- is there and wasn't taken.
 use Rattle.std.specs.Prelude.{ℕ, Bool, ◌||◌, if◌then◌else◌, nat_lt, List, [], length, Option, is_some}
 use Rattle.std.specs.List.{list_any}
 use Rattle.std.specs.Ordering.{nat_cmp}
@@ -44,11 +45,15 @@ with_in_flight id e = record e { in_flight = insert_key nat_cmp e.in_flight id }
 abbrev pub with_ready : ℕ → Option (List ℕ) → Ephemerals → Ephemerals
 with_ready id value e = record e { ready = insert_entry nat_cmp e.ready id value }
 
--- The result of a read comes: it is ready with this value, in the place of one that it had. Where no such read is held, nothing is done.
+-- The result of a read comes: it is ready with this value, in the place of one that it had. Where
+-- no such read is held, nothing is done.
 abbrev pub completed : ℕ → Option (List ℕ) → Ephemerals → Ephemerals
 completed id value e =
     if is_in_flight id e || is_ready id e
-    then record { in_flight = remove_key (is_at (nat_cmp id)) e.in_flight; ready = insert_entry nat_cmp e.ready id value }
+    then record {
+      in_flight = remove_key (is_at (nat_cmp id)) e.in_flight;
+      ready = insert_entry nat_cmp e.ready id value;
+    }
     else e
 
 -- the value of a read is taken

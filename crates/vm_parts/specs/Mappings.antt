@@ -35,4 +35,5 @@ Absent handle hs = (k : ℕ) (d : Held) → k < length hs → (slice_index_or hs
 
 -- the place of the entry of a handle
 abbrev pub IsAt : ℕ → List Held → ℕ → Type 0
-IsAt handle hs place = (place < length hs) × ((d : Held) → (slice_index_or hs place d).handle ≡ handle)
+IsAt handle hs place =
+    (place < length hs) × ((d : Held) → (slice_index_or hs place d).handle ≡ handle)

@@ -22,7 +22,8 @@ pub record WholeStream (bytes : List ℕ) : Type 0 where
 abbrev pub len_of : List (List ℕ) → ℕ
 len_of pieces = min (length (concat pieces)) (2 ^ 64 - 1)
 
--- how many bytes the frame at the front has: its type's number, its body's length, and that many more
+-- how many bytes the frame at the front has: its type's number, its body's length, and that many
+-- more
 abbrev pub front_len : List ℕ → ℕ
 front_len bytes = 10 + from_be_bytes w64 (take 8 (drop 2 bytes))
 

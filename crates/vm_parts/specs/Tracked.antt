@@ -1,5 +1,5 @@
--- Calls whose invocations are cancelled with the handler's: one a handle of an invocation's id, in the order of these handles, which
--- is that of the calls. The id is known once its result was read.
+-- Calls whose invocations are cancelled with the handler's: one a handle of an invocation's id, in
+-- the order of these handles, which is that of the calls. The id is known once its result was read.
 use Rattle.std.specs.Prelude.{ℕ, ◌≡◌, ◌<◌, ◌≤◌, Bool, true, false, ◌||◌, ◌==◌, nat_lt, if◌then◌else◌, List, [], ◌∷◌, length, take, slice_index_or, Option, Some, None}
 use Rattle.std.specs.List.Sorted.{IsPartitionPoint}
 use Rattle.std.specs.Option.{option_map}
@@ -29,11 +29,14 @@ is_tracked handle (t ∷ ts) = (t.handle == handle) || is_tracked handle ts
 -- the invocation's id of the call of this handle is known
 abbrev pub with_id : ℕ → List ℕ → List TrackedCall → List TrackedCall
 with_id handle id [] = []
-with_id handle id (t ∷ ts) = if t.handle == handle then record { handle = t.handle; invocation_id = Some id } ∷ ts else t ∷ with_id handle id ts
+with_id handle id (t ∷ ts) = if t.handle == handle
+    then record { handle = t.handle; invocation_id = Some id } ∷ ts else t ∷ with_id handle id ts
 
--- A result of this handle was read, which is this invocation's id, or no id. Of a tracked call it has to be one, which is then known.
+-- A result of this handle was read, which is this invocation's id, or no id. Of a tracked call it
+-- has to be one, which is then known.
 abbrev pub noted : ℕ → Option (List ℕ) → List TrackedCall → Option (List TrackedCall)
-noted handle id ts = if is_tracked handle ts then option_map (λ known. with_id handle known ts) id else Some ts
+noted handle id ts =
+    if is_tracked handle ts then option_map (λ known. with_id handle known ts) id else Some ts
 
 -- a handle comes first, where its call's id isn't known
 abbrev pub if_unresolved : Option (List ℕ) → ℕ → List ℕ → List ℕ
@@ -53,7 +56,8 @@ by_id (Some id) first second = second
 -- the first id that isn't known becomes known
 abbrev pub with_next_id : List ℕ → List TrackedCall → List TrackedCall
 with_next_id id [] = []
-with_next_id id (t ∷ ts) = by_id t.invocation_id (record { handle = t.handle; invocation_id = Some id } ∷ ts) (t ∷ with_next_id id ts)
+with_next_id id (t ∷ ts) = by_id t.invocation_id
+    (record { handle = t.handle; invocation_id = Some id } ∷ ts) (t ∷ with_next_id id ts)
 
 -- an id comes first, where it is known
 abbrev pub if_known : Option (List ℕ) → List (List ℕ) → List (List ℕ)
@@ -86,7 +90,8 @@ abbrev pub without_first_call : List TrackedCall → List TrackedCall
 without_first_call [] = []
 without_first_call (t ∷ ts) = ts
 
--- A result of this handle was read, which is this invocation's id, or no id. Where that may be so, it was noted; else the calls stay.
+-- A result of this handle was read, which is this invocation's id, or no id. Where that may be so,
+-- it was noted; else the calls stay.
 abbrev pub Notes : ℕ → Option (List ℕ) → List TrackedCall → List TrackedCall → Bool → Type 0
 Notes handle id old new true = noted handle id old ≡ Some new
 Notes handle id old new false = (noted handle id old ≡ None) × (new ≡ old)
@@ -113,14 +118,18 @@ pub record IsTracking (ts : List TrackedCall) (resolved : ℕ) : Type 0 where
 
 -- the call of a handle stands here
 abbrev pub IsAt : ℕ → List TrackedCall → ℕ → Type 0
-IsAt handle ts place = (place < length ts) × ((d : TrackedCall) → (slice_index_or ts place d).handle ≡ handle)
+IsAt handle ts place =
+    (place < length ts) × ((d : TrackedCall) → (slice_index_or ts place d).handle ≡ handle)
 
--- no call has the handle, and one would stand here: behind those that are less, and before those that are greater
+-- no call has the handle, and one would stand here: behind those that are less, and before those
+-- that are greater
 abbrev pub IsBetween : ℕ → List TrackedCall → ℕ → Type 0
-IsBetween handle ts place = (place ≤ length ts) × IsPartitionPoint (λ t. t.handle < handle) (λ t. handle < t.handle) ts place
+IsBetween handle ts place = (place ≤ length ts)
+    × IsPartitionPoint (λ t. t.handle < handle) (λ t. handle < t.handle) ts place
 
 -- the first call whose id isn't known stands here, or there is none and this is the end
 pub record IsNext (ts : List TrackedCall) (place : ℕ) : Type 0 where
   pub within : place ≤ length ts
   pub known : unresolved (take place ts) ≡ []
-  pub next : (d : TrackedCall) → place < length ts → (slice_index_or ts place d).invocation_id ≡ None
+  pub next : (d : TrackedCall) → place < length ts → (slice_index_or ts place d).invocation_id
+      ≡ None

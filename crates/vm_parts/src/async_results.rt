@@ -68,7 +68,8 @@ fn take_delivered(
     id: &NotificationId,
 ) -> Option<NotificationResult>
     ensures found { result ≡ present_among delivery id.now arrivals.old.delivered }
-    ensures left { arrivals.new ≡ record arrivals.old { delivered = left_among delivery id.now arrivals.old.delivered } }
+    ensures left { arrivals.new
+        ≡ record arrivals.old { delivered = left_among delivery id.now arrivals.old.delivered } }
 {
     if is_queued_id(delivery, id) {
         arrivals.take_first(id)
@@ -142,7 +143,8 @@ impl AsyncResults {
 
     /// Puts a notification behind those that wait.
     pub fn enqueue(&mut self, notification: Notification) -> Result<(), AllocError>
-        ensures ok { OnOk result (self.new ≡ record self.old { queued = self.old.queued ++ notification ∷ [] }) }
+        ensures ok { OnOk result (self.new
+            ≡ record self.old { queued = self.old.queued ++ notification ∷ [] }) }
         ensures err { OnErr result (self.new ≡ self.old) }
     {
         self.arrivals.enqueue(notification)
@@ -150,7 +152,11 @@ impl AsyncResults {
 
     /// Gives a new handle its id.
     pub fn map_handle(&mut self, handle: u32, id: NotificationId) -> Result<(), AllocError>
-        ensures ok { OnOk result (self.new ≡ record self.old { handles = self.old.handles ++ record { handle = handle; id = id } ∷ [] }) }
+        ensures ok { OnOk result (self.new
+            ≡ record self.old {
+              handles = self.old.handles
+                  ++ record { handle = handle; id = id } ∷ [];
+            }) }
         ensures err { OnErr result (self.new ≡ self.old) }
     {
         self.handles.push(Mapping { handle, id })
@@ -175,7 +181,8 @@ impl AsyncResults {
 
     /// The present result of a handle.
     pub fn present(&self, delivery: SignalDelivery, handle: u32) -> Option<&NotificationResult>
-        ensures { option_copied result ≡ present_for delivery (id_at handle self.now.handles) self.now.ready }
+        ensures { option_copied result
+            ≡ present_for delivery (id_at handle self.now.handles) self.now.ready }
     {
         let id = self.handles.find(handle)?;
         match find_delivered(delivery, &self.arrivals, id) {
@@ -196,7 +203,8 @@ impl AsyncResults {
 
     /// How many that wait must be used until a handle has a ready result, none where all are too few.
     pub fn uses_until(&self, handle: u32) -> Option<usize>
-        ensures { (n : ℕ) → enough result n ≡ has_result_for (id_at handle self.now.handles) (ready_after n self.now) }
+        ensures { (n : ℕ) → enough result n
+            ≡ has_result_for (id_at handle self.now.handles) (ready_after n self.now) }
     {
         let id = self.handles.find(handle)?;
         if self.eager.has(id) {
@@ -207,7 +215,8 @@ impl AsyncResults {
 
     /// The present result of a handle, or else the first that waits.
     pub fn first_result(&self, delivery: SignalDelivery, handle: u32) -> Option<&NotificationResult>
-        ensures { option_copied result ≡ first_result_for delivery (id_at handle self.now.handles) self.now }
+        ensures { option_copied result
+            ≡ first_result_for delivery (id_at handle self.now.handles) self.now }
     {
         match self.present(delivery, handle) {
             Some(result) => Some(result),
@@ -251,7 +260,8 @@ impl AsyncResults {
 
     /// Gives a completion id the result of its eager read, which takes the place of what was delivered before.
     pub fn read_eagerly(&mut self, id: u32, given: NotificationResult) -> Result<(), AllocError>
-        ensures ok { OnOk result (self.new ≡ record self.old { ready = with_eager id given self.old.ready }) }
+        ensures ok { OnOk result (self.new
+            ≡ record self.old { ready = with_eager id given self.old.ready }) }
         ensures err { OnErr result (self.new ≡ self.old) }
     {
         self.eager.push(Notification {

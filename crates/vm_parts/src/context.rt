@@ -200,7 +200,9 @@ impl StateMap {
     pub fn keys(&self, alloc: Global) -> Result<Option<Items<Bytes>>, AllocError>
         ensures keys { IfOk result (λ keys. keys ≡ known_keys self.now) }
         ensures sorted { IfOk result (λ keys. IfSome keys (IsStrictlySortedBy by_bytes)) }
-        ensures listed { IfOk result (λ keys. IfSome keys (λ found. (key : List ℕ) → is_among key found ≡ has_value (known key self.now))) }
+        ensures listed { IfOk result
+            (λ keys. IfSome keys (λ found. (key : List ℕ) → is_among key found
+            ≡ has_value (known key self.now))) }
     {
         match self.coverage {
             StateCoverage::Partial => Ok(None),
@@ -214,14 +216,23 @@ impl StateMap {
 /// There stays one entry a key, in order.
 #[tactic(auto, using(crate::proofs::Changes::known_set, crate::proofs::Changes::known_besides_set, crate::proofs::Changes::known_cleared, crate::proofs::Changes::known_besides_cleared, crate::proofs::Changes::stays_in_order, crate::proofs::Changes::known_last, crate::proofs::Changes::known_besides_last, crate::proofs::Changes::pairs_in_order))]
 pub fn state_changes()
-    ensures set { (key value : List ℕ) (s : State) → known key (state_set key value s) ≡ Value value }
-    ensures besides_set { (key other value : List ℕ) (s : State) → other ≢ key → known other (state_set key value s) ≡ known other s }
+    ensures set { (key value : List ℕ) (s : State) → known key (state_set key value s)
+        ≡ Value value }
+    ensures besides_set { (key other value : List ℕ) (s : State) → other ≢ key
+        → known other (state_set key value s) ≡ known other s }
     ensures cleared { (key : List ℕ) (s : State) → known key (state_cleared key s) ≡ Empty }
-    ensures besides_cleared { (key other : List ℕ) (s : State) → other ≢ key → known other (state_cleared key s) ≡ known other s }
+    ensures besides_cleared { (key other : List ℕ) (s : State) → other ≢ key
+        → known other (state_cleared key s) ≡ known other s }
     ensures all_cleared { (key : List ℕ) (s : State) → known key (all_cleared s) ≡ Empty }
-    ensures last_pair { (key value : List ℕ) (pairs : List (List ℕ × List ℕ)) (c : Coverage) → known key (record { entries = entries_of (pairs ++ (key, value) ∷ []); coverage = c }) ≡ Value value }
-    ensures besides_last_pair { (key other value : List ℕ) (pairs : List (List ℕ × List ℕ)) (c : Coverage) → other ≢ key → known other (record { entries = entries_of (pairs ++ (key, value) ∷ []); coverage = c }) ≡ known other (record { entries = entries_of pairs; coverage = c }) }
+    ensures last_pair { (key value : List ℕ) (pairs : List (List ℕ × List ℕ)) (c : Coverage)
+        → known key (record { entries = entries_of (pairs ++ (key, value) ∷ []); coverage = c })
+        ≡ Value value }
+    ensures besides_last_pair { (key other value : List ℕ) (pairs : List (List ℕ × List ℕ)) (c : Coverage) → other ≢ key
+        → known other (record { entries = entries_of (pairs ++ (key, value) ∷ []); coverage = c })
+        ≡ known other (record { entries = entries_of pairs; coverage = c }) }
     ensures pairs_in_order { (pairs : List (List ℕ × List ℕ)) → IsInOrder (entries_of pairs) }
-    ensures set_in_order { (key value : List ℕ) (s : State) → IsInOrder s.entries → IsInOrder (state_set key value s).entries }
-    ensures cleared_in_order { (key : List ℕ) (s : State) → IsInOrder s.entries → IsInOrder (state_cleared key s).entries }
+    ensures set_in_order { (key value : List ℕ) (s : State) → IsInOrder s.entries
+        → IsInOrder (state_set key value s).entries }
+    ensures cleared_in_order { (key : List ℕ) (s : State) → IsInOrder s.entries
+        → IsInOrder (state_cleared key s).entries }
 {}

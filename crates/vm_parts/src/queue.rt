@@ -47,7 +47,8 @@ impl<T> Queue<T> {
 
     /// Takes the oldest item.
     pub fn pop(&mut self) -> Option<T>
-        ensures { MatchOption result ((self.old ≡ []) × (self.new ≡ [])) (λ x. self.old ≡ x ∷ self.new) }
+        ensures { MatchOption result ((self.old ≡ []) × (self.new ≡ [])) (λ x. self.old ≡ x
+            ∷ self.new) }
     {
         self.items.pop_front()
     }

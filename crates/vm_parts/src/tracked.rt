@@ -114,7 +114,8 @@ impl TrackedCalls {
 
     /// The handle of the first call whose id isn't known.
     pub fn first_unresolved(&mut self) -> Option<u32>
-        ensures first { MatchOption result (unresolved self.old ≡ []) (IsFirst (unresolved self.old)) }
+        ensures first { MatchOption result (unresolved self.old
+            ≡ []) (IsFirst (unresolved self.old)) }
         ensures left { self.new ≡ self.old }
     {
         self.resolved = first_unknown(&self.calls, self.resolved);

@@ -17,8 +17,8 @@ use Rattle.vm_attempt.proofs.Replayed.{head_same}
 use Rattle.vm_store.specs.declared.types.Round.{Round}
 use Rattle.vm_store.specs.declared.types.Setting.{Setting}
 use Rattle.vm_rounds.specs.Courses.{attempt_of}
-use Rattle.vm_store.specs.Entries.{entries_of}
-use Rattle.vm_rounds.specs.Rounds.{Agree, Replays, ReportView, RoundDoes, RoundsDo, TellsAlong}
+use Rattle.vm_store.specs.Entries.{journal_entries}
+use Rattle.vm_rounds.specs.Rounds.{Agree, ReplaysAndQueues, ReportView, RoundDoes, RoundsDo, TellsAlong}
 use Rattle.vm_store.specs.States.{base_of}
 use Rattle.vm_store.specs.Worlds.{IsJournal, setup_of}
 use Rattle.vm_rounds.specs.Sound.{IsSoundFor}
@@ -34,13 +34,13 @@ attempt_along s m before more now a grown t first input rest p begins reads told
     attempts_agree s m before more a t' rest (begins ∙ ap (λ c. c ∷ rest) head) p (subst (λ i. Told s m i (notifications_in before) rest p) one told)
 
 -- the rounds that follow, over a journal that has grown
-rounds_along : (K : Knowledge) (P : List Entry → Type 0) (m : Meaning) (w : Setting) (rounds : List Round) (then_old added old : List (List ℕ)) (reports : List ReportView) (new : List (List ℕ)) → Replays w.options → Lasts K P m w → HandsOut K w rounds → IsJournal old → P (entries_of old) → old ≡ then_old ++ added → RoundsDo m w rounds old reports new → TellsAlong (setup_of w) m (entries_of then_old) reports
+rounds_along : (K : Knowledge) (P : List Entry → Type 0) (m : Meaning) (w : Setting) (rounds : List Round) (then_old added old : List (List ℕ)) (reports : List ReportView) (new : List (List ℕ)) → ReplaysAndQueues w.options → Lasts K P m w → HandsOut K w rounds → IsJournal old → P (journal_entries old) → old ≡ then_old ++ added → RoundsDo m w rounds old reports new → TellsAlong (setup_of w) m (journal_entries then_old) reports
 rounds_along K P m w [] then_old added old reports new r l hands j b grown d first input rest p begins reads told = subst (AllByRecursion (λ v. OneBegins p.answers v.answers)) (sym d.0) tt
 rounds_along K P m w (q ∷ qs) then_old added old reports new r l hands j b grown (mid, report, more, is, one, others) first input rest p begins reads told =
     let g = round_grows m w q old report mid j one in
-    let h = round_honest m w q old report mid r j (l.history (entries_of old) b) one in
+    let h = round_honest m w q old report mid r j (l.history (journal_entries old) b) one in
     let on = round_lasts K P m w q qs old report mid r l hands j b one in
-    let here : OneBegins p.answers report.answers = subst (OneBegins p.answers) (round_gives m w q old report mid one).1 (attempt_along (setup_of w) m (entries_of then_old) (entries_of added) (entries_of old) (attempt_of m w q old report mid one) (entries_grow then_old old added grown) h.told first input rest p begins reads told) in
+    let here : OneBegins p.answers report.answers = subst (OneBegins p.answers) (round_gives m w q old report mid one).1 (attempt_along (setup_of w) m (journal_entries then_old) (journal_entries added) (journal_entries old) (attempt_of m w q old report mid one) (entries_grow then_old old added grown) h.told first input rest p begins reads told) in
     let behind = rounds_along K P m w qs then_old (added ++ g.added) mid more new r l hands.1 g.journal on (g.extends ∙ ap (λ l. l ++ g.added) grown ∙ append_assoc then_old added g.added) others first input rest p begins reads told in
     subst (AllByRecursion (λ v. OneBegins p.answers v.answers)) (sym is) (here, behind)
 
@@ -52,7 +52,7 @@ round_counts m w round old report new (inr d) = ap (λ (v : ReportView). v.entri
 pub then_stood : (entries : ℕ) (mid added new : List (List ℕ)) → entries ≡ length mid → new ≡ mid ++ added → take entries new ≡ mid
 then_stood entries mid added new e grown = (λ i. take (e i) (grown i)) ∙ take-append_seam mid added
 
-rounds_agree : (K : Knowledge) (P : List Entry → Type 0) (m : Meaning) (w : Setting) (rounds : List Round) (old : List (List ℕ)) (reports : List ReportView) (new : List (List ℕ)) → Replays w.options → Lasts K P m w → HandsOut K w rounds → IsJournal old → P (entries_of old) → RoundsDo m w rounds old reports new → Agree (setup_of w) m new reports
+rounds_agree : (K : Knowledge) (P : List Entry → Type 0) (m : Meaning) (w : Setting) (rounds : List Round) (old : List (List ℕ)) (reports : List ReportView) (new : List (List ℕ)) → ReplaysAndQueues w.options → Lasts K P m w → HandsOut K w rounds → IsJournal old → P (journal_entries old) → RoundsDo m w rounds old reports new → Agree (setup_of w) m new reports
 rounds_agree K P m w [] old reports new r l hands j b d = subst (Agree (setup_of w) m new) (sym d.0) tt
 rounds_agree K P m w (q ∷ qs) old reports new r l hands j b (mid, report, more, is, one, others) =
     let g = round_grows m w q old report mid j one in
@@ -60,7 +60,7 @@ rounds_agree K P m w (q ∷ qs) old reports new r l hands j b (mid, report, more
     let rest = rounds_grow m w qs mid more new g.journal others in
     let stood : take report.entries new ≡ mid = then_stood report.entries mid rest.added new (round_counts m w q old report mid one) rest.extends in
     let along = rounds_along K P m w qs mid [] mid more new r l hands.1 g.journal b' (sym (append-nil mid)) others in
-    subst (Agree (setup_of w) m new) (sym is) (subst (λ l. TellsAlong (setup_of w) m (entries_of l) more) (sym stood) along, rounds_agree K P m w qs mid more new r l hands.1 g.journal b' others)
+    subst (Agree (setup_of w) m new) (sym is) (subst (λ l. TellsAlong (setup_of w) m (journal_entries l) more) (sym stood) along, rounds_agree K P m w qs mid more new r l hands.1 g.journal b' others)
 
 -- where the journal is sound for the handler
 pub sound_rounds_agree : (m : Meaning) (w : Setting) (rounds : List Round) (old : List (List ℕ)) (reports : List ReportView) (new : List (List ℕ)) → IsSoundFor m w old → IsJournal old → RoundsDo m w rounds old reports new → Agree (setup_of w) m new reports

@@ -14,7 +14,7 @@ use Rattle.vm_store.specs.declared.types.Round.{Round}
 use Rattle.vm_store.specs.declared.types.RoundFault.{RoundFault}
 use Rattle.vm_store.specs.declared.types.RoundFault.TheVariants as round_fault
 use Rattle.vm_store.specs.declared.types.Setting.{Setting}
-use Rattle.vm_rounds.specs.Rounds.{HappenFaults, IsShort, IsSupported, Ran, ReportView, RoundDoes, RoundFaults, begin, new_now}
+use Rattle.vm_rounds.specs.Rounds.{HappenFaults, StaysShort, IsSupported, Ran, ReportView, RoundDoes, RoundFaults, begin, new_now}
 use Rattle.vm_store.specs.States.{HaveTextKeys, pairs_for}
 use Rattle.vm_store.specs.Worlds.{IsJournal, fixed_in, start_message}
 use Rattle.vm_rounds.proofs.Rounding.{short_all}
@@ -39,8 +39,8 @@ round_faults m w round old alloc waiting r x speaks start e f h =
     (λ (z : HappenFaults m round.events (new_now w.version old waiting r) x). inr (inl (record { alloc = alloc; speaks = speaks; start = start; faults = subst (λ n. HappenFaults m round.events n x) (begun_is w round old alloc waiting r e f) z })))
     h
 
-pub round_short : (m : Meaning) (w : Setting) (round : Round) (old : List (List ℕ)) (alloc : Global) (waiting : List ℕ) (r : Record) → IsJournal old → waiting ≡ encoding (start_message w round old) ++ concat old → r ≡ fresh_record (made alloc w.options w.version) → IsShort m round.events (new_now w.version old waiting r)
-round_short m w round old alloc waiting r j e f = subst (IsShort m round.events) (sym (begun_is w round old alloc waiting r e f)) (short_all m w.version round.events (encoding (start_message w round old)) old (fresh_record (made alloc w.options w.version)) j refl refl refl refl)
+pub round_short : (m : Meaning) (w : Setting) (round : Round) (old : List (List ℕ)) (alloc : Global) (waiting : List ℕ) (r : Record) → IsJournal old → waiting ≡ encoding (start_message w round old) ++ concat old → r ≡ fresh_record (made alloc w.options w.version) → StaysShort m round.events (new_now w.version old waiting r)
+round_short m w round old alloc waiting r j e f = subst (StaysShort m round.events) (sym (begun_is w round old alloc waiting r e f)) (short_all m w.version round.events (encoding (start_message w round old)) old (fresh_record (made alloc w.options w.version)) j refl refl refl refl)
 
 -- what follows from what an answer ensures
 pub if_ok_then : {A E : Type 0} (r : Result A E) (P Q : A → Type 0) → ((a : A) → P a → Q a) → IfOk r P → IfOk r Q

@@ -16,7 +16,7 @@ use Rattle.vm_model.specs.Journal.{input_read_from, notifications_in}
 use Rattle.vm_model.specs.Histories.{History, Told}
 use Rattle.vm_model.proofs.Carried.{completions_once, input_carries, typed}
 use Rattle.vm_attempt.proofs.Replayed.{commands_same, head_same, notes_same, tail_same}
-use Rattle.vm_store.specs.Entries.{entries_of, frames_in, notes_in}
+use Rattle.vm_store.specs.Entries.{journal_entries, journal_frames, notes_in}
 use Rattle.vm_rounds.specs.Rounds.{CompletesOnce}
 use Rattle.vm_store.specs.Worlds.{IsJournal}
 use Rattle.vm_store.proofs.Framing.{notes_are}
@@ -43,13 +43,13 @@ input_carries_none raw input reads = by_read (message_in raw.ty raw.body) refl
 pub carried_behind : (ns : List Notification) (raw : RawMessage) (input : InputCommand) (rest : List RawMessage) → input_read_from raw ≡ Some input → AreCarried ns (raw ∷ rest) → AreCarried ns rest
 carried_behind ns raw input rest reads h id none = h id (ap (λ b. b || is_carried id rest) (stored_input raw input reads id) ∙ none)
 
-pub completes_once : (s : Setup) (m : Meaning) (base : StateMap) (journal : List (List ℕ)) → IsJournal journal → History s m base (entries_of journal) → CompletesOnce s m (entries_of journal)
+pub completes_once : (s : Setup) (m : Meaning) (base : StateMap) (journal : List (List ℕ)) → IsJournal journal → History s m base (journal_entries journal) → CompletesOnce s m (journal_entries journal)
 completes_once s m base journal j h first input rest p begins reads told =
-    let ns = notifications_in (entries_of journal) in
-    let notes : notes_in journal ≡ ns = notes_are journal ∙ sym (notes_same (frames_in journal)) in
+    let ns = notifications_in (journal_entries journal) in
+    let notes : notes_in journal ≡ ns = notes_are journal ∙ sym (notes_same (journal_frames journal)) in
     let head : first ≡ h.first = head_same first h.first rest h.rest (sym begins ∙ h.begins) in
     let tail : rest ≡ h.rest = tail_same first h.first rest h.rest (sym begins ∙ h.begins) in
     let one : input ≡ h.input = same_Some input h.input (sym reads ∙ ap input_read_from head ∙ h.reads) in
     let here : Told s m h.input ns h.rest p = subst (λ (x : InputCommand × List RawMessage). Told s m x.0 ns x.1 p) (λ i. (one i, tail i)) told in
-    let carry : AreCarried ns (h.first ∷ h.rest) = subst (λ (x : List Notification × List RawMessage). AreCarried x.0 x.1) (λ i. (notes i, (sym (commands_same (frames_in journal)) ∙ h.begins) i)) j.carried in
+    let carry : AreCarried ns (h.first ∷ h.rest) = subst (λ (x : List Notification × List RawMessage). AreCarried x.0 x.1) (λ i. (notes i, (sym (commands_same (journal_frames journal)) ∙ h.begins) i)) j.carried in
     completions_once s m here.0 h.told.0 h.input ns h.rest p h.at here.1 h.told.1 h.uses_all (subst ComeOnce notes (come_once (notes_in journal) j.once)) (carried_behind ns h.first h.input h.rest h.reads carry)

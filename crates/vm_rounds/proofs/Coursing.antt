@@ -28,7 +28,7 @@ use Rattle.vm_attempt.proofs.Replayed.{commands_same, notes_same}
 use Rattle.vm_store.specs.declared.types.Event.{Event}
 use Rattle.vm_store.specs.declared.types.Event.TheVariants as event
 use Rattle.vm_rounds.specs.Courses.{brought_by, course_of, delivered, new_in}
-use Rattle.vm_store.specs.Entries.{entries_of, frames_in, notes_in}
+use Rattle.vm_store.specs.Entries.{journal_entries, journal_frames, notes_in}
 use Rattle.vm_rounds.specs.Rounds.{Happen, Happens, Now, Pieces}
 use Rattle.vm_store.specs.Worlds.{IsJournal}
 use Rattle.vm_store.proofs.Framing.{AreFrames, entries_append, join, journal_acknowledges, journal_framed, notes_are}
@@ -79,7 +79,7 @@ record Adds (now mid : Now) : Type 0 where
   wrote : IsPrefix (bytes_written now.attempt) (bytes_written mid.attempt)
   fed : IsPrefix (bytes_in now.attempt.fed) (bytes_in mid.attempt.fed)
   proposed : IsPrefix now.attempt.proposed mid.attempt.proposed
-  apart : (commands_among (frames_in stored.0) ≡ []) ⊎ (bytes_written mid.attempt ≡ bytes_written now.attempt)
+  apart : (commands_among (journal_frames stored.0) ≡ []) ⊎ (bytes_written mid.attempt ≡ bytes_written now.attempt)
 
 takes : (piece : List ℕ) (r new : Record) → Takes piece r new → IsPrefix (bytes_in r.fed) (bytes_in new.fed)
 takes piece r new t =
@@ -206,14 +206,14 @@ stored_among version start first now g =
 
 -- the entries that came behind the first journal
 abbrev pub behind_first : {version : Version} {start : List ℕ} {first : List (List ℕ)} {now : Now} → Going version start first now → List Entry
-behind_first g = entries_of g.added
+behind_first g = journal_entries g.added
 
 -- its commands are those that were looked at
 pub behind_commands : (version : Version) (start : List ℕ) (first : List (List ℕ)) (now : Now) (g : Going version start first now) → commands_in (behind_first g) ≡ commands_among g.scanned
-behind_commands version start first now g = commands_same (frames_in g.added) ∙ g.commands
+behind_commands version start first now g = commands_same (journal_frames g.added) ∙ g.commands
 
 pub behind_notes : (version : Version) (start : List ℕ) (first : List (List ℕ)) (now : Now) (g : Going version start first now) → notifications_in (behind_first g) ≡ notes_in g.added
-behind_notes version start first now g = notes_same (frames_in g.added) ∙ sym (notes_are g.added)
+behind_notes version start first now g = notes_same (journal_frames g.added) ∙ sym (notes_are g.added)
 
 -- frames that are a beginning of others bring a beginning of their arrivals, where those find their proposals
 found_front : (kept : List KeptProposal) (raws more : List RawMessage) → AllFound kept (raws ++ more) → AllFound kept raws
@@ -234,11 +234,11 @@ arrivals_grow version old new raws all (more, e) longer found =
 
 module _ (m : Meaning) (version : Version) (start : List ℕ) (raw : RawMessage) (first : List (List ℕ)) (j : IsJournal first) (framed : AreFrames start (raw ∷ [])) where
   -- all bytes that are to be fed, as frames
-  all_frames : (now : Now) (g : Going version start first now) → AreFrames (start ++ (concat first ++ g.bytes)) (raw ∷ (frames_in first ++ g.came))
-  all_frames now g = join start (concat first ++ g.bytes) (raw ∷ []) (frames_in first ++ g.came) framed (join (concat first) g.bytes (frames_in first) g.came (journal_framed first j.entries) g.framed)
+  all_frames : (now : Now) (g : Going version start first now) → AreFrames (start ++ (concat first ++ g.bytes)) (raw ∷ (journal_frames first ++ g.came))
+  all_frames now g = join start (concat first ++ g.bytes) (raw ∷ []) (journal_frames first ++ g.came) framed (join (concat first) g.bytes (journal_frames first) g.came (journal_framed first j.entries) g.framed)
 
   -- the frames that were fed are a beginning of them
-  pub fed_frames : (now : Now) (g : Going version start first now) → (G : List RawMessage) × (raw ∷ (frames_in first ++ g.came) ≡ frames_fed (heard version now.attempt) ++ G)
+  pub fed_frames : (now : Now) (g : Going version start first now) → (G : List RawMessage) × (raw ∷ (journal_frames first ++ g.came) ≡ frames_fed (heard version now.attempt) ++ G)
   fed_frames now g =
       let F = bytes_in now.attempt.fed in
       let unfed = g.fed_front.0 ++ now.waiting in
@@ -247,24 +247,24 @@ module _ (m : Meaning) (version : Version) (start : List ℕ) (raw : RawMessage)
       (more.0, sym (ap (λ (p : List RawMessage × Tail). p.0) (all_frames now g)) ∙ ap (λ b. (frames_of b).0) bytes ∙ ap (λ (p : List RawMessage × Tail). p.0) (frames_of-append F unfed) ∙ more.1)
 
   -- what has come behind Start is a beginning of the journal and of what came behind it
-  fed_behind : (now : Now) (g : Going version start first now) → IsPrefix (behind (frames_fed (heard version now.attempt))) (frames_in first ++ g.came)
-  fed_behind now g = behind_grows (frames_fed (heard version now.attempt)) (raw ∷ (frames_in first ++ g.came)) (fed_frames now g)
+  fed_behind : (now : Now) (g : Going version start first now) → IsPrefix (behind (frames_fed (heard version now.attempt))) (journal_frames first ++ g.came)
+  fed_behind now g = behind_grows (frames_fed (heard version now.attempt)) (raw ∷ (journal_frames first ++ g.came)) (fed_frames now g)
 
   -- what was proposed can be acknowledged
   abbrev proposed_to : Now → List KeptProposal
   proposed_to now = acknowledged_from version now.attempt.proposed
 
   -- all that came finds its proposals, and brings the notifications of the journal
-  all_brought : (now : Now) (g : Going version start first now) → AllFound (proposed_to now) (frames_in first ++ g.came) × (arriving (proposed_to now) (frames_in first ++ g.came) ≡ notes_in first ++ notes_in g.added)
+  all_brought : (now : Now) (g : Going version start first now) → AllFound (proposed_to now) (journal_frames first ++ g.came) × (arriving (proposed_to now) (journal_frames first ++ g.came) ≡ notes_in first ++ notes_in g.added)
   all_brought now g =
       let none = journal_acknowledges first j.entries in
       let stored = proposals_among g.scanned in
       let still = brings_still version stored g.proposed.0 g.came (notes_in g.added) g.brings in
-      let kept : kept_after (proposed_to now) (frames_in first) ≡ proposed_to now = kept_all (proposed_to now) (frames_in first) none in
+      let kept : kept_after (proposed_to now) (journal_frames first) ≡ proposed_to now = kept_all (proposed_to now) (journal_frames first) none in
       let is : acknowledged_from version (stored ++ g.proposed.0) ≡ proposed_to now = ap (acknowledged_from version) (sym g.proposed.1) in (
-        found_append (proposed_to now) (frames_in first) g.came (none_found (proposed_to now) (frames_in first) none) (subst (λ l. AllFound l g.came) (is ∙ sym kept) still.0),
-        arriving_append (proposed_to now) (frames_in first) g.came
-            ∙ (λ i. (arriving_notified (proposed_to now) (frames_in first) none ∙ sym (notes_are first)) i ++ (ap (λ l. arriving l g.came) (kept ∙ sym is) ∙ still.1) i),
+        found_append (proposed_to now) (journal_frames first) g.came (none_found (proposed_to now) (journal_frames first) none) (subst (λ l. AllFound l g.came) (is ∙ sym kept) still.0),
+        arriving_append (proposed_to now) (journal_frames first) g.came
+            ∙ (λ i. (arriving_notified (proposed_to now) (journal_frames first) none ∙ sym (notes_are first)) i ++ (ap (λ l. arriving l g.came) (kept ∙ sym is) ∙ still.1) i),
       )
 
   -- what was fed finds its proposals
@@ -277,10 +277,10 @@ module _ (m : Meaning) (version : Version) (start : List ℕ) (raw : RawMessage)
   pub delivered_arrived : (now : Now) (g : Going version start first now) → IsPrefix (delivered version first now.attempt) (notifications_in (behind_first g))
   delivered_arrived now g =
       let k = length (notes_in first) in
-      let came = arrivals_front (proposed_to now) (behind (frames_fed (heard version now.attempt))) (frames_in first ++ g.came) (fed_behind now g) in
+      let came = arrivals_front (proposed_to now) (behind (frames_fed (heard version now.attempt))) (journal_frames first ++ g.came) (fed_behind now g) in
       subst (IsPrefix (delivered version first now.attempt))
       (ap (drop k) (all_brought now g).1 ∙ new_behind (notes_in first) (notes_in g.added) ∙ sym (behind_notes version start first now g))
-      (dropped k (arrivals_of (heard version now.attempt)) (arriving (proposed_to now) (frames_in first ++ g.came)) came)
+      (dropped k (arrivals_of (heard version now.attempt)) (arriving (proposed_to now) (journal_frames first ++ g.came)) came)
 
   -- what is delivered stays, as an event happens
   delivers : (now mid : Now) (g : Going version start first now) → Adds now mid → IsPrefix (delivered version first now.attempt) (delivered version first mid.attempt)
@@ -305,10 +305,10 @@ module _ (m : Meaning) (version : Version) (start : List ℕ) (raw : RawMessage)
       let cs = new_in (written_by now.attempt) (written_by mid.attempt) in
       let new = map Notified ns ++ map Recorded cs in
       let x = notes_brought ns cs in
-      let more = entries_of b.stored.0 in
+      let more = journal_entries b.stored.0 in
       let writes = written_grows now.attempt mid.attempt b.wrote in
       let added : g'.added ≡ g.added ++ b.stored.0 = after_front first g'.added (g.added ++ b.stored.0) (sym g'.extends ∙ b.stored.1 ∙ ap (λ l. l ++ b.stored.0) g.extends ∙ append_assoc first g.added b.stored.0) in
-      let entries : behind_first g' ≡ behind_first g ++ more = ap entries_of added ∙ entries_append g.added b.stored.0 in
+      let entries : behind_first g' ≡ behind_first g ++ more = ap journal_entries added ∙ entries_append g.added b.stored.0 in
       let kept : Ordered course (behind_first g ++ more) = order_kept course (behind_first g) more a.order (subst (λ l. IsPrefix l (notifications_in (behind_first g))) (sym a.came) (delivered_arrived now g)) in
       record {
         going = g';
@@ -317,18 +317,18 @@ module _ (m : Meaning) (version : Version) (start : List ℕ) (raw : RawMessage)
         order = subst (Ordered (course ++ new)) (sym entries) (order_longer course new (behind_first g ++ more) kept (within a b g' entries));
       }
     where
-      within : (a : Along course now) (b : Adds now mid) (g' : Going version start first mid) → behind_first g' ≡ behind_first a.going ++ entries_of b.stored.0 → length (commands_in (behind_first a.going ++ entries_of b.stored.0)) ≤ length (commands_in course)
+      within : (a : Along course now) (b : Adds now mid) (g' : Going version start first mid) → behind_first g' ≡ behind_first a.going ++ journal_entries b.stored.0 → length (commands_in (behind_first a.going ++ journal_entries b.stored.0)) ≤ length (commands_in course)
       within a b g' is =
           ⊎_elim
-          (λ (none : commands_among (frames_in b.stored.0) ≡ []).
+          (λ (none : commands_among (journal_frames b.stored.0) ≡ []).
           let s = stored_among version start first now a.going in
-          let here : length (commands_in (behind_first a.going ++ entries_of b.stored.0)) ≡ length (commands_among a.going.scanned) =
-          ap length (commands-append (behind_first a.going) (entries_of b.stored.0) ∙ (λ i. behind_commands version start first now a.going i ++ (commands_same (frames_in b.stored.0) ∙ none) i) ∙ append-nil (commands_among a.going.scanned)) in
+          let here : length (commands_in (behind_first a.going ++ journal_entries b.stored.0)) ≡ length (commands_among a.going.scanned) =
+          ap length (commands-append (behind_first a.going) (journal_entries b.stored.0) ∙ (λ i. behind_commands version start first now a.going i ++ (commands_same (journal_frames b.stored.0) ∙ none) i) ∙ append-nil (commands_among a.going.scanned)) in
           let all : length (commands_in course) ≡ length (commands_among a.going.scanned) + length s.0 = ap length (a.written ∙ s.1) ∙ length-append (commands_among a.going.scanned) s.0 in
           omega (arith, here, all))
           (λ (same : bytes_written mid.attempt ≡ bytes_written now.attempt).
           let s = stored_among version start first mid g' in
-          let here : length (commands_in (behind_first a.going ++ entries_of b.stored.0)) ≡ length (commands_among g'.scanned) = ap (λ l. length (commands_in l)) (sym is) ∙ ap length (behind_commands version start first mid g') in
+          let here : length (commands_in (behind_first a.going ++ journal_entries b.stored.0)) ≡ length (commands_among g'.scanned) = ap (λ l. length (commands_in l)) (sym is) ∙ ap length (behind_commands version start first mid g') in
           let all : length (commands_in course) ≡ length (commands_among g'.scanned) + length s.0 = ap length (a.written ∙ sym (ap (λ l. commands_among (frames_of l).0) same) ∙ s.1) ∙ length-append (commands_among g'.scanned) s.0 in
           omega (arith, here, all))
           b.apart

@@ -29,7 +29,7 @@ use Rattle.vm_model.proofs.Runs.{made_after}
 use Rattle.vm_model.proofs.Uses.{commands_used}
 use Rattle.vm_attempt.specs.Honest.{frame_bytes}
 use Rattle.vm_attempt.specs.Journals.{commands_among, notified_by, setup_for}
-use Rattle.vm_attempt.specs.Told.{BeforeInput, HasCome, IsKept, IsLive, Runs, Wrote}
+use Rattle.vm_attempt.specs.Told.{BeforeInput, HasCome, IsKept, IsLive, HandlerRuns, Wrote}
 use Rattle.vm_attempt.proofs.Advanced.{made_new}
 use Rattle.vm_attempt.proofs.Coming.{made_comes}
 use Rattle.vm_attempt.proofs.Numbers.{carried_append}
@@ -44,15 +44,15 @@ use Rattle.vm_store.specs.declared.types.Round.{Round}
 use Rattle.vm_store.specs.declared.types.RoundFault.{RoundFault}
 use Rattle.vm_store.specs.declared.types.RoundFault.TheVariants as round_fault
 use Rattle.vm_store.specs.declared.types.Setting.{Setting}
-use Rattle.vm_store.specs.Arrivals.{arrival_fault, is_completed}
-use Rattle.vm_store.specs.Entries.{entries_of, frames_in, notes_in}
+use Rattle.vm_store.specs.Arrivals.{arrival_fault, completes_id}
+use Rattle.vm_store.specs.Entries.{journal_entries, journal_frames, notes_in}
 use Rattle.vm_store.specs.States.{base_of}
 use Rattle.vm_store.specs.Storing.{FirstFault, Stores, written_among}
 use Rattle.vm_store.specs.Worlds.{IsJournal, fixed_in, setup_of, start_for}
 use Rattle.vm_store.proofs.Framing.{AreFrames, frames_append, front_grows, in_front, notes_append, notes_are}
 use Rattle.vm_store.proofs.Scanned.{written_append}
-use Rattle.vm_rounds.specs.Courses.{delivered, given_by}
-use Rattle.vm_rounds.specs.Rounds.{ArrivalHas, ArrivalsFault, ArrivesAmong, AttemptFaults, ComesFromOutside, Fault, HappenFaults, Happens, Now, Pieces, RefusedFaults, Replays, ReportView, RoundDoes, RoundFaults, RoundsFault, begin}
+use Rattle.vm_rounds.specs.Courses.{delivered, start_handed}
+use Rattle.vm_rounds.specs.Rounds.{ArrivalHas, ArrivalsFault, ArrivesAmong, AttemptFaults, ComesFromOutside, Fault, HappenFaults, Happens, Now, Pieces, RefusedFaults, ReplaysAndQueues, ReportView, RoundDoes, RoundFaults, RoundsFault, begin}
 use Rattle.vm_rounds.specs.Sound.{IsSoundFor}
 use Rattle.vm_rounds.proofs.Completing.{input_carries_none}
 use Rattle.vm_rounds.proofs.Keeping.{Going, event_keeps, one_note}
@@ -83,8 +83,8 @@ messages_spelled ms all = ap (λ l. (frames_of l).0) (sym (forms_spelled ms)) �
 same_number : (n : ℕ) → n ≤ n
 same_number n = omega arith
 
-front_open : (id : ℕ) (xs ys : List Notification) → is_completed id (xs ++ ys) ≡ false → is_completed id xs ≡ false
-front_open id xs ys h = by_test (is_completed id xs) (is_completed id ys) (sym (completed_append id xs ys) ∙ h)
+front_open : (id : ℕ) (xs ys : List Notification) → completes_id id (xs ++ ys) ≡ false → completes_id id xs ≡ false
+front_open id xs ys h = by_test (completes_id id xs) (completes_id id ys) (sym (completed_append id xs ys) ∙ h)
   where
     by_test : (a b : Bool) → (a || b) ≡ false → a ≡ false
     by_test true b e = absurd (cc)
@@ -95,20 +95,20 @@ some_left x xs e = absurd (cc)
 
 -- ---- an attempt over a journal that is a history
 
-module _ (m : Meaning) (w : Setting) (begin_bytes : List ℕ) (raw : RawMessage) (st : Start) (old : List (List ℕ)) (j : IsJournal old) (framed : AreFrames begin_bytes (raw ∷ [])) (found : start_in raw.body ≡ Some st) (known : st.known_entries ≡ length old) (s : Setup) (same_setup : setup_for (fixed_in m w) st ≡ s) (base : StateMap) (past : History s m base (entries_of old)) (r : Replays w.options) where
+module _ (m : Meaning) (w : Setting) (begin_bytes : List ℕ) (raw : RawMessage) (st : Start) (old : List (List ℕ)) (j : IsJournal old) (framed : AreFrames begin_bytes (raw ∷ [])) (found : start_in raw.body ≡ Some st) (known : st.known_entries ≡ length old) (s : Setup) (same_setup : setup_for (fixed_in m w) st ≡ s) (base : StateMap) (past : History s m base (journal_entries old)) (r : ReplaysAndQueues w.options) where
   -- the journal's notifications when the round began
   abbrev ns : List Notification
   ns = notes_in old
 
   -- all that came to the attempt
   abbrev came : Now → List Notification
-  came now = notifications_in (entries_of old) ++ delivered w.version old now.attempt
+  came now = notifications_in (journal_entries old) ++ delivered w.version old now.attempt
 
   abbrev Kept : Now → Type 0
   Kept now = IsKept (fixed_in m w) now.attempt
 
   abbrev RunsNow : Now → Type 0
-  RunsNow now = Runs (fixed_in m w) (heard w.version now.attempt) now.attempt.answers now.attempt.waiting now.attempt.taken now.attempt.vm
+  RunsNow now = HandlerRuns (fixed_in m w) (heard w.version now.attempt) now.attempt.answers now.attempt.waiting now.attempt.taken now.attempt.vm
 
   abbrev BeforeNow : Now → Type 0
   BeforeNow now = BeforeInput (fixed_in m w) (heard w.version now.attempt) now.attempt.answers now.attempt.waiting now.attempt.taken now.attempt.vm
@@ -120,11 +120,11 @@ module _ (m : Meaning) (w : Setting) (begin_bytes : List ℕ) (raw : RawMessage)
     at = b.at
 
     -- the run, from the first point
-    run_made : Made s m (Handed (given_by st)) b.moves (first_point s past.input (came now) past.rest) b.written at
+    run_made : Made s m (Handed (start_handed st)) b.moves (first_point s past.input (came now) past.rest) b.written at
     run_made = there m w begin_bytes raw st old j framed found known s same_setup base past r now g b.journal b.moves b.written at b.run
 
     run_after : after s m b.moves (first_point s past.input (came now) (past.rest ++ b.written)) ≡ Some at
-    run_after = made_after s m (Handed (given_by st)) b.moves (first_point s past.input (came now) past.rest) b.written at run_made
+    run_after = made_after s m (Handed (start_handed st)) b.moves (first_point s past.input (came now) past.rest) b.written at run_made
 
     -- the recorded commands that are left are the last of the journal's
     run_left : (raw : RawMessage) (rest : List RawMessage) → at.left ≡ raw ∷ rest → (used : List RawMessage) × (past.rest ≡ used ++ raw ∷ rest)
@@ -133,7 +133,7 @@ module _ (m : Meaning) (w : Setting) (begin_bytes : List ℕ) (raw : RawMessage)
         ⊎_elim
         (λ (none : b.written ≡ []). (u.0, sym (append-nil past.rest) ∙ ap (λ l. past.rest ++ l) (sym none) ∙ u.3 ∙ ap (λ l. u.0 ++ l) left))
         (λ (spent : at.left ≡ []). absurd (some_left raw rest (sym left ∙ spent)))
-        (wrote_left s m (Handed (given_by st)) b.moves (first_point s past.input (came now) past.rest) b.written at run_made)
+        (wrote_left s m (Handed (start_handed st)) b.moves (first_point s past.input (came now) past.rest) b.written at run_made)
 
     run_knows : IsLive now.attempt.vm.machine → Knows ns past.rest now.attempt.vm.machine
     run_knows live =
@@ -147,7 +147,7 @@ module _ (m : Meaning) (w : Setting) (begin_bytes : List ℕ) (raw : RawMessage)
               let here : is_known (CompletionId at.derived.counters.completion) (record { queued = at.queue; ready = ready_after s.options.signal_delivery at.derived.usage; handles = at.derived.handles }) ≡ false =
               ap (λ (o : VMOptions). is_known (CompletionId at.derived.counters.completion) (record { queued = at.queue; ready = ready_after o.signal_delivery at.derived.usage; handles = at.derived.handles })) (sym options) ∙ sym (ap knows_next a.machine) ∙ unknown in
               let open_yet = unknown_open s m b.moves past.input (came now) (past.rest ++ b.written) at run_after at.derived.counters.completion (same_number at.derived.counters.completion) here in
-              subst (λ (x : ℕ × List Notification). is_completed x.0 x.1 ≡ false) (λ i. (sym next i, sym (notes_are old ∙ sym (notes_same (frames_in old))) i)) (front_open at.derived.counters.completion (notifications_in (entries_of old)) (delivered w.version old now.attempt) open_yet);
+              subst (λ (x : ℕ × List Notification). completes_id x.0 x.1 ≡ false) (λ i. (sym next i, sym (notes_are old ∙ sym (notes_same (journal_frames old))) i)) (front_open at.derived.counters.completion (notifications_in (journal_entries old)) (delivered w.version old now.attempt) open_yet);
         }
 
   knows_live : (now : Now) → Going w.version begin_bytes old now → Kept now → KnowsLive ns past.rest now.attempt
@@ -160,7 +160,7 @@ module _ (m : Meaning) (w : Setting) (begin_bytes : List ℕ) (raw : RawMessage)
   -- ---- the ids of all commands rise
 
   past_rises : Rises 1 (all_carried past.rest)
-  past_rises = told_rises s m past.told.0 past.input (notifications_in (entries_of old)) past.rest past.at past.told.1 past.uses_all
+  past_rises = told_rises s m past.told.0 past.input (notifications_in (journal_entries old)) past.rest past.at past.told.1 past.uses_all
 
   -- the ids of the journal's commands when the round began, and of those that were written, rise
   none_rises : (written : List RawMessage) → written ≡ [] → Rises 1 (all_carried (past.rest ++ written))
@@ -176,7 +176,7 @@ module _ (m : Meaning) (w : Setting) (begin_bytes : List ℕ) (raw : RawMessage)
         ⊎_elim
             (λ (none : b.written ≡ []). none_rises b.written none)
             (λ (spent : b.at.left ≡ []). told_rises s m b.moves past.input (came now) (past.rest ++ b.written) b.at (run_after now g b) spent)
-            (wrote_left s m (Handed (given_by st)) b.moves (first_point s past.input (came now) past.rest) b.written b.at (run_made now g b)),
+            (wrote_left s m (Handed (start_handed st)) b.moves (first_point s past.input (came now) past.rest) b.written b.at (run_made now g b)),
       ))
       kept
 
@@ -186,7 +186,7 @@ module _ (m : Meaning) (w : Setting) (begin_bytes : List ℕ) (raw : RawMessage)
   record Stored (now : Now) : Type 0 where
     seen : List RawMessage
     frames : frames_of now.output ≡ in_front seen (frames_of now.unstored)
-    commands : commands_among (frames_in now.journal) ≡ past.first ∷ (past.rest ++ flat_map command_in (written_among seen))
+    commands : commands_among (journal_frames now.journal) ≡ past.first ∷ (past.rest ++ flat_map command_in (written_among seen))
     explained : IsExplained ns (past.rest ++ flat_map command_in (written_among seen)) (proposed_ids (written_among seen)) (notes_in now.journal)
 
   -- the commands that were stored
@@ -252,7 +252,7 @@ module _ (m : Meaning) (w : Setting) (begin_bytes : List ℕ) (raw : RawMessage)
       record {
         seen = x.seen ++ d.seen;
         frames = front_grows now.output now.unstored more x.seen x.frames ∙ ap (in_front x.seen) d.frames ∙ ap (λ l. (l, (frames_of unstored).1)) (sym (append_assoc x.seen d.seen (frames_of unstored).0));
-        commands = ap (λ l. commands_among (frames_in l)) d.stored ∙ after.commands ∙ ap (λ l. past.first ∷ l) commands;
+        commands = ap (λ l. commands_among (journal_frames l)) d.stored ∙ after.commands ∙ ap (λ l. past.first ∷ l) commands;
         explained = subst (λ (z : List RawMessage × List ℕ × List (List ℕ)). IsExplained ns z.0 z.1 (notes_in z.2)) (λ i. (commands i, ids i, sym d.stored i)) after.explained;
       }
 
@@ -266,7 +266,7 @@ module _ (m : Meaning) (w : Setting) (begin_bytes : List ℕ) (raw : RawMessage)
       record {
         seen = k.seen;
         frames = k.frames;
-        commands = ap commands_among (frames_append now.journal (x ∷ [])) ∙ commands_append (frames_in now.journal) (frames_in (x ∷ [])) ∙ ap (λ l. commands_among (frames_in now.journal) ++ l) one.none ∙ append-nil (commands_among (frames_in now.journal)) ∙ k.commands;
+        commands = ap commands_among (frames_append now.journal (x ∷ [])) ∙ commands_append (journal_frames now.journal) (journal_frames (x ∷ [])) ∙ ap (λ l. commands_among (journal_frames now.journal) ++ l) one.none ∙ append-nil (commands_among (journal_frames now.journal)) ∙ k.commands;
         explained = subst (IsExplained ns cs (proposed_ids (written_among k.seen))) (sym notes)
             (explained_arrival w.version ns past.first x now.journal cs (proposed_ids (written_among k.seen)) new.note new.reads (input_carries_none past.first past.input past.reads) k.commands (stored_rises now g kept k) none new.carried k.explained);
       }
@@ -276,7 +276,7 @@ module _ (m : Meaning) (w : Setting) (begin_bytes : List ℕ) (raw : RawMessage)
   acts_stored now new journal output unstored k = record {
     seen = k.seen;
     frames = ap frames_of output ∙ k.frames ∙ ap (λ b. in_front k.seen (frames_of b)) (sym unstored);
-    commands = ap (λ l. commands_among (frames_in l)) journal ∙ k.commands;
+    commands = ap (λ l. commands_among (journal_frames l)) journal ∙ k.commands;
     explained = subst (λ (l : List (List ℕ)). IsExplained ns (stored_commands k.seen) (proposed_ids (written_among k.seen)) (notes_in l)) (sym journal) k.explained;
   }
 
@@ -388,8 +388,8 @@ module _ (m : Meaning) (w : Setting) (begin_bytes : List ℕ) (raw : RawMessage)
     stored = record {
       seen = [];
       frames = ap frames_of (output ∙ sym unstored);
-      commands = ap (λ l. commands_among (frames_in l)) journal ∙ sym (commands_same (frames_in old)) ∙ past.begins ∙ ap (λ l. past.first ∷ l) (sym (append-nil past.rest));
-      explained = λ id h. inl (ap (λ l. is_completed id (notes_in l)) (sym journal) ∙ h);
+      commands = ap (λ l. commands_among (journal_frames l)) journal ∙ sym (commands_same (journal_frames old)) ∙ past.begins ∙ ap (λ l. past.first ∷ l) (sym (append-nil past.rest));
+      explained = λ id h. inl (ap (λ l. completes_id id (notes_in l)) (sym journal) ∙ h);
     };
   }
 

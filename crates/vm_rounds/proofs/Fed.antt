@@ -28,11 +28,11 @@ use Rattle.vm_model.specs.Journal.{input_read_from, notifications_in}
 use Rattle.vm_model.specs.Moves.{Point, later, start as first_point}
 use Rattle.vm_model.proofs.RightKinds.{fewer_kinds}
 use Rattle.vm_model.proofs.Runs.{made_later}
-use Rattle.vm_attempt.specs.Arrivals.{AllFound, FindsProposal, IsFound, arriving, kept_after, kept_behind}
-use Rattle.vm_attempt.specs.Blames.{IsHonest, Place, fault_by, frame_fault, kept_fault, notification_fault, read_fault, refused_start, start_fault}
+use Rattle.vm_attempt.specs.Arrivals.{AllFound, FindsProposal, IsOfKept, arriving, kept_after, kept_behind}
+use Rattle.vm_attempt.specs.Blames.{IsHonest, Place, fault_by, phase_fault, kept_fault, notification_fault, acknowledgement_body_fault, refused_start, start_fault}
 use Rattle.vm_attempt.specs.Fixed.{Fixed}
-use Rattle.vm_attempt.specs.Journals.{AcknowledgesNothing, as_entries, commands_among, is_acknowledgement, is_command, is_notification, setup_for}
-use Rattle.vm_attempt.specs.Told.{Journal, arrivals, begun, bytes_fed, frames_fed, handed_out}
+use Rattle.vm_attempt.specs.Journals.{AcknowledgesNothing, as_entries, commands_among, is_acknowledgement, is_command_frame, is_notification, setup_for}
+use Rattle.vm_attempt.specs.Told.{Journal, arrivals, begun, bytes_fed, frames_fed, start_state}
 use Rattle.vm_attempt.proofs.Entries.{not_both}
 use Rattle.vm_attempt.proofs.Proposed.{arriving_append, arriving_notified, found_append, kept_all, none_found}
 use Rattle.vm_attempt.proofs.Replayed.{commands_same, head_same, notes_same, tail_same}
@@ -40,7 +40,7 @@ use Rattle.vm_attempt.proofs.Under.{fewer_waiting}
 use Rattle.vm_steps.specs.Heard.{Heard}
 use Rattle.vm_store.specs.Entries.{may_stand}
 use Rattle.vm_store.proofs.Framing.{note_acknowledges_nothing, note_no_command, same_front}
-use Rattle.vm_rounds.specs.Rounds.{Replays}
+use Rattle.vm_rounds.specs.Rounds.{ReplaysAndQueues}
 use Rattle.vm_rounds.proofs.Settled.{IsTaken}
 
 -- ---- what a frame is
@@ -52,7 +52,7 @@ IsEntryFrame raw = may_stand (Some raw) ≡ true
 note_no_start : (raw : RawMessage) → is_notification raw ≡ true → (type_number raw.ty == 1) ≡ false
 note_no_start raw is = ap (λ n. n == 1) (eqb-true (type_number raw.ty) 30 is)
 
-command_no_start : (raw : RawMessage) → is_command raw ≡ true → (type_number raw.ty == 1) ≡ false
+command_no_start : (raw : RawMessage) → is_command_frame raw ≡ true → (type_number raw.ty == 1) ≡ false
 command_no_start raw is = not_both (type_number raw.ty) 1 refl is
 
 -- a notification that can be read has no fault
@@ -64,19 +64,19 @@ note_faultless raw some = by_read (notification_in raw.body) some
     by_read (Some n) h = refl
 
 -- an entry is a command, or a notification that can be read
-entry_is : (raw : RawMessage) → IsEntryFrame raw → (is_command raw ≡ true) ⊎ ((is_notification raw ≡ true) × IsSome (notification_in raw.body))
-entry_is raw may = by_tests (is_command raw) (is_notification raw) refl refl may
+entry_is : (raw : RawMessage) → IsEntryFrame raw → (is_command_frame raw ≡ true) ⊎ ((is_notification raw ≡ true) × IsSome (notification_in raw.body))
+entry_is raw may = by_tests (is_command_frame raw) (is_notification raw) refl refl may
   where
-    by_tests : (a b : Bool) → is_command raw ≡ a → is_notification raw ≡ b → (a || is_some (cond b (notification_in raw.body) None)) ≡ true → (is_command raw ≡ true) ⊎ ((is_notification raw ≡ true) × IsSome (notification_in raw.body))
+    by_tests : (a b : Bool) → is_command_frame raw ≡ a → is_notification raw ≡ b → (a || is_some (cond b (notification_in raw.body) None)) ≡ true → (is_command_frame raw ≡ true) ⊎ ((is_notification raw ≡ true) × IsSome (notification_in raw.body))
     by_tests true b x y h = inl x
     by_tests false true x y h = inr (y, h)
     by_tests false false x y h = absurd (cc)
 
 -- it is taken while known entries are missing, and acknowledges nothing
-entry_taken : (raw : RawMessage) → IsEntryFrame raw → frame_fault WaitingReplayEntries raw ≡ None
+entry_taken : (raw : RawMessage) → IsEntryFrame raw → phase_fault WaitingReplayEntries raw ≡ None
 entry_taken raw may =
     ⊎_elim
-    (λ (c : is_command raw ≡ true). (λ i. fault_by [] WaitingReplayEntries raw (command_no_start raw c i) (c i) (is_notification raw) (is_acknowledgement raw)))
+    (λ (c : is_command_frame raw ≡ true). (λ i. fault_by [] WaitingReplayEntries raw (command_no_start raw c i) (c i) (is_notification raw) (is_acknowledgement raw)))
     (λ (n : (is_notification raw ≡ true) × IsSome (notification_in raw.body)).
     (λ i. fault_by [] WaitingReplayEntries raw (note_no_start raw n.0 i) (note_no_command raw n.0 i) (n.0 i) (is_acknowledgement raw)) ∙ note_faultless raw n.1)
     (entry_is raw may)
@@ -84,7 +84,7 @@ entry_taken raw may =
 entry_quiet : (raw : RawMessage) → IsEntryFrame raw → is_acknowledgement raw ≡ false
 entry_quiet raw may =
     ⊎_elim
-    (λ (c : is_command raw ≡ true). not_both (type_number raw.ty) 6 refl c)
+    (λ (c : is_command_frame raw ≡ true). not_both (type_number raw.ty) 6 refl c)
     (λ (n : (is_notification raw ≡ true) × IsSome (notification_in raw.body)). note_acknowledges_nothing raw n.0)
     (entry_is raw may)
 
@@ -113,7 +113,7 @@ found_at : (kept : List KeptProposal) (before : List RawMessage) (raw : RawMessa
 found_at kept [] raw rest all = all.0
 found_at kept (b ∷ before) raw rest all = found_at (kept_behind kept b) before raw rest all.1
 
-found_fault : (kept : List KeptProposal) (ack : Option ProposeRunCompletionAck) → IsSome ack → IsFound kept ack → read_fault kept ack ≡ None
+found_fault : (kept : List KeptProposal) (ack : Option ProposeRunCompletionAck) → IsSome ack → IsOfKept kept ack → acknowledgement_body_fault kept ack ≡ None
 found_fault kept None readable found = absurd (cc)
 found_fault kept (Some ack) readable found = by_kept (find (is_for ack.id) kept) found
   where
@@ -148,12 +148,12 @@ at_place : (before : List RawMessage) (raw : RawMessage) (rest : List RawMessage
 at_place [] raw rest all = all.0
 at_place (b ∷ before) raw rest all = at_place before raw rest all.1
 
-all_entries : (raws : List RawMessage) → AllByRecursion IsEntryFrame raws → AllByRecursion (λ raw. frame_fault WaitingReplayEntries raw ≡ None) raws
+all_entries : (raws : List RawMessage) → AllByRecursion IsEntryFrame raws → AllByRecursion (λ raw. phase_fault WaitingReplayEntries raw ≡ None) raws
 all_entries [] all = tt
 all_entries (raw ∷ raws) all = (entry_taken raw all.0, all_entries raws all.1)
 
 -- a frame that comes behind the journal, and acknowledges nothing, is taken in these phases
-taken_replaying : (raw : RawMessage) → IsTaken raw → is_acknowledgement raw ≡ false → frame_fault Replaying raw ≡ None
+taken_replaying : (raw : RawMessage) → IsTaken raw → is_acknowledgement raw ≡ false → phase_fault Replaying raw ≡ None
 taken_replaying raw t other =
     ⊎_elim
     (λ (n : (is_notification raw ≡ true) × IsSome (notification_in raw.body)).
@@ -161,7 +161,7 @@ taken_replaying raw t other =
     (λ (a : (is_acknowledgement raw ≡ true) × IsSome (acknowledgement_in raw.body)). absurd (let z : false ≡ true = sym other ∙ a.0 in cc))
     t
 
-taken_processing : (raw : RawMessage) → IsTaken raw → is_acknowledgement raw ≡ false → frame_fault Processing raw ≡ None
+taken_processing : (raw : RawMessage) → IsTaken raw → is_acknowledgement raw ≡ false → phase_fault Processing raw ≡ None
 taken_processing raw t other =
     ⊎_elim
     (λ (n : (is_notification raw ≡ true) × IsSome (notification_in raw.body)).
@@ -200,16 +200,16 @@ pub record FedFrames (fixed : Fixed) (fed : Heard) (st : Start) (J N : List RawM
   pub base : StateMap
   pub history : History s fixed.handler base (as_entries J)
 
-module _ (fixed : Fixed) (fed : Heard) (st : Start) (J N : List RawMessage) (s : Setup) (h : FedFrames fixed fed st J N s) (r : Replays fixed.options) where
+module _ (fixed : Fixed) (fed : Heard) (st : Start) (J N : List RawMessage) (s : Setup) (h : FedFrames fixed fed st J N s) (r : ReplaysAndQueues fixed.options) where
   abbrev S : RawMessage
   S = h.first
 
   same_start : (first : RawMessage) (x : Start) → first ≡ S → start_in first.body ≡ Some x → x ≡ st
   same_start first x is reads = same_Some x st (sym reads ∙ ap (λ (raw : RawMessage). start_in raw.body) is ∙ h.reads_start)
 
-  start_taken : frame_fault WaitingStart S ≡ None
+  start_taken : phase_fault WaitingStart S ≡ None
   start_taken =
-      (λ i. fault_by [] WaitingStart S (h.is_start i) (is_command S) (is_notification S) (is_acknowledgement S))
+      (λ i. fault_by [] WaitingStart S (h.is_start i) (is_command_frame S) (is_notification S) (is_acknowledgement S))
       ∙ ap start_fault h.reads_start ∙ ap (refused_start st) h.reads_state
       ∙ (λ i. if h.some i then Some fault.KnownEntriesIsZero else None)
 
@@ -220,10 +220,10 @@ module _ (fixed : Fixed) (fed : Heard) (st : Start) (J N : List RawMessage) (s :
   counts_known others first behind_it x is reads = ap (λ (z : Start). z.known_entries) (same_start first x (sym (head_same S first others behind_it is)) reads) ∙ h.known
 
   -- the frame behind these, where Start is the first
-  behind_start : (others : List RawMessage) (raw : RawMessage) (rest : List RawMessage) → J ++ N ≡ others ++ raw ∷ rest → (phase : Phase) (k : ℕ) → Place phase k (S ∷ others) → is_acknowledgement raw ≡ false → frame_fault phase raw ≡ None
+  behind_start : (others : List RawMessage) (raw : RawMessage) (rest : List RawMessage) → J ++ N ≡ others ++ raw ∷ rest → (phase : Phase) (k : ℕ) → Place phase k (S ∷ others) → is_acknowledgement raw ≡ false → phase_fault phase raw ≡ None
   behind_start others raw rest is WaitingStart k p other = absurd (cc)
   behind_start others raw rest is WaitingReplayEntries k p other =
-      among_first (λ x. frame_fault WaitingReplayEntries x ≡ None) J N others raw rest is
+      among_first (λ x. phase_fault WaitingReplayEntries x ≡ None) J N others raw rest is
       (fewer (length p.others) (length others) (length J) p.start.known_entries k (ap length (sym (tail_same S p.first others p.others p.is))) (counts_known others p.first p.others p.start p.is p.reads) p.counts.0 p.counts.1)
       (all_entries J h.entries)
   behind_start others raw rest is Replaying k p other =
@@ -232,8 +232,8 @@ module _ (fixed : Fixed) (fed : Heard) (st : Start) (J N : List RawMessage) (s :
       taken_processing raw (among_second IsTaken J N others raw rest is (no_more (length p.others) (length others) (length J) p.start.known_entries (ap length (sym (tail_same S p.first others p.others p.is))) (counts_known others p.first p.others p.start p.is p.reads) p.counts) h.more) other
   behind_start others raw rest is Closed k p other = absurd p
 
-  placed : (before : List RawMessage) (raw : RawMessage) (rest : List RawMessage) → S ∷ (J ++ N) ≡ before ++ raw ∷ rest → (phase : Phase) (k : ℕ) → Place phase k before → is_acknowledgement raw ≡ false → frame_fault phase raw ≡ None
-  placed [] raw rest is WaitingStart k p other = subst (λ x. frame_fault WaitingStart x ≡ None) (head_same S raw (J ++ N) rest is) start_taken
+  placed : (before : List RawMessage) (raw : RawMessage) (rest : List RawMessage) → S ∷ (J ++ N) ≡ before ++ raw ∷ rest → (phase : Phase) (k : ℕ) → Place phase k before → is_acknowledgement raw ≡ false → phase_fault phase raw ≡ None
+  placed [] raw rest is WaitingStart k p other = subst (λ x. phase_fault WaitingStart x ≡ None) (head_same S raw (J ++ N) rest is) start_taken
   placed [] raw rest is WaitingReplayEntries k p other = no_frames p.first p.others p.is
   placed [] raw rest is Replaying k p other = no_frames p.first p.others p.is
   placed [] raw rest is Processing k p other = no_frames p.first p.others p.is
@@ -250,7 +250,7 @@ module _ (fixed : Fixed) (fed : Heard) (st : Start) (J N : List RawMessage) (s :
       let quiet = all_quiet J h.entries in
       found_append fed.proposed J N (none_found fed.proposed J quiet) (subst (λ ps. AllFound ps N) (sym (kept_all fed.proposed J quiet)) h.found)
 
-  finds : (before : List RawMessage) (raw : RawMessage) (rest : List RawMessage) → S ∷ (J ++ N) ≡ before ++ raw ∷ rest → is_acknowledgement raw ≡ true → read_fault (kept_after fed.proposed (behind before)) (acknowledgement_in raw.body) ≡ None
+  finds : (before : List RawMessage) (raw : RawMessage) (rest : List RawMessage) → S ∷ (J ++ N) ≡ before ++ raw ∷ rest → is_acknowledgement raw ≡ true → acknowledgement_body_fault (kept_after fed.proposed (behind before)) (acknowledgement_in raw.body) ≡ None
   finds [] raw rest is acknowledges = absurd (let z : false ≡ true = sym start_quiet ∙ ap is_acknowledgement (head_same S raw (J ++ N) rest is) ∙ acknowledges in cc)
   finds (b ∷ before) raw rest is acknowledges =
       let tail = tail_same S b (J ++ N) (before ++ raw ∷ rest) is in
@@ -285,7 +285,7 @@ module _ (fixed : Fixed) (fed : Heard) (st : Start) (J N : List RawMessage) (s :
 
   abbrev Along : Journal fed → Type 0
   Along j = (more : List Notification) × (arrivals j ++ more ≡ all_notes) × (j.rest ≡ h.history.rest)
-      × ((n : ℕ) (made : List RawMessage) (p : Point) → Made (setup_for fixed j.start) fixed.handler (Handed (handed_out j)) n (begun fixed j) made p → RunsWhole n made (later more p))
+      × ((n : ℕ) (made : List RawMessage) (p : Point) → Made (setup_for fixed j.start) fixed.handler (Handed (start_state j)) n (begun fixed j) made p → RunsWhole n made (later more p))
 
   along : (j : Journal fed) → Along j
   along j =
@@ -309,7 +309,7 @@ module _ (fixed : Fixed) (fed : Heard) (st : Start) (J N : List RawMessage) (s :
             (subst
             (λ (x : Start × List (List ℕ × Option (List ℕ)) × InputCommand × List Notification × List RawMessage). Made (setup_for fixed x.0) fixed.handler (Handed (record { entries = x.1; coverage = coverage_of x.0.partial })) n (first_point (setup_for fixed x.0) x.2 x.3 x.4) made (later more p))
             (λ i. (e.0 i, state i, input i, notes i, rest i))
-            (made_later (setup_for fixed j.start) fixed.handler (Handed (handed_out j)) more n (begun fixed j) made p run)),
+            (made_later (setup_for fixed j.start) fixed.handler (Handed (start_state j)) more n (begun fixed j) made p run)),
       )
 
   -- An honest attempt's, where at no point of the run with all that is to come a completion has two results, and each result of an

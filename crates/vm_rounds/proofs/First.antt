@@ -19,7 +19,7 @@ use Rattle.vm_model.specs.Histories.{Knowledge}
 use Rattle.vm_model.specs.HonestRounds.{IsOneRun}
 use Rattle.vm_attempt.specs.Journals.{as_entries, commands_among, notified_by}
 use Rattle.vm_store.specs.Completions.{CompleteOnce, NoteIsOfItsKind}
-use Rattle.vm_store.specs.Entries.{entries_of, frame_in, framed_by, frames_in, may_stand, note_of, notes_in, read_from}
+use Rattle.vm_store.specs.Entries.{journal_entries, frame_in, framed_by, journal_frames, may_stand, note_of, notes_in, read_from}
 use Rattle.vm_store.specs.Worlds.{IsJournal}
 use Rattle.vm_store.proofs.Framing.{frame_back}
 
@@ -43,7 +43,7 @@ input_found : (b : List ℕ) (i : InputCommand) → message_in type.InputCommand
 unfolding message_in input_in
 input_found b i h = input_by i (input_in b) h
 
-first_run : (s : Setup) (m : Meaning) (K : Knowledge) (i : InputCommand) → IsWhole (message.Input i) → IsOneRun s m K (entries_of (encoding (message.Input i) ∷ []))
+first_run : (s : Setup) (m : Meaning) (K : Knowledge) (i : InputCommand) → IsWhole (message.Input i) → IsOneRun s m K (journal_entries (encoding (message.Input i) ∷ []))
 first_run s m K i whole =
     let raw = stored_form (message.Input i) in
     subst (λ o. IsOneRun s m K (as_entries (framed_by o []))) (sym (first_frame i whole)) (record {
@@ -60,9 +60,9 @@ first_run s m K i whole =
 pub first_ok : (journal : List (List ℕ)) (i : InputCommand) → journal ≡ encoding (message.Input i) ∷ [] → IsWhole (message.Input i) → IsJournal journal
 first_ok journal i is whole = subst IsJournal (sym is) (first_is i whole)
 
-pub first_made : (s : Setup) (m : Meaning) (K : Knowledge) (journal : List (List ℕ)) (i : InputCommand) → journal ≡ encoding (message.Input i) ∷ [] → IsWhole (message.Input i) → IsOneRun s m K (entries_of journal)
-first_made s m K journal i is whole = subst (λ j. IsOneRun s m K (entries_of j)) (sym is) (first_run s m K i whole)
+pub first_made : (s : Setup) (m : Meaning) (K : Knowledge) (journal : List (List ℕ)) (i : InputCommand) → journal ≡ encoding (message.Input i) ∷ [] → IsWhole (message.Input i) → IsOneRun s m K (journal_entries journal)
+first_made s m K journal i is whole = subst (λ j. IsOneRun s m K (journal_entries j)) (sym is) (first_run s m K i whole)
 
 -- it holds no result
-pub first_kinds : (journal : List (List ℕ)) (i : InputCommand) → journal ≡ encoding (message.Input i) ∷ [] → IsWhole (message.Input i) → AreOfTheirKind (notes_in journal) (commands_among (frames_in journal))
+pub first_kinds : (journal : List (List ℕ)) (i : InputCommand) → journal ≡ encoding (message.Input i) ∷ [] → IsWhole (message.Input i) → AreOfTheirKind (notes_in journal) (commands_among (journal_frames journal))
 first_kinds journal i is whole id named = subst (λ ns. AllByRecursion IsInvocationId (results_of (CompletionId id) ns)) (sym (ap notes_in is ∙ ap (λ o. notified_by (read_from note_of o) []) (first_frame i whole))) tt

@@ -18,7 +18,7 @@ use Rattle.vm_attempt.proofs.Numbers.{carried_append}
 use Rattle.vm_attempt.proofs.Replayed.{head_same, tail_same}
 use Rattle.vm_store.specs.declared.types.Round.{Round}
 use Rattle.vm_store.specs.declared.types.Setting.{Setting}
-use Rattle.vm_store.specs.Entries.{frames_in}
+use Rattle.vm_store.specs.Entries.{journal_frames}
 use Rattle.vm_store.specs.Worlds.{IsJournal, start_for}
 use Rattle.vm_store.proofs.Framing.{AreFrames, journal_length, same_front}
 use Rattle.vm_rounds.specs.Fresh.{AreFresh, IsFresh, Skips, ids_in, ids_written}
@@ -41,16 +41,16 @@ none_greater old cs none = subst (λ l. AreGreater old (all_carried l)) (sym non
 
 module _ (m : Meaning) (w : Setting) (begin_bytes : List ℕ) (raw : RawMessage) (st : Start) (old : List (List ℕ)) (j : IsJournal old) (framed : AreFrames begin_bytes (raw ∷ [])) (found : start_in raw.body ≡ Some st) (known : st.known_entries ≡ length old) (now : Now) (g : Going w.version begin_bytes old now) where
   -- the commands that it was fed are those of the journal
-  commands_fed : (J : Journal (heard w.version now.attempt)) → J.first ∷ J.rest ≡ commands_among (frames_in old)
+  commands_fed : (J : Journal (heard w.version now.attempt)) → J.first ∷ J.rest ≡ commands_among (journal_frames old)
   commands_fed J =
       let F = fed_frames m w.version begin_bytes raw old j framed now g in
       let G = F.0 in
-      let same : raw ∷ (frames_in old ++ g.came) ≡ J.first_frame ∷ ((J.entries ++ J.others) ++ G) = F.1 ∙ ap (λ l. l ++ G) J.frames in
-      let head : raw ≡ J.first_frame = head_same raw J.first_frame (frames_in old ++ g.came) ((J.entries ++ J.others) ++ G) same in
-      let tail : frames_in old ++ g.came ≡ J.entries ++ (J.others ++ G) = tail_same raw J.first_frame (frames_in old ++ g.came) ((J.entries ++ J.others) ++ G) same ∙ append_assoc J.entries J.others G in
+      let same : raw ∷ (journal_frames old ++ g.came) ≡ J.first_frame ∷ ((J.entries ++ J.others) ++ G) = F.1 ∙ ap (λ l. l ++ G) J.frames in
+      let head : raw ≡ J.first_frame = head_same raw J.first_frame (journal_frames old ++ g.came) ((J.entries ++ J.others) ++ G) same in
+      let tail : journal_frames old ++ g.came ≡ J.entries ++ (J.others ++ G) = tail_same raw J.first_frame (journal_frames old ++ g.came) ((J.entries ++ J.others) ++ G) same ∙ append_assoc J.entries J.others G in
       let is_st : J.start ≡ st = same_Some J.start st (sym J.reads_start ∙ ap (λ (x : RawMessage). start_in x.body) (sym head) ∙ found) in
-      let count : length (frames_in old) ≡ length J.entries = journal_length old j.entries ∙ sym (J.count ∙ ap (λ (x : Start). x.known_entries) is_st ∙ known) in
-      sym J.commands ∙ ap commands_among (sym (same_front (frames_in old) J.entries g.came (J.others ++ G) count tail).0)
+      let count : length (journal_frames old) ≡ length J.entries = journal_length old j.entries ∙ sym (J.count ∙ ap (λ (x : Start). x.known_entries) is_st ∙ known) in
+      sym J.commands ∙ ap commands_among (sym (same_front (journal_frames old) J.entries g.came (J.others ++ G) count tail).0)
 
   greater : (written_by now.attempt ≡ []) ⊎ HasFreshIds (heard w.version now.attempt) (written_by now.attempt) → AreGreater (ids_in old) (all_carried (written_by now.attempt))
   greater = ⊎_elim
@@ -104,7 +104,7 @@ refused_fresh m w round old report new j d =
       extends = g.extends;
       fresh = record {
         written = subst (λ (r : ReportView). AreGreater (ids_in old) (ids_written r.output)) (sym d.told) tt;
-        stored = none_greater (ids_in old) (commands_among (frames_in g.added)) g.commands;
+        stored = none_greater (ids_in old) (commands_among (journal_frames g.added)) g.commands;
       };
     }
 

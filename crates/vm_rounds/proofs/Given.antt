@@ -12,15 +12,15 @@ use Rattle.journal_values.specs.declared.notification.NotificationId.{Notificati
 use Rattle.journal_values.specs.declared.notification.NotificationId.TheVariants.{CompletionId, SignalId, SignalName}
 use Rattle.journal_values.specs.declared.notification.NotificationResult.{NotificationResult}
 use Rattle.vm_model.specs.Carried.{AreCarried, is_carried}
-use Rattle.vm_attempt.specs.Journals.{commands_among, is_command, notifications_among, notified_by}
+use Rattle.vm_attempt.specs.Journals.{commands_among, is_command_frame, notifications_among, notified_by}
 use Rattle.vm_attempt.proofs.Pieces.{commands_append}
 use Rattle.vm_model.proofs.Once.{still_carried}
 use Rattle.vm_store.specs.declared.completions.Completes.{Completes}
 use Rattle.vm_store.specs.declared.completions.Completes.TheVariants as completes
 use Rattle.vm_store.specs.declared.types.RoundFault.TheVariants as round_fault
-use Rattle.vm_store.specs.Arrivals.{completes_among, is_completed, most, room_fault}
+use Rattle.vm_store.specs.Arrivals.{completes_among, completes_id, most_entries, room_fault}
 use Rattle.vm_store.specs.Completions.{CompleteOnce, HasNoOther, IsOfItsKind, IsOfKind, NoteIsOfItsKind}
-use Rattle.vm_store.specs.Entries.{frame_in, framed_by, frames_in, may_stand, note_in, note_of, notes_in, read_from, said_by, said_in}
+use Rattle.vm_store.specs.Entries.{frame_in, framed_by, journal_frames, may_stand, note_in, note_of, notes_in, read_from, said_by, said_in}
 use Rattle.vm_store.specs.Given.{AreGiven, as_given, framed_fault, given_fault, given_note_fault, may_be_given, noted_fault, place_fault}
 use Rattle.vm_store.specs.Worlds.{IsJournal}
 use Rattle.vm_store.proofs.Framing.{command_no_note, entries_join, frames_append, notes_append, notes_are}
@@ -44,15 +44,15 @@ given_none kind h = ap as_given h
 -- ---- a notification
 
 note_new : (id : NotificationId) (brings : NotificationResult) (journal : List (List ℕ)) → given_note_fault id brings journal ≡ None → HasNoOther id (notes_in journal)
-note_new (CompletionId id) brings journal e = absent id (notes_in journal) (not_done (as_given (completes_among id (said_in journal) None)) (is_completed id (notes_in journal)) brings (room_fault journal) e)
+note_new (CompletionId id) brings journal e = absent id (notes_in journal) (not_done (as_given (completes_among id (said_in journal) None)) (completes_id id (notes_in journal)) brings (room_fault journal) e)
 note_new (SignalId id) brings journal e = tt
 note_new (SignalName name) brings journal e = tt
 
-note_carried : (id : NotificationId) (brings : NotificationResult) (journal : List (List ℕ)) → given_note_fault id brings journal ≡ None → (i : ℕ) → id ≡ CompletionId i → is_carried i (commands_among (frames_in journal)) ≡ true
+note_carried : (id : NotificationId) (brings : NotificationResult) (journal : List (List ℕ)) → given_note_fault id brings journal ≡ None → (i : ℕ) → id ≡ CompletionId i → is_carried i (commands_among (journal_frames journal)) ≡ true
 note_carried (CompletionId id) brings journal e i is =
     let same : id ≡ i = cc in
     let kind = completes_among id (said_in journal) None in
-    subst (λ j. is_carried j (commands_among (frames_in journal)) ≡ true) same (completed_carried id journal (λ none. not_nothing (as_given kind) (is_completed id (notes_in journal)) brings (room_fault journal) e (given_none kind none)))
+    subst (λ j. is_carried j (commands_among (journal_frames journal)) ≡ true) same (completed_carried id journal (λ none. not_nothing (as_given kind) (completes_id id (notes_in journal)) brings (room_fault journal) e (given_none kind none)))
 note_carried (SignalId id) brings journal e i is = absurd (cc)
 note_carried (SignalName name) brings journal e i is = absurd (cc)
 
@@ -65,42 +65,42 @@ kind_given (Some completes.AnyResult) brings h = tt
 note_kind : (id : NotificationId) (brings : NotificationResult) (journal : List (List ℕ)) → given_note_fault id brings journal ≡ None → IsOfItsKind id brings journal
 note_kind (CompletionId id) brings journal e =
     let kind = completes_among id (said_in journal) None in
-    kind_given kind brings (kind_of (as_given kind) (is_completed id (notes_in journal)) brings (room_fault journal) e)
+    kind_given kind brings (kind_of (as_given kind) (completes_id id (notes_in journal)) brings (room_fault journal) e)
 note_kind (SignalId id) brings journal e = tt
 note_kind (SignalName name) brings journal e = tt
 
 -- ---- a command
 
-command_stands : (journal : List (List ℕ)) (x : List ℕ) (raw : RawMessage) → frame_in x ≡ Some raw → is_command raw ≡ true → length journal ≢ most → IsJournal journal → IsJournal (journal ++ x ∷ [])
+command_stands : (journal : List (List ℕ)) (x : List ℕ) (raw : RawMessage) → frame_in x ≡ Some raw → is_command_frame raw ≡ true → length journal ≢ most_entries → IsJournal journal → IsJournal (journal ++ x ∷ [])
 command_stands journal x raw is command room j =
-    let one : commands_among (frames_in (x ∷ [])) ≡ raw ∷ [] = ap (λ o. commands_among (framed_by o [])) is ∙ ap (λ b. cond b (raw ∷ []) []) command in
+    let one : commands_among (journal_frames (x ∷ [])) ≡ raw ∷ [] = ap (λ o. commands_among (framed_by o [])) is ∙ ap (λ b. cond b (raw ∷ []) []) command in
     let none : notes_in (x ∷ []) ≡ [] = notes_are (x ∷ []) ∙ ap (λ o. notifications_among (framed_by o [])) is ∙ ap (λ b. cond b (notified_by (notification_in raw.body) []) []) (command_no_note raw command) in
     let unread : note_in x ≡ None = ap (read_from note_of) is ∙ ap (λ b. cond b (notification_in raw.body) None) (command_no_note raw command) in
     let same_notes : notes_in (journal ++ x ∷ []) ≡ notes_in journal = notes_append journal (x ∷ []) ∙ ap (λ l. notes_in journal ++ l) none ∙ append-nil (notes_in journal) in
-    let more : commands_among (frames_in (journal ++ x ∷ [])) ≡ commands_among (frames_in journal) ++ raw ∷ [] =
-    ap commands_among (frames_append journal (x ∷ [])) ∙ commands_append (frames_in journal) (frames_in (x ∷ [])) ∙ ap (λ l. commands_among (frames_in journal) ++ l) one in
+    let more : commands_among (journal_frames (journal ++ x ∷ [])) ≡ commands_among (journal_frames journal) ++ raw ∷ [] =
+    ap commands_among (frames_append journal (x ∷ [])) ∙ commands_append (journal_frames journal) (journal_frames (x ∷ [])) ∙ ap (λ l. commands_among (journal_frames journal) ++ l) one in
     record {
       entries = entries_join journal (x ∷ []) j.entries (ap may_stand is ∙ ap (λ b. b || is_some (note_of raw)) command, tt);
       short = omega (arith, j.short, room, length-append journal (x ∷ []));
       once = subst CompleteOnce (sym same_notes) j.once;
-      carried = subst (λ (y : List Notification × List RawMessage). AreCarried y.0 y.1) (λ i. (sym same_notes i, sym more i)) (still_carried (notes_in journal) (commands_among (frames_in journal)) (raw ∷ []) j.carried);
+      carried = subst (λ (y : List Notification × List RawMessage). AreCarried y.0 y.1) (λ i. (sym same_notes i, sym more i)) (still_carried (notes_in journal) (commands_among (journal_frames journal)) (raw ∷ []) j.carried);
       kinds = each_more [] journal x j.kinds (subst (λ o. NoteIsOfItsKind o journal) (sym unread) tt);
     }
 
 -- an input is a command
-typed_command : (raw : RawMessage) → (type_number raw.ty == type_number type.InputCommand) ≡ true → is_command raw ≡ true
+typed_command : (raw : RawMessage) → (type_number raw.ty == type_number type.InputCommand) ≡ true → is_command_frame raw ≡ true
 typed_command raw typed = ap (λ n. nat_le 10 n && nat_lt n 30) (eqb-true (type_number raw.ty) 10 typed)
 
 -- what may stand and is no notification is a command
-given_command : (first : Bool) (raw : RawMessage) → may_be_given first raw ≡ true → note_of raw ≡ None → is_command raw ≡ true
+given_command : (first : Bool) (raw : RawMessage) → may_be_given first raw ≡ true → note_of raw ≡ None → is_command_frame raw ≡ true
 given_command true raw may none = by_type (type_number raw.ty == type_number type.InputCommand) refl may
   where
-    by_type : (b : Bool) → (type_number raw.ty == type_number type.InputCommand) ≡ b → is_some (if b then input_in raw.body else None) ≡ true → is_command raw ≡ true
+    by_type : (b : Bool) → (type_number raw.ty == type_number type.InputCommand) ≡ b → is_some (if b then input_in raw.body else None) ≡ true → is_command_frame raw ≡ true
     by_type true typed h = typed_command raw typed
     by_type false typed h = absurd (cc)
-given_command false raw may none = by_command (is_command raw) refl (subst (λ o. (is_some (said_by raw) || is_some o) ≡ true) none may)
+given_command false raw may none = by_command (is_command_frame raw) refl (subst (λ o. (is_some (said_by raw) || is_some o) ≡ true) none may)
   where
-    by_command : (b : Bool) → is_command raw ≡ b → (is_some (cond b (message_in raw.ty raw.body) None) || false) ≡ true → is_command raw ≡ true
+    by_command : (b : Bool) → is_command_frame raw ≡ b → (is_some (cond b (message_in raw.ty raw.body) None) || false) ≡ true → is_command_frame raw ≡ true
     by_command true is h = is
     by_command false is h = absurd (cc)
 
@@ -110,7 +110,7 @@ given_command false raw may none = by_command (is_command raw) refl (subst (λ o
 given_keeps : (journal : List (List ℕ)) (x : List ℕ) → given_fault x journal ≡ None → IsJournal journal → IsJournal (journal ++ x ∷ [])
 given_keeps journal x e j = by_frame (frame_in x) refl e
   where
-    by_note : (raw : RawMessage) → frame_in x ≡ Some raw → length journal ≢ most → may_be_given (length journal == 0) raw ≡ true → (o : Option Notification) → note_of raw ≡ o → noted_fault o journal ≡ None → IsJournal (journal ++ x ∷ [])
+    by_note : (raw : RawMessage) → frame_in x ≡ Some raw → length journal ≢ most_entries → may_be_given (length journal == 0) raw ≡ true → (o : Option Notification) → note_of raw ≡ o → noted_fault o journal ≡ None → IsJournal (journal ++ x ∷ [])
     by_note raw is room may (Some n) note h =
         let reads : note_in x ≡ Some n = ap (read_from note_of) is ∙ note in
         let one = one_note x n reads in

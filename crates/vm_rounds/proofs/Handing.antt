@@ -26,7 +26,7 @@ use Rattle.vm_model.proofs.States.{many_in_order, one_key_list}
 use Rattle.vm_store.specs.declared.types.Round.{Round}
 use Rattle.vm_store.specs.declared.types.Setting.{Setting}
 use Rattle.vm_store.specs.Entries.{said_in}
-use Rattle.vm_store.specs.States.{base_of, is_asked, pairs_in, state_of}
+use Rattle.vm_store.specs.States.{base_of, is_asked, pairs_in, state_after}
 
 -- ---- one key
 
@@ -148,11 +148,11 @@ many_cover (c ∷ cs) g h = many_cover cs (changed c g) (changed_covers c g h)
 pub base_in_order : (w : Setting) → IsInOrder (base_of w).entries
 base_in_order w = pairs_in_order w.base
 
-pub round_true : (w : Setting) (round : Round) (journal : List (List ℕ)) → IsTrueOf (state_of w journal) (handed round.partial round.keys (state_of w journal))
-round_true w round journal = handed_true (state_of w journal) round.partial round.keys (many_in_order (said_in journal) (base_of w) (base_in_order w)) (many_cover (said_in journal) (base_of w) refl)
+pub round_true : (w : Setting) (round : Round) (journal : List (List ℕ)) → IsTrueOf (state_after w journal) (handed round.partial round.keys (state_after w journal))
+round_true w round journal = handed_true (state_after w journal) round.partial round.keys (many_in_order (said_in journal) (base_of w) (base_in_order w)) (many_cover (said_in journal) (base_of w) refl)
 
-pub round_all : (w : Setting) (round : Round) (journal : List (List ℕ)) → round.partial ≡ false → IsAllOf (state_of w journal) (handed round.partial round.keys (state_of w journal))
-round_all w round journal e = subst (λ b. IsAllOf (state_of w journal) (handed b round.keys (state_of w journal))) (sym e) (handed_all (state_of w journal) round.keys (many_in_order (said_in journal) (base_of w) (base_in_order w)) (many_cover (said_in journal) (base_of w) refl))
+pub round_all : (w : Setting) (round : Round) (journal : List (List ℕ)) → round.partial ≡ false → IsAllOf (state_after w journal) (handed round.partial round.keys (state_after w journal))
+round_all w round journal e = subst (λ b. IsAllOf (state_after w journal) (handed b round.keys (state_after w journal))) (sym e) (handed_all (state_after w journal) round.keys (many_in_order (said_in journal) (base_of w) (base_in_order w)) (many_cover (said_in journal) (base_of w) refl))
 
 -- the entries that a Start's pairs are read as
 pub entries_found : (pairs : List (List ℕ × List ℕ)) (es : List (List ℕ × Option (List ℕ))) → entries_in pairs ≡ Some es → es ≡ state_entries pairs

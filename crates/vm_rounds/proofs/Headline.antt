@@ -14,9 +14,9 @@ use Rattle.vm_attempt.specs.Journals.{commands_among, setup_for}
 use Rattle.vm_parts.specs.declared.context.StateMap.{StateMap}
 use Rattle.vm_attempt.specs.Told.{AnswersAreTold, IsKept, written_by}
 use Rattle.vm_store.specs.declared.types.Setting.{Setting}
-use Rattle.vm_rounds.specs.Courses.{delivered, given_by}
-use Rattle.vm_store.specs.Entries.{entries_of}
-use Rattle.vm_rounds.specs.Rounds.{EndsTold, Now, Replays}
+use Rattle.vm_rounds.specs.Courses.{delivered, start_handed}
+use Rattle.vm_store.specs.Entries.{journal_entries}
+use Rattle.vm_rounds.specs.Rounds.{EndsTold, Now, ReplaysAndQueues}
 use Rattle.vm_store.specs.Worlds.{IsJournal, fixed_in}
 use Rattle.vm_rounds.proofs.Coursing.{Along, behind_commands, behind_first, delivered_arrived, stored_among}
 use Rattle.vm_store.proofs.Framing.{AreFrames, entries_append}
@@ -35,9 +35,9 @@ pub record IsHonest (s : Setup) (m : Meaning) (before : List Entry) (a : Attempt
   pub told : IsToldOn s m before a
   pub honest : HonestRound before a.course after
 
-module _ (m : Meaning) (w : Setting) (begin_bytes : List ℕ) (raw : RawMessage) (st : Start) (old : List (List ℕ)) (j : IsJournal old) (framed : AreFrames begin_bytes (raw ∷ [])) (found : start_in raw.body ≡ Some st) (known : st.known_entries ≡ length old) (s : Setup) (same_setup : setup_for (fixed_in m w) st ≡ s) (base : StateMap) (past : History s m base (entries_of old)) (r : Replays w.options) (now : Now) (course : List Entry) (a : Along m w.version begin_bytes raw old j framed course now) (kept : IsKept (fixed_in m w) now.attempt) where
+module _ (m : Meaning) (w : Setting) (begin_bytes : List ℕ) (raw : RawMessage) (st : Start) (old : List (List ℕ)) (j : IsJournal old) (framed : AreFrames begin_bytes (raw ∷ [])) (found : start_in raw.body ≡ Some st) (known : st.known_entries ≡ length old) (s : Setup) (same_setup : setup_for (fixed_in m w) st ≡ s) (base : StateMap) (past : History s m base (journal_entries old)) (r : ReplaysAndQueues w.options) (now : Now) (course : List Entry) (a : Along m w.version begin_bytes raw old j framed course now) (kept : IsKept (fixed_in m w) now.attempt) where
   abbrev E : List Entry
-  E = entries_of old
+  E = journal_entries old
 
   abbrev g : Going w.version begin_bytes old now
   g = a.going
@@ -46,12 +46,12 @@ module _ (m : Meaning) (w : Setting) (begin_bytes : List ℕ) (raw : RawMessage)
   arrived : IsPrefix (notifications_in course) (notifications_in (behind_first g))
   arrived = subst (λ l. IsPrefix l (notifications_in (behind_first g))) (sym a.came) (delivered_arrived m w.version begin_bytes raw old j framed now g)
 
-  honest : HonestRound E course (entries_of now.journal)
+  honest : HonestRound E course (journal_entries now.journal)
   honest =
       let s = stored_among w.version begin_bytes old now g in
       record {
         added = behind_first g;
-        extends = ap entries_of g.extends ∙ entries_append old g.added;
+        extends = ap journal_entries g.extends ∙ entries_append old g.added;
         undelivered = arrived.0;
         notifications = arrived.1;
         stored = length (commands_among g.scanned);
@@ -61,14 +61,14 @@ module _ (m : Meaning) (w : Setting) (begin_bytes : List ℕ) (raw : RawMessage)
 
   -- the attempt, with its answers
   abbrev attempted : Attempted
-  attempted = record { given = given_by st; course = course; answers = now.attempt.answers }
+  attempted = record { given = start_handed st; course = course; answers = now.attempt.answers }
 
   -- the first point of its run, where so much was delivered
   abbrev from : List Notification → Point
   from ns = first_point s past.input (notifications_in E ++ ns) past.rest
 
   -- the journal tells it by so many moves
-  told_by_moves : (moves : ℕ) (at : Point) → Made s m (Handed (given_by st)) moves (from (delivered w.version old now.attempt)) (written_by now.attempt) at → (now.attempt.answers ≡ []) ⊎ (now.attempt.answers ≡ at.answers) → IsHonest s m E attempted (entries_of now.journal)
+  told_by_moves : (moves : ℕ) (at : Point) → Made s m (Handed (start_handed st)) moves (from (delivered w.version old now.attempt)) (written_by now.attempt) at → (now.attempt.answers ≡ []) ⊎ (now.attempt.answers ≡ at.answers) → IsHonest s m E attempted (journal_entries now.journal)
   told_by_moves moves at made answered =
       record {
         told = record {
@@ -79,13 +79,13 @@ module _ (m : Meaning) (w : Setting) (begin_bytes : List ℕ) (raw : RawMessage)
           begins = past.begins;
           moves = moves;
           at = at;
-          made = subst (λ (x : List Notification × List RawMessage). Made s m (Handed (given_by st)) moves (from x.0) x.1 at) (λ i. (sym a.came i, sym a.written i)) made;
+          made = subst (λ (x : List Notification × List RawMessage). Made s m (Handed (start_handed st)) moves (from x.0) x.1 at) (λ i. (sym a.came i, sym a.written i)) made;
           answered = answered;
         };
         honest = honest;
       }
 
-  pub is_honest : EndsTold (fixed_in m w) now.attempt → IsHonest s m E attempted (entries_of now.journal)
+  pub is_honest : EndsTold (fixed_in m w) now.attempt → IsHonest s m E attempted (journal_entries now.journal)
   is_honest end =
       ⊎_elim
       (λ (none : now.attempt.answers ≡ []). told_by_moves 0 (from (delivered w.version old now.attempt)) (end.begins none, refl) (inl none))

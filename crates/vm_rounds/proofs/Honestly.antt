@@ -12,7 +12,7 @@ use Rattle.invocation_vm.specs.Frames.{Garbage, Rest, Tail, frames_of, joined}
 use Rattle.invocation_vm.proofs.Cuts.{frames_of-append}
 use Rattle.vm_asks.specs.Carried.{all_carried}
 use Rattle.vm_parts.specs.declared.context.StateMap.{StateMap}
-use Rattle.vm_parts.specs.Entries.{entries_of as state_entries}
+use Rattle.vm_parts.specs.Entries.{journal_entries as state_entries}
 use Rattle.vm_machine.specs.Inputs.{entries_in}
 use Rattle.vm_model.specs.Calls.{Meaning, Setup}
 use Rattle.vm_model.specs.Carried.{AreCarried, AreOfTheirKind, is_for_invocation, names_invocation}
@@ -26,18 +26,18 @@ use Rattle.vm_model.proofs.Runs.{after_later, made_later}
 use Rattle.vm_attempt.specs.Arrivals.{AllFound, arriving}
 use Rattle.vm_attempt.specs.Blames.{IsHonest}
 use Rattle.vm_attempt.specs.Journals.{commands_among, setup_for}
-use Rattle.vm_attempt.specs.Told.{BeforeInput, IsKept, Runs, Wrote, frames_fed}
+use Rattle.vm_attempt.specs.Told.{BeforeInput, IsKept, HandlerRuns, Wrote, frames_fed}
 use Rattle.vm_attempt.proofs.Pieces.{commands_append}
 use Rattle.vm_attempt.proofs.Replayed.{commands_same, notes_same}
 use Rattle.vm_steps.specs.Heard.{acknowledged_from, proposals_among}
 use Rattle.vm_steps.specs.Record.{all_heard, heard}
 use Rattle.vm_store.specs.declared.types.Setting.{Setting}
-use Rattle.vm_store.specs.Entries.{AreEntries, entries_of, frame_in, framed_by, frames_in, may_stand, notes_in}
+use Rattle.vm_store.specs.Entries.{AreEntries, journal_entries, frame_in, framed_by, journal_frames, may_stand, notes_in}
 use Rattle.vm_store.specs.States.{HaveTextKeys}
 use Rattle.vm_store.specs.Worlds.{IsJournal, fixed_in}
 use Rattle.vm_store.proofs.Framing.{AreFrames, frames_append, journal_framed, journal_length, join, notes_append, notes_are}
-use Rattle.vm_rounds.specs.Courses.{given_by}
-use Rattle.vm_rounds.specs.Rounds.{Now, Replays}
+use Rattle.vm_rounds.specs.Courses.{start_handed}
+use Rattle.vm_rounds.specs.Rounds.{Now, ReplaysAndQueues}
 use Rattle.vm_rounds.proofs.Completing.{carried_behind}
 use Rattle.vm_rounds.proofs.Fed.{FedFrames, IsEntryFrame, fed_honestly}
 use Rattle.vm_rounds.proofs.Going.{all_fed}
@@ -64,11 +64,11 @@ begins : (bytes unfed : List ℕ) (raws : List RawMessage) → AreFrames (bytes 
 begins bytes unfed raws is = begins_by (frames_of bytes).0 (frames_of bytes).1 unfed raws (sym (frames_of-append bytes unfed) ∙ is)
 
 -- the frames of a journal are those of entries
-entry_frames : (journal : List (List ℕ)) → AreEntries journal → AllByRecursion IsEntryFrame (frames_in journal)
+entry_frames : (journal : List (List ℕ)) → AreEntries journal → AllByRecursion IsEntryFrame (journal_frames journal)
 entry_frames [] all = tt
 entry_frames (x ∷ xs) all = by_frame (frame_in x) all.0 (entry_frames xs all.1)
   where
-    by_frame : (o : Option RawMessage) → may_stand o ≡ true → AllByRecursion IsEntryFrame (frames_in xs) → AllByRecursion IsEntryFrame (framed_by o (frames_in xs))
+    by_frame : (o : Option RawMessage) → may_stand o ≡ true → AllByRecursion IsEntryFrame (journal_frames xs) → AllByRecursion IsEntryFrame (framed_by o (journal_frames xs))
     by_frame None may more = absurd (cc)
     by_frame (Some raw) may more = (may, more)
 
@@ -95,9 +95,9 @@ some_known : (n : ℕ) (xs : List RawMessage) (c : RawMessage) (cs : List RawMes
 some_known n [] c cs is h = absurd (cc)
 some_known n (x ∷ xs) c cs is h = ap (λ k. k == 0) is ∙ not_none (length xs)
 
-module _ (m : Meaning) (w : Setting) (begin_bytes : List ℕ) (raw : RawMessage) (st : Start) (old : List (List ℕ)) (j : IsJournal old) (framed : AreFrames begin_bytes (raw ∷ [])) (found : start_in raw.body ≡ Some st) (known : st.known_entries ≡ length old) (s : Setup) (same_setup : setup_for (fixed_in m w) st ≡ s) (base : StateMap) (past : History s m base (entries_of old)) (r : Replays w.options) where
+module _ (m : Meaning) (w : Setting) (begin_bytes : List ℕ) (raw : RawMessage) (st : Start) (old : List (List ℕ)) (j : IsJournal old) (framed : AreFrames begin_bytes (raw ∷ [])) (found : start_in raw.body ≡ Some st) (known : st.known_entries ≡ length old) (s : Setup) (same_setup : setup_for (fixed_in m w) st ≡ s) (base : StateMap) (past : History s m base (journal_entries old)) (r : ReplaysAndQueues w.options) where
   abbrev given : StateMap
-  given = given_by st
+  given = start_handed st
 
   -- the first point of the run with all that the journal has got
   abbrev from_all : Now → Point
@@ -106,10 +106,10 @@ module _ (m : Meaning) (w : Setting) (begin_bytes : List ℕ) (raw : RawMessage)
   -- ---- the commands
 
   -- the journal's commands are those from before and the stored ones
-  all_commands : (now : Now) (g : Going w.version begin_bytes old now) → commands_among (frames_in now.journal) ≡ past.first ∷ (past.rest ++ commands_among g.scanned)
+  all_commands : (now : Now) (g : Going w.version begin_bytes old now) → commands_among (journal_frames now.journal) ≡ past.first ∷ (past.rest ++ commands_among g.scanned)
   all_commands now g =
-      ap (λ l. commands_among (frames_in l)) g.extends ∙ ap commands_among (frames_append old g.added) ∙ commands_append (frames_in old) (frames_in g.added)
-      ∙ (λ i. (sym (commands_same (frames_in old)) ∙ past.begins) i ++ g.commands i)
+      ap (λ l. commands_among (journal_frames l)) g.extends ∙ ap commands_among (frames_append old g.added) ∙ commands_append (journal_frames old) (journal_frames g.added)
+      ∙ (λ i. (sym (commands_same (journal_frames old)) ∙ past.begins) i ++ g.commands i)
 
   carry_all : (now : Now) (g : Going w.version begin_bytes old now) (written : List RawMessage) → Wrote now.attempt.taken now.attempt.vm.machine.output written → AreCarried (notes_in now.journal) (past.rest ++ written)
   carry_all now g written wrote =
@@ -132,7 +132,7 @@ module _ (m : Meaning) (w : Setting) (begin_bytes : List ℕ) (raw : RawMessage)
       let n = notes_split m w begin_bytes raw st old j framed found known s same_setup base past r now g in
       ⊎_elim
       (λ (b : BeforeInput (fixed_in m w) (heard w.version now.attempt) now.attempt.answers now.attempt.waiting now.attempt.taken now.attempt.vm). record { moves = 0; written = []; at = from_all now; made = (refl, refl); wrote = b.wrote })
-      (λ (b : Runs (fixed_in m w) (heard w.version now.attempt) now.attempt.answers now.attempt.waiting now.attempt.taken now.attempt.vm).
+      (λ (b : HandlerRuns (fixed_in m w) (heard w.version now.attempt) now.attempt.answers now.attempt.waiting now.attempt.taken now.attempt.vm).
       record {
         moves = b.moves;
         written = b.written;
@@ -143,13 +143,13 @@ module _ (m : Meaning) (w : Setting) (begin_bytes : List ℕ) (raw : RawMessage)
       })
 
   -- the history uses all recorded commands, with all that the journal has got
-  used_all : (now : Now) (g : Going w.version begin_bytes old now) → (more : List Notification) × (notes_in now.journal ≡ notifications_in (entries_of old) ++ more)
-  used_all now g = (notes_in g.added, ap notes_in g.extends ∙ notes_append old g.added ∙ ap (λ l. l ++ notes_in g.added) (notes_are old ∙ sym (notes_same (frames_in old))))
+  used_all : (now : Now) (g : Going w.version begin_bytes old now) → (more : List Notification) × (notes_in now.journal ≡ notifications_in (journal_entries old) ++ more)
+  used_all now g = (notes_in g.added, ap notes_in g.extends ∙ notes_append old g.added ∙ ap (λ l. l ++ notes_in g.added) (notes_are old ∙ sym (notes_same (journal_frames old))))
 
   once_all : (now : Now) (g : Going w.version begin_bytes old now) → Ran now → (n : ℕ) (made : List RawMessage) (p : Point) → Made s m (Handed given) n (from_all now) made p → HasNoTwo p
   once_all now g x n made p run =
       let u = used_all now g in
-      let told = after_later s m u.0 past.told.0 (first_point s past.input (notifications_in (entries_of old)) past.rest) past.at past.told.1 in
+      let told = after_later s m u.0 past.told.0 (first_point s past.input (notifications_in (journal_entries old)) past.rest) past.at past.told.1 in
       let from = λ (ns : List Notification). first_point s past.input ns past.rest in
       run_once s m given past.input (notes_in now.journal) past.rest past.told.0 (later u.0 past.at) (subst (λ ns. after s m past.told.0 (from ns) ≡ Some (later u.0 past.at)) (sym u.1) told) past.uses_all (come_once (notes_in now.journal) g.journal.once) x.moves x.written x.at x.made (carry_all now g x.written x.wrote) n made p run
 
@@ -161,7 +161,7 @@ module _ (m : Meaning) (w : Setting) (begin_bytes : List ℕ) (raw : RawMessage)
       let t = attempt_is_told s m given past.input n (notes_in now.journal) past.rest made p run in
       with_input past.first past.input (past.rest ++ made) past.reads
       (⊎_elim
-      (λ (none : made ≡ []). subst (λ l. Rises 1 (all_carried (past.rest ++ l))) (sym none) (subst (λ l. Rises 1 (all_carried l)) (sym (append-nil past.rest)) (told_rises s m past.told.0 past.input (notifications_in (entries_of old)) past.rest past.at past.told.1 past.uses_all)))
+      (λ (none : made ≡ []). subst (λ l. Rises 1 (all_carried (past.rest ++ l))) (sym none) (subst (λ l. Rises 1 (all_carried l)) (sym (append-nil past.rest)) (told_rises s m past.told.0 past.input (notifications_in (journal_entries old)) past.rest past.at past.told.1 past.uses_all)))
       (λ (used : p.left ≡ []). told_rises s m t.0.0 past.input (notes_in now.journal) (past.rest ++ made) p t.0.1 used)
       t.1)
 
@@ -185,20 +185,20 @@ module _ (m : Meaning) (w : Setting) (begin_bytes : List ℕ) (raw : RawMessage)
 
   -- ---- what was fed
 
-  all_begins : (now : Now) (g : Going w.version begin_bytes old now) → Begins (frames_fed (all_heard w.version now.attempt)) (frames_of (all_fed now.attempt)).1 (raw ∷ (frames_in old ++ g.came))
+  all_begins : (now : Now) (g : Going w.version begin_bytes old now) → Begins (frames_fed (all_heard w.version now.attempt)) (frames_of (all_fed now.attempt)).1 (raw ∷ (journal_frames old ++ g.came))
   all_begins now g =
       let F = all_fed now.attempt in
       let unfed = g.all_front.0 ++ now.waiting in
       let bytes : F ++ unfed ≡ begin_bytes ++ (concat old ++ g.bytes) = sym (append_assoc F g.all_front.0 now.waiting) ∙ ap (λ l. l ++ now.waiting) (sym g.all_front.1) ∙ g.all in
-      begins F unfed (raw ∷ (frames_in old ++ g.came))
-      (ap frames_of bytes ∙ join begin_bytes (concat old ++ g.bytes) (raw ∷ []) (frames_in old ++ g.came) framed (join (concat old) g.bytes (frames_in old) g.came (journal_framed old j.entries) g.framed))
+      begins F unfed (raw ∷ (journal_frames old ++ g.came))
+      (ap frames_of bytes ∙ join begin_bytes (concat old ++ g.bytes) (raw ∷ []) (journal_frames old ++ g.came) framed (join (concat old) g.bytes (journal_frames old) g.came (journal_framed old j.entries) g.framed))
 
-  fed_frames : (type_number raw.ty == 1) ≡ true → entries_in st.state ≡ Some (state_entries st.state) → (now : Now) (g : Going w.version begin_bytes old now) → FedFrames (fixed_in m w) (all_heard w.version now.attempt) st (frames_in old) g.came s
+  fed_frames : (type_number raw.ty == 1) ≡ true → entries_in st.state ≡ Some (state_entries st.state) → (now : Now) (g : Going w.version begin_bytes old now) → FedFrames (fixed_in m w) (all_heard w.version now.attempt) st (journal_frames old) g.came s
   fed_frames is_start state now g =
       let b = all_begins now g in
       let stored = proposals_among g.scanned in
       let still = brings_still w.version stored g.proposed.0 g.came (notes_in g.added) g.brings in
-      let long : st.known_entries ≡ length (frames_in old) = known ∙ sym (journal_length old j.entries) in
+      let long : st.known_entries ≡ length (journal_frames old) = known ∙ sym (journal_length old j.entries) in
       record {
         same_setup = same_setup;
         first = raw;
@@ -206,7 +206,7 @@ module _ (m : Meaning) (w : Setting) (begin_bytes : List ℕ) (raw : RawMessage)
         reads_start = found;
         state = state_entries st.state;
         reads_state = state;
-        some = some_known st.known_entries (frames_in old) past.first past.rest long (sym (commands_same (frames_in old)) ∙ past.begins);
+        some = some_known st.known_entries (journal_frames old) past.first past.rest long (sym (commands_same (journal_frames old)) ∙ past.begins);
         known = long;
         others = b.others;
         all = b.all;
@@ -219,11 +219,11 @@ module _ (m : Meaning) (w : Setting) (begin_bytes : List ℕ) (raw : RawMessage)
       }
 
   -- all that is to come to the attempt is what the journal has got
-  notes_come : (now : Now) (g : Going w.version begin_bytes old now) → notifications_in (entries_of old) ++ arriving (acknowledged_from w.version now.attempt.proposed) g.came ≡ notes_in now.journal
+  notes_come : (now : Now) (g : Going w.version begin_bytes old now) → notifications_in (journal_entries old) ++ arriving (acknowledged_from w.version now.attempt.proposed) g.came ≡ notes_in now.journal
   unfolding used_all
   notes_come now g =
       let still = brings_still w.version (proposals_among g.scanned) g.proposed.0 g.came (notes_in g.added) g.brings in
-      ap (λ l. notifications_in (entries_of old) ++ l) (ap (λ ps. arriving (acknowledged_from w.version ps) g.came) g.proposed.1 ∙ still.1) ∙ sym (used_all now g).1
+      ap (λ l. notifications_in (journal_entries old) ++ l) (ap (λ ps. arriving (acknowledged_from w.version ps) g.came) g.proposed.1 ∙ still.1) ∙ sym (used_all now g).1
 
   -- what the attempt was fed is an honest attempt's
   pub honest_now : (type_number raw.ty == 1) ≡ true → HaveTextKeys st.state → (now : Now) → Going w.version begin_bytes old now → IsKept (fixed_in m w) now.attempt → IsHonest (fixed_in m w) (all_heard w.version now.attempt)
@@ -232,7 +232,7 @@ module _ (m : Meaning) (w : Setting) (begin_bytes : List ℕ) (raw : RawMessage)
       let state : entries_in st.state ≡ Some (state_entries st.state) = ap (λ b. if b then Some (state_entries st.state) else None) texts in
       let x = ran now g kept in
       let came = notes_come now g in
-      let here = λ (n : ℕ) (made : List RawMessage) (p : Point) (run : Made s m (Handed given) n (first_point s past.input (notifications_in (entries_of old) ++ arriving (acknowledged_from w.version now.attempt.proposed) g.came) past.rest) made p). subst (λ ns. Made s m (Handed given) n (first_point s past.input ns past.rest) made p) came run in
-      fed_honestly (fixed_in m w) (all_heard w.version now.attempt) st (frames_in old) g.came s (fed_frames is_start state now g) r
+      let here = λ (n : ℕ) (made : List RawMessage) (p : Point) (run : Made s m (Handed given) n (first_point s past.input (notifications_in (journal_entries old) ++ arriving (acknowledged_from w.version now.attempt.proposed) g.came) past.rest) made p). subst (λ ns. Made s m (Handed given) n (first_point s past.input ns past.rest) made p) came run in
+      fed_honestly (fixed_in m w) (all_heard w.version now.attempt) st (journal_frames old) g.came s (fed_frames is_start state now g) r
       (λ n made p run. once_all now g x n made p (here n made p run))
       (λ n made p run. subst (λ ns. AreOfTheirKind ns (past.rest ++ made)) (sym came) (kinds_all now g x n made p (here n made p run)))

@@ -14,7 +14,7 @@ use Rattle.vm_parts.specs.declared.run_state.KeptProposal.{KeptProposal}
 use Rattle.vm_model.specs.Calls.{Meaning}
 use Rattle.vm_model.specs.Histories.{IsPrefix}
 use Rattle.vm_steps.specs.Heard.{proposals_among, proposals_in}
-use Rattle.vm_attempt.specs.Journals.{commands_among, is_command, is_notification, notified_by}
+use Rattle.vm_attempt.specs.Journals.{commands_among, is_command_frame, is_notification, notified_by}
 use Rattle.vm_steps.specs.Record.{Record, bytes_written}
 use Rattle.vm_steps.specs.Stepping.{taken_from}
 use Rattle.vm_attempt.specs.Told.{bytes_in}
@@ -23,7 +23,7 @@ use Rattle.vm_attempt.proofs.Quiet.{proposals_append}
 use Rattle.vm_store.specs.declared.types.Event.{Event}
 use Rattle.vm_store.specs.declared.types.Event.TheVariants as event
 use Rattle.vm_store.specs.Arrivals.{arrival_fault}
-use Rattle.vm_store.specs.Entries.{AreEntries, frame_in, framed_by, frames_in, may_stand, note_in, note_of, notes_in, read_from}
+use Rattle.vm_store.specs.Entries.{AreEntries, frame_in, framed_by, journal_frames, may_stand, note_in, note_of, notes_in, read_from}
 use Rattle.vm_rounds.specs.Rounds.{ArrivalsDo, Happen, Happens, Now, Pieces}
 use Rattle.vm_store.specs.Storing.{Stores, stored_as, waits_behind, written_among}
 use Rattle.vm_store.specs.Worlds.{IsJournal}
@@ -56,7 +56,7 @@ note_frame x n e = by_frame (frame_in x) refl e
 -- An arrival is an entry without a command.
 pub record OneNote (x : List ℕ) : Type 0 where
   pub stands : AreEntries (x ∷ [])
-  pub none : commands_among (frames_in (x ∷ [])) ≡ []
+  pub none : commands_among (journal_frames (x ∷ [])) ≡ []
 
 pub one_note : (x : List ℕ) (n : Notification) → note_in x ≡ Some n → OneNote x
 one_note x n e =
@@ -71,7 +71,7 @@ one_note x n e =
     by_test false o h = ap is_some h
 
     may : (raw : RawMessage) → note_of raw ≡ Some n → may_stand (Some raw) ≡ true
-    may raw h = by_test (is_command raw) (note_of raw) h
+    may raw h = by_test (is_command_frame raw) (note_of raw) h
 
 -- a journal and an arrival without a fault
 pub arrival_keeps : (journal : List (List ℕ)) (x : List ℕ) → arrival_fault x journal ≡ None → IsJournal journal → IsJournal (journal ++ x ∷ [])
@@ -103,7 +103,7 @@ pub record Going (version : Version) (start : List ℕ) (first : List (List ℕ)
   pub proposed : IsPrefix (proposals_among scanned) now.attempt.proposed
   pub added : List (List ℕ)
   pub extends : now.journal ≡ first ++ added
-  pub commands : commands_among (frames_in added) ≡ commands_among scanned
+  pub commands : commands_among (journal_frames added) ≡ commands_among scanned
   pub brings : Brings version (proposals_among scanned) came (notes_in added)
   pub taken : AllByRecursion IsTaken came
   pub journal : IsJournal now.journal
@@ -216,7 +216,7 @@ module _ (m : Meaning) (version : Version) (start : List ℕ) (first : List (Lis
         proposed = g.proposed;
         added = g.added ++ x ∷ [];
         extends = ap (λ l. l ++ x ∷ []) g.extends ∙ append_assoc first g.added (x ∷ []);
-        commands = ap commands_among (frames_append g.added (x ∷ [])) ∙ commands_append (frames_in g.added) (frames_in (x ∷ [])) ∙ ap (λ l. commands_among (frames_in g.added) ++ l) one.none ∙ append-nil (commands_among (frames_in g.added)) ∙ g.commands;
+        commands = ap commands_among (frames_append g.added (x ∷ [])) ∙ commands_append (journal_frames g.added) (journal_frames (x ∷ [])) ∙ ap (λ l. commands_among (journal_frames g.added) ++ l) one.none ∙ append-nil (commands_among (journal_frames g.added)) ∙ g.commands;
         brings = subst (Brings version (proposals_among g.scanned) (g.came ++ f.raw ∷ [])) (sym notes) (brings_note version (proposals_among g.scanned) g.came (notes_in g.added) f.raw new.note f.kind f.reads g.brings);
         taken = taken_append g.came (f.raw ∷ []) g.taken (inl (f.kind, ap is_some f.reads), tt);
         journal = arrival_keeps now.journal x e g.journal;
@@ -251,7 +251,7 @@ module _ (m : Meaning) (version : Version) (start : List ℕ) (first : List (Lis
         proposed = (proposals_among (frames_of unstored).0, proposed ∙ ap (λ b. proposals_in (b ++ more)) g.output_is ∙ ap (λ (p : List RawMessage × Tail). proposals_among p.0) frames ∙ proposals_append (g.scanned ++ s.seen) (frames_of unstored).0);
         added = g.added ++ map stored_as W;
         extends = s.stored ∙ ap (λ l. l ++ map stored_as W) g.extends ∙ append_assoc first g.added (map stored_as W);
-        commands = ap commands_among (frames_append g.added (map stored_as W)) ∙ commands_append (frames_in g.added) (frames_in (map stored_as W)) ∙ (λ i. g.commands i ++ (enter.0 ∙ commands_are s.seen) i) ∙ sym (commands_append g.scanned s.seen);
+        commands = ap commands_among (frames_append g.added (map stored_as W)) ∙ commands_append (journal_frames g.added) (journal_frames (map stored_as W)) ∙ (λ i. g.commands i ++ (enter.0 ∙ commands_are s.seen) i) ∙ sym (commands_append g.scanned s.seen);
         brings = subst (λ (x : List KeptProposal × List Notification). Brings version x.0 (g.came ++ answers version ps) x.1) (λ i. (sym stored i, sym notes i)) (brings_answers version (proposals_among g.scanned) ps g.came (notes_in g.added) (proposals_answered version W s.readable) g.brings);
         taken = taken_append g.came (answers version ps) g.taken (answers_taken version ps (proposals_answered version W s.readable));
         journal = subst IsJournal (sym s.stored) (items_keep version W now.journal items s.faultless g.journal);
@@ -276,7 +276,7 @@ module _ (m : Meaning) (version : Version) (start : List ℕ) (first : List (Lis
 pub record Arrived (old new : List (List ℕ)) : Type 0 where
   pub added : List (List ℕ)
   pub extends : new ≡ old ++ added
-  pub commands : commands_among (frames_in added) ≡ []
+  pub commands : commands_among (journal_frames added) ≡ []
   pub journal : IsJournal new
 
 pub arrivals_keep : (es : List Event) (old new : List (List ℕ)) → IsJournal old → ArrivalsDo es old new → Arrived old new
@@ -287,7 +287,7 @@ arrivals_keep (event.Arrive x ∷ es) old new j d =
     record {
       added = x ∷ h.added;
       extends = h.extends ∙ append_assoc old (x ∷ []) h.added;
-      commands = ap commands_among (frames_append (x ∷ []) h.added) ∙ commands_append (frames_in (x ∷ [])) (frames_in h.added) ∙ (λ i. (one_note x note.note note.reads).none i ++ h.commands i);
+      commands = ap commands_among (frames_append (x ∷ []) h.added) ∙ commands_append (journal_frames (x ∷ [])) (journal_frames h.added) ∙ (λ i. (one_note x note.note note.reads).none i ++ h.commands i);
       journal = h.journal;
     }
 arrivals_keep (event.Piece n ∷ es) old new j d = arrivals_keep es old new j d

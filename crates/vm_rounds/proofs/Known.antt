@@ -44,7 +44,7 @@ use Rattle.vm_model.proofs.Results.{same_is}
 use Rattle.vm_model.proofs.Runs.{and_then_some, none_some}
 use Rattle.vm_model.proofs.Sums.{told_sums}
 use Rattle.vm_model.proofs.Uses.{arrivals_used, handles_stand}
-use Rattle.vm_store.specs.Arrivals.{is_completed, is_of}
+use Rattle.vm_store.specs.Arrivals.{completes_id, is_of}
 
 -- ---- what was taken
 
@@ -361,13 +361,13 @@ of_same i (CompletionId other) = refl
 of_same i (SignalId other) = refl
 of_same i (SignalName name) = refl
 
-completed_has : (i : ℕ) (ns : List Notification) → is_completed i ns ≡ has_result_among (CompletionId i) ns
+completed_has : (i : ℕ) (ns : List Notification) → completes_id i ns ≡ has_result_among (CompletionId i) ns
 completed_has i [] = refl
 completed_has i (n ∷ ns) = λ k. of_same i n.id k || completed_has i ns k
 
 -- Where an id isn't given yet and no result of it is known, none has come.
 pub unknown_open : (s : Setup) (m : Meaning) (n : ℕ) (input : InputCommand) (ns : List Notification) (cs : List RawMessage) (q : Point) → after s m n (start s input ns cs) ≡ Some q
-    → (i : ℕ) → q.derived.counters.completion ≤ i → is_known (CompletionId i) (arrived_at s q) ≡ false → is_completed i ns ≡ false
+    → (i : ℕ) → q.derived.counters.completion ≤ i → is_known (CompletionId i) (arrived_at s q) ≡ false → completes_id i ns ≡ false
 unknown_open s m n input ns cs q e i late unknown =
     completed_has i ns ∙ ap (has_result_among (CompletionId i)) (arrivals_used s m n input ns cs q e) ∙ has_append (CompletionId i) (arrivals_in q.derived.usage) q.queue
     ∙ by_tests (has_result_among (CompletionId i) (arrivals_in q.derived.usage)) (has_result_among (CompletionId i) q.queue) (has_result (CompletionId i) (ready_in s q.derived)) unknown (came_ready s.options.signal_delivery i q.derived.usage (untaken s m input ns cs i n q e late))

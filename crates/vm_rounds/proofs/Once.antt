@@ -17,18 +17,18 @@ use Rattle.vm_model.specs.Carried.{AreCarried, ComeOnce, is_among, is_carried, r
 use Rattle.vm_model.specs.Journal.{messages_in, read_before}
 use Rattle.vm_model.proofs.Results.{results_behind, same_is}
 use Rattle.vm_attempt.specs.Journals.{commands_among}
-use Rattle.vm_store.specs.Completions.{CompleteOnce, EachOfItsKind, HasNoOther, IsAbsent, IsOfItsKind, IsOfKind, NoteIsOfItsKind}
+use Rattle.vm_store.specs.Completions.{CompleteOnce, EachOfItsKind, HasNoOther, CompletesNone, IsOfItsKind, IsOfKind, NoteIsOfItsKind}
 use Rattle.vm_store.specs.declared.completions.Completes.{Completes}
 use Rattle.vm_store.specs.declared.completions.Completes.TheVariants as completes
 use Rattle.vm_store.specs.declared.types.RoundFault.{RoundFault}
 use Rattle.vm_store.specs.declared.types.RoundFault.TheVariants as round_fault
-use Rattle.vm_store.specs.Arrivals.{arrival_fault, completes_among, completes_by, completion_fault, if_same, is_completed, is_invocation_id, is_of, most, note_fault, read_fault, room_fault}
-use Rattle.vm_store.specs.Entries.{frames_in, note_in, notes_in, said_in}
+use Rattle.vm_store.specs.Arrivals.{arrival_fault, completes_among, completes_by, completion_fault, if_same, completes_id, is_invocation_id, is_of, most_entries, note_fault, read_fault, room_fault}
+use Rattle.vm_store.specs.Entries.{journal_frames, note_in, notes_in, said_in}
 use Rattle.vm_store.proofs.Framing.{said_are}
 
 -- ---- one notification more
 
-absent_more : (id : NotificationId) (ns : List Notification) (n : Notification) → IsAbsent id ns → (n.id ≡ id → ⊥) → IsAbsent id (ns ++ n ∷ [])
+absent_more : (id : NotificationId) (ns : List Notification) (n : Notification) → CompletesNone id ns → (n.id ≡ id → ⊥) → CompletesNone id (ns ++ n ∷ [])
 absent_more id [] n h d = (d, tt)
 absent_more id (m ∷ ns) n h d = (h.0, absent_more id ns n h.1 d)
 
@@ -103,12 +103,12 @@ completes_none id (c ∷ cs) before e = by_read (message_in c.ty c.body) e (comp
         ap (completes_among id (messages_in cs)) (completes_not id m before x.0) ∙ ih x.1
 
 -- what a stored command completes, it carries
-pub completed_carried : (id : ℕ) (journal : List (List ℕ)) → (completes_among id (said_in journal) None ≡ None → ⊥) → is_carried id (commands_among (frames_in journal)) ≡ true
-completed_carried id journal some = by_test (is_carried id (commands_among (frames_in journal))) refl
+pub completed_carried : (id : ℕ) (journal : List (List ℕ)) → (completes_among id (said_in journal) None ≡ None → ⊥) → is_carried id (commands_among (journal_frames journal)) ≡ true
+completed_carried id journal some = by_test (is_carried id (commands_among (journal_frames journal))) refl
   where
-    by_test : (b : Bool) → is_carried id (commands_among (frames_in journal)) ≡ b → b ≡ true
+    by_test : (b : Bool) → is_carried id (commands_among (journal_frames journal)) ≡ b → b ≡ true
     by_test true e = refl
-    by_test false e = absurd (some (ap (λ ms. completes_among id ms None) (said_are journal) ∙ completes_none id (commands_among (frames_in journal)) None e))
+    by_test false e = absurd (some (ap (λ ms. completes_among id ms None) (said_are journal) ∙ completes_none id (commands_among (journal_frames journal)) None e))
 
 -- ---- an arrival without a fault
 
@@ -118,9 +118,9 @@ same_number i = grind (arith, nat_tests)
 not_of : (id : ℕ) (other : NotificationId) → is_of id other ≡ false → other ≡ CompletionId id → ⊥
 not_of id other h e = let t : true ≡ false = sym (ap (is_of id) e ∙ same_number id) ∙ h in absurd (cc)
 
-pub absent : (id : ℕ) (ns : List Notification) → is_completed id ns ≡ false → IsAbsent (CompletionId id) ns
+pub absent : (id : ℕ) (ns : List Notification) → completes_id id ns ≡ false → CompletesNone (CompletionId id) ns
 absent id [] h = tt
-absent id (n ∷ ns) h = let x = none_true (is_of id n.id) (is_completed id ns) h in (not_of id n.id x.0, absent id ns x.1)
+absent id (n ∷ ns) h = let x = none_true (is_of id n.id) (completes_id id ns) h in (not_of id n.id x.0, absent id ns x.1)
 
 pub not_done : (kind : Option Completes) (done : Bool) (brings : NotificationResult) (room : Option RoundFault) → completion_fault kind done brings room ≡ None → done ≡ false
 not_done None done brings room e = absurd (cc)
@@ -154,23 +154,23 @@ pub record IsNew (bytes : List ℕ) (journal : List (List ℕ)) : Type 0 where
   pub note : Notification
   pub reads : note_in bytes ≡ Some note
   pub no_other : HasNoOther note.id (notes_in journal)
-  pub carried : (id : ℕ) → note.id ≡ CompletionId id → is_carried id (commands_among (frames_in journal)) ≡ true
+  pub carried : (id : ℕ) → note.id ≡ CompletionId id → is_carried id (commands_among (journal_frames journal)) ≡ true
   pub kind : IsOfItsKind note.id note.result journal
 
 note_kind : (id : NotificationId) (brings : NotificationResult) (journal : List (List ℕ)) → note_fault id brings journal ≡ None → IsOfItsKind id brings journal
-note_kind (CompletionId id) brings journal e = kind_of (completes_among id (said_in journal) None) (is_completed id (notes_in journal)) brings (room_fault journal) e
+note_kind (CompletionId id) brings journal e = kind_of (completes_among id (said_in journal) None) (completes_id id (notes_in journal)) brings (room_fault journal) e
 note_kind (SignalId id) brings journal e = tt
 note_kind (SignalName name) brings journal e = tt
 
 note_new : (id : NotificationId) (brings : NotificationResult) (journal : List (List ℕ)) → note_fault id brings journal ≡ None → HasNoOther id (notes_in journal)
-note_new (CompletionId id) brings journal e = absent id (notes_in journal) (not_done (completes_among id (said_in journal) None) (is_completed id (notes_in journal)) brings (room_fault journal) e)
+note_new (CompletionId id) brings journal e = absent id (notes_in journal) (not_done (completes_among id (said_in journal) None) (completes_id id (notes_in journal)) brings (room_fault journal) e)
 note_new (SignalId id) brings journal e = tt
 note_new (SignalName name) brings journal e = tt
 
-note_carried : (id : NotificationId) (brings : NotificationResult) (journal : List (List ℕ)) → note_fault id brings journal ≡ None → (i : ℕ) → id ≡ CompletionId i → is_carried i (commands_among (frames_in journal)) ≡ true
+note_carried : (id : NotificationId) (brings : NotificationResult) (journal : List (List ℕ)) → note_fault id brings journal ≡ None → (i : ℕ) → id ≡ CompletionId i → is_carried i (commands_among (journal_frames journal)) ≡ true
 note_carried (CompletionId id) brings journal e i is =
     let same : id ≡ i = cc in
-    subst (λ j. is_carried j (commands_among (frames_in journal)) ≡ true) same (completed_carried id journal (not_nothing (completes_among id (said_in journal) None) (is_completed id (notes_in journal)) brings (room_fault journal) e))
+    subst (λ j. is_carried j (commands_among (journal_frames journal)) ≡ true) same (completed_carried id journal (not_nothing (completes_among id (said_in journal) None) (completes_id id (notes_in journal)) brings (room_fault journal) e))
 note_carried (SignalId id) brings journal e i is = absurd (cc)
 note_carried (SignalName name) brings journal e i is = absurd (cc)
 
@@ -183,7 +183,7 @@ is_new bytes journal e = by_note (note_in bytes) refl e
 
 -- ---- one result at most
 
-absent_none : (id : ℕ) (ns : List Notification) → IsAbsent (CompletionId id) ns → results_of (CompletionId id) ns ≡ []
+absent_none : (id : ℕ) (ns : List Notification) → CompletesNone (CompletionId id) ns → results_of (CompletionId id) ns ≡ []
 absent_none id [] h = refl
 absent_none id (n ∷ ns) h = by_test (same_id n.id (CompletionId id)) refl (absent_none id ns h.1)
   where
@@ -201,8 +201,8 @@ come_once (n ∷ ns) once id = by_test (same_id n.id (CompletionId id)) refl (co
 
 -- ---- room
 
-pub not_most : (n : ℕ) → (if n == most then Some round_fault.JournalFull else None) ≡ None → n ≢ most
-not_most n h e = let t : Some round_fault.JournalFull ≡ None = sym (ap (λ (k : ℕ). if k == most then Some round_fault.JournalFull else None) e) ∙ h in absurd (cc)
+pub not_most : (n : ℕ) → (if n == most_entries then Some round_fault.JournalFull else None) ≡ None → n ≢ most_entries
+not_most n h e = let t : Some round_fault.JournalFull ≡ None = sym (ap (λ (k : ℕ). if k == most_entries then Some round_fault.JournalFull else None) e) ∙ h in absurd (cc)
 
 room_by : (b : Bool) (room : Option RoundFault) → (if b then room else Some round_fault.WrongKind) ≡ None → room ≡ None
 room_by true room e = e
@@ -216,14 +216,14 @@ completion_room (Some completes.Proposal) false brings room e = absurd (cc)
 completion_room (Some completes.AnyResult) false brings room e = e
 
 note_room : (id : NotificationId) (brings : NotificationResult) (journal : List (List ℕ)) → note_fault id brings journal ≡ None → room_fault journal ≡ None
-note_room (CompletionId id) brings journal e = completion_room (completes_among id (said_in journal) None) (is_completed id (notes_in journal)) brings (room_fault journal) e
+note_room (CompletionId id) brings journal e = completion_room (completes_among id (said_in journal) None) (completes_id id (notes_in journal)) brings (room_fault journal) e
 note_room (SignalId id) brings journal e = e
 note_room (SignalName name) brings journal e = e
 
 -- an arrival without a fault has room
-pub has_room : (bytes : List ℕ) (journal : List (List ℕ)) → arrival_fault bytes journal ≡ None → length journal ≢ most
+pub has_room : (bytes : List ℕ) (journal : List (List ℕ)) → arrival_fault bytes journal ≡ None → length journal ≢ most_entries
 has_room bytes journal e = by_note (note_in bytes) e
   where
-    by_note : (o : Option Notification) → read_fault o journal ≡ None → length journal ≢ most
+    by_note : (o : Option Notification) → read_fault o journal ≡ None → length journal ≢ most_entries
     by_note None e = absurd (cc)
     by_note (Some n) e = not_most (length journal) (note_room n.id n.result journal e)

@@ -34,12 +34,12 @@ use Rattle.vm_store.specs.declared.types.Event.{Event}
 use Rattle.vm_store.specs.declared.types.Event.TheVariants as event
 use Rattle.vm_store.specs.declared.types.Round.{Round}
 use Rattle.vm_store.specs.declared.types.Setting.{Setting}
-use Rattle.vm_store.specs.Entries.{entries_of}
+use Rattle.vm_store.specs.Entries.{journal_entries}
 use Rattle.vm_store.specs.States.{HaveTextKeys, base_of}
 use Rattle.vm_store.specs.Worlds.{IsJournal, fixed_in, setup_of, start_for}
 use Rattle.vm_store.proofs.Framing.{AreFrames}
 use Rattle.vm_rounds.specs.Owning.{AreOwn, IsOwnIn, OwnOf}
-use Rattle.vm_rounds.specs.Rounds.{AttemptDoes, Happen, Happens, IsRefusal, Now, Pieces, Replays, ReportView, RoundDoes, RoundsDo, begin, error_of, first_error, memory_of}
+use Rattle.vm_rounds.specs.Rounds.{AttemptDoes, Happen, Happens, IsRefusal, Now, Pieces, ReplaysAndQueues, ReportView, RoundDoes, RoundsDo, begin, error_of, first_error, memory_of}
 use Rattle.vm_rounds.specs.Sound.{IsSoundFor}
 use Rattle.vm_rounds.proofs.Honestly.{honest_now}
 use Rattle.vm_rounds.proofs.Keeping.{Going, event_keeps}
@@ -57,7 +57,7 @@ error_by : (old next now : Option Error) (e : Error) → now ≡ first_error old
 error_by (Some x) next now e is h = inl (sym is ∙ h)
 error_by None next now e is h = inr (refl, sym is ∙ h)
 
-module _ (m : Meaning) (w : Setting) (begin_bytes : List ℕ) (raw : RawMessage) (st : Start) (old : List (List ℕ)) (j : IsJournal old) (framed : AreFrames begin_bytes (raw ∷ [])) (found : start_in raw.body ≡ Some st) (known : st.known_entries ≡ length old) (s : Setup) (same_setup : setup_for (fixed_in m w) st ≡ s) (base : StateMap) (past : History s m base (entries_of old)) (r : Replays w.options) (is_start : (type_number raw.ty == 1) ≡ true) (texts : HaveTextKeys st.state) where
+module _ (m : Meaning) (w : Setting) (begin_bytes : List ℕ) (raw : RawMessage) (st : Start) (old : List (List ℕ)) (j : IsJournal old) (framed : AreFrames begin_bytes (raw ∷ [])) (found : start_in raw.body ≡ Some st) (known : st.known_entries ≡ length old) (s : Setup) (same_setup : setup_for (fixed_in m w) st ≡ s) (base : StateMap) (past : History s m base (journal_entries old)) (r : ReplaysAndQueues w.options) (is_start : (type_number raw.ty == 1) ≡ true) (texts : HaveTextKeys st.state) where
   -- what each event keeps of the attempt
   record Stands (now : Now) : Type 0 where
     going : Going w.version begin_bytes old now
@@ -171,7 +171,7 @@ module _ (m : Meaning) (w : Setting) (begin_bytes : List ℕ) (raw : RawMessage)
 
 -- ---- a round
 
-attempt_owns : (m : Meaning) (w : Setting) (round : Round) (old : List (List ℕ)) (report : ReportView) (new : List (List ℕ)) → Replays w.options → IsJournal old → History (setup_of w) m (base_of w) (entries_of old) → (d : AttemptDoes m w round old report new) → (e : Error) → report.error ≡ Some e → IsOwnIn m w round.events (begin d.alloc w round old) e
+attempt_owns : (m : Meaning) (w : Setting) (round : Round) (old : List (List ℕ)) (report : ReportView) (new : List (List ℕ)) → ReplaysAndQueues w.options → IsJournal old → History (setup_of w) m (base_of w) (journal_entries old) → (d : AttemptDoes m w round old report new) → (e : Error) → report.error ≡ Some e → IsOwnIn m w round.events (begin d.alloc w round old) e
 attempt_owns m w round old report new r j past d e is =
     let st = start_for w round old in
     let bytes = encoding (message.Start st) in
@@ -191,7 +191,7 @@ attempt_owns m w round old report new r j past d e is =
     (λ (x : IsOwnIn m w round.events first e). x)
     (events_own m w bytes raw st old j framed found refl (setup_of w) refl (base_of w) past r refl d.texts [] round.events first first d.ran.now refl d.ran.happen stands e (ap (λ (z : ReportView). z.error) (sym d.ran.told) ∙ is))
 
-round_owns : (m : Meaning) (w : Setting) (round : Round) (old : List (List ℕ)) (report : ReportView) (new : List (List ℕ)) → Replays w.options → IsJournal old → History (setup_of w) m (base_of w) (entries_of old) → (d : RoundDoes m w round old report new) → OwnOf m w round old report new d
+round_owns : (m : Meaning) (w : Setting) (round : Round) (old : List (List ℕ)) (report : ReportView) (new : List (List ℕ)) → ReplaysAndQueues w.options → IsJournal old → History (setup_of w) m (base_of w) (journal_entries old) → (d : RoundDoes m w round old report new) → OwnOf m w round old report new d
 round_owns m w round old report new r j past (inl d) = λ e is. attempt_owns m w round old report new r j past d e is
 round_owns m w round old report new r j past (inr d) = λ e is. subst (λ x. IsRefusal (supported w.version) x) (same_Some d.error e (ap (λ (z : ReportView). z.error) (sym d.told) ∙ is)) d.refusal
 
@@ -201,5 +201,5 @@ pub rounds_own : (m : Meaning) (w : Setting) (rounds : List Round) (old : List (
 rounds_own m w [] old reports new j h d = tt
 rounds_own m w (q ∷ qs) old reports new j h (mid, report, more, is, one, others) =
     let g = round_grows m w q old report mid j one in
-    let on : SoundHistory (setup_of w) m (base_of w) (entries_of mid) = round_lasts (Honest (base_of w)) (SoundHistory (setup_of w) m (base_of w)) m w q qs old report mid h.replays (sound_lasts m w) (hands_honest w (q ∷ qs)) j h.history one in
+    let on : SoundHistory (setup_of w) m (base_of w) (journal_entries mid) = round_lasts (Honest (base_of w)) (SoundHistory (setup_of w) m (base_of w)) m w q qs old report mid h.replays (sound_lasts m w) (hands_honest w (q ∷ qs)) j h.history one in
     (round_owns m w q old report mid h.replays j h.history.history one, rounds_own m w qs mid more new g.journal (record { replays = h.replays; history = on }) others)

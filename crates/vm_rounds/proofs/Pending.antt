@@ -19,7 +19,7 @@ use Rattle.vm_parts.specs.declared.run_state.KeptProposal.{KeptProposal}
 use Rattle.vm_parts.specs.declared.run_state.PendingRun.{PendingRun}
 use Rattle.vm_asks.specs.Carried.{AreBelow}
 use Rattle.vm_model.specs.Carried.{is_among}
-use Rattle.vm_store.specs.Arrivals.{is_completed}
+use Rattle.vm_store.specs.Arrivals.{completes_id}
 use Rattle.vm_store.specs.declared.storing.Written.{Written}
 use Rattle.vm_store.specs.declared.storing.Written.TheVariants.{Command, Proposal}
 use Rattle.vm_rounds.proofs.RunsCalled.{run_id, run_ids}
@@ -69,7 +69,7 @@ ids_join us ws = ap (map kept_id) (flat_map-append proposal_in_item us ws) ∙ m
 -- completes it, and no proposal was for it.
 pub record MayPropose (ns : List Notification) (cs : List RawMessage) (ps : List ℕ) (id : ℕ) : Type 0 where
   pub run : has_run id cs ≡ true
-  pub free : is_completed id ns ≡ false
+  pub free : completes_id id ns ≡ false
   pub new : is_among id ps ≡ false
 
 -- each proposal among these items may be made, behind those before it

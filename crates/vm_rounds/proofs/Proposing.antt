@@ -61,7 +61,7 @@ use Rattle.vm_model.specs.Carried.{is_among}
 use Rattle.vm_model.specs.Journal.{stored_form}
 use Rattle.vm_store.specs.declared.storing.Written.{Written}
 use Rattle.vm_store.specs.declared.storing.Written.TheVariants.{Proposal}
-use Rattle.vm_store.specs.Arrivals.{is_completed}
+use Rattle.vm_store.specs.Arrivals.{completes_id}
 use Rattle.vm_store.specs.Storing.{kept_of, written_among, written_before}
 use Rattle.vm_store.proofs.Scanned.{written_append}
 use Rattle.vm_steps.specs.declared.progress.Progress.{Progress}
@@ -72,7 +72,7 @@ use Rattle.vm_steps.specs.Record.{Record}
 use Rattle.vm_steps.specs.Stepping.{Advances, Asks, CloseDoes, Closes, FeedDoes, Feeds, FinishDoes, Finishes, LacksMemory, Reads, StepAt, StepDoes, StepFrom, StepUnless, future_in, kept, kept_at, newly_proposed, noted, noted_at, replied, step_asked, taken_from, with_vm}
 use Rattle.vm_steps.specs.Steps.{StepMade}
 use Rattle.vm_attempt.specs.Blames.{fault_among}
-use Rattle.vm_attempt.specs.Journals.{is_acknowledgement, is_command, is_notification}
+use Rattle.vm_attempt.specs.Journals.{is_acknowledgement, is_command_frame, is_notification}
 use Rattle.vm_attempt.specs.Told.{IsLive, Quiet}
 use Rattle.vm_attempt.proofs.Advanced.{done_of, failed_quiet, input_silent}
 use Rattle.vm_attempt.proofs.Arriving.{failed_receives}
@@ -144,7 +144,7 @@ module _ (ns : List Notification) (cs : List RawMessage) (ws more : List Written
   }
 
   -- more was written without a proposal, and one more run is pending
-  sound_called : (answers answers' : List Answer) (v w : Machine) → v.failure ≡ None → IsCalled v w → has_run (next_of v) (cs ++ flat_map command_in (ws ++ more)) ≡ true → is_completed (next_of v) ns ≡ false → (answers' ≡ [] → ⊥) → Sound ns cs ws answers v → Sound ns cs (ws ++ more) answers' w
+  sound_called : (answers answers' : List Answer) (v w : Machine) → v.failure ≡ None → IsCalled v w → has_run (next_of v) (cs ++ flat_map command_in (ws ++ more)) ≡ true → completes_id (next_of v) ns ≡ false → (answers' ≡ [] → ⊥) → Sound ns cs ws answers v → Sound ns cs (ws ++ more) answers' w
   sound_called answers answers' v w alive c run free late s =
       let below = s.below alive in
       let pending = s.pending alive in
@@ -280,7 +280,7 @@ one_lives : (raw : RawMessage) (v : Machine) → LivesOn v (received raw v)
 one_lives raw v = by_failure v.failure refl
   where
     o : Outcome Unit
-    o = message_by raw v.phase v (type_number raw.ty == 1) (is_command raw) (is_notification raw) (is_acknowledgement raw)
+    o = message_by raw v.phase v (type_number raw.ty == 1) (is_command_frame raw) (is_notification raw) (is_acknowledgement raw)
 
     by_fault : (f : Option NamedFault) → v.failure ≡ None → FitsFault f v o → LivesOn v (left_by (settled o))
     by_fault None live (w, done, same, runs) = subst (λ (x : Outcome Unit). LivesOn v (left_by (settled x))) (sym done) (lives_alike v w live runs.0 runs.1)
@@ -288,7 +288,7 @@ one_lives raw v = by_failure v.failure refl
 
     by_failure : (f : Option Error) → v.failure ≡ f → LivesOn v (received raw v)
     by_failure (Some e) is = subst (LivesOn v) (sym (failed_receives e v raw is)) (lives_same v)
-    by_failure None live = subst (LivesOn v) (sym (receives_by v raw live)) (by_fault (fault_among v.proposals v.phase raw) live (message_fits raw v.phase v (type_number raw.ty == 1) (is_command raw) (is_notification raw) (is_acknowledgement raw)))
+    by_failure None live = subst (LivesOn v) (sym (receives_by v raw live)) (by_fault (fault_among v.proposals v.phase raw) live (message_fits raw v.phase v (type_number raw.ty == 1) (is_command_frame raw) (is_notification raw) (is_acknowledgement raw)))
 
 all_live : (raws : List RawMessage) (v : Machine) → LivesOn v (all_received raws v)
 all_live [] v = lives_same v
@@ -469,7 +469,7 @@ reads_propose ns cs old (Err e) new live none p (w, does, is) =
 -- what is known of a machine that runs: its recorded commands are the last ones of the journal, and a result of the next id that has come is known
 pub record Knows (ns : List Notification) (cs : List RawMessage) (v : Machine) : Type 0 where
   pub recorded : (raw : RawMessage) (rest : List RawMessage) → v.commands ≡ raw ∷ rest → (used : List RawMessage) × (cs ≡ used ++ raw ∷ rest)
-  pub free : knows_next v ≡ false → is_completed (next_of v) ns ≡ false
+  pub free : knows_next v ≡ false → completes_id (next_of v) ns ≡ false
 
 both_tests : (a b : Bool) → (a && b) ≡ true → b ≡ true
 both_tests true b h = h

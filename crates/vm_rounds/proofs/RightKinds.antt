@@ -28,7 +28,7 @@ use Rattle.vm_store.specs.declared.completions.Completes.{Completes}
 use Rattle.vm_store.specs.declared.completions.Completes.TheVariants as completes
 use Rattle.vm_store.specs.Arrivals.{completes_among, completes_by, if_same, is_invocation_id}
 use Rattle.vm_store.specs.Completions.{EachOfItsKind, IsOfItsKind, IsOfKind, NoteIsOfItsKind}
-use Rattle.vm_store.specs.Entries.{entries_of, frames_in, note_in, notes_in, said_in}
+use Rattle.vm_store.specs.Entries.{journal_entries, journal_frames, note_in, notes_in, said_in}
 use Rattle.vm_store.specs.Worlds.{IsJournal}
 use Rattle.vm_store.proofs.Framing.{frames_append, said_are}
 use Rattle.vm_rounds.proofs.Completing.{input_carries_none}
@@ -137,21 +137,21 @@ kind_is kind r h e = is_one r (subst (λ k. IsOfKind k r) e h)
 
 module _ (low id : ℕ) (all : List RawMessage) (rises : Rises low (all_carried all)) (named : is_for_invocation id all ≡ true) where
   -- the result of a completion, where the commands in front of it are the first of all
-  right : (before : List (List ℕ)) (more : List RawMessage) → all ≡ commands_among (frames_in before) ++ more → (r : NotificationResult) → IsOfKind (completes_among id (said_in before) None) r → IsInvocationId r
+  right : (before : List (List ℕ)) (more : List RawMessage) → all ≡ commands_among (journal_frames before) ++ more → (r : NotificationResult) → IsOfKind (completes_among id (said_in before) None) r → IsInvocationId r
   right before more is r h =
-      let us = commands_among (frames_in before) in
+      let us = commands_among (journal_frames before) in
       let said : completes_among id (said_in before) None ≡ completes_among id (messages_in us) None = ap (λ l. completes_among id l None) (said_are before) in
       kind_is (completes_among id (said_in before) None) r h
       (said ∙ invocation_completes low id us more (subst (λ l. Rises low (all_carried l)) is rises) (subst (λ l. is_for_invocation id l ≡ true) is named) (λ none. kind_some (completes_among id (said_in before) None) r h (said ∙ none)))
 
-  pub each_right : (before xs : List (List ℕ)) → IsPrefix (commands_among (frames_in (before ++ xs))) all → EachOfItsKind before xs → AllByRecursion IsInvocationId (results_of (CompletionId id) (notes_in xs))
+  pub each_right : (before xs : List (List ℕ)) → IsPrefix (commands_among (journal_frames (before ++ xs))) all → EachOfItsKind before xs → AllByRecursion IsInvocationId (results_of (CompletionId id) (notes_in xs))
   each_right before [] p h = tt
-  each_right before (x ∷ xs) p h = by_note (note_in x) h.0 (each_right (before ++ x ∷ []) xs (subst (λ l. IsPrefix (commands_among (frames_in l)) all) (sym (append_assoc before (x ∷ []) xs)) p) h.1)
+  each_right before (x ∷ xs) p h = by_note (note_in x) h.0 (each_right (before ++ x ∷ []) xs (subst (λ l. IsPrefix (commands_among (journal_frames l)) all) (sym (append_assoc before (x ∷ []) xs)) p) h.1)
     where
-      front : (more : List RawMessage) × (all ≡ commands_among (frames_in before) ++ more)
+      front : (more : List RawMessage) × (all ≡ commands_among (journal_frames before) ++ more)
       front = (
-        commands_among (frames_in (x ∷ xs)) ++ p.0,
-        p.1 ∙ ap (λ l. l ++ p.0) (ap commands_among (frames_append before (x ∷ xs)) ∙ commands_append (frames_in before) (frames_in (x ∷ xs))) ∙ append_assoc (commands_among (frames_in before)) (commands_among (frames_in (x ∷ xs))) p.0,
+        commands_among (journal_frames (x ∷ xs)) ++ p.0,
+        p.1 ∙ ap (λ l. l ++ p.0) (ap commands_among (frames_append before (x ∷ xs)) ∙ commands_append (journal_frames before) (journal_frames (x ∷ xs))) ∙ append_assoc (commands_among (journal_frames before)) (commands_among (journal_frames (x ∷ xs))) p.0,
       )
 
       by_id : (n : Notification) (b : Bool) → same_id n.id (CompletionId id) ≡ b → NoteIsOfItsKind (Some n) before → AllByRecursion IsInvocationId (results_of (CompletionId id) (notes_in xs)) → AllByRecursion IsInvocationId (cond b (n.result ∷ results_of (CompletionId id) (notes_in xs)) (results_of (CompletionId id) (notes_in xs)))
@@ -169,9 +169,9 @@ pub with_input : (raw : RawMessage) (input : InputCommand) (cs : List RawMessage
 with_input raw input cs reads h = subst (λ l. Rises 1 (l ++ all_carried cs)) (sym (input_carries_none raw input reads)) h
 
 -- a journal that can be replayed holds results of their kinds
-pub history_kinds : (s : Setup) (m : Meaning) (base : StateMap) (journal : List (List ℕ)) → IsJournal journal → History s m base (entries_of journal) → AreOfTheirKind (notes_in journal) (commands_among (frames_in journal))
+pub history_kinds : (s : Setup) (m : Meaning) (base : StateMap) (journal : List (List ℕ)) → IsJournal journal → History s m base (journal_entries journal) → AreOfTheirKind (notes_in journal) (commands_among (journal_frames journal))
 history_kinds s m base journal j h id named =
-    let is : commands_among (frames_in journal) ≡ h.first ∷ h.rest = sym (commands_same (frames_in journal)) ∙ h.begins in
-    let rises = with_input h.first h.input h.rest h.reads (told_rises s m h.told.0 h.input (notifications_in (entries_of journal)) h.rest h.at h.told.1 h.uses_all) in
-    let all = commands_among (frames_in journal) in
+    let is : commands_among (journal_frames journal) ≡ h.first ∷ h.rest = sym (commands_same (journal_frames journal)) ∙ h.begins in
+    let rises = with_input h.first h.input h.rest h.reads (told_rises s m h.told.0 h.input (notifications_in (journal_entries journal)) h.rest h.at h.told.1 h.uses_all) in
+    let all = commands_among (journal_frames journal) in
     each_right 1 id all (subst (λ l. Rises 1 (all_carried l)) (sym is) rises) named [] journal ([], sym (append-nil all)) j.kinds

@@ -35,11 +35,11 @@ use Rattle.vm_store.specs.declared.types.Event.{Event}
 use Rattle.vm_store.specs.declared.types.Round.{Round}
 use Rattle.vm_store.specs.declared.types.RoundFault.{RoundFault}
 use Rattle.vm_store.specs.declared.types.Setting.{Setting}
-use Rattle.vm_rounds.specs.Courses.{AreHonest, attempt_of, attempts_of, course_of, given_by}
-use Rattle.vm_store.specs.Entries.{entries_of, frames_in, notes_in}
-use Rattle.vm_rounds.specs.Rounds.{AreWhole, AttemptDoes, IsShort, RefusedDoes, Replays, ReportView, RoundDoes, RoundFaults, RoundsDo, RoundsFault, begin, new_now}
+use Rattle.vm_rounds.specs.Courses.{AreHonest, attempt_of, attempts_of, course_of, start_handed}
+use Rattle.vm_store.specs.Entries.{journal_entries, journal_frames, notes_in}
+use Rattle.vm_rounds.specs.Rounds.{AreWhole, AttemptDoes, StaysShort, RefusedDoes, ReplaysAndQueues, ReportView, RoundDoes, RoundFaults, RoundsDo, RoundsFault, begin, new_now}
 use Rattle.vm_rounds.specs.Sound.{IsSoundFor}
-use Rattle.vm_store.specs.States.{base_of, state_of}
+use Rattle.vm_store.specs.States.{base_of, state_after}
 use Rattle.vm_store.specs.Worlds.{IsJournal, fixed_in, setup_of, start_for, start_message}
 use Rattle.vm_rounds.proofs.Coursing.{Along, events_go_along}
 use Rattle.vm_store.proofs.Framing.{AreFrames, entries_append, one_framed, said_are, none_framed}
@@ -84,7 +84,7 @@ pub record Grows (old new : List (List ℕ)) : Type 0 where
   pub extends : new ≡ old ++ added
   pub journal : IsJournal new
 
-pub short_all : (m : Meaning) (version : Version) (events : List Event) (start : List ℕ) (old : List (List ℕ)) (r : Record) → IsJournal old → r.fed ≡ [] → r.late ≡ [] → r.taken ≡ [] → r.proposed ≡ [] → IsShort m events (new_now version old (start ++ concat old) r)
+pub short_all : (m : Meaning) (version : Version) (events : List Event) (start : List ℕ) (old : List (List ℕ)) (r : Record) → IsJournal old → r.fed ≡ [] → r.late ≡ [] → r.taken ≡ [] → r.proposed ≡ [] → StaysShort m events (new_now version old (start ++ concat old) r)
 short_all m version events start old r j fed late taken nothing end h = (events_keep m version start old events (new_now version old (start ++ concat old) r) end h (begun version start old r j fed late taken nothing)).journal.short
 
 pub attempt_goes : (m : Meaning) (w : Setting) (round : Round) (old : List (List ℕ)) (report : ReportView) (new : List (List ℕ)) → IsJournal old → (d : AttemptDoes m w round old report new) → Going w.version (encoding (start_message w round old)) old d.ran.now
@@ -130,7 +130,7 @@ attempt_along m w round old report new j d =
     drop_nil (suc k) ns e = ap (drop (suc k)) e
 
 -- a round with its attempt is an honest one
-attempt_honest : (m : Meaning) (w : Setting) (round : Round) (old : List (List ℕ)) (report : ReportView) (new : List (List ℕ)) → Replays w.options → IsJournal old → History (setup_of w) m (base_of w) (entries_of old) → (d : AttemptDoes m w round old report new) → IsHonest (setup_of w) m (entries_of old) (attempt_of m w round old report new (inl d)) (entries_of new)
+attempt_honest : (m : Meaning) (w : Setting) (round : Round) (old : List (List ℕ)) (report : ReportView) (new : List (List ℕ)) → ReplaysAndQueues w.options → IsJournal old → History (setup_of w) m (base_of w) (journal_entries old) → (d : AttemptDoes m w round old report new) → IsHonest (setup_of w) m (journal_entries old) (attempt_of m w round old report new (inl d)) (journal_entries new)
 attempt_honest m w round old report new r j past d =
     let st = start_for w round old in
     let bytes = encoding (message.Start st) in
@@ -141,19 +141,19 @@ attempt_honest m w round old report new r j past d =
     let course = course_of m old round.events first d.ran.now d.ran.happen in
     let kept = events_run m w bytes raw st old j framed found refl (setup_of w) refl (base_of w) past r round.events first d.ran.now d.ran.happen (begun w.version bytes old (fresh_record (made d.alloc w.options w.version)) j refl refl refl refl) (inl (made_new d.alloc (fixed_in m w)), made_comes d.alloc (fixed_in m w)) in
     let honest = is_honest m w bytes raw st old j framed found refl (setup_of w) refl (base_of w) past r d.ran.now course (attempt_along m w round old report new j d) kept.0 d.ran.ends in
-    subst (λ (x : List Answer × List (List ℕ)). IsHonest (setup_of w) m (entries_of old) (record { given = given_by st; course = course; answers = x.0 }) (entries_of x.1)) (λ i. (sym (ap (λ (v : ReportView). v.answers) d.ran.told) i, sym d.ran.left i)) honest
+    subst (λ (x : List Answer × List (List ℕ)). IsHonest (setup_of w) m (journal_entries old) (record { given = start_handed st; course = course; answers = x.0 }) (journal_entries x.1)) (λ i. (sym (ap (λ (v : ReportView). v.answers) d.ran.told) i, sym d.ran.left i)) honest
 
 -- a round whose attempt was refused too: nothing was delivered or written
-refused_honest : (m : Meaning) (w : Setting) (round : Round) (old : List (List ℕ)) (report : ReportView) (new : List (List ℕ)) → IsJournal old → Begins (entries_of old) → (d : RefusedDoes w round old report new) → IsHonest (setup_of w) m (entries_of old) (attempt_of m w round old report new (inr d)) (entries_of new)
+refused_honest : (m : Meaning) (w : Setting) (round : Round) (old : List (List ℕ)) (report : ReportView) (new : List (List ℕ)) → IsJournal old → Begins (journal_entries old) → (d : RefusedDoes w round old report new) → IsHonest (setup_of w) m (journal_entries old) (attempt_of m w round old report new (inr d)) (journal_entries new)
 refused_honest m w round old report new j b d =
     let g = arrivals_keep round.events old new j d.arrivals in
-    let added = entries_of g.added in
-    let none : commands_in added ≡ [] = commands_same (frames_in g.added) ∙ g.commands in
+    let added = journal_entries g.added in
+    let none : commands_in added ≡ [] = commands_same (journal_frames g.added) ∙ g.commands in
     record {
-      told = record { first = b.first; input = b.input; reads = b.reads; rest = b.rest; begins = b.commands; moves = 0; at = first_point (setup_of w) b.input (notifications_in (entries_of old) ++ []) b.rest; made = (refl, refl); answered = inl (ap (λ (v : ReportView). v.answers) d.told) };
+      told = record { first = b.first; input = b.input; reads = b.reads; rest = b.rest; begins = b.commands; moves = 0; at = first_point (setup_of w) b.input (notifications_in (journal_entries old) ++ []) b.rest; made = (refl, refl); answered = inl (ap (λ (v : ReportView). v.answers) d.told) };
       honest = record {
         added = added;
-        extends = ap entries_of g.extends ∙ entries_append old g.added;
+        extends = ap journal_entries g.extends ∙ entries_append old g.added;
         undelivered = notifications_in added;
         notifications = refl;
         stored = 0;
@@ -162,12 +162,12 @@ refused_honest m w round old report new j b d =
       };
     }
 
-pub round_honest : (m : Meaning) (w : Setting) (round : Round) (old : List (List ℕ)) (report : ReportView) (new : List (List ℕ)) → Replays w.options → IsJournal old → History (setup_of w) m (base_of w) (entries_of old) → (d : RoundDoes m w round old report new) → IsHonest (setup_of w) m (entries_of old) (attempt_of m w round old report new d) (entries_of new)
+pub round_honest : (m : Meaning) (w : Setting) (round : Round) (old : List (List ℕ)) (report : ReportView) (new : List (List ℕ)) → ReplaysAndQueues w.options → IsJournal old → History (setup_of w) m (base_of w) (journal_entries old) → (d : RoundDoes m w round old report new) → IsHonest (setup_of w) m (journal_entries old) (attempt_of m w round old report new d) (journal_entries new)
 round_honest m w round old report new r j past (inl d) = attempt_honest m w round old report new r j past d
-round_honest m w round old report new r j past (inr d) = refused_honest m w round old report new j (history_begins (setup_of w) m (base_of w) (entries_of old) past) d
+round_honest m w round old report new r j past (inr d) = refused_honest m w round old report new j (history_begins (setup_of w) m (base_of w) (journal_entries old) past) d
 
 -- what a round's attempt is handed and what it answers, whether it was refused or not
-pub round_gives : (m : Meaning) (w : Setting) (round : Round) (old : List (List ℕ)) (report : ReportView) (new : List (List ℕ)) (d : RoundDoes m w round old report new) → ((attempt_of m w round old report new d).given ≡ given_by (start_for w round old)) × ((attempt_of m w round old report new d).answers ≡ report.answers)
+pub round_gives : (m : Meaning) (w : Setting) (round : Round) (old : List (List ℕ)) (report : ReportView) (new : List (List ℕ)) (d : RoundDoes m w round old report new) → ((attempt_of m w round old report new d).given ≡ start_handed (start_for w round old)) × ((attempt_of m w round old report new d).answers ≡ report.answers)
 round_gives m w round old report new (inl d) = (refl, refl)
 round_gives m w round old report new (inr d) = (refl, refl)
 
@@ -180,12 +180,12 @@ rounds_grow m w (r ∷ rs) old reports new j (mid, report, more, is, one, others
     let b = rounds_grow m w rs mid more new a.journal others in
     record { added = a.added ++ b.added; extends = b.extends ∙ ap (λ l. l ++ b.added) a.extends ∙ append_assoc old a.added b.added; journal = b.journal }
 
-pub entries_grow : (old new added : List (List ℕ)) → new ≡ old ++ added → entries_of new ≡ entries_of old ++ entries_of added
-entries_grow old new added e = ap entries_of e ∙ entries_append old added
+pub entries_grow : (old new added : List (List ℕ)) → new ≡ old ++ added → journal_entries new ≡ journal_entries old ++ journal_entries added
+entries_grow old new added e = ap journal_entries e ∙ entries_append old added
 
 -- each of the rounds hands out so much, over whatever journal
 abbrev pub HandsOut : Knowledge → Setting → List Round → Type 0
-HandsOut K w rounds = AllByRecursion (λ r. (journal : List (List ℕ)) → Begins (entries_of journal) → K (given_by (start_for w r journal)) (messages_in (behind (commands_in (entries_of journal))))) rounds
+HandsOut K w rounds = AllByRecursion (λ r. (journal : List (List ℕ)) → Begins (journal_entries journal) → K (start_handed (start_for w r journal)) (messages_in (behind (commands_in (journal_entries journal))))) rounds
 
 -- What is so of journals lasts over rounds, where so much of the state is handed out: such a journal is a history, and an honest round leaves
 -- one of which it is so.
@@ -194,24 +194,24 @@ pub record Lasts (K : Knowledge) (P : List Entry → Type 0) (m : Meaning) (w : 
   pub lasts : (before : List Entry) (a : Attempted) (after : List Entry) → P before → IsHanded K before a → IsToldOn (setup_of w) m before a → HonestRound before a.course after → P after
 
 -- what a round hands out, as its attempt has it
-pub round_handed : (K : Knowledge) (m : Meaning) (w : Setting) (q : Round) (qs : List Round) (old : List (List ℕ)) (report : ReportView) (mid : List (List ℕ)) → HandsOut K w (q ∷ qs) → History (setup_of w) m (base_of w) (entries_of old) → (d : RoundDoes m w q old report mid) → IsHanded K (entries_of old) (attempt_of m w q old report mid d)
-round_handed K m w q qs old report mid hands past d = subst (λ x. K x (messages_in (behind (commands_in (entries_of old))))) (sym (round_gives m w q old report mid d).0) (hands.0 old (history_begins (setup_of w) m (base_of w) (entries_of old) past))
+pub round_handed : (K : Knowledge) (m : Meaning) (w : Setting) (q : Round) (qs : List Round) (old : List (List ℕ)) (report : ReportView) (mid : List (List ℕ)) → HandsOut K w (q ∷ qs) → History (setup_of w) m (base_of w) (journal_entries old) → (d : RoundDoes m w q old report mid) → IsHanded K (journal_entries old) (attempt_of m w q old report mid d)
+round_handed K m w q qs old report mid hands past d = subst (λ x. K x (messages_in (behind (commands_in (journal_entries old))))) (sym (round_gives m w q old report mid d).0) (hands.0 old (history_begins (setup_of w) m (base_of w) (journal_entries old) past))
 
 -- it is so of the journal behind a round too
-pub round_lasts : (K : Knowledge) (P : List Entry → Type 0) (m : Meaning) (w : Setting) (q : Round) (qs : List Round) (old : List (List ℕ)) (report : ReportView) (mid : List (List ℕ)) → Replays w.options → Lasts K P m w → HandsOut K w (q ∷ qs) → IsJournal old → P (entries_of old) → RoundDoes m w q old report mid → P (entries_of mid)
+pub round_lasts : (K : Knowledge) (P : List Entry → Type 0) (m : Meaning) (w : Setting) (q : Round) (qs : List Round) (old : List (List ℕ)) (report : ReportView) (mid : List (List ℕ)) → ReplaysAndQueues w.options → Lasts K P m w → HandsOut K w (q ∷ qs) → IsJournal old → P (journal_entries old) → RoundDoes m w q old report mid → P (journal_entries mid)
 round_lasts K P m w q qs old report mid r l hands j h d =
-    let past = l.history (entries_of old) h in
+    let past = l.history (journal_entries old) h in
     let honest = round_honest m w q old report mid r j past d in
-    l.lasts (entries_of old) (attempt_of m w q old report mid d) (entries_of mid) h (round_handed K m w q qs old report mid hands past d) honest.told honest.honest
+    l.lasts (journal_entries old) (attempt_of m w q old report mid d) (journal_entries mid) h (round_handed K m w q qs old report mid hands past d) honest.told honest.honest
 
-rounds_honest : (K : Knowledge) (P : List Entry → Type 0) (m : Meaning) (w : Setting) (rounds : List Round) (old : List (List ℕ)) (reports : List ReportView) (new : List (List ℕ)) → Replays w.options → Lasts K P m w → HandsOut K w rounds → IsJournal old → P (entries_of old) → (d : RoundsDo m w rounds old reports new) → AreHonest K m w rounds old reports new d
-rounds_honest K P m w [] old reports new r l hands j h d = ap entries_of d.1
+rounds_honest : (K : Knowledge) (P : List Entry → Type 0) (m : Meaning) (w : Setting) (rounds : List Round) (old : List (List ℕ)) (reports : List ReportView) (new : List (List ℕ)) → ReplaysAndQueues w.options → Lasts K P m w → HandsOut K w rounds → IsJournal old → P (journal_entries old) → (d : RoundsDo m w rounds old reports new) → AreHonest K m w rounds old reports new d
+rounds_honest K P m w [] old reports new r l hands j h d = ap journal_entries d.1
 rounds_honest K P m w (q ∷ qs) old reports new r l hands j h (mid, report, more, is, one, others) =
     let g = round_grows m w q old report mid j one in
-    let past = l.history (entries_of old) h in
+    let past = l.history (journal_entries old) h in
     let honest = round_honest m w q old report mid r j past one in
     let on = round_lasts K P m w q qs old report mid r l hands j h one in
-    (entries_of mid, round_handed K m w q qs old report mid hands past one, honest.told, honest.honest, rounds_honest K P m w qs mid more new r l hands.1 g.journal on others)
+    (journal_entries mid, round_handed K m w q qs old report mid hands past one, honest.told, honest.honest, rounds_honest K P m w qs mid more new r l hands.1 g.journal on others)
 
 -- a sound history lasts, where honest states are handed out
 pub sound_lasts : (m : Meaning) (w : Setting) → Lasts (Honest (base_of w)) (SoundHistory (setup_of w) m (base_of w)) m w
@@ -230,16 +230,16 @@ whole_lasts m w = record {
 -- ---- what is handed out
 
 -- what a journal's commands say changes the base as those behind the input
-said_behind : (w : Setting) (journal : List (List ℕ)) → Begins (entries_of journal) → state_of w journal ≡ changed_by (messages_in (behind (commands_in (entries_of journal)))) (base_of w)
-said_behind w journal b = ap (λ l. changed_by l (base_of w)) (said_are journal ∙ ap messages_in (sym (commands_same (frames_in journal)))) ∙ input_says (entries_of journal) b (base_of w)
+said_behind : (w : Setting) (journal : List (List ℕ)) → Begins (journal_entries journal) → state_after w journal ≡ changed_by (messages_in (behind (commands_in (journal_entries journal)))) (base_of w)
+said_behind w journal b = ap (λ l. changed_by l (base_of w)) (said_are journal ∙ ap messages_in (sym (commands_same (journal_frames journal)))) ∙ input_says (journal_entries journal) b (base_of w)
 
 pub hands_honest : (w : Setting) (rounds : List Round) → HandsOut (Honest (base_of w)) w rounds
 hands_honest w [] = tt
-hands_honest w (r ∷ rs) = (λ journal b. subst (λ now. IsTrueOf now (given_by (start_for w r journal))) (said_behind w journal b) (round_true w r journal), hands_honest w rs)
+hands_honest w (r ∷ rs) = (λ journal b. subst (λ now. IsTrueOf now (start_handed (start_for w r journal))) (said_behind w journal b) (round_true w r journal), hands_honest w rs)
 
 pub hands_whole : (w : Setting) (rounds : List Round) → AreWhole rounds → HandsOut (Whole (base_of w)) w rounds
 hands_whole w [] h = tt
-hands_whole w (r ∷ rs) h = (λ journal b. subst (λ now. IsAllOf now (given_by (start_for w r journal))) (said_behind w journal b) (round_all w r journal h.0), hands_whole w rs h.1)
+hands_whole w (r ∷ rs) h = (λ journal b. subst (λ now. IsAllOf now (start_handed (start_for w r journal))) (said_behind w journal b) (round_all w r journal h.0), hands_whole w rs h.1)
 
 -- ---- the headline
 
@@ -250,18 +250,18 @@ module _ (m : Meaning) (w : Setting) (rounds : List Round) (old : List (List ℕ
   pub stays_sound : IsSoundFor m w old → IsSoundFor m w new
   stays_sound h = record {
     replays = h.replays;
-    history = sound_rounds (setup_of w) m (base_of w) (entries_of old) (attempts_of m w rounds old reports new d) (entries_of new) (base_in_order w) h.history (are_honest h);
+    history = sound_rounds (setup_of w) m (base_of w) (journal_entries old) (attempts_of m w rounds old reports new d) (journal_entries new) (base_in_order w) h.history (are_honest h);
   }
 
-  pub stays_one_run : Replays w.options → IsOneRun (setup_of w) m (Honest (base_of w)) (entries_of old) → IsOneRun (setup_of w) m (Honest (base_of w)) (entries_of new)
+  pub stays_one_run : ReplaysAndQueues w.options → IsOneRun (setup_of w) m (Honest (base_of w)) (journal_entries old) → IsOneRun (setup_of w) m (Honest (base_of w)) (journal_entries new)
   stays_one_run r h =
-      let a = are_honest (record { replays = r; history = run_is_sound (setup_of w) m (base_of w) (entries_of old) h }) in
-      honest_rounds (setup_of w) m (base_of w) (entries_of old) (attempts_of m w rounds old reports new d) (entries_of new) (base_in_order w) h a
+      let a = are_honest (record { replays = r; history = run_is_sound (setup_of w) m (base_of w) (journal_entries old) h }) in
+      honest_rounds (setup_of w) m (base_of w) (journal_entries old) (attempts_of m w rounds old reports new d) (journal_entries new) (base_in_order w) h a
 
-  pub stays_undisturbed : Replays w.options → AreWhole rounds → IsOneRun (setup_of w) m (Whole (base_of w)) (entries_of old) → IsOneRun (setup_of w) m (Whole (base_of w)) (entries_of new)
+  pub stays_undisturbed : ReplaysAndQueues w.options → AreWhole rounds → IsOneRun (setup_of w) m (Whole (base_of w)) (journal_entries old) → IsOneRun (setup_of w) m (Whole (base_of w)) (journal_entries new)
   stays_undisturbed r whole h =
       let a = rounds_honest (Whole (base_of w)) (IsOneRun (setup_of w) m (Whole (base_of w))) m w rounds old reports new r (whole_lasts m w) (hands_whole w rounds whole) j h d in
-      whole_rounds (setup_of w) m (base_of w) (entries_of old) (attempts_of m w rounds old reports new d) (entries_of new) (base_in_order w) h a
+      whole_rounds (setup_of w) m (base_of w) (journal_entries old) (attempts_of m w rounds old reports new d) (journal_entries new) (base_in_order w) h a
 
 -- ---- one round more
 

@@ -13,7 +13,7 @@ use Rattle.journal_values.specs.declared.notification.NotificationId.TheVariants
 use Rattle.journal_values.specs.declared.notification.NotificationResult.{NotificationResult}
 use Rattle.invocation_vm.specs.Frames.{Tail, frames_of}
 use Rattle.vm_parts.specs.declared.context.StateMap.{StateMap}
-use Rattle.vm_parts.specs.Entries.{entries_of as state_entries}
+use Rattle.vm_parts.specs.Entries.{journal_entries as state_entries}
 use Rattle.vm_machine.specs.Inputs.{coverage_of}
 use Rattle.vm_model.specs.Calls.{Meaning, Setup}
 use Rattle.vm_model.specs.Carried.{AreCarried, ComeOnce}
@@ -24,7 +24,7 @@ use Rattle.vm_model.specs.Moves.{Point, later, start as first_point}
 use Rattle.vm_model.proofs.Once.{run_once, still_carried}
 use Rattle.vm_model.proofs.Runs.{after_later}
 use Rattle.vm_attempt.specs.Journals.{commands_among, setup_for}
-use Rattle.vm_attempt.specs.Told.{BeforeInput, HasCome, IsKept, Journal, NoneHasTwo, Runs, Wrote, arrivals, begun, handed_out}
+use Rattle.vm_attempt.specs.Told.{BeforeInput, HasCome, IsKept, Journal, NoneHasTwo, HandlerRuns, Wrote, arrivals, begun, start_state}
 use Rattle.vm_attempt.specs.Arrivals.{arriving}
 use Rattle.vm_steps.specs.Heard.{acknowledged_from}
 use Rattle.vm_steps.specs.Record.{heard}
@@ -40,9 +40,9 @@ use Rattle.vm_attempt.proofs.Written.{taken_first}
 use Rattle.vm_store.specs.declared.types.Event.{Event}
 use Rattle.vm_store.specs.declared.types.Event.TheVariants as event
 use Rattle.vm_store.specs.declared.types.Setting.{Setting}
-use Rattle.vm_rounds.specs.Courses.{delivered, given_by}
-use Rattle.vm_store.specs.Entries.{entries_of, frames_in, notes_in}
-use Rattle.vm_rounds.specs.Rounds.{Happen, Happens, Now, Pieces, Replays}
+use Rattle.vm_rounds.specs.Courses.{delivered, start_handed}
+use Rattle.vm_store.specs.Entries.{journal_entries, journal_frames, notes_in}
+use Rattle.vm_rounds.specs.Rounds.{Happen, Happens, Now, Pieces, ReplaysAndQueues}
 use Rattle.vm_store.specs.Worlds.{IsJournal, fixed_in}
 use Rattle.vm_rounds.proofs.Completing.{carried_behind}
 use Rattle.vm_rounds.proofs.Coursing.{delivered_arrived, fed_frames, new_behind}
@@ -68,12 +68,12 @@ carried_front xs ys cs h id none = front_nothing (results_of (CompletionId id) x
 
 -- ---- an attempt over a journal that is a history
 
-module _ (m : Meaning) (w : Setting) (begin_bytes : List ℕ) (raw : RawMessage) (st : Start) (old : List (List ℕ)) (j : IsJournal old) (framed : AreFrames begin_bytes (raw ∷ [])) (found : start_in raw.body ≡ Some st) (known : st.known_entries ≡ length old) (s : Setup) (same_setup : setup_for (fixed_in m w) st ≡ s) (base : StateMap) (past : History s m base (entries_of old)) (r : Replays w.options) where
+module _ (m : Meaning) (w : Setting) (begin_bytes : List ℕ) (raw : RawMessage) (st : Start) (old : List (List ℕ)) (j : IsJournal old) (framed : AreFrames begin_bytes (raw ∷ [])) (found : start_in raw.body ≡ Some st) (known : st.known_entries ≡ length old) (s : Setup) (same_setup : setup_for (fixed_in m w) st ≡ s) (base : StateMap) (past : History s m base (journal_entries old)) (r : ReplaysAndQueues w.options) where
   abbrev E : List Entry
-  E = entries_of old
+  E = journal_entries old
 
   abbrev given : StateMap
-  given = given_by st
+  given = start_handed st
 
   -- all that came to the attempt
   abbrev pub came : Now → List Notification
@@ -97,29 +97,29 @@ module _ (m : Meaning) (w : Setting) (begin_bytes : List ℕ) (raw : RawMessage)
       let F = fed_frames m w.version begin_bytes raw old j framed now g in
       let G = F.0 in
       let P = acknowledged_from w.version now.attempt.proposed in
-      let same : raw ∷ (frames_in old ++ g.came) ≡ J.first_frame ∷ ((J.entries ++ J.others) ++ G) = F.1 ∙ ap (λ l. l ++ G) J.frames in
-      let head : raw ≡ J.first_frame = head_same raw J.first_frame (frames_in old ++ g.came) ((J.entries ++ J.others) ++ G) same in
-      let tail : frames_in old ++ g.came ≡ J.entries ++ (J.others ++ G) = tail_same raw J.first_frame (frames_in old ++ g.came) ((J.entries ++ J.others) ++ G) same ∙ append_assoc J.entries J.others G in
+      let same : raw ∷ (journal_frames old ++ g.came) ≡ J.first_frame ∷ ((J.entries ++ J.others) ++ G) = F.1 ∙ ap (λ l. l ++ G) J.frames in
+      let head : raw ≡ J.first_frame = head_same raw J.first_frame (journal_frames old ++ g.came) ((J.entries ++ J.others) ++ G) same in
+      let tail : journal_frames old ++ g.came ≡ J.entries ++ (J.others ++ G) = tail_same raw J.first_frame (journal_frames old ++ g.came) ((J.entries ++ J.others) ++ G) same ∙ append_assoc J.entries J.others G in
       let is_st : J.start ≡ st = same_Some J.start st (sym J.reads_start ∙ ap (λ (x : RawMessage). start_in x.body) (sym head) ∙ found) in
-      let count : length (frames_in old) ≡ length J.entries = journal_length old j.entries ∙ sym (J.count ∙ ap (λ (x : Start). x.known_entries) is_st ∙ known) in
-      let entries : frames_in old ≡ J.entries = (same_front (frames_in old) J.entries g.came (J.others ++ G) count tail).0 in
-      let commands : past.first ∷ past.rest ≡ J.first ∷ J.rest = sym past.begins ∙ commands_same (frames_in old) ∙ ap commands_among entries ∙ J.commands in
+      let count : length (journal_frames old) ≡ length J.entries = journal_length old j.entries ∙ sym (J.count ∙ ap (λ (x : Start). x.known_entries) is_st ∙ known) in
+      let entries : journal_frames old ≡ J.entries = (same_front (journal_frames old) J.entries g.came (J.others ++ G) count tail).0 in
+      let commands : past.first ∷ past.rest ≡ J.first ∷ J.rest = sym past.begins ∙ commands_same (journal_frames old) ∙ ap commands_among entries ∙ J.commands in
       let first = head_same past.first J.first past.rest J.rest commands in
       let none = journal_acknowledges old j.entries in
       let others = arriving P J.others in
       let all : arriving P (J.entries ++ J.others) ≡ notes_in old ++ others =
-      ap (λ l. arriving P (l ++ J.others)) (sym entries) ∙ arriving_append P (frames_in old) J.others ∙ (λ i. (arriving_notified P (frames_in old) none ∙ sym (notes_are old)) i ++ arriving (kept_all P (frames_in old) none i) J.others) in
+      ap (λ l. arriving P (l ++ J.others)) (sym entries) ∙ arriving_append P (journal_frames old) J.others ∙ (λ i. (arriving_notified P (journal_frames old) none ∙ sym (notes_are old)) i ++ arriving (kept_all P (journal_frames old) none i) J.others) in
       let later : delivered w.version old now.attempt ≡ others = ap (λ l. drop (length (notes_in old)) (arriving P (behind l))) J.frames ∙ ap (drop (length (notes_in old))) all ∙ new_behind (notes_in old) others in
       record {
         start = is_st;
         state = entries_found J.start.state J.state J.reads_state ∙ ap (λ (x : Start). state_entries x.state) is_st;
         input = sym (same_Some past.input J.input (sym past.reads ∙ ap input_read_from first ∙ J.reads_input));
-        notes = all ∙ (λ i. (notes_are old ∙ sym (notes_same (frames_in old))) i ++ sym later i);
+        notes = all ∙ (λ i. (notes_are old ∙ sym (notes_same (journal_frames old))) i ++ sym later i);
         rest = sym (tail_same past.first J.first past.rest J.rest commands);
       }
 
   -- a run over what was fed is one from the first point
-  pub there : (now : Now) (g : Going w.version begin_bytes old now) (J : Journal (heard w.version now.attempt)) (n : ℕ) (made : List RawMessage) (p : Point) → Made (setup_for (fixed_in m w) J.start) m (Handed (handed_out J)) n (begun (fixed_in m w) J) made p → Made s m (Handed given) n (from now) made p
+  pub there : (now : Now) (g : Going w.version begin_bytes old now) (J : Journal (heard w.version now.attempt)) (n : ℕ) (made : List RawMessage) (p : Point) → Made (setup_for (fixed_in m w) J.start) m (Handed (start_state J)) n (begun (fixed_in m w) J) made p → Made s m (Handed given) n (from now) made p
   there now g J n made p run =
       let x = is_worlds now g J in
       subst (λ (z : Setup). Made z m (Handed given) n (first_point z past.input (came now) past.rest) made p) same_setup
@@ -135,7 +135,7 @@ module _ (m : Meaning) (w : Setting) (begin_bytes : List ℕ) (raw : RawMessage)
       let D = delivered w.version old now.attempt in (
         d.0,
         ap notes_in g.extends ∙ notes_append old g.added
-            ∙ (λ i. (notes_are old ∙ sym (notes_same (frames_in old))) i ++ (notes_are g.added ∙ sym (notes_same (frames_in g.added)) ∙ d.1) i)
+            ∙ (λ i. (notes_are old ∙ sym (notes_same (journal_frames old))) i ++ (notes_are g.added ∙ sym (notes_same (journal_frames g.added)) ∙ d.1) i)
             ∙ sym (append_assoc (notifications_in E) D d.0),
       )
 
@@ -146,9 +146,9 @@ module _ (m : Meaning) (w : Setting) (begin_bytes : List ℕ) (raw : RawMessage)
   stored_carry : (now : Now) (g : Going w.version begin_bytes old now) → AreCarried (came now) (past.rest ++ commands_among g.scanned)
   stored_carry now g =
       let x = notes_split now g in
-      let all : commands_among (frames_in now.journal) ≡ past.first ∷ (past.rest ++ commands_among g.scanned) =
-      ap (λ l. commands_among (frames_in l)) g.extends ∙ ap commands_among (frames_append old g.added) ∙ commands_append (frames_in old) (frames_in g.added)
-      ∙ (λ i. (sym (commands_same (frames_in old)) ∙ past.begins) i ++ g.commands i)
+      let all : commands_among (journal_frames now.journal) ≡ past.first ∷ (past.rest ++ commands_among g.scanned) =
+      ap (λ l. commands_among (journal_frames l)) g.extends ∙ ap commands_among (frames_append old g.added) ∙ commands_append (journal_frames old) (journal_frames g.added)
+      ∙ (λ i. (sym (commands_same (journal_frames old)) ∙ past.begins) i ++ g.commands i)
       in
       carried_behind (came now) past.first past.input (past.rest ++ commands_among g.scanned) past.reads
       (carried_front (came now) x.0 (past.first ∷ (past.rest ++ commands_among g.scanned)) (subst (λ (z : List Notification × List RawMessage). AreCarried z.0 z.1) (λ i. (x.1 i, all i)) g.journal.carried))
@@ -183,7 +183,7 @@ module _ (m : Meaning) (w : Setting) (begin_bytes : List ℕ) (raw : RawMessage)
       let here = there now g J n made p run in
       ⊎_elim
       (λ (b : BeforeInput (fixed_in m w) (heard w.version now.attempt) now.attempt.answers now.attempt.waiting now.attempt.taken now.attempt.vm). at_each now g 0 [] (from now) (refl, refl) b.wrote n made p here)
-      (λ (b : Runs (fixed_in m w) (heard w.version now.attempt) now.attempt.answers now.attempt.waiting now.attempt.taken now.attempt.vm). at_each now g b.moves b.written b.at (there now g b.journal b.moves b.written b.at b.run) b.wrote n made p here)
+      (λ (b : HandlerRuns (fixed_in m w) (heard w.version now.attempt) now.attempt.answers now.attempt.waiting now.attempt.taken now.attempt.vm). at_each now g b.moves b.written b.at (there now g b.journal b.moves b.written b.at b.run) b.wrote n made p here)
       kept
 
   -- ---- events
@@ -195,14 +195,14 @@ module _ (m : Meaning) (w : Setting) (begin_bytes : List ℕ) (raw : RawMessage)
   pieces_run : (closed : Bool) (n : ℕ) (now mid : Now) → Pieces closed n now mid → Goes now → Goes mid
   pieces_run true n now mid d goes = subst Goes (sym d) goes
   pieces_run false n now mid (result, a, d, is) (kept, came) = subst Goes (sym is) (
-    feed_keeps (Runs (fixed_in m w)) (runs_last (fixed_in m w)) (fixed_in m w) (take n now.waiting) now.attempt result a kept d,
+    feed_keeps (HandlerRuns (fixed_in m w)) (runs_last (fixed_in m w)) (fixed_in m w) (take n now.waiting) now.attempt result a kept d,
     feed_comes (fixed_in m w) (take n now.waiting) now.attempt result a came d,
   )
 
   pub event_runs : (e : Event) (now mid : Now) → Happens m e now mid → Going w.version begin_bytes old now → Goes now → Goes mid
   event_runs (event.Piece n) now mid d g goes = pieces_run now.closed n now mid d goes
   event_runs event.Close now mid (result, a, d, is) g (kept, came) = subst Goes (sym is) (
-    close_keeps (Runs (fixed_in m w)) (runs_last (fixed_in m w)) (fixed_in m w) now.attempt result a kept d,
+    close_keeps (HandlerRuns (fixed_in m w)) (runs_last (fixed_in m w)) (fixed_in m w) now.attempt result a kept d,
     close_comes (fixed_in m w) now.attempt result a came d,
   )
   event_runs event.Step now mid (result, a, d, is) g (kept, came) = subst Goes (sym is) (
@@ -215,7 +215,7 @@ module _ (m : Meaning) (w : Setting) (begin_bytes : List ℕ) (raw : RawMessage)
   )
   event_runs (event.Arrive x) now mid (none, is) g goes = subst Goes (sym is) goes
   event_runs (event.Store n) now mid (journal, waiting, unstored, stores, is, whole, proposed) g (kept, came) = subst Goes (sym is) (
-    take_keeps (Runs (fixed_in m w)) (runs_last (fixed_in m w)) (fixed_in m w) now.attempt (Ok (concat now.attempt.vm.machine.output)) _ kept (refl, refl, whole),
+    take_keeps (HandlerRuns (fixed_in m w)) (runs_last (fixed_in m w)) (fixed_in m w) now.attempt (Ok (concat now.attempt.vm.machine.output)) _ kept (refl, refl, whole),
     take_comes (fixed_in m w) now.attempt (Ok (concat now.attempt.vm.machine.output)) _ came (refl, refl, whole),
   )
 

@@ -22,9 +22,9 @@ use Rattle.journal_errors.specs.Versions.{is_from_v7}
 use Rattle.vm_model.specs.Carried.{AreCarried, is_carried}
 use Rattle.vm_model.specs.Journal.{stored_form}
 use Rattle.vm_model.proofs.Once.{still_carried}
-use Rattle.vm_attempt.specs.Arrivals.{AllFound, FindsProposal, IsFound, arriving, kept_after, stands_for, unacknowledged}
+use Rattle.vm_attempt.specs.Arrivals.{AllFound, FindsProposal, IsOfKept, arriving, kept_after, acknowledged_as, unacknowledged}
 use Rattle.vm_steps.specs.Heard.{acknowledged_from, is_proposal, proposal_in, proposals_among, proposed_by}
-use Rattle.vm_attempt.specs.Journals.{commands_among, is_acknowledgement, is_command, is_notification, notifications_among, notified_by}
+use Rattle.vm_attempt.specs.Journals.{commands_among, is_acknowledgement, is_command_frame, is_notification, notifications_among, notified_by}
 use Rattle.vm_attempt.proofs.Advanced.{nothing_acknowledged}
 use Rattle.vm_attempt.proofs.Arriving.{arriving_alone, kept_none}
 use Rattle.vm_attempt.proofs.Finishing.{acknowledged_more}
@@ -36,10 +36,10 @@ use Rattle.vm_store.specs.declared.completions.Completes.TheVariants as complete
 use Rattle.vm_store.specs.declared.storing.Written.{Written}
 use Rattle.vm_store.specs.declared.storing.Written.TheVariants.{Command, Proposal}
 use Rattle.vm_store.specs.declared.types.RoundFault.{RoundFault}
-use Rattle.vm_store.specs.Arrivals.{completes_among, is_completed, most, proposal_fault, proposed_fault, room_fault}
+use Rattle.vm_store.specs.Arrivals.{completes_among, completes_id, most_entries, stored_proposal_fault, proposed_fault, room_fault}
 use Rattle.vm_store.specs.Completions.{CompleteOnce, IsOfKind, NoteIsOfItsKind}
-use Rattle.vm_store.specs.Entries.{AreEntries, frame_in, frame_of, framed_by, frames_in, may_stand, note_in, note_of, notes_in, read_from, said_in}
-use Rattle.vm_store.specs.Storing.{CanBeRead, NoneFaults, acknowledgement, answered_by, completed_by, kept_of, proposal_of, stored_as, storing_fault, waits_behind, written_among, written_before}
+use Rattle.vm_store.specs.Entries.{AreEntries, frame_in, frame_of, framed_by, journal_frames, may_stand, note_in, note_of, notes_in, read_from, said_in}
+use Rattle.vm_store.specs.Storing.{StoredCanBeRead, NoneFaults, acknowledgement, answer_to, completion_message, kept_of, proposal_of, stored_as, storing_fault, waits_behind, written_among, written_before}
 use Rattle.vm_store.specs.Worlds.{IsJournal}
 use Rattle.vm_store.proofs.Framing.{AreFrames, command_no_note, entries_join, frame_back, frames_append, join, none_framed, note_acknowledges_nothing, notes_append, notes_are, one_framed}
 use Rattle.vm_rounds.proofs.Once.{IsNew, absent, carried_more, completed_carried, each_more, not_most, once_more}
@@ -63,7 +63,7 @@ completion p = completion_of p.completion_id p
 five : (n : ℕ) → (n == 5) ≡ true → n ≡ 5
 five n h = grind (arith, nat_tests)
 
-proposal_no_command : (raw : RawMessage) → is_proposal raw ≡ true → is_command raw ≡ false
+proposal_no_command : (raw : RawMessage) → is_proposal raw ≡ true → is_command_frame raw ≡ false
 proposal_no_command raw h = ap (λ k. nat_le 10 k && nat_lt k 30) (five (type_number raw.ty) h)
 
 -- the commands and the proposals among frames are those of their items
@@ -75,7 +75,7 @@ commands_by false raw (Some p) ws cs h = h
 
 pub commands_are : (raws : List RawMessage) → flat_map command_in (written_among raws) ≡ commands_among raws
 commands_are [] = refl
-commands_are (raw ∷ raws) = commands_by (is_command raw) raw (proposal_of raw) (written_among raws) (commands_among raws) (commands_are raws)
+commands_are (raw ∷ raws) = commands_by (is_command_frame raw) raw (proposal_of raw) (written_among raws) (commands_among raws) (commands_are raws)
 
 proposals_by : (a b : Bool) (raw : RawMessage) (o : Option ProposeRunCompletion) (ws : List Written) (ps : List KeptProposal) → (b ≡ true → a ≡ false) → flat_map proposal_in_item ws ≡ ps
     → flat_map proposal_in_item (written_before (cond a (Some (Command raw)) (option_map Proposal (cond b (option_map kept_of o) None))) ws) ≡ cond b (proposed_by o ps) ps
@@ -87,24 +87,24 @@ proposals_by false false raw o ws ps apart h = h
 
 pub proposals_are : (raws : List RawMessage) → flat_map proposal_in_item (written_among raws) ≡ proposals_among raws
 proposals_are [] = refl
-proposals_are (raw ∷ raws) = proposals_by (is_command raw) (is_proposal raw) raw (proposal_in raw.body) (written_among raws) (proposals_among raws) (proposal_no_command raw) (proposals_are raws)
+proposals_are (raw ∷ raws) = proposals_by (is_command_frame raw) (is_proposal raw) raw (proposal_in raw.body) (written_among raws) (proposals_among raws) (proposal_no_command raw) (proposals_are raws)
 
 -- ---- an item, as an entry
 
 -- a command, or what a run came to, that can be read back
 abbrev pub IsItem : Version → Written → Type 0
-IsItem version (Command raw) = (is_command raw ≡ true) × (length raw.body < 2 ^ 64)
-IsItem version (Proposal p) = CanBeRead version (Proposal p)
+IsItem version (Command raw) = (is_command_frame raw ≡ true) × (length raw.body < 2 ^ 64)
+IsItem version (Proposal p) = StoredCanBeRead version (Proposal p)
 
-items_by : (version : Version) (b : Bool) (raw : RawMessage) (o : Option KeptProposal) (ws : List Written) → is_command raw ≡ b → (AllByRecursion (CanBeRead version) ws → AllByRecursion (IsItem version) ws)
-    → AllByRecursion (CanBeRead version) (written_before (cond b (Some (Command raw)) (option_map Proposal o)) ws) → AllByRecursion (IsItem version) (written_before (cond b (Some (Command raw)) (option_map Proposal o)) ws)
+items_by : (version : Version) (b : Bool) (raw : RawMessage) (o : Option KeptProposal) (ws : List Written) → is_command_frame raw ≡ b → (AllByRecursion (StoredCanBeRead version) ws → AllByRecursion (IsItem version) ws)
+    → AllByRecursion (StoredCanBeRead version) (written_before (cond b (Some (Command raw)) (option_map Proposal o)) ws) → AllByRecursion (IsItem version) (written_before (cond b (Some (Command raw)) (option_map Proposal o)) ws)
 items_by version true raw o ws is more h = ((is, h.0), more h.1)
 items_by version false raw None ws is more h = more h
 items_by version false raw (Some p) ws is more h = (h.0, more h.1)
 
-pub are_items : (version : Version) (raws : List RawMessage) → AllByRecursion (CanBeRead version) (written_among raws) → AllByRecursion (IsItem version) (written_among raws)
+pub are_items : (version : Version) (raws : List RawMessage) → AllByRecursion (StoredCanBeRead version) (written_among raws) → AllByRecursion (IsItem version) (written_among raws)
 are_items version [] h = tt
-are_items version (raw ∷ raws) h = items_by version (is_command raw) raw (proposal_of raw) (written_among raws) refl (are_items version raws) h
+are_items version (raw ∷ raws) h = items_by version (is_command_frame raw) raw (proposal_of raw) (written_among raws) refl (are_items version raws) h
 
 -- a notification that is written can be read back
 pub notification_back : (n : Notification) → IsWhole (message.Notification n) → notification_in (stored_form (message.Notification n)).body ≡ Some n
@@ -126,10 +126,10 @@ acknowledgement_back ack whole = by_read (acknowledgement_in (stored_form (messa
 -- What an item is as an entry: it may stand, and brings its command and its completion.
 record Entered (w : Written) : Type 0 where
   stands : may_stand (frame_in (stored_as w)) ≡ true
-  commands : commands_among (frames_in (stored_as w ∷ [])) ≡ command_in w
+  commands : commands_among (journal_frames (stored_as w ∷ [])) ≡ command_in w
   notes : notes_in (stored_as w ∷ []) ≡ map completion (proposal_in_item w)
 
-command_entered : (raw : RawMessage) → is_command raw ≡ true → length raw.body < 2 ^ 64 → Entered (Command raw)
+command_entered : (raw : RawMessage) → is_command_frame raw ≡ true → length raw.body < 2 ^ 64 → Entered (Command raw)
 command_entered raw is fits = record {
   stands = ap may_stand (frame_back raw fits) ∙ ap (λ b. b || is_some (note_of raw)) is;
   commands = ap (λ o. commands_among (framed_by o [])) (frame_back raw fits) ∙ ap (λ b. cond b (raw ∷ []) []) is;
@@ -137,17 +137,17 @@ command_entered raw is fits = record {
 }
 
 -- no notification is read from the entry of a command
-command_unread : (raw : RawMessage) → is_command raw ≡ true → length raw.body < 2 ^ 64 → note_in (frame_of raw) ≡ None
+command_unread : (raw : RawMessage) → is_command_frame raw ≡ true → length raw.body < 2 ^ 64 → note_in (frame_of raw) ≡ None
 command_unread raw is fits = ap (read_from note_of) (frame_back raw fits) ∙ ap (λ b. cond b (notification_in raw.body) None) (command_no_note raw is)
 
 -- the completion of a proposal can be read from its entry
-pub completion_read : (p : KeptProposal) → IsWhole (completed_by p) → note_in (encoding (completed_by p)) ≡ Some (completion p)
-completion_read p whole = ap (λ o. read_from note_of o) (frame_back (stored_form (completed_by p)) whole.1) ∙ notification_back (completion p) whole
+pub completion_read : (p : KeptProposal) → IsWhole (completion_message p) → note_in (encoding (completion_message p)) ≡ Some (completion p)
+completion_read p whole = ap (λ o. read_from note_of o) (frame_back (stored_form (completion_message p)) whole.1) ∙ notification_back (completion p) whole
 
-completion_entered : (p : KeptProposal) → IsWhole (completed_by p) → Entered (Proposal p)
+completion_entered : (p : KeptProposal) → IsWhole (completion_message p) → Entered (Proposal p)
 completion_entered p whole =
-    let raw = stored_form (completed_by p) in
-    let back : frame_in (encoding (completed_by p)) ≡ Some raw = frame_back raw whole.1 in
+    let raw = stored_form (completion_message p) in
+    let back : frame_in (encoding (completion_message p)) ≡ Some raw = frame_back raw whole.1 in
     record {
       stands = ap may_stand back ∙ ap (λ o. is_some o) (notification_back (completion p) whole);
       commands = ap (λ o. commands_among (framed_by o [])) back;
@@ -184,42 +184,42 @@ kind_by_proposal (Some completes.Proposal) false room result e = tt
 kind_by_proposal (Some completes.AnyResult) false room result e = tt
 
 -- a notification that is new, and for which there is room, makes of a journal one again
-pub note_keeps : (journal : List (List ℕ)) (x : List ℕ) → IsNew x journal → length journal ≢ most → AreEntries (x ∷ []) → commands_among (frames_in (x ∷ [])) ≡ [] → IsJournal journal → IsJournal (journal ++ x ∷ [])
+pub note_keeps : (journal : List (List ℕ)) (x : List ℕ) → IsNew x journal → length journal ≢ most_entries → AreEntries (x ∷ []) → commands_among (journal_frames (x ∷ [])) ≡ [] → IsJournal journal → IsJournal (journal ++ x ∷ [])
 note_keeps journal x new room stands none j =
-    let same : commands_among (frames_in (journal ++ x ∷ [])) ≡ commands_among (frames_in journal) =
-    ap commands_among (frames_append journal (x ∷ [])) ∙ commands_append (frames_in journal) (frames_in (x ∷ [])) ∙ ap (λ l. commands_among (frames_in journal) ++ l) none ∙ append-nil (commands_among (frames_in journal)) in
+    let same : commands_among (journal_frames (journal ++ x ∷ [])) ≡ commands_among (journal_frames journal) =
+    ap commands_among (frames_append journal (x ∷ [])) ∙ commands_append (journal_frames journal) (journal_frames (x ∷ [])) ∙ ap (λ l. commands_among (journal_frames journal) ++ l) none ∙ append-nil (commands_among (journal_frames journal)) in
     record {
       entries = entries_join journal (x ∷ []) j.entries stands;
       short = omega (arith, j.short, room, length-append journal (x ∷ []));
       once = rw (notes_append journal (x ∷ []), new.reads) (once_more (notes_in journal) new.note j.once new.no_other);
-      carried = rw (notes_append journal (x ∷ []), new.reads, same) (carried_more (notes_in journal) new.note (commands_among (frames_in journal)) j.carried new.carried);
+      carried = rw (notes_append journal (x ∷ []), new.reads, same) (carried_more (notes_in journal) new.note (commands_among (journal_frames journal)) j.carried new.carried);
       kinds = each_more [] journal x j.kinds (subst (λ o. NoteIsOfItsKind o journal) (sym new.reads) new.kind);
     }
 
-completion_new : (p : KeptProposal) (journal : List (List ℕ)) → IsWhole (completed_by p) → proposal_fault p.completion_id journal ≡ None → IsNew (encoding (completed_by p)) journal
+completion_new : (p : KeptProposal) (journal : List (List ℕ)) → IsWhole (completion_message p) → stored_proposal_fault p.completion_id journal ≡ None → IsNew (encoding (completion_message p)) journal
 completion_new p journal whole e =
     let id = p.completion_id in
     let kind = completes_among id (said_in journal) None in
-    let done = is_completed id (notes_in journal) in
+    let done = completes_id id (notes_in journal) in
     record {
       note = completion p;
       reads = completion_read p whole;
       no_other = absent id (notes_in journal) (done_by kind done (room_fault journal) e);
-      carried = λ i is. let same : id ≡ i = cc in subst (λ k. is_carried k (commands_among (frames_in journal)) ≡ true) same (completed_carried id journal (kind_by kind done (room_fault journal) e));
+      carried = λ i is. let same : id ≡ i = cc in subst (λ k. is_carried k (commands_among (journal_frames journal)) ≡ true) same (completed_carried id journal (kind_by kind done (room_fault journal) e));
       kind = kind_by_proposal kind done (room_fault journal) (completion p).result e;
     }
 
-command_keeps : (raw : RawMessage) (journal : List (List ℕ)) → is_command raw ≡ true → length raw.body < 2 ^ 64 → room_fault journal ≡ None → IsJournal journal → IsJournal (journal ++ frame_of raw ∷ [])
+command_keeps : (raw : RawMessage) (journal : List (List ℕ)) → is_command_frame raw ≡ true → length raw.body < 2 ^ 64 → room_fault journal ≡ None → IsJournal journal → IsJournal (journal ++ frame_of raw ∷ [])
 command_keeps raw journal is fits room j =
     let one = command_entered raw is fits in
     let same_notes : notes_in (journal ++ frame_of raw ∷ []) ≡ notes_in journal = notes_append journal (frame_of raw ∷ []) ∙ ap (λ l. notes_in journal ++ l) one.notes ∙ append-nil (notes_in journal) in
-    let more : commands_among (frames_in (journal ++ frame_of raw ∷ [])) ≡ commands_among (frames_in journal) ++ raw ∷ [] =
-    ap commands_among (frames_append journal (frame_of raw ∷ [])) ∙ commands_append (frames_in journal) (frames_in (frame_of raw ∷ [])) ∙ ap (λ l. commands_among (frames_in journal) ++ l) one.commands in
+    let more : commands_among (journal_frames (journal ++ frame_of raw ∷ [])) ≡ commands_among (journal_frames journal) ++ raw ∷ [] =
+    ap commands_among (frames_append journal (frame_of raw ∷ [])) ∙ commands_append (journal_frames journal) (journal_frames (frame_of raw ∷ [])) ∙ ap (λ l. commands_among (journal_frames journal) ++ l) one.commands in
     record {
       entries = entries_join journal (frame_of raw ∷ []) j.entries (one.stands, tt);
       short = omega (arith, j.short, not_most (length journal) room, length-append journal (frame_of raw ∷ []));
       once = subst CompleteOnce (sym same_notes) j.once;
-      carried = subst (λ (x : List Notification × List RawMessage). AreCarried x.0 x.1) (λ i. (sym same_notes i, sym more i)) (still_carried (notes_in journal) (commands_among (frames_in journal)) (raw ∷ []) j.carried);
+      carried = subst (λ (x : List Notification × List RawMessage). AreCarried x.0 x.1) (λ i. (sym same_notes i, sym more i)) (still_carried (notes_in journal) (commands_among (journal_frames journal)) (raw ∷ []) j.carried);
       kinds = each_more [] journal (frame_of raw) j.kinds (subst (λ o. NoteIsOfItsKind o journal) (sym (command_unread raw is fits)) tt);
     }
 
@@ -228,7 +228,7 @@ item_keeps version (Command raw) journal h e j = command_keeps raw journal h.0 h
 item_keeps version (Proposal p) journal h e j =
     let one = completion_entered p h.0 in
     let id = p.completion_id in
-    note_keeps journal (encoding (completed_by p)) (completion_new p journal h.0 e) (not_most (length journal) (room_of (completes_among id (said_in journal) None) (is_completed id (notes_in journal)) (room_fault journal) e)) (one.stands, tt) one.commands j
+    note_keeps journal (encoding (completion_message p)) (completion_new p journal h.0 e) (not_most (length journal) (room_of (completes_among id (said_in journal) None) (completes_id id (notes_in journal)) (room_fault journal) e)) (one.stands, tt) one.commands j
 
 -- a journal stays one as items are stored that have no fault
 pub items_keep : (version : Version) (ws : List Written) (journal : List (List ℕ)) → AllByRecursion (IsItem version) ws → NoneFaults ws journal → IsJournal journal → IsJournal (journal ++ map stored_as ws)
@@ -237,14 +237,14 @@ items_keep version (w ∷ ws) journal all none j = subst IsJournal (append_assoc
 
 -- the commands and the completions that items are, as entries
 pub items_enter : (version : Version) (ws : List Written) → AllByRecursion (IsItem version) ws
-    → (commands_among (frames_in (map stored_as ws)) ≡ flat_map command_in ws) × (notes_in (map stored_as ws) ≡ map completion (flat_map proposal_in_item ws))
+    → (commands_among (journal_frames (map stored_as ws)) ≡ flat_map command_in ws) × (notes_in (map stored_as ws) ≡ map completion (flat_map proposal_in_item ws))
 items_enter version [] all = (refl, refl)
 items_enter version (w ∷ ws) all =
     let one = entered version w all.0 in
     let more = items_enter version ws all.1 in
     let x = stored_as w in
     let xs = map stored_as ws in (
-      ap commands_among (frames_append (x ∷ []) xs) ∙ commands_append (frames_in (x ∷ [])) (frames_in xs) ∙ (λ i. one.commands i ++ more.0 i),
+      ap commands_among (frames_append (x ∷ []) xs) ∙ commands_append (journal_frames (x ∷ [])) (journal_frames xs) ∙ (λ i. one.commands i ++ more.0 i),
       notes_append (x ∷ []) xs ∙ (λ i. one.notes i ++ more.1 i) ∙ sym (map-append completion (proposal_in_item w) (flat_map proposal_in_item ws)),
     )
 
@@ -252,7 +252,7 @@ items_enter version (w ∷ ws) all =
 
 -- what answers a proposal, as a frame
 abbrev pub answer_frame : Version → KeptProposal → RawMessage
-answer_frame version p = if is_from_v7 version then stored_form (acknowledgement p.completion_id) else stored_form (completed_by p)
+answer_frame version p = if is_from_v7 version then stored_form (acknowledgement p.completion_id) else stored_form (completion_message p)
 
 -- what answers proposals, as frames
 abbrev pub answers : Version → List KeptProposal → List RawMessage
@@ -260,31 +260,31 @@ answers version ps = map (answer_frame version) ps
 
 -- what answers a proposal can be read
 abbrev pub IsAnswered : Version → KeptProposal → Type 0
-IsAnswered version p = CanBeRead version (Proposal p)
+IsAnswered version p = StoredCanBeRead version (Proposal p)
 
-pub proposals_answered : (version : Version) (ws : List Written) → AllByRecursion (CanBeRead version) ws → AllByRecursion (IsAnswered version) (flat_map proposal_in_item ws)
+pub proposals_answered : (version : Version) (ws : List Written) → AllByRecursion (StoredCanBeRead version) ws → AllByRecursion (IsAnswered version) (flat_map proposal_in_item ws)
 proposals_answered version [] all = tt
 proposals_answered version (Command raw ∷ ws) all = proposals_answered version ws all.1
 proposals_answered version (Proposal p ∷ ws) all = (all.0, proposals_answered version ws all.1)
 
 -- only proposals are answered
-waits_answer : (version : Version) (ws : List Written) → flat_map (waits_behind version) ws ≡ flat_map (answered_by version) (flat_map proposal_in_item ws)
+waits_answer : (version : Version) (ws : List Written) → flat_map (waits_behind version) ws ≡ flat_map (answer_to version) (flat_map proposal_in_item ws)
 waits_answer version [] = refl
 waits_answer version (Command raw ∷ ws) = waits_answer version ws
-waits_answer version (Proposal p ∷ ws) = ap (λ l. answered_by version p ++ l) (waits_answer version ws)
+waits_answer version (Proposal p ∷ ws) = ap (λ l. answer_to version p ++ l) (waits_answer version ws)
 
-answer_framed : (version : Version) (p : KeptProposal) → IsAnswered version p → AreFrames (answered_by version p) (answer_frame version p ∷ [])
+answer_framed : (version : Version) (p : KeptProposal) → IsAnswered version p → AreFrames (answer_to version p) (answer_frame version p ∷ [])
 answer_framed version p h = by_test (is_from_v7 version) h.1
   where
-    by_test : (b : Bool) → (b ≡ true → IsWhole (acknowledgement p.completion_id)) → AreFrames (if b then encoding (acknowledgement p.completion_id) else encoding (completed_by p)) ((if b then stored_form (acknowledgement p.completion_id) else stored_form (completed_by p)) ∷ [])
+    by_test : (b : Bool) → (b ≡ true → IsWhole (acknowledgement p.completion_id)) → AreFrames (if b then encoding (acknowledgement p.completion_id) else encoding (completion_message p)) ((if b then stored_form (acknowledgement p.completion_id) else stored_form (completion_message p)) ∷ [])
     by_test true whole = one_framed (stored_form (acknowledgement p.completion_id)) (whole refl).1
-    by_test false whole = one_framed (stored_form (completed_by p)) h.0.1
+    by_test false whole = one_framed (stored_form (completion_message p)) h.0.1
 
-answers_framed : (version : Version) (ps : List KeptProposal) → AllByRecursion (IsAnswered version) ps → AreFrames (flat_map (answered_by version) ps) (answers version ps)
+answers_framed : (version : Version) (ps : List KeptProposal) → AllByRecursion (IsAnswered version) ps → AreFrames (flat_map (answer_to version) ps) (answers version ps)
 answers_framed version [] all = none_framed
-answers_framed version (p ∷ ps) all = join (answered_by version p) (flat_map (answered_by version) ps) (answer_frame version p ∷ []) (answers version ps) (answer_framed version p all.0) (answers_framed version ps all.1)
+answers_framed version (p ∷ ps) all = join (answer_to version p) (flat_map (answer_to version) ps) (answer_frame version p ∷ []) (answers version ps) (answer_framed version p all.0) (answers_framed version ps all.1)
 
-pub waits_framed : (version : Version) (ws : List Written) → AllByRecursion (CanBeRead version) ws → AreFrames (flat_map (waits_behind version) ws) (answers version (flat_map proposal_in_item ws))
+pub waits_framed : (version : Version) (ws : List Written) → AllByRecursion (StoredCanBeRead version) ws → AreFrames (flat_map (waits_behind version) ws) (answers version (flat_map proposal_in_item ws))
 waits_framed version ws all = subst (λ b. AreFrames b (answers version (flat_map proposal_in_item ws))) (sym (waits_answer version ws)) (answers_framed version (flat_map proposal_in_item ws) (proposals_answered version ws all))
 
 -- a frame that comes behind a journal: a notification or an acknowledgement, which can be read
@@ -294,7 +294,7 @@ IsTaken raw = ((is_notification raw ≡ true) × IsSome (notification_in raw.bod
 answer_taken : (version : Version) (p : KeptProposal) → IsAnswered version p → IsTaken (answer_frame version p)
 answer_taken version p h = by_test (is_from_v7 version) h.1
   where
-    by_test : (b : Bool) → (b ≡ true → IsWhole (acknowledgement p.completion_id)) → IsTaken (if b then stored_form (acknowledgement p.completion_id) else stored_form (completed_by p))
+    by_test : (b : Bool) → (b ≡ true → IsWhole (acknowledgement p.completion_id)) → IsTaken (if b then stored_form (acknowledgement p.completion_id) else stored_form (completion_message p))
     by_test true whole = inr (refl, ap is_some (acknowledgement_back (record { id = p.completion_id }) (whole refl)))
     by_test false whole = inl (refl, ap is_some (notification_back (completion p) h.0))
 
@@ -365,9 +365,9 @@ acknowledged_brings p whole =
     let raw = stored_form (acknowledgement p.completion_id) in
     let reads = acknowledgement_back (record { id = p.completion_id }) whole in
     let here : find (is_for p.completion_id) (p ∷ []) ≡ Some p = ap (λ b. cond b (Some p) None) (same_number p.completion_id) in (
-      ((λ _. subst (IsFound (p ∷ [])) (sym reads) (ap is_some here)), tt),
+      ((λ _. subst (IsOfKept (p ∷ [])) (sym reads) (ap is_some here)), tt),
       ap (unacknowledged (p ∷ [])) reads ∙ ap (λ b. if b then [] else p ∷ []) (same_number p.completion_id),
-      ap (λ o. notified_by (stands_for (p ∷ []) o) []) reads ∙ ap (λ o. notified_by (option_map (completion_of p.completion_id) o) []) here,
+      ap (λ o. notified_by (acknowledged_as (p ∷ []) o) []) reads ∙ ap (λ o. notified_by (option_map (completion_of p.completion_id) o) []) here,
     )
 
 answer_brings : (version : Version) (p : KeptProposal) → IsAnswered version p → Brings version (p ∷ []) (answer_frame version p ∷ []) (completion p ∷ [])
@@ -377,7 +377,7 @@ answer_brings version p h = by_test (is_from_v7 version) refl h.1
     by_test true is whole =
         let x = acknowledged_brings p (whole refl) in
         let kept : acknowledged_from version (p ∷ []) ≡ p ∷ [] = ap (λ b. if b then p ∷ [] else []) is in
-        let frame : answer_frame version p ≡ stored_form (acknowledgement p.completion_id) = ap (λ b. if b then stored_form (acknowledgement p.completion_id) else stored_form (completed_by p)) is in
+        let frame : answer_frame version p ≡ stored_form (acknowledgement p.completion_id) = ap (λ b. if b then stored_form (acknowledgement p.completion_id) else stored_form (completion_message p)) is in
         record {
           found = subst (λ (y : List KeptProposal × List RawMessage). AllFound y.0 y.1) (λ i. (sym kept i, sym frame i ∷ [])) x.0;
           none_left = subst (λ (y : List KeptProposal × List RawMessage). kept_after y.0 y.1 ≡ []) (λ i. (sym kept i, sym frame i ∷ [])) x.1;
@@ -385,8 +385,8 @@ answer_brings version p h = by_test (is_from_v7 version) refl h.1
         }
     by_test false is whole =
         let kept : acknowledged_from version (p ∷ []) ≡ [] = ap (λ b. if b then p ∷ [] else []) is in
-        let frame : answer_frame version p ≡ stored_form (completed_by p) = ap (λ b. if b then stored_form (acknowledgement p.completion_id) else stored_form (completed_by p)) is in
-        let b = note_brings version (stored_form (completed_by p)) (completion p) refl (notification_back (completion p) h.0) in
+        let frame : answer_frame version p ≡ stored_form (completion_message p) = ap (λ b. if b then stored_form (acknowledgement p.completion_id) else stored_form (completion_message p)) is in
+        let b = note_brings version (stored_form (completion_message p)) (completion p) refl (notification_back (completion p) h.0) in
         let none = nothing_acknowledged version in
         record {
           found = subst (λ (y : List KeptProposal × List RawMessage). AllFound y.0 y.1) (λ i. ((none ∙ sym kept) i, sym frame i ∷ [])) b.found;

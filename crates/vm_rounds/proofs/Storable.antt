@@ -17,7 +17,7 @@ use Rattle.vm_asks.specs.Carried.{all_carried, carried, carried_by, read_carried
 use Rattle.vm_parts.specs.declared.run_state.KeptProposal.{KeptProposal}
 use Rattle.vm_model.specs.Carried.{is_among, is_carried, read_carries}
 use Rattle.vm_model.specs.Journal.{messages_in, read_before}
-use Rattle.vm_attempt.specs.Journals.{commands_among, is_command}
+use Rattle.vm_attempt.specs.Journals.{commands_among, is_command_frame}
 use Rattle.vm_attempt.proofs.Numbers.{carried_append}
 use Rattle.vm_attempt.proofs.Pieces.{commands_append}
 use Rattle.vm_store.specs.declared.completions.Completes.{Completes}
@@ -26,9 +26,9 @@ use Rattle.vm_store.specs.declared.storing.Written.{Written}
 use Rattle.vm_store.specs.declared.storing.Written.TheVariants.{Command, Proposal}
 use Rattle.vm_store.specs.declared.types.RoundFault.{RoundFault}
 use Rattle.vm_store.specs.declared.types.RoundFault.TheVariants as round_fault
-use Rattle.vm_store.specs.Arrivals.{arrival_fault, completes_among, completes_by, completion_fault, if_same, is_completed, is_of, most, note_fault, proposal_fault, proposed_fault, read_fault, room_fault}
-use Rattle.vm_store.specs.Entries.{frames_in, note_in, notes_in, said_in}
-use Rattle.vm_store.specs.Storing.{CanBeRead, FirstFault, proposal_of, stored_as, written_among, written_before}
+use Rattle.vm_store.specs.Arrivals.{arrival_fault, completes_among, completes_by, completion_fault, if_same, completes_id, is_of, most_entries, note_fault, stored_proposal_fault, proposed_fault, read_fault, room_fault}
+use Rattle.vm_store.specs.Entries.{journal_frames, note_in, notes_in, said_in}
+use Rattle.vm_store.specs.Storing.{StoredCanBeRead, FirstFault, proposal_of, stored_as, written_among, written_before}
 use Rattle.vm_store.proofs.Framing.{frames_append, notes_append, said_are}
 use Rattle.vm_rounds.proofs.Once.{completes_none}
 use Rattle.vm_rounds.proofs.Pending.{MayPropose, ProposeWell, among_append, has_run, proposed_ids, read_runs}
@@ -91,13 +91,13 @@ run_completes low id (c ∷ cs) before rises h = by_read (message_in c.ty c.body
 
 -- Each id that these notifications complete was completed by those from the beginning, or by a proposal, or a command that isn't a run's carries it.
 abbrev pub IsExplained : List Notification → List RawMessage → List ℕ → List Notification → Type 0
-IsExplained ns cs ps notes = (id : ℕ) → is_completed id notes ≡ true → (is_completed id ns ≡ true) ⊎ ((is_among id ps ≡ true) ⊎ ((is_carried id cs ≡ true) × (has_run id cs ≡ false)))
+IsExplained ns cs ps notes = (id : ℕ) → completes_id id notes ≡ true → (completes_id id ns ≡ true) ⊎ ((is_among id ps ≡ true) ⊎ ((is_carried id cs ≡ true) × (has_run id cs ≡ false)))
 
-pub completed_append : (id : ℕ) (xs ys : List Notification) → is_completed id (xs ++ ys) ≡ (is_completed id xs || is_completed id ys)
+pub completed_append : (id : ℕ) (xs ys : List Notification) → completes_id id (xs ++ ys) ≡ (completes_id id xs || completes_id id ys)
 completed_append id [] ys = refl
 completed_append id (x ∷ xs) ys = by_test (is_of id x.id) (completed_append id xs ys)
   where
-    by_test : (b : Bool) → is_completed id (xs ++ ys) ≡ (is_completed id xs || is_completed id ys) → (b || is_completed id (xs ++ ys)) ≡ ((b || is_completed id xs) || is_completed id ys)
+    by_test : (b : Bool) → completes_id id (xs ++ ys) ≡ (completes_id id xs || completes_id id ys) → (b || completes_id id (xs ++ ys)) ≡ ((b || completes_id id xs) || completes_id id ys)
     by_test true ih = refl
     by_test false ih = ih
 
@@ -113,14 +113,14 @@ run_join id (x ∷ xs) ys = by_test (read_runs id (message_in x.ty x.body)) (run
     by_test false ih = ih
 
 -- so an id that may be proposed isn't completed
-may_be_stored : (ns : List Notification) (cs : List RawMessage) (ps : List ℕ) (notes : List Notification) (id : ℕ) → MayPropose ns cs ps id → IsExplained ns cs ps notes → is_completed id notes ≡ false
-may_be_stored ns cs ps notes id may all = by_test (is_completed id notes) refl
+may_be_stored : (ns : List Notification) (cs : List RawMessage) (ps : List ℕ) (notes : List Notification) (id : ℕ) → MayPropose ns cs ps id → IsExplained ns cs ps notes → completes_id id notes ≡ false
+may_be_stored ns cs ps notes id may all = by_test (completes_id id notes) refl
   where
-    by_test : (b : Bool) → is_completed id notes ≡ b → b ≡ false
+    by_test : (b : Bool) → completes_id id notes ≡ b → b ≡ false
     by_test false e = refl
     by_test true e =
         ⊎_elim
-        (λ (x : is_completed id ns ≡ true). absurd (let z : true ≡ false = sym x ∙ may.free in cc))
+        (λ (x : completes_id id ns ≡ true). absurd (let z : true ≡ false = sym x ∙ may.free in cc))
         (λ (y : (is_among id ps ≡ true) ⊎ ((is_carried id cs ≡ true) × (has_run id cs ≡ false))).
         ⊎_elim
         (λ (x : is_among id ps ≡ true). absurd (let z : true ≡ false = sym x ∙ may.new in cc))
@@ -132,7 +132,7 @@ may_be_stored ns cs ps notes id may all = by_test (is_completed id notes) refl
 explained_commands : (ns : List Notification) (cs more : List RawMessage) (ps : List ℕ) (notes : List Notification) → Rises 1 (all_carried (cs ++ more)) → IsExplained ns cs ps notes → IsExplained ns (cs ++ more) ps notes
 explained_commands ns cs more ps notes rises all id e =
     ⊎_elim
-    (λ (x : is_completed id ns ≡ true). inl x)
+    (λ (x : completes_id id ns ≡ true). inl x)
     (λ (y : (is_among id ps ≡ true) ⊎ ((is_carried id cs ≡ true) × (has_run id cs ≡ false))).
     ⊎_elim
     (λ (x : is_among id ps ≡ true). inr (inl x))
@@ -145,7 +145,7 @@ explained_commands ns cs more ps notes rises all id e =
 -- one notification more
 explained_note : (ns : List Notification) (cs : List RawMessage) (ps qs : List ℕ) (notes : List Notification) (n : Notification) → ((id : ℕ) → is_among id ps ≡ true → is_among id qs ≡ true)
     → ((id : ℕ) → n.id ≡ CompletionId id → (is_among id qs ≡ true) ⊎ ((is_carried id cs ≡ true) × (has_run id cs ≡ false))) → IsExplained ns cs ps notes → IsExplained ns cs qs (notes ++ n ∷ [])
-explained_note ns cs ps qs notes n more new all id e = by_test (is_completed id notes) refl (sym (completed_append id notes (n ∷ [])) ∙ e)
+explained_note ns cs ps qs notes n more new all id e = by_test (completes_id id notes) refl (sym (completed_append id notes (n ∷ [])) ∙ e)
   where
     of_id : (x : NotificationId) → is_of id x ≡ true → x ≡ CompletionId id
     of_id (CompletionId other) h = ap CompletionId (eqb-true other id h)
@@ -156,10 +156,10 @@ explained_note ns cs ps qs notes n more new all id e = by_test (is_completed id 
     only true h = refl
     only false h = h
 
-    by_test : (b : Bool) → is_completed id notes ≡ b → (b || (is_of id n.id || false)) ≡ true → (is_completed id ns ≡ true) ⊎ ((is_among id qs ≡ true) ⊎ ((is_carried id cs ≡ true) × (has_run id cs ≡ false)))
+    by_test : (b : Bool) → completes_id id notes ≡ b → (b || (is_of id n.id || false)) ≡ true → (completes_id id ns ≡ true) ⊎ ((is_among id qs ≡ true) ⊎ ((is_carried id cs ≡ true) × (has_run id cs ≡ false)))
     by_test true there h =
         ⊎_elim
-        (λ (x : is_completed id ns ≡ true). inl x)
+        (λ (x : completes_id id ns ≡ true). inl x)
         (λ (y : (is_among id ps ≡ true) ⊎ ((is_carried id cs ≡ true) × (has_run id cs ≡ false))).
         ⊎_elim
         (λ (x : is_among id ps ≡ true). inr (inl (more id x)))
@@ -173,13 +173,13 @@ explained_note ns cs ps qs notes n more new all id e = by_test (is_completed id 
 -- The journal's commands are these behind its first; its completions are explained; the ids of its commands and of those that come rise; and the
 -- proposals that come may be made.
 pub record Stands (ns : List Notification) (first : RawMessage) (journal : List (List ℕ)) (cs : List RawMessage) (ps : List ℕ) (ws : List Written) : Type 0 where
-  pub commands : commands_among (frames_in journal) ≡ first ∷ cs
+  pub commands : commands_among (journal_frames journal) ≡ first ∷ cs
   pub explained : IsExplained ns cs ps (notes_in journal)
   pub rises : Rises 1 (all_carried (cs ++ flat_map command_in ws))
   pub well : ProposeWell ns cs ps ws
 
-journal_commands : (journal : List (List ℕ)) (x : List ℕ) (first : RawMessage) (cs more : List RawMessage) → commands_among (frames_in journal) ≡ first ∷ cs → commands_among (frames_in (x ∷ [])) ≡ more → commands_among (frames_in (journal ++ x ∷ [])) ≡ first ∷ (cs ++ more)
-journal_commands journal x first cs more commands one = ap commands_among (frames_append journal (x ∷ [])) ∙ commands_append (frames_in journal) (frames_in (x ∷ [])) ∙ (λ i. commands i ++ one i)
+journal_commands : (journal : List (List ℕ)) (x : List ℕ) (first : RawMessage) (cs more : List RawMessage) → commands_among (journal_frames journal) ≡ first ∷ cs → commands_among (journal_frames (x ∷ [])) ≡ more → commands_among (journal_frames (journal ++ x ∷ [])) ≡ first ∷ (cs ++ more)
+journal_commands journal x first cs more commands one = ap commands_among (frames_append journal (x ∷ [])) ∙ commands_append (journal_frames journal) (journal_frames (x ∷ [])) ∙ (λ i. commands i ++ one i)
 
 module _ (version : Version) (ns : List Notification) (first : RawMessage) where
   -- a command is stored
@@ -231,20 +231,20 @@ module _ (version : Version) (ns : List Notification) (first : RawMessage) where
   -- ---- faults
 
   room_full : (journal : List (List ℕ)) (f : RoundFault) → room_fault journal ≡ Some f → f ≡ round_fault.JournalFull
-  room_full journal f = by_test (length journal == most)
+  room_full journal f = by_test (length journal == most_entries)
     where
       by_test : (b : Bool) → (if b then Some round_fault.JournalFull else None) ≡ Some f → f ≡ round_fault.JournalFull
       by_test true h = cc
       by_test false h = absurd (cc)
 
-  completed_as : (id : ℕ) (journal : List (List ℕ)) (cs : List RawMessage) → commands_among (frames_in journal) ≡ first ∷ cs → Rises 1 (all_carried cs) → has_run id cs ≡ true → completes_among id (said_in journal) None ≡ Some completes.Proposal
+  completed_as : (id : ℕ) (journal : List (List ℕ)) (cs : List RawMessage) → commands_among (journal_frames journal) ≡ first ∷ cs → Rises 1 (all_carried cs) → has_run id cs ≡ true → completes_among id (said_in journal) None ≡ Some completes.Proposal
   completed_as id journal cs commands rises run = ap (λ ms. completes_among id ms None) (said_are journal ∙ ap messages_in commands) ∙ by_read (message_in first.ty first.body)
     where
       by_read : (o : Option Message) → completes_among id (read_before o (messages_in cs)) None ≡ Some completes.Proposal
       by_read None = run_completes 1 id cs None rises run
       by_read (Some m) = run_completes 1 id cs (completes_by id m None) rises run
 
-  proposal_full : (p : KeptProposal) (ws : List Written) (journal : List (List ℕ)) (cs : List RawMessage) (ps : List ℕ) (f : RoundFault) → Stands ns first journal cs ps (Proposal p ∷ ws) → proposal_fault p.completion_id journal ≡ Some f → f ≡ round_fault.JournalFull
+  proposal_full : (p : KeptProposal) (ws : List Written) (journal : List (List ℕ)) (cs : List RawMessage) (ps : List ℕ) (f : RoundFault) → Stands ns first journal cs ps (Proposal p ∷ ws) → stored_proposal_fault p.completion_id journal ≡ Some f → f ≡ round_fault.JournalFull
   proposal_full p ws journal cs ps f s e =
       let id = p.completion_id in
       let may = s.well.0 in
@@ -255,17 +255,17 @@ module _ (version : Version) (ns : List Notification) (first : RawMessage) where
 
   -- each command among items is one
   abbrev IsSo : Written → Type 0
-  IsSo (Command raw) = is_command raw ≡ true
+  IsSo (Command raw) = is_command_frame raw ≡ true
   IsSo (Proposal p) = Unit {0}
 
-  so_by : (b : Bool) (raw : RawMessage) (o : Option KeptProposal) (ws : List Written) → is_command raw ≡ b → AllByRecursion IsSo ws → AllByRecursion IsSo (written_before (cond b (Some (Command raw)) (option_map Proposal o)) ws)
+  so_by : (b : Bool) (raw : RawMessage) (o : Option KeptProposal) (ws : List Written) → is_command_frame raw ≡ b → AllByRecursion IsSo ws → AllByRecursion IsSo (written_before (cond b (Some (Command raw)) (option_map Proposal o)) ws)
   so_by true raw o ws is h = (is, h)
   so_by false raw None ws is h = h
   so_by false raw (Some p) ws is h = (tt, h)
 
   all_so : (raws : List RawMessage) → AllByRecursion IsSo (written_among raws)
   all_so [] = tt
-  all_so (raw ∷ raws) = so_by (is_command raw) raw (proposal_of raw) (written_among raws) refl (all_so raws)
+  all_so (raw ∷ raws) = so_by (is_command_frame raw) raw (proposal_of raw) (written_among raws) refl (all_so raws)
 
   first_full : (n : ℕ) (ws : List Written) (journal : List (List ℕ)) (cs : List RawMessage) (ps : List ℕ) (f : RoundFault) → AllByRecursion IsSo ws → Stands ns first journal cs ps ws → FirstFault version (take n ws) journal f → f ≡ round_fault.JournalFull
   first_full zero ws journal cs ps f so s h = absurd h
@@ -273,13 +273,13 @@ module _ (version : Version) (ns : List Notification) (first : RawMessage) where
   first_full (suc n) (Command raw ∷ ws) journal cs ps f so s h =
       ⊎_elim
       (λ (x : room_fault journal ≡ Some f). room_full journal f x)
-      (λ (x : (room_fault journal ≡ None) × CanBeRead version (Command raw) × FirstFault version (take n ws) (journal ++ stored_as (Command raw) ∷ []) f).
+      (λ (x : (room_fault journal ≡ None) × StoredCanBeRead version (Command raw) × FirstFault version (take n ws) (journal ++ stored_as (Command raw) ∷ []) f).
       first_full n ws (journal ++ stored_as (Command raw) ∷ []) (cs ++ raw ∷ []) ps f so.1 (command_stored raw ws journal cs ps (so.0, x.1) s) x.2)
       h
   first_full (suc n) (Proposal p ∷ ws) journal cs ps f so s h =
       ⊎_elim
-      (λ (x : proposal_fault p.completion_id journal ≡ Some f). proposal_full p ws journal cs ps f s x)
-      (λ (x : (proposal_fault p.completion_id journal ≡ None) × CanBeRead version (Proposal p) × FirstFault version (take n ws) (journal ++ stored_as (Proposal p) ∷ []) f).
+      (λ (x : stored_proposal_fault p.completion_id journal ≡ Some f). proposal_full p ws journal cs ps f s x)
+      (λ (x : (stored_proposal_fault p.completion_id journal ≡ None) × StoredCanBeRead version (Proposal p) × FirstFault version (take n ws) (journal ++ stored_as (Proposal p) ∷ []) f).
       first_full n ws (journal ++ stored_as (Proposal p) ∷ []) cs (ps ++ p.completion_id ∷ []) f so.1 (proposal_stored p ws journal cs ps x.1 s) x.2)
       h
 
@@ -296,7 +296,7 @@ module _ (version : Version) (ns : List Notification) (first : RawMessage) where
   not_proposed (Some completes.Proposal) false brings room e is = absurd (cc)
   not_proposed (Some completes.AnyResult) false brings room e is = absurd (cc)
 
-  note_apart : (x : NotificationId) (brings : NotificationResult) (journal : List (List ℕ)) (cs : List RawMessage) → commands_among (frames_in journal) ≡ first ∷ cs → Rises 1 (all_carried cs) → note_fault x brings journal ≡ None → (id : ℕ) → x ≡ CompletionId id → has_run id cs ≡ false
+  note_apart : (x : NotificationId) (brings : NotificationResult) (journal : List (List ℕ)) (cs : List RawMessage) → commands_among (journal_frames journal) ≡ first ∷ cs → Rises 1 (all_carried cs) → note_fault x brings journal ≡ None → (id : ℕ) → x ≡ CompletionId id → has_run id cs ≡ false
   note_apart (SignalId other) brings journal cs commands rises e id is = absurd (cc)
   note_apart (SignalName name) brings journal cs commands rises e id is = absurd (cc)
   note_apart (CompletionId other) brings journal cs commands rises e id is =
@@ -305,17 +305,17 @@ module _ (version : Version) (ns : List Notification) (first : RawMessage) where
     where
       by_test : (b : Bool) → has_run other cs ≡ b → b ≡ false
       by_test false h = refl
-      by_test true h = absurd (not_proposed (completes_among other (said_in journal) None) (is_completed other (notes_in journal)) brings (room_fault journal) e (completed_as other journal cs commands rises h))
+      by_test true h = absurd (not_proposed (completes_among other (said_in journal) None) (completes_id other (notes_in journal)) brings (room_fault journal) e (completed_as other journal cs commands rises h))
 
   -- what arrives without a fault is no result of a run
-  arrival_apart : (x : List ℕ) (journal : List (List ℕ)) (cs : List RawMessage) (n : Notification) → note_in x ≡ Some n → commands_among (frames_in journal) ≡ first ∷ cs → Rises 1 (all_carried cs) → arrival_fault x journal ≡ None → (id : ℕ) → n.id ≡ CompletionId id → has_run id cs ≡ false
+  arrival_apart : (x : List ℕ) (journal : List (List ℕ)) (cs : List RawMessage) (n : Notification) → note_in x ≡ Some n → commands_among (journal_frames journal) ≡ first ∷ cs → Rises 1 (all_carried cs) → arrival_fault x journal ≡ None → (id : ℕ) → n.id ≡ CompletionId id → has_run id cs ≡ false
   arrival_apart x journal cs n reads commands rises e = note_apart n.id n.result journal cs commands rises (ap (λ o. read_fault o journal) (sym reads) ∙ e)
 
   -- and the completions are explained still
-  pub explained_arrival : (x : List ℕ) (journal : List (List ℕ)) (cs : List RawMessage) (ps : List ℕ) (n : Notification) → note_in x ≡ Some n → carried_by first ≡ [] → commands_among (frames_in journal) ≡ first ∷ cs → Rises 1 (all_carried cs) → arrival_fault x journal ≡ None → ((id : ℕ) → n.id ≡ CompletionId id → is_carried id (commands_among (frames_in journal)) ≡ true)
+  pub explained_arrival : (x : List ℕ) (journal : List (List ℕ)) (cs : List RawMessage) (ps : List ℕ) (n : Notification) → note_in x ≡ Some n → carried_by first ≡ [] → commands_among (journal_frames journal) ≡ first ∷ cs → Rises 1 (all_carried cs) → arrival_fault x journal ≡ None → ((id : ℕ) → n.id ≡ CompletionId id → is_carried id (commands_among (journal_frames journal)) ≡ true)
       → IsExplained ns cs ps (notes_in journal) → IsExplained ns cs ps (notes_in journal ++ n ∷ [])
   explained_arrival x journal cs ps n reads none commands rises e carried all =
       explained_note ns cs ps ps (notes_in journal) n (λ id h. h) (λ id is. inr (behind_first id (carried id is), arrival_apart x journal cs n reads commands rises e id is)) all
     where
-      behind_first : (id : ℕ) → is_carried id (commands_among (frames_in journal)) ≡ true → is_carried id cs ≡ true
+      behind_first : (id : ℕ) → is_carried id (commands_among (journal_frames journal)) ≡ true → is_carried id cs ≡ true
       behind_first id h = carried_is id cs ∙ ap (is_among id) (ap (λ l. l ++ all_carried cs) (sym none)) ∙ sym (carried_is id (first ∷ cs)) ∙ ap (is_carried id) (sym commands) ∙ h

@@ -6,7 +6,7 @@ use Rattle.journal_values.specs.declared.notification.Notification.{Notification
 use Rattle.journal_attempt.specs.declared.start.Start.{Start}
 use Rattle.vm_machine.specs.Inputs.{coverage_of}
 use Rattle.vm_parts.specs.declared.context.StateMap.{StateMap}
-use Rattle.vm_parts.specs.Entries.{entries_of as state_entries}
+use Rattle.vm_parts.specs.Entries.{journal_entries as state_entries}
 use Rattle.vm_model.specs.Calls.{Meaning}
 use Rattle.vm_model.specs.Histories.{Knowledge}
 use Rattle.vm_model.specs.HonestRounds.{Attempted, HonestRounds}
@@ -17,7 +17,7 @@ use Rattle.vm_attempt.specs.Told.{arrivals_of, written_by}
 use Rattle.vm_store.specs.declared.types.Event.{Event}
 use Rattle.vm_store.specs.declared.types.Round.{Round}
 use Rattle.vm_store.specs.declared.types.Setting.{Setting}
-use Rattle.vm_store.specs.Entries.{entries_of, notes_in}
+use Rattle.vm_store.specs.Entries.{journal_entries, notes_in}
 use Rattle.vm_rounds.specs.Rounds.{Happen, Now, ReportView, RoundDoes, RoundsDo, begin}
 use Rattle.vm_store.specs.Worlds.{setup_of, start_for}
 
@@ -45,19 +45,19 @@ course_of m journal (e ∷ es) old new (mid, happens, others) = brought_by old.v
     old.attempt mid.attempt ++ course_of m journal es mid new others
 
 -- the state that a Start hands out
-abbrev pub given_by : Start → StateMap
-given_by st = record { entries = state_entries st.state; coverage = coverage_of st.partial }
+abbrev pub start_handed : Start → StateMap
+start_handed st = record { entries = state_entries st.state; coverage = coverage_of st.partial }
 
 -- the attempt of a round; one that was refused has no course
 abbrev pub attempt_of : (m : Meaning) (w : Setting) (round : Round) (old : List (List ℕ))
     (report : ReportView) (new : List (List ℕ)) → RoundDoes m w round old report new → Attempted
 attempt_of m w round old report new (inl d) = record {
-  given = given_by (start_for w round old);
+  given = start_handed (start_for w round old);
   course = course_of m old round.events (begin d.alloc w round old) d.ran.now d.ran.happen;
   answers = report.answers;
 }
 attempt_of m w round old report new (inr d) = record {
-  given = given_by (start_for w round old);
+  given = start_handed (start_for w round old);
   course = [];
   answers = report.answers;
 }
@@ -75,5 +75,6 @@ attempts_of m w (r ∷ rs) old reports new (mid, report, more, is, does, others)
 abbrev pub AreHonest : Knowledge
     → (m : Meaning) (w : Setting) (rounds : List Round) (old : List (List ℕ))
     (reports : List ReportView) (new : List (List ℕ)) → RoundsDo m w rounds old reports new → Type 0
-AreHonest Knows m w rounds old reports new d = HonestRounds (setup_of w) m Knows (entries_of old)
-    (attempts_of m w rounds old reports new d) (entries_of new)
+AreHonest Knows m w rounds old reports new d =
+    HonestRounds (setup_of w) m Knows (journal_entries old)
+    (attempts_of m w rounds old reports new d) (journal_entries new)

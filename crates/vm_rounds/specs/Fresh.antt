@@ -5,12 +5,12 @@ use Rattle.vm_types.specs.declared.options.VMOptions.{VMOptions}
 use Rattle.vm_asks.specs.Carried.{AreGreater, all_carried}
 use Rattle.invocation_vm.specs.Frames.{frames_of}
 use Rattle.vm_attempt.specs.Journals.{commands_among}
-use Rattle.vm_store.specs.Entries.{frames_in}
+use Rattle.vm_store.specs.Entries.{journal_frames}
 use Rattle.vm_rounds.specs.Rounds.{ReportView}
 
 -- the completion ids that the commands of a journal carry
 abbrev pub ids_in : List (List ℕ) → List ℕ
-ids_in journal = all_carried (commands_among (frames_in journal))
+ids_in journal = all_carried (commands_among (journal_frames journal))
 
 -- those that the commands among some output carry
 abbrev pub ids_written : List ℕ → List ℕ

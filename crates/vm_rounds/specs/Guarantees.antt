@@ -5,7 +5,7 @@ use Rattle.vm_model.specs.Calls.{Meaning}
 use Rattle.vm_model.specs.Carried.{AreOfTheirKind}
 use Rattle.vm_model.specs.Histories.{Honest, Whole}
 use Rattle.vm_model.specs.HonestRounds.{IsOneRun}
-use Rattle.vm_store.specs.Entries.{entries_of, frames_in, notes_in}
+use Rattle.vm_store.specs.Entries.{journal_entries, journal_frames, notes_in}
 use Rattle.vm_store.specs.States.{base_of}
 use Rattle.vm_store.specs.Worlds.{WorldView, setup_of}
 use Rattle.vm_store.specs.declared.types.Report.{Report}
@@ -35,12 +35,12 @@ case_of handler world = record { handler = handler; setting = world.setting }
 -- other.
 abbrev pub IsExactlyOnce : Case → List (List ℕ) → Type 0
 IsExactlyOnce c journal =
-    IsOneRun (setup_of c.setting) c.handler (Honest (base_of c.setting)) (entries_of journal)
+    IsOneRun (setup_of c.setting) c.handler (Honest (base_of c.setting)) (journal_entries journal)
 
 -- So did one run that nothing interrupted: each call knew the whole state.
 abbrev pub IsUninterrupted : Case → List (List ℕ) → Type 0
 IsUninterrupted c journal =
-    IsOneRun (setup_of c.setting) c.handler (Whole (base_of c.setting)) (entries_of journal)
+    IsOneRun (setup_of c.setting) c.handler (Whole (base_of c.setting)) (journal_entries journal)
 
 -- The journal can be replayed to its end, whoever made it: recorded commands are replayed, signals
 -- queue, the handler's calls are its commands in order, and these leave of the state what the calls
@@ -54,12 +54,12 @@ CanBeReplayed handler world = IsReplayable (case_of handler world) world.journal
 
 -- No completion id has two results, at any point of the handler's run over the journal.
 abbrev pub HasOneResultEach : Case → List (List ℕ) → Type 0
-HasOneResultEach c journal = CompletesOnce (setup_of c.setting) c.handler (entries_of journal)
+HasOneResultEach c journal = CompletesOnce (setup_of c.setting) c.handler (journal_entries journal)
 
 -- Each result of an id that a call or a one-way call carries for its invocation's is an
 -- invocation's id.
 abbrev pub HasRightKinds : List (List ℕ) → Type 0
-HasRightKinds journal = AreOfTheirKind (notes_in journal) (commands_among (frames_in journal))
+HasRightKinds journal = AreOfTheirKind (notes_in journal) (commands_among (journal_frames journal))
 
 -- ---- of rounds
 

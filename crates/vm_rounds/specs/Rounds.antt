@@ -32,8 +32,8 @@ use Rattle.vm_store.specs.declared.types.Round.{Round}
 use Rattle.vm_store.specs.declared.types.RoundFault.{RoundFault}
 use Rattle.vm_store.specs.declared.types.RoundFault.TheVariants as round_fault
 use Rattle.vm_store.specs.declared.types.Setting.{Setting}
-use Rattle.vm_store.specs.Arrivals.{arrival_fault, most}
-use Rattle.vm_store.specs.Entries.{entries_of}
+use Rattle.vm_store.specs.Arrivals.{arrival_fault, most_entries}
+use Rattle.vm_store.specs.Entries.{journal_entries}
 use Rattle.vm_store.specs.States.{HaveTextKeys, pairs_for}
 use Rattle.vm_store.specs.Storing.{FirstFault, Stores, written_from}
 use Rattle.vm_store.specs.Worlds.{fixed_in, start_message}
@@ -137,9 +137,9 @@ abbrev pub Faults : Event → Now → RoundFault → Type 0
 Faults e now f = (f ≡ round_fault.Memory) ⊎ Fault e now f
 
 -- what one event does, or its fault
-abbrev pub Outcome : Meaning → Event → Now → Result Unit RoundFault → Now → Type 0
-Outcome m e old (Ok u) new = Happens m e old new
-Outcome m e old (Err f) new = Faults e old f
+abbrev pub EventOutcome : Meaning → Event → Now → Result Unit RoundFault → Now → Type 0
+EventOutcome m e old (Ok u) new = Happens m e old new
+EventOutcome m e old (Err f) new = Faults e old f
 
 -- events, one after another
 abbrev pub Happen : Meaning → List Event → Now → Now → Type 0
@@ -225,8 +225,8 @@ begin alloc w round journal = new_now w.version journal (encoding (start_message
     ++ concat journal) (fresh_record (made alloc w.options w.version))
 
 -- no event lets the journal have more entries than may be
-abbrev pub IsShort : Meaning → List Event → Now → Type 0
-IsShort m events now = (end : Now) → Happen m events now end → length end.journal ≤ most
+abbrev pub StaysShort : Meaning → List Event → Now → Type 0
+StaysShort m events now = (end : Now) → Happen m events now end → length end.journal ≤ most_entries
 
 -- Events that come to an end leave this journal, and tell this report.
 pub record Ran (fixed : Fixed) (events : List Event) (begun : Now) (report : ReportView) (new : List (List ℕ)) : Type 0 where
@@ -325,7 +325,7 @@ ComesFromOutside rounds old f =
 -- ---- what is asked for histories
 
 -- recorded commands are replayed, and signals queue
-pub record Replays (options : VMOptions) : Type 0 where
+pub record ReplaysAndQueues (options : VMOptions) : Type 0 where
   pub replays : options.journal_replay ≡ Enabled
   pub queues : options.signal_delivery ≡ Queued
 
@@ -345,7 +345,7 @@ TellsAlong s m journal reports =
 -- answers of all later reports
 abbrev pub Agree : Setup → Meaning → List (List ℕ) → List ReportView → Type 0
 Agree s m journal [] = Unit {0}
-Agree s m journal (r ∷ rs) = TellsAlong s m (entries_of (take r.entries journal)) rs
+Agree s m journal (r ∷ rs) = TellsAlong s m (journal_entries (take r.entries journal)) rs
     × Agree s m journal rs
 
 -- At no point that a journal tells has a completion id two results: of its eager read, of those

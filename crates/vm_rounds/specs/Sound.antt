@@ -3,13 +3,13 @@ use Rattle.std.specs.Prelude.{ℕ, List}
 use Rattle.vm_model.specs.Calls.{Meaning}
 use Rattle.vm_model.specs.SoundHistories.{SoundHistory}
 use Rattle.vm_store.specs.declared.types.Setting.{Setting}
-use Rattle.vm_store.specs.Entries.{entries_of}
+use Rattle.vm_store.specs.Entries.{journal_entries}
 use Rattle.vm_store.specs.States.{base_of}
 use Rattle.vm_store.specs.Worlds.{setup_of}
-use Rattle.vm_rounds.specs.Rounds.{Replays}
+use Rattle.vm_rounds.specs.Rounds.{ReplaysAndQueues}
 
 -- In this setting recorded commands are replayed and signals queue, and the journal is a sound
 -- history of the handler, from the state before any command.
 pub record IsSoundFor (m : Meaning) (w : Setting) (journal : List (List ℕ)) : Type 0 where
-  pub replays : Replays w.options
-  pub history : SoundHistory (setup_of w) m (base_of w) (entries_of journal)
+  pub replays : ReplaysAndQueues w.options
+  pub history : SoundHistory (setup_of w) m (base_of w) (journal_entries journal)

@@ -1,7 +1,7 @@
 //! A round on its way, and its events one by one.
 ghost use Rattle.std.specs.Prelude.{◌≡◌, ◌⊎◌, [], ◌∷◌, ◌++◌, drop, take, Some, None, IfOk, IfErr, OnOk};
 ghost use Rattle.vm_store.specs.Arrivals.{arrival_fault};
-ghost use Rattle.vm_rounds.specs.Rounds.{first_error, memory_of, Happens, Outcome};
+ghost use Rattle.vm_rounds.specs.Rounds.{first_error, memory_of, Happens, EventOutcome};
 ghost use Rattle.vm_store.specs.declared.types.Event.TheVariants as event;
 ghost use Rattle.vm_store.specs.declared.types.RoundFault.TheVariants as round_fault;
 ghost use Rattle.vm_rounds.specs.Inside.{the_now};
@@ -104,7 +104,7 @@ fn front(waiting: &mut BytesMut, n: usize) -> Result<Bytes, AllocError>
 
 /// A piece of what waits is fed.
 fn piece<H: Handler>(attempt: &mut Attempt<&H>, desk: &mut Desk, n: usize) -> Result<(), RoundFault>
-    ensures does { Outcome (H.meaning attempt.old.handler.now) (event.Piece n)
+    ensures does { EventOutcome (H.meaning attempt.old.handler.now) (event.Piece n)
         (the_now desk.old attempt.old.record_of) result (the_now desk.new attempt.new.record_of) }
     ensures handler { attempt.new.handler.now ≡ attempt.old.handler.now }
     ensures made_for { (attempt.new.version ≡ attempt.old.version)
@@ -166,7 +166,7 @@ fn run_result<H: Handler>(
     exit: &RunExitResult,
     policy: &RetryPolicy,
 ) -> Result<(), RoundFault>
-    ensures does { Outcome (H.meaning attempt.old.handler.now)
+    ensures does { EventOutcome (H.meaning attempt.old.handler.now)
         (event.RunResult handle exit.now policy.now) (the_now desk.old attempt.old.record_of) result
         (the_now desk.new attempt.new.record_of) }
     ensures handler { attempt.new.handler.now ≡ attempt.old.handler.now }
@@ -183,7 +183,7 @@ fn run_result<H: Handler>(
 
 /// The next commands and proposals that were written are stored.
 fn store<H: Handler>(attempt: &mut Attempt<&H>, desk: &mut Desk, n: usize) -> Result<(), RoundFault>
-    ensures does { Outcome (H.meaning attempt.old.handler.now) (event.Store n)
+    ensures does { EventOutcome (H.meaning attempt.old.handler.now) (event.Store n)
         (the_now desk.old attempt.old.record_of) result (the_now desk.new attempt.new.record_of) }
     ensures handler { attempt.new.handler.now ≡ attempt.old.handler.now }
     ensures made_for { (attempt.new.version ≡ attempt.old.version)
@@ -216,7 +216,7 @@ pub fn happen<H: Handler>(
     desk: &mut Desk,
     event: &Event,
 ) -> Result<(), RoundFault>
-    ensures does { Outcome (H.meaning attempt.old.handler.now) event.now
+    ensures does { EventOutcome (H.meaning attempt.old.handler.now) event.now
         (the_now desk.old attempt.old.record_of) result (the_now desk.new attempt.new.record_of) }
     ensures handler { attempt.new.handler.now ≡ attempt.old.handler.now }
     ensures made_for { (attempt.new.version ≡ attempt.old.version)

@@ -5,10 +5,10 @@ ghost use Rattle.journal_messages.specs.Message.{encoding};
 ghost use Rattle.journal_messages.specs.Message.{IsWhole};
 ghost use Rattle.invocation_vm.specs.Making.{made, supported};
 ghost use Rattle.vm_steps.specs.Stepping.{fresh_record};
-ghost use Rattle.vm_store.specs.Arrivals.{most};
+ghost use Rattle.vm_store.specs.Arrivals.{most_entries};
 ghost use Rattle.vm_rounds.specs.Inside.{the_now, report_view};
 ghost use Rattle.vm_attempt.specs.Fixed.{fixed_of};
-ghost use Rattle.vm_rounds.specs.Rounds.{new_now, report_of, ArrivalsDo, ArrivalsFault, EndsTold, Happen, HappenFaults, IsRefusal, IsShort, IsSupported, Ran, RefusedDoes, RefusedFaults, RoundDoes, RoundFaults};
+ghost use Rattle.vm_rounds.specs.Rounds.{new_now, report_of, ArrivalsDo, ArrivalsFault, EndsTold, Happen, HappenFaults, IsRefusal, StaysShort, IsSupported, Ran, RefusedDoes, RefusedFaults, RoundDoes, RoundFaults};
 ghost use Rattle.vm_store.specs.States.{HaveTextKeys, pairs_for};
 ghost use Rattle.vm_store.specs.Worlds.{IsJournal, start_message};
 ghost use Rattle.vm_store.specs.declared.types.RoundFault.TheVariants as round_fault;
@@ -42,7 +42,7 @@ fn waiting_bytes(
     round: &Round,
     journal: &[Bytes],
 ) -> Result<BytesMut, AllocError>
-    requires { length journal.now ≤ most }
+    requires { length journal.now ≤ most_entries }
     ensures bytes { IfOk result (λ b. b.items
         ≡ encoding (start_message setting.now round.now journal.now) ++ concat journal.now) }
     ensures whole { OnOk result (IsWhole (start_message setting.now round.now journal.now)) }
@@ -105,7 +105,7 @@ fn report<H: Handler>(
     attempt: &mut Attempt<&H>,
     desk: Desk,
 ) -> Result<(Vec<Bytes>, Report), AllocError>
-    requires { length desk.journal.items ≤ most }
+    requires { length desk.journal.items ≤ most_entries }
     ensures report { IfOk result (λ r. report_view r.1
         ≡ report_of (the_now desk attempt.old.record_of)) }
     ensures journal { IfOk result (λ r. r.0.items ≡ desk.journal.items) }
@@ -188,7 +188,7 @@ fn made_round<H: Handler>(
     waiting: BytesMut,
     events: &[Event],
 ) -> Result<(Vec<Bytes>, Report), RoundFault>
-    requires short { IsShort (H.meaning attempt.old.handler.now) events.now
+    requires short { StaysShort (H.meaning attempt.old.handler.now) events.now
         (new_now version journal.items waiting.items attempt.old.record_of) }
     ensures ok { IfOk result
         (λ r. Ran (fixed_of (H.meaning attempt.old.handler.now) attempt.old) events.now

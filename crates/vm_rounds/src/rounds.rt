@@ -4,7 +4,7 @@ ghost use Rattle.vm_model.specs.Histories.{IsPrefix};
 ghost use Rattle.vm_rounds.specs.Fresh.{Skips};
 ghost use Rattle.vm_rounds.specs.Guarantees.{AttemptsAgree, CanBeReplayed, ErrorsAreTheirOwn, FaultsComeFromOutside, HasOneResultEach, HasRightKinds, IdsAreNew, IsExactlyOnce, IsReplayable, IsUninterrupted, Lasts, RoundsAreHonest, case_of, told};
 ghost use Rattle.vm_rounds.specs.Inside.{report_view};
-ghost use Rattle.vm_rounds.specs.Rounds.{AreWhole, Replays, RoundsDo, RoundsFault};
+ghost use Rattle.vm_rounds.specs.Rounds.{AreWhole, ReplaysAndQueues, RoundsDo, RoundsFault};
 
 use crate::round::run_round;
 use crate::world::World;
@@ -64,11 +64,12 @@ pub fn run_rounds<H: Handler>(
         → AttemptsAgree (case_of (H.meaning handler.now) world) r.0.journal (told r.1.items)) }
     // If one run of the handler made the journal, as it made that of a new world, then one run of
     // it makes the new journal, each command once.
-    ensures one_run { IfOk result (λ r. Replays world.setting.options
+    ensures one_run { IfOk result (λ r. ReplaysAndQueues world.setting.options
         → Lasts (IsExactlyOnce (case_of (H.meaning handler.now) world)) world r.0) }
     // If no round is partial, the commands stay those of a run that nothing interrupted: where the
     // rounds stopped leaves no trace.
-    ensures undisturbed { IfOk result (λ r. Replays world.setting.options → AreWhole rounds.now
+    ensures undisturbed { IfOk result (λ r. ReplaysAndQueues world.setting.options
+        → AreWhole rounds.now
         → Lasts (IsUninterrupted (case_of (H.meaning handler.now) world)) world r.0) }
     // If the options disable replay, new commands carry new completion ids, whatever made the
     // journal.

@@ -89,7 +89,7 @@ impl World {
     ghost use Rattle.vm_model.specs.Calls.{Meaning};
     ghost use Rattle.vm_model.specs.Histories.{Honest, Whole};
     ghost use Rattle.vm_model.specs.HonestRounds.{IsOneRun};
-    ghost use Rattle.vm_store.specs.Entries.{entries_of};
+    ghost use Rattle.vm_store.specs.Entries.{journal_entries};
     ghost use Rattle.vm_store.specs.States.{base_of};
     ghost use Rattle.vm_store.specs.Worlds.{setup_of};
     ghost use Rattle.vm_store.specs.declared.types.RoundFault.TheVariants as round_fault;
@@ -116,9 +116,11 @@ impl World {
         ensures err { IfErr result (λ f. f ≡ round_fault.Memory) }
         // For every handler one run made the journal, whatever its calls know of the state.
         ensures one_run { IfOk result (λ w. (m : Meaning)
-            → IsOneRun (setup_of w.setting) m (Honest (base_of w.setting)) (entries_of w.journal)) }
+            → IsOneRun (setup_of w.setting) m (Honest (base_of w.setting))
+            (journal_entries w.journal)) }
         ensures undisturbed { IfOk result (λ w. (m : Meaning)
-            → IsOneRun (setup_of w.setting) m (Whole (base_of w.setting)) (entries_of w.journal)) }
+            → IsOneRun (setup_of w.setting) m (Whole (base_of w.setting))
+            (journal_entries w.journal)) }
         // Each result of an invocation's id that it holds is one: it holds none.
         ensures kinds { IfOk result (λ w. HasRightKinds w.journal) }
     {

@@ -1,4 +1,5 @@
--- What an attempt has heard: the pieces of its input, and the results of runs that it was told and has proposed.
+-- What an attempt has heard: the pieces of its input, and the results of runs that it was told and
+-- has proposed.
 use Rattle.std.specs.Prelude.{◌==◌, ◌++◌, Bool, cond, if◌then◌else◌, List, [], ◌∷◌, ℕ, Option, Some, None}
 use Rattle.journal_attempt.specs.Bodies.{propose_run_completion_format}
 use Rattle.journal_attempt.specs.declared.runs.ProposeRunCompletion.{ProposeRunCompletion}
@@ -29,7 +30,8 @@ proposed_by (Some p) kept = record { completion_id = p.id; result = p.result } �
 -- the proposals among some frames, in order
 abbrev pub proposals_among : List RawMessage → List KeptProposal
 proposals_among [] = []
-proposals_among (raw ∷ raws) = cond (is_proposal raw) (proposed_by (proposal_in raw.body) (proposals_among raws)) (proposals_among raws)
+proposals_among (raw ∷ raws) = cond (is_proposal raw)
+    (proposed_by (proposal_in raw.body) (proposals_among raws)) (proposals_among raws)
 
 -- the proposals among the frames that bytes are
 abbrev pub proposals_in : List ℕ → List KeptProposal

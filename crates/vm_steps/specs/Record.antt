@@ -41,7 +41,8 @@ heard version r = record { pieces = r.fed; proposed = acknowledged_from version 
 
 -- what it has heard until its VM failed
 abbrev pub all_heard : Version → Record → Heard
-all_heard version r = record { pieces = r.fed ++ r.late; proposed = acknowledged_from version r.proposed }
+all_heard version r =
+    record { pieces = r.fed ++ r.late; proposed = acknowledged_from version r.proposed }
 
 -- what an attempt was told besides its bytes
 pub record Said : Type 0 where

@@ -41,11 +41,31 @@ Meaning = List Answer → Step
 
 -- an attempt that was fed nothing
 abbrev pub fresh_record : View → Record
-fresh_record vm = record { fed = []; late = []; closed = false; failed_by = None; answers = []; taken = []; proposed = []; waiting = None; starved = false; over = None; vm = vm }
+fresh_record vm = record {
+  fed = [];
+  late = [];
+  closed = false;
+  failed_by = None;
+  answers = [];
+  taken = [];
+  proposed = [];
+  waiting = None;
+  starved = false;
+  over = None;
+  vm = vm;
+}
 
--- an attempt is made for the version that is asked for; else the error says why, or no memory was found
-abbrev pub MakesAttempt : {H : Type 0} → Global → VMOptions → H → Result Version Error → Result (AttemptView H) Error → Type 0
-MakesAttempt alloc options handler (Ok version) (Ok a) = a ≡ record { handler = handler; version = version; options = options; record_of = fresh_record (made alloc options version) }
+-- an attempt is made for the version that is asked for; else the error says why, or no memory was
+-- found
+abbrev pub MakesAttempt : {H : Type 0} → Global → VMOptions → H → Result Version Error
+    → Result (AttemptView H) Error → Type 0
+MakesAttempt alloc options handler (Ok version) (Ok a) = a
+    ≡ record {
+      handler = handler;
+      version = version;
+      options = options;
+      record_of = fresh_record (made alloc options version);
+    }
 MakesAttempt alloc options handler (Ok version) (Err e) = e ≡ no_memory
 MakesAttempt alloc options handler (Err refusal) (Ok a) = ⊥
 MakesAttempt alloc options handler (Err refusal) (Err e) = e ≡ refusal
@@ -77,22 +97,30 @@ progress_of (Err e) = Err e
 
 -- the record once the VM has replied
 abbrev pub replied : Record → Option UnresolvedFuture → Result Reply Error → View → Record
-replied r future (Ok (reply.Answer a)) w = record r { answers = r.answers ++ a ∷ []; waiting = None; vm = w }
+replied r future (Ok (reply.Answer a)) w = record r {
+  answers = r.answers ++ a ∷ [];
+  waiting = None;
+  vm = w;
+}
 replied r future (Ok (reply.Waiting input run)) w = record r { waiting = future; vm = w }
 replied r future (Ok (reply.Execute run)) w = record r { waiting = future; vm = w }
 replied r future (Ok reply.Suspended) w = record r { over = Some progress.Suspended; vm = w }
 replied r future (Ok reply.Ended) w = record r { over = Some progress.Ended; vm = w }
 replied r future (Err e) w = record r { vm = w }
 
--- want of memory of the handler, of room for the answer or of a copy of the future: nothing was asked
+-- want of memory of the handler, of room for the answer or of a copy of the future: nothing was
+-- asked
 abbrev pub LacksMemory : Record → Result Progress Error → Record → Type 0
 LacksMemory old result new = (result ≡ Err no_memory) × (new ≡ record old { starved = true })
 
 -- the input is read; it is the first answer
 abbrev pub Reads : Record → Result Progress Error → Record → Type 0
 Reads old (Ok made) new =
-    (made ≡ progress.Stepped) × ((input : Input) × (w : View) × Calls input_step (Ok input) old.vm w × (new ≡ record old { answers = answer.Input input ∷ []; vm = w }))
-Reads old (Err e) new = (w : View) × Calls input_step (Err e) old.vm w × (new ≡ record old { vm = w })
+    (made ≡ progress.Stepped)
+    × ((input : Input) × (w : View) × Calls input_step (Ok input) old.vm w
+    × (new ≡ record old { answers = answer.Input input ∷ []; vm = w }))
+Reads old (Err e) new = (w : View) × Calls input_step (Err e) old.vm w
+    × (new ≡ record old { vm = w })
 
 -- the step is made
 abbrev pub Asks : Meaning → Record → Result Progress Error → Record → Type 0
@@ -103,7 +131,9 @@ Asks meaning old result new =
 -- the handler runs: memory is lacking, or the input is read, or the step is made
 abbrev pub Advances : Meaning → Record → Result Progress Error → Record → Type 0
 Advances meaning old result new =
-    LacksMemory old result new ⊎ (((old.answers ≡ []) × Reads old result new) ⊎ ((old.answers ≢ []) × Asks meaning old result new))
+    LacksMemory old result new
+    ⊎ (((old.answers ≡ []) × Reads old result new)
+    ⊎ ((old.answers ≢ []) × Asks meaning old result new))
 
 -- a step in this phase
 abbrev pub StepAt : Phase → Meaning → Record → Result Progress Error → Record → Type 0
@@ -114,16 +144,20 @@ StepAt Replaying meaning old result new = Advances meaning old result new
 StepAt Processing meaning old result new = Advances meaning old result new
 
 -- a step, unless the VM has failed or the attempt is over
-abbrev pub StepUnless : Option Error → Option Progress → Meaning → Record → Result Progress Error → Record → Type 0
-StepUnless (Some e) over meaning old result new = ((result ≡ Err e) ⊎ (result ≡ Err no_memory)) × (new ≡ old)
+abbrev pub StepUnless : Option Error → Option Progress → Meaning → Record → Result Progress Error
+    → Record → Type 0
+StepUnless (Some e) over meaning old result new = ((result ≡ Err e) ⊎ (result ≡ Err no_memory))
+    × (new ≡ old)
 StepUnless None (Some made) meaning old result new = (result ≡ Ok made) × (new ≡ old)
 StepUnless None None meaning old result new = StepAt old.vm.machine.phase meaning old result new
 
--- What a step does, the first of these that holds: after the attempt's own want of memory that; after an error of the
--- VM that; after Suspended or Ended that; not ready while the VM waits; the input is read; the step is made.
+-- What a step does, the first of these that holds: after the attempt's own want of memory that;
+-- after an error of the VM that; after Suspended or Ended that; not ready while the VM waits; the
+-- input is read; the step is made.
 abbrev pub StepFrom : Bool → Meaning → Record → Result Progress Error → Record → Type 0
 StepFrom true meaning old result new = (result ≡ Err no_memory) × (new ≡ old)
-StepFrom false meaning old result new = StepUnless old.vm.machine.failure old.over meaning old result new
+StepFrom false meaning old result new =
+    StepUnless old.vm.machine.failure old.over meaning old result new
 
 -- a step, unless the attempt's own memory was lacking
 abbrev pub StepDoes : Meaning → Record → Result Progress Error → Record → Type 0
@@ -171,11 +205,14 @@ kept piece r = kept_at r.vm.machine.failure r.vm.machine.phase piece r
 abbrev pub with_vm : View → Record → Record
 with_vm w r = record r { vm = w }
 
--- The piece is kept and handed to the VM; or there is no memory for keeping it; or the VM finds none.
+-- The piece is kept and handed to the VM; or there is no memory for keeping it; or the VM finds
+-- none.
 abbrev pub Feeds : List ℕ → Record → Result Unit AllocError → Record → Type 0
 Feeds piece old (Ok t) new = new ≡ with_vm (after_input old.vm piece) (kept piece old)
 Feeds piece old (Err e) new =
-    (new ≡ record old { starved = true }) ⊎ ((w : View) × StarvesAmong (brought old.vm piece) old.vm.machine w.machine × (new ≡ with_vm w (kept piece old)))
+    (new ≡ record old { starved = true })
+    ⊎ ((w : View) × StarvesAmong (brought old.vm piece) old.vm.machine w.machine
+    × (new ≡ with_vm w (kept piece old)))
 
 -- what a piece does: nothing after the attempt's own want of memory
 abbrev pub FeedDoes : Bool → List ℕ → Record → Result Unit AllocError → Record → Type 0
@@ -185,7 +222,8 @@ FeedDoes false piece old result new = Feeds piece old result new
 -- the input is closed, or the VM finds no memory
 abbrev pub Closes : Record → Result Unit AllocError → Record → Type 0
 Closes old (Ok t) new = new ≡ record old { closed = true; vm = after_closing old.vm }
-Closes old (Err e) new = (w : View) × StarvesAmong [] old.vm.machine w.machine × (new ≡ record old { closed = true; vm = w })
+Closes old (Err e) new = (w : View) × StarvesAmong [] old.vm.machine w.machine
+    × (new ≡ record old { closed = true; vm = w })
 
 -- what closing the input does
 abbrev pub CloseDoes : Bool → Record → Result Unit AllocError → Record → Type 0
@@ -198,7 +236,8 @@ CloseDoes false old result new = Closes old result new
 abbrev pub newly_proposed : Machine → Machine → List KeptProposal
 newly_proposed old new = proposals_in (concat (drop (length old.output) new.output))
 
--- the run of this handle is noted as that whose result failed the VM, unless the VM had failed before
+-- the run of this handle is noted as that whose result failed the VM, unless the VM had failed
+-- before
 abbrev pub noted_at : Option Error → NotificationHandle → Record → Record
 noted_at (Some e) handle r = r
 noted_at None handle r = record r { failed_by = Some handle }
@@ -209,23 +248,32 @@ noted (Ok t) handle r = r
 noted (Err e) handle r = noted_at r.vm.machine.failure handle r
 
 -- What executing a run came to is told to the VM; the run is noted where that failed the VM.
-abbrev pub Tells : NotificationHandle → RunExitResult → RetryPolicy → Record → Result Unit Error → Record → Type 0
-Tells handle exit policy old result new = (w : View) × CallsProposal handle exit policy result old.vm w × (new ≡ with_vm w (noted result handle old))
+abbrev pub Tells : NotificationHandle → RunExitResult → RetryPolicy → Record → Result Unit Error
+    → Record → Type 0
+Tells handle exit policy old result new = (w : View)
+    × CallsProposal handle exit policy result old.vm w × (new ≡ with_vm w (noted result handle old))
 
 -- the same, unless the attempt's own memory was lacking
-abbrev pub TellsUnless : Bool → NotificationHandle → RunExitResult → RetryPolicy → Record → Result Unit Error → Record → Type 0
+abbrev pub TellsUnless : Bool → NotificationHandle → RunExitResult → RetryPolicy → Record
+    → Result Unit Error → Record → Type 0
 TellsUnless true handle exit policy old result new = (result ≡ Err no_memory) × (new ≡ old)
 TellsUnless false handle exit policy old result new = Tells handle exit policy old result new
 
--- What executing a run came to is told to the VM. Where it answers, what it has written may propose a result; else the run is noted where
--- that failed the VM.
-abbrev pub Finishes : NotificationHandle → RunExitResult → RetryPolicy → Record → Result Unit Error → Record → Type 0
+-- What executing a run came to is told to the VM. Where it answers, what it has written may propose
+-- a result; else the run is noted where that failed the VM.
+abbrev pub Finishes : NotificationHandle → RunExitResult → RetryPolicy → Record → Result Unit Error
+    → Record → Type 0
 Finishes handle exit policy old (Ok t) new =
-    (w : View) × CallsProposal handle exit policy (Ok t) old.vm w × (new ≡ record old { proposed = old.proposed ++ newly_proposed old.vm.machine w.machine; vm = w })
+    (w : View) × CallsProposal handle exit policy (Ok t) old.vm w
+    × (new ≡ record old {
+      proposed = old.proposed ++ newly_proposed old.vm.machine w.machine;
+      vm = w;
+    })
 Finishes handle exit policy old (Err e) new = Tells handle exit policy old (Err e) new
 
 -- what telling it does: nothing after the attempt's own want of memory
-abbrev pub FinishDoes : Bool → NotificationHandle → RunExitResult → RetryPolicy → Record → Result Unit Error → Record → Type 0
+abbrev pub FinishDoes : Bool → NotificationHandle → RunExitResult → RetryPolicy → Record
+    → Result Unit Error → Record → Type 0
 FinishDoes true handle exit policy old result new = (result ≡ Err no_memory) × (new ≡ old)
 FinishDoes false handle exit policy old result new = Finishes handle exit policy old result new
 
@@ -241,5 +289,6 @@ taken_from r = record r { taken = r.taken ++ concat r.vm.machine.output ∷ []; 
 
 -- the bytes that wait are taken, which are whole frames; or nothing is changed
 abbrev pub Takes : Record → Result (List ℕ) AllocError → Record → Type 0
-Takes old (Ok bytes) new = (bytes ≡ concat old.vm.machine.output) × (new ≡ taken_from old) × WholeFrames old.vm.machine.output
+Takes old (Ok bytes) new = (bytes ≡ concat old.vm.machine.output) × (new ≡ taken_from old)
+    × WholeFrames old.vm.machine.output
 Takes old (Err e) new = new ≡ old

@@ -1,4 +1,5 @@
--- The call that a step of a handler is, and what its answer is to the handler: one row a kind of what steps ask for.
+-- The call that a step of a handler is, and what its answer is to the handler: one row a kind of
+-- what steps ask for.
 use Rattle.std.specs.Prelude.{◌≡◌, ℕ, true, false, List, [], ◌∷◌, Result, Ok, Err, OnOk}
 use Rattle.journal_errors.specs.declared.error.Error.{Error}
 use Rattle.vm_types.specs.declared.steps.Answer.TheVariants as answer
@@ -40,21 +41,26 @@ result_mapped f (Err e) = Err e
 
 -- a call that has a command: the answer is by its first handle
 abbrev pub carried : Command → Machine → Outcome Reply
-carried c v = mapped (λ handle. reply.Answer (command_answer c.message handle)) (called (commanded c v) v)
+carried c v =
+    mapped (λ handle. reply.Answer (command_answer c.message handle)) (called (commanded c v) v)
 
--- A call that has several commands: what it may come to, as a reply; the answer is by its first handle. An error is that of the call, also
--- where it found no memory for a command behind the first.
+-- A call that has several commands: what it may come to, as a reply; the answer is by its first
+-- handle. An error is that of the call, also where it found no memory for a command behind the
+-- first.
 abbrev pub AllCarried : AnswerKind → Command → List Command → Machine → Outcome Reply → Type 0
-AllCarried kind c cs v (Done given w) = (handle : NotificationHandle) × MakesAll c cs (Ok handle) v w × (given ≡ reply.Answer (answer_by kind handle))
+AllCarried kind c cs v (Done given w) = (handle : NotificationHandle)
+    × MakesAll c cs (Ok handle) v w × (given ≡ reply.Answer (answer_by kind handle))
 AllCarried kind c cs v (Failed e w) = MakesAll c cs (Err e) v w
 
 -- an awakeable: the answer is its id and its handle
 abbrev pub awakeable_made : Machine → Outcome Reply
-awakeable_made v = mapped (λ awakeable. reply.Answer (answer.Awakeable awakeable)) (called (new_awakeable_step v) v)
+awakeable_made v = mapped (λ awakeable. reply.Answer (answer.Awakeable awakeable))
+    (called (new_awakeable_step v) v)
 
 -- a named signal: the answer is its handle
 abbrev pub signalled : List ℕ → Machine → Outcome Reply
-signalled name v = mapped (λ handle. reply.Answer (answer.Handle handle)) (called (signal_step name v) v)
+signalled name v =
+    mapped (λ handle. reply.Answer (answer.Handle handle)) (called (signal_step name v) v)
 
 -- a state read: the answer is its handle
 abbrev pub read_made : StateRead → Machine → Outcome Reply
@@ -69,15 +75,17 @@ await_reply (Ok (ExecuteRun run)) = reply.Execute run
 await_reply (Ok (EphemeralNotificationReady id)) = reply.Waiting true false
 await_reply (Err e) = reply.Suspended
 
--- An await of a future: what its whole call may come to, as a reply. An error is that of the call, also where it found no memory for one
--- of its commands.
+-- An await of a future: what its whole call may come to, as a reply. An error is that of the call,
+-- also where it found no memory for one of its commands.
 abbrev pub Awaited : UnresolvedFuture → Machine → Outcome Reply → Type 0
-Awaited future v (Done given w) = (answered : Result AwaitResponse Error) × AwaitsWhole (tree_of future) (Ok answered) v w × (given ≡ await_reply answered)
+Awaited future v (Done given w) = (answered : Result AwaitResponse Error)
+    × AwaitsWhole (tree_of future) (Ok answered) v w × (given ≡ await_reply answered)
 Awaited future v (Failed e w) = AwaitsWhole (tree_of future) (Err e) v w
 
 -- a take: the answer is the result, if there is one
 abbrev pub taken : NotificationHandle → Machine → Outcome Reply
-taken handle v = mapped (λ value. reply.Answer (answer.Taken value)) (called (take_step handle.0 v) v)
+taken handle v =
+    mapped (λ value. reply.Answer (answer.Taken value)) (called (take_step handle.0 v) v)
 
 -- the handler ends
 abbrev pub ended : Machine → Outcome Reply
@@ -124,8 +132,10 @@ IfDone (Failed e w) P = Unit {0}
 
 -- a call was made
 abbrev pub Asked : (Machine → Outcome Reply → Type 0) → Result Reply Error → View → View → Type 0
-Asked R r old new = DoesBy (R old.machine) r old.machine new.machine × (new.undecoded ≡ old.undecoded)
+Asked R r old new =
+    DoesBy (R old.machine) r old.machine new.machine × (new.undecoded ≡ old.undecoded)
 
--- a step was made: its call, and where that was answered, the command that it wrote can be read back
+-- a step was made: its call, and where that was answered, the command that it wrote can be read
+-- back
 abbrev pub StepMade : Step → Result Reply Error → View → View → Type 0
 StepMade s r old new = Asked (Performs s) r old new × OnOk r (ReadsBack s old.machine)

@@ -56,7 +56,8 @@ fn next_step<H: Handler>(
     waiting: &Option<UnresolvedFuture>,
     answers: &[Answer],
 ) -> Result<Step, AllocError>
-    ensures { IfOk result (λ step. step ≡ asked_from waiting.now (H.meaning handler.now answers.now)) }
+    ensures { IfOk result (λ step. step
+        ≡ asked_from waiting.now (H.meaning handler.now answers.now)) }
 {
     match waiting {
         Some(future) => Ok(Step::Await(future.clone()?)),
@@ -93,7 +94,8 @@ impl<H: Handler> Inner<H> {
         reply: VMResult<Reply>,
     ) -> VMResult<Progress>
         requires { vec_len self.old.answers + 1 ≤ vec_capacity self.old.answers }
-        ensures record { the_fields self.new ≡ replied (the_fields self.old) future reply (seen self.old.vm) }
+        ensures record { the_fields self.new
+            ≡ replied (the_fields self.old) future reply (seen self.old.vm) }
         ensures handler { self.new.handler ≡ self.old.handler }
         ensures progress { result ≡ progress_of reply }
     {
@@ -125,7 +127,8 @@ impl<H: Handler> Inner<H> {
 
     /// The step of an attempt whose VM is ready.
     fn advance(&mut self) -> VMResult<Progress>
-        ensures does { Advances (H.meaning self.old.handler) (the_fields self.old) result (the_fields self.new) }
+        ensures does { Advances (H.meaning self.old.handler) (the_fields self.old) result
+            (the_fields self.new) }
         ensures handler { self.new.handler ≡ self.old.handler }
     {
         if self.answers.reserve(1).is_err() {
@@ -153,7 +156,8 @@ impl<H: Handler> Inner<H> {
     }
 
     pub fn step(&mut self) -> VMResult<Progress>
-        ensures does { StepDoes (H.meaning self.old.handler) (the_fields self.old) result (the_fields self.new) }
+        ensures does { StepDoes (H.meaning self.old.handler) (the_fields self.old) result
+            (the_fields self.new) }
         ensures handler { self.new.handler ≡ self.old.handler }
     {
         if self.starved {
@@ -205,7 +209,8 @@ impl<H: Handler> Inner<H> {
     }
 
     pub fn feed(&mut self, piece: Bytes) -> Result<(), AllocError>
-        ensures does { FeedDoes self.old.starved piece (the_fields self.old) result (the_fields self.new) }
+        ensures does { FeedDoes self.old.starved piece (the_fields self.old) result
+            (the_fields self.new) }
         ensures handler { self.new.handler ≡ self.old.handler }
     {
         if self.starved {
@@ -236,7 +241,8 @@ impl<H: Handler> Inner<H> {
         exit: RunExitResult,
         policy: RetryPolicy,
     ) -> VMResult<()>
-        ensures does { TellsUnless self.old.starved handle exit policy (the_fields self.old) result (the_fields self.new) }
+        ensures does { TellsUnless self.old.starved handle exit policy (the_fields self.old) result
+            (the_fields self.new) }
         ensures handler { self.new.handler ≡ self.old.handler }
     {
         if self.starved {

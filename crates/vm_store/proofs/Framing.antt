@@ -13,8 +13,8 @@ use Rattle.journal_streams.proofs.Cuts.{whole_spelled}
 use Rattle.invocation_vm.specs.Frames.{Tail, Rest, Garbage, frames_from, frames_of, joined}
 use Rattle.invocation_vm.proofs.Cuts.{frames_of-append, frames_of-next}
 use Rattle.vm_model.specs.Journal.{Entry, messages_in, read_before}
-use Rattle.vm_attempt.specs.Journals.{AcknowledgesNothing, as_entries, commands_among, is_acknowledgement, is_command, is_notification, notifications_among, notified_by, recorded_by, told_by}
-use Rattle.vm_store.specs.Entries.{AreEntries, alone, entries_of, frame_in, frame_of, framed_by, frames_in, may_stand, note_in, note_of, notes_in, read_from, said_by, said_in}
+use Rattle.vm_attempt.specs.Journals.{AcknowledgesNothing, as_entries, commands_among, is_acknowledgement, is_command_frame, is_notification, notifications_among, notified_by, recorded_by, told_by}
+use Rattle.vm_store.specs.Entries.{AreEntries, only_frame, journal_entries, frame_in, frame_of, framed_by, journal_frames, may_stand, note_in, note_of, notes_in, read_from, said_by, said_in}
 
 -- ---- frames of bytes
 
@@ -55,11 +55,11 @@ one_framed raw l = next_framed (frame_of raw) [] raw (frame_next raw l) ∙ ap (
 
 -- a frame's bytes, as an entry, are that frame
 pub frame_back : (raw : RawMessage) → length raw.body < 2 ^ 64 → frame_in (frame_of raw) ≡ Some raw
-frame_back raw l = ap alone (frame_next raw l)
+frame_back raw l = ap only_frame (frame_next raw l)
 
 -- ---- the frames of a journal
 
-alone_next : (o : NextFrame) (raw : RawMessage) → alone o ≡ Some raw → o ≡ Whole raw []
+alone_next : (o : NextFrame) (raw : RawMessage) → only_frame o ≡ Some raw → o ≡ Whole raw []
 alone_next (Whole r []) raw e = let is : r ≡ raw = cc in ap (λ x. Whole x []) is
 alone_next (Whole r (b ∷ bytes)) raw e = absurd (cc)
 alone_next Partial raw e = absurd (cc)
@@ -78,24 +78,24 @@ front_framed None raws = refl
 front_framed (Some raw) raws = refl
 
 -- entries one after another are their frames
-pub journal_framed : (journal : List (List ℕ)) → AreEntries journal → AreFrames (concat journal) (frames_in journal)
+pub journal_framed : (journal : List (List ℕ)) → AreEntries journal → AreFrames (concat journal) (journal_frames journal)
 journal_framed [] h = none_framed
-journal_framed (x ∷ xs) h = subst (AreFrames (x ++ concat xs)) (front_framed (frame_in x) (frames_in xs)) (join x (concat xs) (framed_by (frame_in x) []) (frames_in xs) (entry_by x (frame_in x) refl h.0) (journal_framed xs h.1))
+journal_framed (x ∷ xs) h = subst (AreFrames (x ++ concat xs)) (front_framed (frame_in x) (journal_frames xs)) (join x (concat xs) (framed_by (frame_in x) []) (journal_frames xs) (entry_by x (frame_in x) refl h.0) (journal_framed xs h.1))
 
 one_long : (o : Option RawMessage) (raws : List RawMessage) (n : ℕ) → may_stand o ≡ true → length raws ≡ n → length (framed_by o raws) ≡ length raws + 1
 one_long None raws n h e = absurd (cc)
 one_long (Some raw) raws n h e = omega arith
 
 -- one frame an entry
-pub journal_length : (journal : List (List ℕ)) → AreEntries journal → length (frames_in journal) ≡ length journal
+pub journal_length : (journal : List (List ℕ)) → AreEntries journal → length (journal_frames journal) ≡ length journal
 journal_length [] h = refl
-journal_length (x ∷ xs) h = let e = journal_length xs h.1 in omega (arith, one_long (frame_in x) (frames_in xs) (length xs) h.0 e, e)
+journal_length (x ∷ xs) h = let e = journal_length xs h.1 in omega (arith, one_long (frame_in x) (journal_frames xs) (length xs) h.0 e, e)
 
-pub frames_append : (xs ys : List (List ℕ)) → frames_in (xs ++ ys) ≡ frames_in xs ++ frames_in ys
+pub frames_append : (xs ys : List (List ℕ)) → journal_frames (xs ++ ys) ≡ journal_frames xs ++ journal_frames ys
 frames_append [] ys = refl
 frames_append (x ∷ xs) ys = ap (framed_by (frame_in x)) (frames_append xs ys) ∙ by_frame (frame_in x)
   where
-    by_frame : (o : Option RawMessage) → framed_by o (frames_in xs ++ frames_in ys) ≡ framed_by o (frames_in xs) ++ frames_in ys
+    by_frame : (o : Option RawMessage) → framed_by o (journal_frames xs ++ journal_frames ys) ≡ framed_by o (journal_frames xs) ++ journal_frames ys
     by_frame None = refl
     by_frame (Some raw) = refl
 
@@ -113,9 +113,9 @@ note_before : (o : Option RawMessage) (raws : List RawMessage) (ns : List Notifi
 note_before None raws ns e = e
 note_before (Some raw) raws ns e = noted_by (is_notification raw) (notification_in raw.body) ns ∙ ap (λ ns. cond (is_notification raw) (notified_by (notification_in raw.body) ns) ns) e
 
-pub notes_are : (journal : List (List ℕ)) → notes_in journal ≡ notifications_among (frames_in journal)
+pub notes_are : (journal : List (List ℕ)) → notes_in journal ≡ notifications_among (journal_frames journal)
 notes_are [] = refl
-notes_are (x ∷ xs) = note_before (frame_in x) (frames_in xs) (notes_in xs) (notes_are xs)
+notes_are (x ∷ xs) = note_before (frame_in x) (journal_frames xs) (notes_in xs) (notes_are xs)
 
 said_before : (b : Bool) (o : Option Message) (raw : RawMessage) (raws : List RawMessage) → message_in raw.ty raw.body ≡ o → read_before (cond b o None) (messages_in raws) ≡ messages_in (cond b (raw ∷ raws) raws)
 said_before true o raw raws e = ap (λ x. read_before x (messages_in raws)) (sym e)
@@ -123,11 +123,11 @@ said_before false o raw raws e = refl
 
 message_before : (o : Option RawMessage) (raws : List RawMessage) (ms : List Message) → ms ≡ messages_in (commands_among raws) → read_before (read_from said_by o) ms ≡ messages_in (commands_among (framed_by o raws))
 message_before None raws ms e = e
-message_before (Some raw) raws ms e = ap (read_before (said_by raw)) e ∙ said_before (is_command raw) (message_in raw.ty raw.body) raw (commands_among raws) refl
+message_before (Some raw) raws ms e = ap (read_before (said_by raw)) e ∙ said_before (is_command_frame raw) (message_in raw.ty raw.body) raw (commands_among raws) refl
 
-pub said_are : (journal : List (List ℕ)) → said_in journal ≡ messages_in (commands_among (frames_in journal))
+pub said_are : (journal : List (List ℕ)) → said_in journal ≡ messages_in (commands_among (journal_frames journal))
 said_are [] = refl
-said_are (x ∷ xs) = message_before (frame_in x) (frames_in xs) (said_in xs) (said_are xs)
+said_are (x ∷ xs) = message_before (frame_in x) (journal_frames xs) (said_in xs) (said_are xs)
 
 pub notes_append : (xs ys : List (List ℕ)) → notes_in (xs ++ ys) ≡ notes_in xs ++ notes_in ys
 notes_append [] ys = refl
@@ -142,10 +142,10 @@ notes_append (x ∷ xs) ys = ap (notified_by (note_in x)) (notes_append xs ys) �
 thirty : (n : ℕ) → (n == 30) ≡ true → n ≡ 30
 thirty n h = grind (arith, nat_tests)
 
-pub note_no_command : (raw : RawMessage) → is_notification raw ≡ true → is_command raw ≡ false
+pub note_no_command : (raw : RawMessage) → is_notification raw ≡ true → is_command_frame raw ≡ false
 note_no_command raw h = ap (λ k. nat_le 10 k && nat_lt k 30) (thirty (type_number raw.ty) h)
 
-pub command_no_note : (raw : RawMessage) → is_command raw ≡ true → is_notification raw ≡ false
+pub command_no_note : (raw : RawMessage) → is_command_frame raw ≡ true → is_notification raw ≡ false
 command_no_note raw h = by_test (is_notification raw) refl
   where
     by_test : (b : Bool) → is_notification raw ≡ b → is_notification raw ≡ false
@@ -168,11 +168,11 @@ stands_not false false true o apart h = absurd (cc)
 
 entry_acknowledges : (o : Option RawMessage) → may_stand o ≡ true → (raws : List RawMessage) → AllByRecursion AcknowledgesNothing raws → AllByRecursion AcknowledgesNothing (framed_by o raws)
 entry_acknowledges None h raws all = all
-entry_acknowledges (Some raw) h raws all = (stands_not (is_command raw) (is_notification raw) (is_acknowledgement raw) (notification_in raw.body) (λ is. let n = six (type_number raw.ty) is in (ap (λ k. nat_le 10 k && nat_lt k 30) n, ap (λ k. k == 30) n)) h, all)
+entry_acknowledges (Some raw) h raws all = (stands_not (is_command_frame raw) (is_notification raw) (is_acknowledgement raw) (notification_in raw.body) (λ is. let n = six (type_number raw.ty) is in (ap (λ k. nat_le 10 k && nat_lt k 30) n, ap (λ k. k == 30) n)) h, all)
 
-pub journal_acknowledges : (journal : List (List ℕ)) → AreEntries journal → AllByRecursion AcknowledgesNothing (frames_in journal)
+pub journal_acknowledges : (journal : List (List ℕ)) → AreEntries journal → AllByRecursion AcknowledgesNothing (journal_frames journal)
 journal_acknowledges [] h = tt
-journal_acknowledges (x ∷ xs) h = entry_acknowledges (frame_in x) h.0 (frames_in xs) (journal_acknowledges xs h.1)
+journal_acknowledges (x ∷ xs) h = entry_acknowledges (frame_in x) h.0 (journal_frames xs) (journal_acknowledges xs h.1)
 
 -- ---- entries
 
@@ -191,12 +191,12 @@ noted_append false o xs ys = refl
 as_entries_append : (xs ys : List RawMessage) → as_entries (xs ++ ys) ≡ as_entries xs ++ as_entries ys
 as_entries_append [] ys = refl
 as_entries_append (x ∷ xs) ys =
-    ap (λ es. recorded_by (is_command x) x (cond (is_notification x) (told_by (notification_in x.body) es) es)) (as_entries_append xs ys)
-    ∙ ap (recorded_by (is_command x) x) (noted_append (is_notification x) (notification_in x.body) (as_entries xs) (as_entries ys))
-    ∙ recorded_append (is_command x) x (cond (is_notification x) (told_by (notification_in x.body) (as_entries xs)) (as_entries xs)) (as_entries ys)
+    ap (λ es. recorded_by (is_command_frame x) x (cond (is_notification x) (told_by (notification_in x.body) es) es)) (as_entries_append xs ys)
+    ∙ ap (recorded_by (is_command_frame x) x) (noted_append (is_notification x) (notification_in x.body) (as_entries xs) (as_entries ys))
+    ∙ recorded_append (is_command_frame x) x (cond (is_notification x) (told_by (notification_in x.body) (as_entries xs)) (as_entries xs)) (as_entries ys)
 
-pub entries_append : (xs ys : List (List ℕ)) → entries_of (xs ++ ys) ≡ entries_of xs ++ entries_of ys
-entries_append xs ys = ap as_entries (frames_append xs ys) ∙ as_entries_append (frames_in xs) (frames_in ys)
+pub entries_append : (xs ys : List (List ℕ)) → journal_entries (xs ++ ys) ≡ journal_entries xs ++ journal_entries ys
+entries_append xs ys = ap as_entries (frames_append xs ys) ∙ as_entries_append (journal_frames xs) (journal_frames ys)
 
 -- ---- lists
 

@@ -13,12 +13,12 @@ use Rattle.journal_streams.proofs.Cuts.{whole_shorter}
 use Rattle.invocation_vm.specs.Frames.{Tail, frames_from, frames_of}
 use Rattle.invocation_vm.proofs.Cuts.{frames_of-next}
 use Rattle.vm_parts.specs.declared.run_state.KeptProposal.{KeptProposal}
-use Rattle.vm_attempt.specs.Journals.{is_command}
+use Rattle.vm_attempt.specs.Journals.{is_command_frame}
 use Rattle.vm_store.specs.declared.storing.Written.{Written}
 use Rattle.vm_store.specs.declared.storing.Written.TheVariants.{Command, Proposal}
 use Rattle.vm_store.specs.declared.types.RoundFault.{RoundFault}
 use Rattle.vm_store.specs.NextFrames.{IsWholeItem, NextFaults, StoresItem, StoresOne}
-use Rattle.vm_store.specs.Storing.{CanBeRead, FirstFault, NoneFaults, Stores, proposal_of, stored_as, storing_fault, waits_behind, written_among, written_as, written_before, written_from}
+use Rattle.vm_store.specs.Storing.{StoredCanBeRead, FirstFault, NoneFaults, Stores, proposal_of, stored_as, storing_fault, waits_behind, written_among, written_as, written_before, written_from}
 use Rattle.vm_store.proofs.Framing.{in_front, next_framed}
 
 -- ---- lists
@@ -45,7 +45,7 @@ faultless_more [] w j h e = (ap (storing_fault w) (sym (append-nil j)) ∙ e, tt
 faultless_more (x ∷ xs) w j h e = (h.0, faultless_more xs w (j ++ stored_as x ∷ []) h.1 (ap (storing_fault w) (behind_one j x xs) ∙ e))
 
 -- the first fault is that of an item behind others that have none
-first_fault : (version : Version) (ws : List Written) (w : Written) (more : List Written) (j : List (List ℕ)) (f : RoundFault) → NoneFaults ws j → AllByRecursion (CanBeRead version) ws → storing_fault w (j ++ map stored_as ws) ≡ Some f → FirstFault version (ws ++ w ∷ more) j f
+first_fault : (version : Version) (ws : List Written) (w : Written) (more : List Written) (j : List (List ℕ)) (f : RoundFault) → NoneFaults ws j → AllByRecursion (StoredCanBeRead version) ws → storing_fault w (j ++ map stored_as ws) ≡ Some f → FirstFault version (ws ++ w ∷ more) j f
 first_fault version [] w more j f h k e = inl (ap (storing_fault w) (sym (append-nil j)) ∙ e)
 first_fault version (x ∷ xs) w more j f h k e = inr (h.0, k.0, first_fault version xs w more (j ++ stored_as x ∷ []) f h.1 k.1 (ap (storing_fault w) (behind_one j x xs) ∙ e))
 
@@ -59,7 +59,7 @@ pub record Stands (version : Version) (n : ℕ) (u : List ℕ) (j : List (List �
   pub stored : j' ≡ j ++ map stored_as (written_among seen)
   pub waits : w' ≡ w ++ flat_map (waits_behind version) (written_among seen)
   pub faultless : NoneFaults (written_among seen) j
-  pub readable : AllByRecursion (CanBeRead version) (written_among seen)
+  pub readable : AllByRecursion (StoredCanBeRead version) (written_among seen)
 
 pub stands_first : (version : Version) (n : ℕ) (u : List ℕ) (j : List (List ℕ)) (w : List ℕ) → Stands version n u j w n j w u
 stands_first version n u j w = record { seen = []; frames = refl; count = omega arith; stored = sym (append-nil j); waits = sym (append-nil w); faultless = tt; readable = tt }
@@ -68,9 +68,9 @@ one_more : (seen : List RawMessage) (raw : RawMessage) (p q : List RawMessage ×
 one_more seen raw p q e = ap (in_front seen) e ∙ ap (λ l. (l, q.1)) (sym (append_assoc seen (raw ∷ []) q.0))
 
 -- a frame's item can be read, where the frame isn't too long
-one_readable : (version : Version) (raw : RawMessage) (item : Written) → length raw.body < 2 ^ 64 → written_as raw ≡ Some item → IsWholeItem version item → CanBeRead version item
+one_readable : (version : Version) (raw : RawMessage) (item : Written) → length raw.body < 2 ^ 64 → written_as raw ≡ Some item → IsWholeItem version item → StoredCanBeRead version item
 one_readable version raw (Proposal p) fits is whole = whole
-one_readable version raw (Command c) fits is whole = by_test (is_command raw) (proposal_of raw) is
+one_readable version raw (Command c) fits is whole = by_test (is_command_frame raw) (proposal_of raw) is
   where
     by_test : (b : Bool) (o : Option KeptProposal) → cond b (Some (Command raw)) (option_map Proposal o) ≡ Some (Command c) → length c.body < 2 ^ 64
     by_test true o h = let same : raw ≡ c = cc in subst (λ (x : RawMessage). length x.body < 2 ^ 64) same fits
@@ -91,7 +91,7 @@ module _ (version : Version) (n : ℕ) (u : List ℕ) (j : List (List ℕ)) (w :
         stored = s.stored ∙ ap (λ l. j ++ map stored_as l) (sym same);
         waits = s.waits ∙ ap (λ l. w ++ flat_map (waits_behind version) l) (sym same);
         faultless = subst (λ l. NoneFaults l j) (sym same) s.faultless;
-        readable = subst (AllByRecursion (CanBeRead version)) (sym same) s.readable;
+        readable = subst (AllByRecursion (StoredCanBeRead version)) (sym same) s.readable;
       }
 
   keeps : (u'' : List ℕ) (raw : RawMessage) (item : Written) (j'' : List (List ℕ)) (w'' : List ℕ) → next_of u' ≡ Whole raw u'' → length raw.body < 2 ^ 64 → written_as raw ≡ Some item → StoresItem version item j' w' j'' w'' → 0 < left → Stands version n u j w (left - 1) j'' w'' u''
@@ -105,7 +105,7 @@ module _ (version : Version) (n : ℕ) (u : List ℕ) (j : List (List ℕ)) (w :
         waits = one.waits ∙ ap (λ l. l ++ waits_behind version item) s.waits ∙ append_assoc w (flat_map (waits_behind version) W) (waits_behind version item)
             ∙ ap (λ l. w ++ (flat_map (waits_behind version) W ++ l)) (sym (append-nil (waits_behind version item))) ∙ ap (λ l. w ++ l) (sym (flat_map-append (waits_behind version) W (item ∷ []))) ∙ ap (λ l. w ++ flat_map (waits_behind version) l) (sym more);
         faultless = subst (λ l. NoneFaults l j) (sym more) (faultless_more W item j s.faultless (ap (storing_fault item) (sym s.stored) ∙ one.faultless));
-        readable = subst (AllByRecursion (CanBeRead version)) (sym more) (all_append (CanBeRead version) W (item ∷ []) s.readable (one_readable version raw item fits is one.whole, tt));
+        readable = subst (AllByRecursion (StoredCanBeRead version)) (sym more) (all_append (StoredCanBeRead version) W (item ∷ []) s.readable (one_readable version raw item fits is one.whole, tt));
       }
 
   whole_of : written_from u ≡ W ++ written_from u'

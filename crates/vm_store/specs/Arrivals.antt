@@ -15,8 +15,8 @@ use Rattle.vm_store.specs.declared.types.RoundFault.TheVariants as round_fault
 use Rattle.vm_store.specs.Entries.{note_in, notes_in, said_in}
 
 -- the most entries of a journal
-abbrev pub most : ℕ
-most = 4_294_967_295
+abbrev pub most_entries : ℕ
+most_entries = 4_294_967_295
 
 -- ---- what completes an id
 
@@ -65,8 +65,8 @@ is_of id (SignalId other) = false
 is_of id (SignalName name) = false
 
 -- one of the notifications completes this id
-abbrev pub is_completed : ℕ → List Notification → Bool
-is_completed id ns = list_any (λ n. is_of id n.id) ns
+abbrev pub completes_id : ℕ → List Notification → Bool
+completes_id id ns = list_any (λ n. is_of id n.id) ns
 
 -- an invocation id
 abbrev pub is_invocation_id : NotificationResult → Bool
@@ -78,7 +78,7 @@ is_invocation_id (result.StateKeys keys) = false
 
 -- the fault of a journal that is full
 abbrev pub room_fault : List (List ℕ) → Option RoundFault
-room_fault journal = if length journal == most then Some round_fault.JournalFull else None
+room_fault journal = if length journal == most_entries then Some round_fault.JournalFull else None
 
 -- the fault of a completion: by what completes its id, whether it was completed, and what it brings
 abbrev pub completion_fault : Option Completes → Bool → NotificationResult → Option RoundFault
@@ -93,7 +93,7 @@ completion_fault (Some completes.AnyResult) false brings room = room
 -- the fault of a notification
 abbrev pub note_fault : NotificationId → NotificationResult → List (List ℕ) → Option RoundFault
 note_fault (CompletionId id) brings journal = completion_fault
-    (completes_among id (said_in journal) None) (is_completed id (notes_in journal)) brings
+    (completes_among id (said_in journal) None) (completes_id id (notes_in journal)) brings
     (room_fault journal)
 note_fault (SignalId id) brings journal = room_fault journal
 note_fault (SignalName name) brings journal = room_fault journal
@@ -123,6 +123,6 @@ proposed_fault (Some completes.AnyResult) false room = room
 -- The first fault of a proposal for the run of this id, which is stored as a completion, but for
 -- want of memory: no stored command carries its id, the id was completed, an invocation's id is
 -- expected, the journal is full.
-abbrev pub proposal_fault : ℕ → List (List ℕ) → Option RoundFault
-proposal_fault id journal = proposed_fault (completes_among id (said_in journal) None)
-    (is_completed id (notes_in journal)) (room_fault journal)
+abbrev pub stored_proposal_fault : ℕ → List (List ℕ) → Option RoundFault
+stored_proposal_fault id journal = proposed_fault (completes_among id (said_in journal) None)
+    (completes_id id (notes_in journal)) (room_fault journal)

@@ -10,13 +10,13 @@ use Rattle.vm_store.specs.Arrivals.{completes_among, is_invocation_id}
 use Rattle.vm_store.specs.Entries.{note_in, said_in}
 
 -- no notification has this id
-abbrev pub IsAbsent : NotificationId → List Notification → Type 0
-IsAbsent id [] = Unit {0}
-IsAbsent id (n ∷ ns) = (n.id ≢ id) × IsAbsent id ns
+abbrev pub CompletesNone : NotificationId → List Notification → Type 0
+CompletesNone id [] = Unit {0}
+CompletesNone id (n ∷ ns) = (n.id ≢ id) × CompletesNone id ns
 
 -- a completion has no other result among these; a signal may be delivered again
 abbrev pub HasNoOther : NotificationId → List Notification → Type 0
-HasNoOther (CompletionId id) ns = IsAbsent (CompletionId id) ns
+HasNoOther (CompletionId id) ns = CompletesNone (CompletionId id) ns
 HasNoOther (SignalId id) ns = Unit {0}
 HasNoOther (SignalName name) ns = Unit {0}
 

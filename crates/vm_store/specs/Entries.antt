@@ -8,7 +8,7 @@ use Rattle.journal_streams.specs.Frames.{NextFrame, Whole, Partial, Malformed, n
 use Rattle.journal_messages.specs.Message.{frame}
 use Rattle.journal_messages.specs.Reading.{message_in, notification_in}
 use Rattle.vm_model.specs.Journal.{Entry, read_before}
-use Rattle.vm_attempt.specs.Journals.{as_entries, is_command, is_notification, notified_by}
+use Rattle.vm_attempt.specs.Journals.{as_entries, is_command_frame, is_notification, notified_by}
 
 -- a frame's bytes
 abbrev pub frame_of : RawMessage → List ℕ
@@ -17,15 +17,15 @@ frame_of raw = frame raw.ty raw.body
 -- ---- one entry
 
 -- one whole frame and nothing behind it
-abbrev pub alone : NextFrame → Option RawMessage
-alone (Whole raw []) = Some raw
-alone (Whole raw (b ∷ bytes)) = None
-alone Partial = None
-alone Malformed = None
+abbrev pub only_frame : NextFrame → Option RawMessage
+only_frame (Whole raw []) = Some raw
+only_frame (Whole raw (b ∷ bytes)) = None
+only_frame Partial = None
+only_frame Malformed = None
 
 -- the frame that some bytes are, if they are one and nothing more
 abbrev pub frame_in : List ℕ → Option RawMessage
-frame_in bytes = alone (next_of bytes)
+frame_in bytes = only_frame (next_of bytes)
 
 -- the notification that a frame is, if it is one and can be read
 abbrev pub note_of : RawMessage → Option Notification
@@ -33,7 +33,7 @@ note_of raw = cond (is_notification raw) (notification_in raw.body) None
 
 -- what a frame says, if it is one of a command and can be read
 abbrev pub said_by : RawMessage → Option Message
-said_by raw = cond (is_command raw) (message_in raw.ty raw.body) None
+said_by raw = cond (is_command_frame raw) (message_in raw.ty raw.body) None
 
 -- what is read from a frame, if there is one
 abbrev pub read_from : {A : Type 0} → (RawMessage → Option A) → Option RawMessage → Option A
@@ -51,7 +51,7 @@ said_at bytes = read_from said_by (frame_in bytes)
 -- the frame is one of a command, or a notification that can be read
 abbrev pub may_stand : Option RawMessage → Bool
 may_stand None = false
-may_stand (Some raw) = is_command raw || is_some (note_of raw)
+may_stand (Some raw) = is_command_frame raw || is_some (note_of raw)
 
 -- ---- a journal
 
@@ -65,13 +65,13 @@ framed_by None raws = raws
 framed_by (Some raw) raws = raw ∷ raws
 
 -- the frames of a journal
-abbrev pub frames_in : List (List ℕ) → List RawMessage
-frames_in [] = []
-frames_in (bytes ∷ journal) = framed_by (frame_in bytes) (frames_in journal)
+abbrev pub journal_frames : List (List ℕ) → List RawMessage
+journal_frames [] = []
+journal_frames (bytes ∷ journal) = framed_by (frame_in bytes) (journal_frames journal)
 
 -- the entries of a journal
-abbrev pub entries_of : List (List ℕ) → List Entry
-entries_of journal = as_entries (frames_in journal)
+abbrev pub journal_entries : List (List ℕ) → List Entry
+journal_entries journal = as_entries (journal_frames journal)
 
 -- the notifications of a journal, in order
 abbrev pub notes_in : List (List ℕ) → List Notification

@@ -12,7 +12,7 @@ use Rattle.vm_store.specs.declared.completions.Completes.{Completes}
 use Rattle.vm_store.specs.declared.completions.Completes.TheVariants as completes
 use Rattle.vm_store.specs.declared.types.RoundFault.{RoundFault}
 use Rattle.vm_store.specs.declared.types.RoundFault.TheVariants as round_fault
-use Rattle.vm_store.specs.Arrivals.{completes_among, completion_fault, is_completed, room_fault}
+use Rattle.vm_store.specs.Arrivals.{completes_among, completion_fault, completes_id, room_fault}
 use Rattle.vm_store.specs.Entries.{frame_in, note_of, notes_in, said_by, said_in}
 
 -- ---- one entry
@@ -28,7 +28,7 @@ as_given (Some completes.Proposal) = Some completes.AnyResult
 abbrev pub given_note_fault : NotificationId → NotificationResult → List (List ℕ)
     → Option RoundFault
 given_note_fault (CompletionId id) brings journal = completion_fault
-    (as_given (completes_among id (said_in journal) None)) (is_completed id (notes_in journal))
+    (as_given (completes_among id (said_in journal) None)) (completes_id id (notes_in journal))
     brings (room_fault journal)
 given_note_fault (SignalId id) brings journal = room_fault journal
 given_note_fault (SignalName name) brings journal = room_fault journal

@@ -7,7 +7,7 @@ use Rattle.journal_streams.specs.Frames.{Whole, Partial, Malformed, next_of}
 use Rattle.vm_store.specs.declared.storing.Written.{Written}
 use Rattle.vm_store.specs.declared.storing.Written.TheVariants.{Command, Proposal}
 use Rattle.vm_store.specs.declared.types.RoundFault.{RoundFault}
-use Rattle.vm_store.specs.Storing.{CanBeRead, stored_as, storing_fault, waits_behind, written_as}
+use Rattle.vm_store.specs.Storing.{StoredCanBeRead, stored_as, storing_fault, waits_behind, written_as}
 
 -- the next frame was taken; or none is whole
 abbrev pub NextWritten : List ℕ → Option RawMessage → List ℕ → Type 0
@@ -17,7 +17,7 @@ NextWritten old None new = ((next_of old ≡ Partial) ⊎ (next_of old ≡ Malfo
 -- what can be said of how it is stored besides its bytes
 abbrev pub IsWholeItem : Version → Written → Type 0
 IsWholeItem version (Command raw) = Unit {0}
-IsWholeItem version (Proposal p) = CanBeRead version (Proposal p)
+IsWholeItem version (Proposal p) = StoredCanBeRead version (Proposal p)
 
 -- it was stored
 pub record StoresItem (version : Version) (w : Written) (journal : List (List ℕ)) (waiting : List ℕ) (journal' : List (List ℕ)) (waiting' : List ℕ) : Type 0 where

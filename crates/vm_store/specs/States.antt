@@ -17,17 +17,17 @@ abbrev pub base_of : Setting → StateMap
 base_of w = record { entries = state_entries w.base; coverage = Complete }
 
 -- the state after a journal's commands
-abbrev pub state_of : Setting → List (List ℕ) → StateMap
-state_of w journal = changed_by (said_in journal) (base_of w)
+abbrev pub state_after : Setting → List (List ℕ) → StateMap
+state_after w journal = changed_by (said_in journal) (base_of w)
 
 -- whether a key is one of these
-abbrev pub is_listed : List (List ℕ) → List ℕ → Bool
-is_listed keys key = list_any (λ k. pointwise nat_eq k key) keys
+abbrev pub is_key_listed : List (List ℕ) → List ℕ → Bool
+is_key_listed keys key = list_any (λ k. pointwise nat_eq k key) keys
 
 -- whether a round asks for a key: for any, unless it is partial
 abbrev pub is_asked : Bool → List (List ℕ) → List ℕ → Bool
 is_asked false keys key = true
-is_asked true keys key = is_listed keys key
+is_asked true keys key = is_key_listed keys key
 
 -- the keys that have a value and are asked for, with their values, in order
 abbrev pub pairs_in : (List ℕ → Bool) → List (List ℕ × Option (List ℕ)) → List (List ℕ × List ℕ)
@@ -43,4 +43,4 @@ HaveTextKeys pairs = list_all (λ p. is_utf8 p.0) pairs ≡ true
 -- what a round hands out
 abbrev pub pairs_for : Setting → Round → List (List ℕ) → List (List ℕ × List ℕ)
 pairs_for w round journal =
-    pairs_in (is_asked round.partial round.keys) (state_of w journal).entries
+    pairs_in (is_asked round.partial round.keys) (state_after w journal).entries

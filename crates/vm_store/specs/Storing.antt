@@ -13,11 +13,11 @@ use Rattle.vm_parts.specs.declared.run_state.KeptProposal.{KeptProposal}
 use Rattle.vm_machine.specs.Inputs.{completion_of}
 use Rattle.journal_errors.specs.Versions.{is_from_v7}
 use Rattle.vm_steps.specs.Heard.{is_proposal, proposal_in}
-use Rattle.vm_attempt.specs.Journals.{is_command}
+use Rattle.vm_attempt.specs.Journals.{is_command_frame}
 use Rattle.vm_store.specs.declared.storing.Written.{Written}
 use Rattle.vm_store.specs.declared.storing.Written.TheVariants.{Command, Proposal}
 use Rattle.vm_store.specs.declared.types.RoundFault.{RoundFault}
-use Rattle.vm_store.specs.Arrivals.{proposal_fault, room_fault}
+use Rattle.vm_store.specs.Arrivals.{stored_proposal_fault, room_fault}
 use Rattle.vm_store.specs.Entries.{frame_of}
 
 -- ---- what is stored of frames
@@ -32,7 +32,8 @@ proposal_of raw = cond (is_proposal raw) (option_map kept_of (proposal_in raw.bo
 
 -- what is stored of a frame: a command, or what a run came to
 abbrev pub written_as : RawMessage → Option Written
-written_as raw = cond (is_command raw) (Some (Command raw)) (option_map Proposal (proposal_of raw))
+written_as raw =
+    cond (is_command_frame raw) (Some (Command raw)) (option_map Proposal (proposal_of raw))
 
 -- with what is stored, if there is something
 abbrev pub written_before : Option Written → List Written → List Written
@@ -51,8 +52,8 @@ written_from bytes = written_among (frames_of bytes).0
 -- ---- how it is stored
 
 -- the completion of a run, with the result that is proposed
-abbrev pub completed_by : KeptProposal → Message
-completed_by p = message.Notification (completion_of p.completion_id p)
+abbrev pub completion_message : KeptProposal → Message
+completion_message p = message.Notification (completion_of p.completion_id p)
 
 -- the acknowledgement of a proposal
 abbrev pub acknowledgement : ℕ → Message
@@ -61,22 +62,22 @@ acknowledgement id = message.ProposeRunCompletionAck (record { id = id })
 -- how it is stored: a command as it was written, a proposal as the run's completion
 abbrev pub stored_as : Written → List ℕ
 stored_as (Command raw) = frame_of raw
-stored_as (Proposal p) = encoding (completed_by p)
+stored_as (Proposal p) = encoding (completion_message p)
 
 -- what answers a proposal: from version 7 on its acknowledgement, before it the completion
-abbrev pub answered_by : Version → KeptProposal → List ℕ
-answered_by version p = if is_from_v7 version then encoding (acknowledgement p.completion_id)
-    else encoding (completed_by p)
+abbrev pub answer_to : Version → KeptProposal → List ℕ
+answer_to version p = if is_from_v7 version then encoding (acknowledgement p.completion_id)
+    else encoding (completion_message p)
 
 -- what waits once it is stored: nothing behind a command, behind a proposal what answers it
 abbrev pub waits_behind : Version → Written → List ℕ
 waits_behind version (Command raw) = []
-waits_behind version (Proposal p) = answered_by version p
+waits_behind version (Proposal p) = answer_to version p
 
 -- the fault of storing it, but for want of memory
 abbrev pub storing_fault : Written → List (List ℕ) → Option RoundFault
 storing_fault (Command raw) journal = room_fault journal
-storing_fault (Proposal p) journal = proposal_fault p.completion_id journal
+storing_fault (Proposal p) journal = stored_proposal_fault p.completion_id journal
 
 -- none of these has a fault, where they are stored one after another
 abbrev pub NoneFaults : List Written → List (List ℕ) → Type 0
@@ -85,16 +86,16 @@ NoneFaults (w ∷ ws) journal = (storing_fault w journal ≡ None)
     × NoneFaults ws (journal ++ stored_as w ∷ [])
 
 -- it can be read back, and so can what answers it
-abbrev pub CanBeRead : Version → Written → Type 0
-CanBeRead version (Command raw) = length raw.body < 2 ^ 64
-CanBeRead version (Proposal p) = IsWhole (completed_by p)
+abbrev pub StoredCanBeRead : Version → Written → Type 0
+StoredCanBeRead version (Command raw) = length raw.body < 2 ^ 64
+StoredCanBeRead version (Proposal p) = IsWhole (completion_message p)
     × (is_from_v7 version ≡ true → IsWhole (acknowledgement p.completion_id))
 
 -- the first of these that has a fault has this one, and those before it can be read back
 abbrev pub FirstFault : Version → List Written → List (List ℕ) → RoundFault → Type 0
 FirstFault version [] journal f = ⊥
 FirstFault version (w ∷ ws) journal f = (storing_fault w journal ≡ Some f)
-    ⊎ ((storing_fault w journal ≡ None) × CanBeRead version w
+    ⊎ ((storing_fault w journal ≡ None) × StoredCanBeRead version w
     × FirstFault version ws (journal ++ stored_as w ∷ []) f)
 
 -- The next n commands and proposals among the frames of some bytes are stored, or all where there
@@ -107,4 +108,4 @@ pub record Stores (version : Version) (n : ℕ) (unstored : List ℕ) (journal :
   pub stored : journal' ≡ journal ++ map stored_as (written_among seen)
   pub waits : waiting' ≡ waiting ++ flat_map (waits_behind version) (written_among seen)
   pub faultless : NoneFaults (written_among seen) journal
-  pub readable : AllByRecursion (CanBeRead version) (written_among seen)
+  pub readable : AllByRecursion (StoredCanBeRead version) (written_among seen)

@@ -13,8 +13,8 @@ use Rattle.vm_store.specs.Completions.{CompleteOnce, EachOfItsKind}
 use Rattle.vm_store.specs.declared.types.Identity.{Identity}
 use Rattle.vm_store.specs.declared.types.Round.{Round}
 use Rattle.vm_store.specs.declared.types.Setting.{Setting}
-use Rattle.vm_store.specs.Arrivals.{most}
-use Rattle.vm_store.specs.Entries.{AreEntries, frames_in, notes_in}
+use Rattle.vm_store.specs.Arrivals.{most_entries}
+use Rattle.vm_store.specs.Entries.{AreEntries, journal_frames, notes_in}
 use Rattle.vm_store.specs.States.{pairs_for}
 
 -- a world: what all its attempts are made with, and the journal, one frame an entry
@@ -26,9 +26,9 @@ pub record WorldView : Type 0 where
 -- is of an id that a command carries, and was of the kind of its id where it was stored.
 pub record IsJournal (journal : List (List ℕ)) : Type 0 where
   pub entries : AreEntries journal
-  pub short : length journal ≤ most
+  pub short : length journal ≤ most_entries
   pub once : CompleteOnce (notes_in journal)
-  pub carried : AreCarried (notes_in journal) (commands_among (frames_in journal))
+  pub carried : AreCarried (notes_in journal) (commands_among (journal_frames journal))
   pub kinds : EachOfItsKind [] journal
 
 -- keys and values, the keys as their bytes

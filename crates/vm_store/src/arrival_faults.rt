@@ -1,8 +1,8 @@
 //! The faults of arrivals, and of proposals that are stored.
 ghost use Rattle.std.specs.Prelude.{◌≡◌, IfOk};
-ghost use Rattle.vm_store.specs.Arrivals.{arrival_fault, completion_fault, is_invocation_id, note_fault, proposal_fault, proposed_fault, room_fault};
+ghost use Rattle.vm_store.specs.Arrivals.{arrival_fault, completion_fault, is_invocation_id, note_fault, stored_proposal_fault, proposed_fault, room_fault};
 
-use crate::completions::{Completes, completes_in, is_completed};
+use crate::completions::{Completes, completes_id, completes_in};
 use crate::entry::note_in;
 use crate::types::RoundFault;
 use bytes::Bytes;
@@ -65,7 +65,7 @@ fn note_fault(
     match &note.id {
         NotificationId::CompletionId(id) => {
             let kind = completes_in(alloc, *id, journal)?;
-            let done = is_completed(alloc, *id, journal)?;
+            let done = completes_id(alloc, *id, journal)?;
             Ok(completion_fault(kind, done, &note.result, room_fault(journal)))
         }
         NotificationId::SignalId(_) => Ok(room_fault(journal)),
@@ -108,14 +108,14 @@ fn proposed_fault(
 }
 
 /// The first fault that a proposal for the run of this id has, where it is stored.
-pub fn proposal_fault(
+pub fn stored_proposal_fault(
     alloc: Global,
     id: u32,
     journal: &[Bytes],
 ) -> Result<Option<RoundFault>, AllocError>
-    ensures { IfOk result (λ fault. fault ≡ proposal_fault id journal.now) }
+    ensures { IfOk result (λ fault. fault ≡ stored_proposal_fault id journal.now) }
 {
     let kind = completes_in(alloc, id, journal)?;
-    let done = is_completed(alloc, id, journal)?;
+    let done = completes_id(alloc, id, journal)?;
     Ok(proposed_fault(kind, done, room_fault(journal)))
 }

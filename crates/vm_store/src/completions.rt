@@ -1,6 +1,6 @@
 //! Which completion ids the commands of a journal carry, and what completes each.
 ghost use Rattle.std.specs.Prelude.{◌≡◌, ◌∷◌, [], None, IfOk};
-ghost use Rattle.vm_store.specs.Arrivals.{completes_among, completes_by, if_same, is_completed, is_of};
+ghost use Rattle.vm_store.specs.Arrivals.{completes_among, completes_by, if_same, completes_id, is_of};
 ghost use Rattle.vm_store.specs.Entries.{notes_in, said_in};
 
 use crate::entry::{note_in, said_at};
@@ -101,7 +101,7 @@ fn is_of(id: u32, note: &NotificationId) -> bool
 
 /// Whether this entry completes the id.
 fn is_completion(alloc: Global, id: u32, entry: &Bytes) -> Result<bool, AllocError>
-    ensures { IfOk result (λ done. done ≡ is_completed id (notes_in (entry.now ∷ []))) }
+    ensures { IfOk result (λ done. done ≡ completes_id id (notes_in (entry.now ∷ []))) }
 {
     match note_in(alloc, entry) {
         Err(error) => Err(error),
@@ -111,8 +111,8 @@ fn is_completion(alloc: Global, id: u32, entry: &Bytes) -> Result<bool, AllocErr
 }
 
 /// Whether an entry of the journal completes the id.
-pub fn is_completed(alloc: Global, id: u32, journal: &[Bytes]) -> Result<bool, AllocError>
-    ensures { IfOk result (λ done. done ≡ is_completed id (notes_in journal.now)) }
+pub fn completes_id(alloc: Global, id: u32, journal: &[Bytes]) -> Result<bool, AllocError>
+    ensures { IfOk result (λ done. done ≡ completes_id id (notes_in journal.now)) }
 {
     for entry in journal {
         if is_completion(alloc, id, entry)? {

@@ -1,7 +1,7 @@
 //! The entries of a journal, which are stored as frames.
 ghost use Rattle.std.specs.Prelude.{◌≡◌, IfOk, is_some};
 ghost use Rattle.vm_model.specs.Journal.{input_read_from};
-ghost use Rattle.vm_attempt.specs.Journals.{is_command, is_notification};
+ghost use Rattle.vm_attempt.specs.Journals.{is_command_frame, is_notification};
 ghost use Rattle.vm_store.specs.Entries.{frame_in, frame_of, note_in, note_of, said_at, said_by};
 
 use bytes::Bytes;
@@ -13,8 +13,8 @@ use std::alloc::{AllocError, Global};
 use wire::{Fault, Wire};
 
 /// Whether the frame is one of a command.
-pub fn is_command(raw: &RawMessage) -> bool
-    ensures { result ≡ is_command raw.now }
+pub fn is_command_frame(raw: &RawMessage) -> bool
+    ensures { result ≡ is_command_frame raw.now }
 {
     let number = raw.ty.number();
     10 <= number && number < 30
@@ -76,7 +76,7 @@ pub fn note_of(alloc: Global, raw: &RawMessage) -> Result<Option<Notification>, 
 pub fn said_by(alloc: Global, raw: &RawMessage) -> Result<Option<Message>, AllocError>
     ensures { IfOk result (λ message. message ≡ said_by raw.now) }
 {
-    if !is_command(raw) {
+    if !is_command_frame(raw) {
         return Ok(None);
     }
     match raw.read(alloc) {

@@ -5,7 +5,7 @@ ghost use Rattle.vm_store.specs.Entries.{note_of};
 ghost use Rattle.vm_store.specs.declared.types.RoundFault.TheVariants as round_fault;
 
 use crate::arrival_faults::{completion_fault, room_fault};
-use crate::completions::{Completes, completes_in, is_completed};
+use crate::completions::{Completes, completes_id, completes_in};
 use crate::entry::{frame_in, is_input, note_of, said_by};
 use crate::types::RoundFault;
 use bytes::Bytes;
@@ -36,7 +36,7 @@ fn given_note_fault(
     match &note.id {
         NotificationId::CompletionId(id) => {
             let kind = as_given(completes_in(alloc, *id, journal)?);
-            let done = is_completed(alloc, *id, journal)?;
+            let done = completes_id(alloc, *id, journal)?;
             Ok(completion_fault(kind, done, &note.result, room_fault(journal)))
         }
         NotificationId::SignalId(_) => Ok(room_fault(journal)),

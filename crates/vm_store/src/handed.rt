@@ -6,9 +6,9 @@ ghost use Rattle.journal_messages.specs.declared.message.Message.TheVariants as 
 ghost use Rattle.vm_parts.specs.declared.context.StateCoverage.TheVariants.{Complete};
 ghost use Rattle.vm_parts.specs.Entries.{entries_of as state_entries};
 ghost use Rattle.vm_model.specs.Moves.{changed_by};
-ghost use Rattle.vm_store.specs.Arrivals.{most};
+ghost use Rattle.vm_store.specs.Arrivals.{most_entries};
 ghost use Rattle.vm_store.specs.Entries.{said_in};
-ghost use Rattle.vm_store.specs.States.{HaveTextKeys, pairs_for, state_of};
+ghost use Rattle.vm_store.specs.States.{HaveTextKeys, pairs_for, state_after};
 ghost use Rattle.vm_store.specs.Worlds.{start_message, start_of};
 
 use crate::entry::said_at;
@@ -49,7 +49,7 @@ fn apply(alloc: Global, values: &mut Values, entry: &Bytes) -> Result<(), AllocE
 
 /// The state after the journal's commands.
 fn values_after(alloc: Global, setting: &Setting, journal: &[Bytes]) -> Result<Values, AllocError>
-    ensures { IfOk result (λ v. v ≡ state_of setting.now journal.now) }
+    ensures { IfOk result (λ v. v ≡ state_after setting.now journal.now) }
 {
     let mut values = base_values(alloc, setting.base.as_slice())?;
     for entry in journal {
@@ -118,7 +118,7 @@ pub fn start_bytes(
     round: &Round,
     journal: &[Bytes],
 ) -> Result<Bytes, AllocError>
-    requires { length journal.now ≤ most }
+    requires { length journal.now ≤ most_entries }
     ensures bytes { IfOk result (λ b. b
         ≡ encoding (start_message setting.now round.now journal.now)) }
     ensures whole { OnOk result (IsWhole (start_message setting.now round.now journal.now)) }

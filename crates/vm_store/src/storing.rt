@@ -7,12 +7,12 @@ ghost use Rattle.vm_steps.specs.Heard.{is_proposal};
 ghost use Rattle.vm_store.specs.Arrivals.{room_fault};
 ghost use Rattle.vm_store.specs.Entries.{frame_of};
 ghost use Rattle.vm_store.specs.NextFrames.{HasFault, NextFaults, NextWritten, StoresItem, StoresOne, StoresRaw};
-ghost use Rattle.vm_store.specs.Storing.{FirstFault, Stores, acknowledgement, answered_by, completed_by, proposal_of, storing_fault, written_as, written_from};
+ghost use Rattle.vm_store.specs.Storing.{FirstFault, Stores, acknowledgement, answer_to, completion_message, proposal_of, storing_fault, written_as, written_from};
 ghost use Rattle.vm_store.specs.declared.storing.Written.TheVariants as written;
 ghost use Rattle.vm_store.specs.declared.types.RoundFault.TheVariants as round_fault;
 
-use crate::arrival_faults::{proposal_fault, room_fault};
-use crate::entry::{frame_bytes, is_command};
+use crate::arrival_faults::{room_fault, stored_proposal_fault};
+use crate::entry::{frame_bytes, is_command_frame};
 use crate::types::RoundFault;
 use bytes::{Bytes, BytesMut};
 use journal_attempt::{ProposeRunCompletion, ProposeRunCompletionAck};
@@ -63,7 +63,7 @@ fn proposal_of(alloc: Global, raw: &RawMessage) -> Result<Option<KeptProposal>, 
 fn written_as(alloc: Global, raw: RawMessage) -> Result<Option<Written>, AllocError>
     ensures { IfOk result (λ written. written ≡ written_as raw) }
 {
-    if is_command(&raw) {
+    if is_command_frame(&raw) {
         return Ok(Some(Written::Command(raw)));
     }
     match proposal_of(alloc, &raw) {
@@ -75,8 +75,8 @@ fn written_as(alloc: Global, raw: RawMessage) -> Result<Option<Written>, AllocEr
 
 /// The frame of the completion with the proposed result.
 fn completion_bytes(alloc: Global, proposal: KeptProposal) -> Result<Bytes, AllocError>
-    ensures bytes { IfOk result (λ b. b ≡ encoding (completed_by proposal)) }
-    ensures whole { OnOk result (IsWhole (completed_by proposal)) }
+    ensures bytes { IfOk result (λ b. b ≡ encoding (completion_message proposal)) }
+    ensures whole { OnOk result (IsWhole (completion_message proposal)) }
 {
     let message = Message::Notification(Notification {
         id: NotificationId::CompletionId(proposal.completion_id),
@@ -141,9 +141,9 @@ fn settled_bytes(
     version: Version,
     proposal: KeptProposal,
 ) -> Result<(Bytes, Bytes), AllocError>
-    ensures completion { IfOk result (λ b. b.0 ≡ encoding (completed_by proposal)) }
-    ensures answer { IfOk result (λ b. b.1 ≡ answered_by version proposal) }
-    ensures whole { OnOk result (IsWhole (completed_by proposal)
+    ensures completion { IfOk result (λ b. b.0 ≡ encoding (completion_message proposal)) }
+    ensures answer { IfOk result (λ b. b.1 ≡ answer_to version proposal) }
+    ensures whole { OnOk result (IsWhole (completion_message proposal)
         × (is_from_v7 version ≡ true → IsWhole (acknowledgement proposal.completion_id))) }
 {
     let id = proposal.completion_id;
@@ -166,7 +166,7 @@ fn store_proposal(
     ensures err { IfErr result (λ f. (f ≡ round_fault.Memory)
         ⊎ (storing_fault (written.Proposal proposal) journal.old.items ≡ Some f)) }
 {
-    match proposal_fault(alloc, proposal.completion_id, journal.as_slice()) {
+    match stored_proposal_fault(alloc, proposal.completion_id, journal.as_slice()) {
         Err(_) => return Err(RoundFault::Memory),
         Ok(Some(fault)) => return Err(fault),
         Ok(None) => {}

@@ -4,7 +4,7 @@ ghost use Rattle.std.specs.Str.{is_utf8};
 ghost use Rattle.vm_parts.specs.declared.context.StateCoverage.TheVariants.{Complete};
 ghost use Rattle.vm_parts.specs.States.{state_set, state_cleared, all_cleared};
 ghost use Rattle.vm_asks.specs.Requests.{changed};
-ghost use Rattle.vm_store.specs.States.{HaveTextKeys, is_asked, is_listed, pairs_in};
+ghost use Rattle.vm_store.specs.States.{HaveTextKeys, is_asked, is_key_listed, pairs_in};
 
 use bytes::Bytes;
 use journal_messages::Message;
@@ -29,8 +29,8 @@ impl Model for Values {
 }
 
 /// Whether a key is one of these.
-fn is_listed(keys: &[Text], key: &Text) -> bool
-    ensures { result ≡ is_listed keys.now key.now }
+fn is_key_listed(keys: &[Text], key: &Text) -> bool
+    ensures { result ≡ is_key_listed keys.now key.now }
 {
     for k in keys {
         if is_same(k, key) {
@@ -44,7 +44,11 @@ fn is_listed(keys: &[Text], key: &Text) -> bool
 fn is_asked(partial: bool, keys: &[Text], key: &Text) -> bool
     ensures { result ≡ is_asked partial keys.now key.now }
 {
-    if partial { is_listed(keys, key) } else { true }
+    if partial {
+        is_key_listed(keys, key)
+    } else {
+        true
+    }
 }
 
 /// A key's bytes, which are a text.

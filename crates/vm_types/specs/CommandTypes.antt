@@ -5,8 +5,8 @@ use Rattle.journal_errors.specs.declared.types.MessageType.TheVariants as messag
 use Rattle.vm_types.specs.declared.command_type.CommandType.{CommandType}
 use Rattle.vm_types.specs.declared.command_type.CommandType.TheVariants as command
 
--- a state read is named by its lazy form, the cancelling of an invocation by the signal that it sends; each other
--- command by its own message
+-- a state read is named by its lazy form, the cancelling of an invocation by the signal that it
+-- sends; each other command by its own message
 unfoldable pub message_type : CommandType → MessageType
 message_type command.Input = message.InputCommand
 message_type command.Output = message.OutputCommand

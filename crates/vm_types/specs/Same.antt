@@ -22,30 +22,52 @@ pub handle_exact : Exact (handles.ghosts).eq
 handle_exact = exact_on (λ h. h.0) (λ n. record { 0 = n }) (λ _. refl) Decides-eqb
 
 pub header_exact : Exact (headers.ghosts).eq
-header_exact = exact_on (λ h. (h.key, h.value)) (λ p. record { key = p.0; value = p.1 }) (λ _. refl) (exact_pair bytes_decides bytes_decides)
+header_exact = exact_on (λ h. (h.key, h.value)) (λ p. record { key = p.0; value = p.1 }) (λ _. refl)
+    (exact_pair bytes_decides bytes_decides)
 
 pub awakeable_exact : Exact (awakeables.ghosts).eq
-awakeable_exact = exact_on (λ a. (a.id, a.handle)) (λ p. record { id = p.0; handle = p.1 }) (λ _. refl) (exact_pair bytes_decides handle_exact)
+awakeable_exact = exact_on (λ a. (a.id, a.handle)) (λ p. record { id = p.0; handle = p.1 })
+    (λ _. refl) (exact_pair bytes_decides handle_exact)
 
 pub failure_exact : Exact (failures.ghosts).eq
 failure_exact = exact_on
     (λ f. (f.code, (f.message, f.metadata)))
     (λ (code, (message, metadata)). record { code = code; message = message; metadata = metadata })
     (λ _. refl)
-    (exact_pair Decides-eqb (exact_pair bytes_decides (pointwise_decides (exact_pair bytes_decides bytes_decides))))
+    (exact_pair Decides-eqb (exact_pair bytes_decides
+    (pointwise_decides (exact_pair bytes_decides bytes_decides))))
 
 pub value_exact : Exact (values.ghosts).eq
 value_exact value.Void value.Void = (λ _. refl, λ _. refl)
-value_exact (value.Success x) (value.Success y) = (λ e. ap value.Success ((bytes_decides x y).0 e), λ e. (bytes_decides x y).1 cc)
-value_exact (value.Failure x) (value.Failure y) = (λ e. ap value.Failure ((failure_exact x y).0 e), λ e. (failure_exact x y).1 cc)
-value_exact (value.StateKeys x) (value.StateKeys y) = (λ e. ap value.StateKeys ((pointwise_decides bytes_decides x y).0 e), λ e. (pointwise_decides bytes_decides x y).1 cc)
-value_exact (value.InvocationId x) (value.InvocationId y) = (λ e. ap value.InvocationId ((bytes_decides x y).0 e), λ e. (bytes_decides x y).1 cc)
+value_exact (value.Success x) (value.Success y) =
+    (λ e. ap value.Success ((bytes_decides x y).0 e), λ e. (bytes_decides x y).1 cc)
+value_exact (value.Failure x) (value.Failure y) =
+    (λ e. ap value.Failure ((failure_exact x y).0 e), λ e. (failure_exact x y).1 cc)
+value_exact (value.StateKeys x) (value.StateKeys y) = (
+  λ e. ap value.StateKeys ((pointwise_decides bytes_decides x y).0 e),
+  λ e.
+      (pointwise_decides bytes_decides x y).1 cc,
+)
+value_exact (value.InvocationId x) (value.InvocationId y) =
+    (λ e. ap value.InvocationId ((bytes_decides x y).0 e), λ e. (bytes_decides x y).1 cc)
 value_exact _ _ = (λ e. absurd cc, λ e. absurd cc)
 
 pub input_exact : Exact (inputs.ghosts).eq
 input_exact = exact_on
-    (λ i. (i.invocation_id, (i.random_seed, (i.key, (i.headers, (i.input, (i.scope, (i.limit_key, i.idempotency_key))))))))
-    (λ (invocation_id, (random_seed, (key, (headers, (input, (scope, (limit_key, idempotency_key))))))). record {
+    (λ i. (
+      i.invocation_id,
+      (
+        i.random_seed,
+        (i.key, (i.headers, (i.input, (i.scope, (i.limit_key, i.idempotency_key))))),
+      ),
+    ))
+    (λ (
+      invocation_id,
+      (
+        random_seed,
+        (key, (headers, (input, (scope, (limit_key, idempotency_key))))),
+      ),
+    ). record {
       invocation_id = invocation_id;
       random_seed = random_seed;
       key = key;
@@ -56,12 +78,22 @@ input_exact = exact_on
       idempotency_key = idempotency_key;
     })
     (λ _. refl)
-    (exact_pair bytes_decides (exact_pair Decides-eqb (exact_pair bytes_decides (exact_pair (pointwise_decides header_exact) (exact_pair bytes_decides
-    (exact_pair (exact_option bytes_decides) (exact_pair (exact_option bytes_decides) (exact_option bytes_decides))))))))
+    (exact_pair bytes_decides
+    (exact_pair Decides-eqb
+    (exact_pair bytes_decides
+    (exact_pair (pointwise_decides header_exact) (exact_pair bytes_decides
+    (exact_pair (exact_option bytes_decides)
+    (exact_pair (exact_option bytes_decides) (exact_option bytes_decides))))))))
 
 pub target_exact : Exact (targets.ghosts).eq
 target_exact = exact_on
-    (λ t. (t.service, (t.handler, (t.key, (t.idempotency_key, (t.scope, (t.limit_key, t.headers)))))))
+    (λ t. (
+      t.service,
+      (
+        t.handler,
+        (t.key, (t.idempotency_key, (t.scope, (t.limit_key, t.headers)))),
+      ),
+    ))
     (λ (service, (handler, (key, (idempotency_key, (scope, (limit_key, headers)))))). record {
       service = service;
       handler = handler;
@@ -72,8 +104,11 @@ target_exact = exact_on
       headers = headers;
     })
     (λ _. refl)
-    (exact_pair bytes_decides (exact_pair bytes_decides (exact_pair (exact_option bytes_decides) (exact_pair (exact_option bytes_decides)
-    (exact_pair (exact_option bytes_decides) (exact_pair (exact_option bytes_decides) (pointwise_decides header_exact)))))))
+    (exact_pair bytes_decides
+    (exact_pair bytes_decides
+    (exact_pair (exact_option bytes_decides) (exact_pair (exact_option bytes_decides)
+    (exact_pair (exact_option bytes_decides)
+    (exact_pair (exact_option bytes_decides) (pointwise_decides header_exact)))))))
 
 pub type_exact : Exact (types.ghosts).eq
 type_exact type.Input type.Input = (λ _. refl, λ _. refl)

@@ -6,7 +6,8 @@ ghost use Rattle.wire.specs.Format.{u64s};
 #[tactic(auto, unfolding(crate::specs::Format::u64s))]
 pub fn set_length(frame: &mut Vec<u8>)
     requires { 10 ≤ length frame.old.items }
-    ensures { frame.new.items ≡ take 2 frame.old.items ++ (u64s (length frame.old.items - 10) ++ drop 10 frame.old.items) }
+    ensures { frame.new.items ≡ take 2 frame.old.items
+        ++ (u64s (length frame.old.items - 10) ++ drop 10 frame.old.items) }
 {
     let len = (frame.len() - 10) as u64;
     frame[2..10].copy_from_slice(&len.to_be_bytes());

@@ -23,7 +23,8 @@ pub fn is_call(a: &CallCommand, message: &Message, ignore_payloads: bool) -> boo
 }
 
 pub fn is_one_way_call(a: &OneWayCallCommand, message: &Message, ignore_payloads: bool) -> bool
-    ensures equal { IsTrue result → HeaderEqual ignore_payloads (Message.OneWayCall a.now) message.now }
+    ensures equal { IsTrue result
+        → HeaderEqual ignore_payloads (Message.OneWayCall a.now) message.now }
     ensures test { result ≡ one_way_call_equal ignore_payloads a.now message.now }
 {
     match message {
@@ -37,7 +38,8 @@ pub fn is_complete_awakeable(
     message: &Message,
     ignore_payloads: bool,
 ) -> bool
-    ensures equal { IsTrue result → HeaderEqual ignore_payloads (Message.CompleteAwakeable a.now) message.now }
+    ensures equal { IsTrue result
+        → HeaderEqual ignore_payloads (Message.CompleteAwakeable a.now) message.now }
     ensures test { result ≡ complete_awakeable_equal ignore_payloads a.now message.now }
 {
     match message {
@@ -48,7 +50,8 @@ pub fn is_complete_awakeable(
 }
 
 pub fn is_send_signal(a: &SendSignalCommand, message: &Message, ignore_payloads: bool) -> bool
-    ensures equal { IsTrue result → HeaderEqual ignore_payloads (Message.SendSignal a.now) message.now }
+    ensures equal { IsTrue result
+        → HeaderEqual ignore_payloads (Message.SendSignal a.now) message.now }
     ensures test { result ≡ send_signal_equal ignore_payloads a.now message.now }
 {
     match message {
@@ -84,7 +87,8 @@ pub fn is_complete_promise(
     message: &Message,
     ignore_payloads: bool,
 ) -> bool
-    ensures equal { IsTrue result → HeaderEqual ignore_payloads (Message.CompletePromise a.now) message.now }
+    ensures equal { IsTrue result
+        → HeaderEqual ignore_payloads (Message.CompletePromise a.now) message.now }
     ensures test { result ≡ complete_promise_equal ignore_payloads a.now message.now }
 {
     match message {
@@ -117,7 +121,8 @@ pub fn is_attach_invocation(a: &InvocationCommand, message: &Message) -> bool
 }
 
 pub fn is_get_invocation_output(a: &InvocationCommand, message: &Message) -> bool
-    ensures equal { IsTrue result → HeaderEqual false (Message.GetInvocationOutput a.now) message.now }
+    ensures equal { IsTrue result
+        → HeaderEqual false (Message.GetInvocationOutput a.now) message.now }
     ensures test { result ≡ get_invocation_output_equal a.now message.now }
 {
     match message {
@@ -127,7 +132,8 @@ pub fn is_get_invocation_output(a: &InvocationCommand, message: &Message) -> boo
 }
 
 fn same_request(a: &CallRequest, b: &CallRequest, ignore_payloads: bool) -> bool
-    ensures equal { IsTrue result → erased_request ignore_payloads a.now ≡ erased_request ignore_payloads b.now }
+    ensures equal { IsTrue result → erased_request ignore_payloads a.now
+        ≡ erased_request ignore_payloads b.now }
     ensures test { result ≡ request_equal ignore_payloads a.now b.now }
 {
     is_same(&a.service_name, &b.service_name)

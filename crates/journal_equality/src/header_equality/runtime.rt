@@ -14,7 +14,8 @@ pub fn is_propose_run_completion(
     message: &Message,
     ignore_payloads: bool,
 ) -> bool
-    ensures equal { IsTrue result → HeaderEqual ignore_payloads (Message.ProposeRunCompletion a.now) message.now }
+    ensures equal { IsTrue result
+        → HeaderEqual ignore_payloads (Message.ProposeRunCompletion a.now) message.now }
     ensures test { result ≡ propose_run_completion_equal ignore_payloads a.now message.now }
 {
     match message {
@@ -25,7 +26,8 @@ pub fn is_propose_run_completion(
 }
 
 pub fn is_propose_run_completion_ack(a: &ProposeRunCompletionAck, message: &Message) -> bool
-    ensures equal { IsTrue result → HeaderEqual false (Message.ProposeRunCompletionAck a.now) message.now }
+    ensures equal { IsTrue result
+        → HeaderEqual false (Message.ProposeRunCompletionAck a.now) message.now }
     ensures test { result ≡ propose_run_completion_ack_equal a.now message.now }
 {
     match message {
@@ -46,7 +48,8 @@ pub fn is_awaiting_on(a: &AwaitingOn, message: &Message) -> bool
 }
 
 pub fn is_get_state_ephemeral_command(a: &GetStateEphemeralCommand, message: &Message) -> bool
-    ensures equal { IsTrue result → HeaderEqual false (Message.GetStateEphemeralCommand a.now) message.now }
+    ensures equal { IsTrue result
+        → HeaderEqual false (Message.GetStateEphemeralCommand a.now) message.now }
     ensures test { result ≡ get_state_ephemeral_command_equal a.now message.now }
 {
     match message {
@@ -60,7 +63,8 @@ pub fn is_get_state_ephemeral_notification(
     message: &Message,
     ignore_payloads: bool,
 ) -> bool
-    ensures equal { IsTrue result → HeaderEqual ignore_payloads (Message.GetStateEphemeralNotification a.now) message.now }
+    ensures equal { IsTrue result
+        → HeaderEqual ignore_payloads (Message.GetStateEphemeralNotification a.now) message.now }
     ensures test { result ≡ get_state_ephemeral_notification_equal ignore_payloads a.now message.now }
 {
     match message {
@@ -71,7 +75,8 @@ pub fn is_get_state_ephemeral_notification(
 }
 
 pub fn is_notification(a: &Notification, message: &Message, ignore_payloads: bool) -> bool
-    ensures equal { IsTrue result → HeaderEqual ignore_payloads (Message.Notification a.now) message.now }
+    ensures equal { IsTrue result
+        → HeaderEqual ignore_payloads (Message.Notification a.now) message.now }
     ensures test { result ≡ notification_equal ignore_payloads a.now message.now }
 {
     match message {

@@ -15,7 +15,8 @@ pub fn is_get_eager_state(
     message: &Message,
     ignore_payloads: bool,
 ) -> bool
-    ensures equal { IsTrue result → HeaderEqual ignore_payloads (Message.GetEagerState a.now) message.now }
+    ensures equal { IsTrue result
+        → HeaderEqual ignore_payloads (Message.GetEagerState a.now) message.now }
     ensures test { result ≡ get_eager_state_equal ignore_payloads a.now message.now }
 {
     match message {
@@ -43,7 +44,8 @@ pub fn is_get_eager_state_keys(
     message: &Message,
     ignore_payloads: bool,
 ) -> bool
-    ensures equal { IsTrue result → HeaderEqual ignore_payloads (Message.GetEagerStateKeys a.now) message.now }
+    ensures equal { IsTrue result
+        → HeaderEqual ignore_payloads (Message.GetEagerStateKeys a.now) message.now }
     ensures test { result ≡ get_eager_state_keys_equal ignore_payloads a.now message.now }
 {
     match message {
@@ -65,7 +67,8 @@ pub fn is_get_lazy_state_keys(a: &GetLazyStateKeysCommand, message: &Message) ->
 }
 
 pub fn is_set_state(a: &SetStateCommand, message: &Message, ignore_payloads: bool) -> bool
-    ensures equal { IsTrue result → HeaderEqual ignore_payloads (Message.SetState a.now) message.now }
+    ensures equal { IsTrue result
+        → HeaderEqual ignore_payloads (Message.SetState a.now) message.now }
     ensures test { result ≡ set_state_equal ignore_payloads a.now message.now }
 {
     match message {

@@ -1,13 +1,13 @@
 use Rattle.std.proofs.Common.{◌+◌, ◌≤◌, length}
-use Rattle.round_scripts.specs.Scripts.{parts_of}
+use Rattle.round_scripts.specs.Scripts.{said_parts}
 use Rattle.round_scripts.proofs.Placing.{HasRead}
 use Rattle.round_scripts.proofs.Reading.{ReadsOn}
 use Rattle.round_scripts.proofs.script.add_lines.Given as goal
 
 abbrev pub invariant-loop-rest : goal.invariant-loop-rest
 invariant-loop-rest l = record {
-  reads_on : ReadsOn l.text l.rest (parts_of l.initial.so_far) (parts_of l.so_far);
-  has_read : HasRead l.text l.rest (parts_of l.initial.so_far) (parts_of l.so_far) l.number;
+  reads_on : ReadsOn l.text l.rest (said_parts l.initial.so_far) (said_parts l.so_far);
+  has_read : HasRead l.text l.rest (said_parts l.initial.so_far) (said_parts l.so_far) l.number;
   few : l.number + length l.rest ≤ length l.text;
 }
 

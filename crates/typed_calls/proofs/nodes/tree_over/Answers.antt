@@ -2,7 +2,7 @@ use Rattle.std.proofs.Common.{◌≡◌, ◌+◌, ◌∙◌, ap, arith, length}
 use Rattle.std.proofs.lemmas.Grind.{common_steps}
 use Rattle.await_trees.specs.Tree.{tree_of}
 use Rattle.await_trees.specs.Copies.{future_node}
-use Rattle.typed_calls.specs.Nodes.{nodes_of, written}
+use Rattle.typed_calls.specs.Nodes.{nodes_of, row_of}
 use Rattle.typed_calls.proofs.Rows.{over}
 use Rattle.typed_calls.proofs.nodes.tree_over.Goals as goal
 
