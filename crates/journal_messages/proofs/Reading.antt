@@ -14,7 +14,12 @@ use Rattle.journal_state.specs.Bodies.{get_state_ephemeral_command_format, get_s
 use Rattle.journal_calls.specs.Bodies.{call_format, one_way_call_format, complete_awakeable_format, send_signal_format, promise_format, complete_promise_format, invocation_format}
 use Rattle.journal_values.specs.Bodies.{notification_format}
 use Rattle.journal_messages.specs.Message.{body, type_of, IsValid, DecodesTo}
-use Rattle.journal_messages.specs.Reading.{body_as, message_in}
+use Rattle.journal_messages.specs.Reading.{acknowledgement_in, body_as, ephemeral_notification_in, input_in, message_in, notification_in, proposal_in, start_in}
+use Rattle.journal_attempt.specs.declared.start.Start.{Start}
+use Rattle.journal_attempt.specs.declared.commands.InputCommand.{InputCommand}
+use Rattle.journal_attempt.specs.declared.runs.ProposeRunCompletion.{ProposeRunCompletion}
+use Rattle.journal_attempt.specs.declared.runs.ProposeRunCompletionAck.{ProposeRunCompletionAck}
+use Rattle.journal_values.specs.declared.notification.Notification.{Notification}
 use Rattle.journal_errors.specs.declared.types.MessageType.{MessageType}
 use Rattle.journal_errors.specs.declared.types.MessageType.TheVariants as type
 use Rattle.journal_messages.specs.declared.message.Message.{Message}
@@ -39,7 +44,7 @@ made_is make f ty b m h e =
     subst (IsMessage ty b) k.2 (h k.0 p.0 p.1)
 
 is_message : (ty : MessageType) (b : List ℕ) (m : Message) → message_in ty b ≡ Some m → IsMessage ty b m
-unfolding message_in body_as
+unfolding message_in body_as start_in input_in notification_in acknowledgement_in proposal_in ephemeral_notification_in
 is_message type.Start b m = made_is message.Start start_format type.Start b m (λ a v e. record { valid = v; typed = refl; spelled = e })
 is_message type.Suspension b m = made_is message.Suspension suspension_format type.Suspension b m (λ a v e. record { valid = v; typed = refl; spelled = e })
 is_message type.Error b m = made_is message.Error error_format type.Error b m (λ a v e. record { valid = v; typed = refl; spelled = e })
@@ -80,7 +85,7 @@ made_read : {A : Type 0} (make : A → Message) (f : Format A) (a : A) → f.val
 made_read make f a v = ap (option_map make) (all_read f a (f.spelling a) v refl)
 
 pub message_read : (m : Message) → IsValid m → message_in (type_of m) (body m) ≡ Some m
-unfolding message_in body_as
+unfolding message_in body_as start_in input_in notification_in acknowledgement_in proposal_in ephemeral_notification_in
 message_read (message.Start a) v = made_read message.Start start_format a v
 message_read (message.Suspension a) v = made_read message.Suspension suspension_format a v
 message_read (message.Error a) v = made_read message.Error error_format a v
@@ -114,6 +119,30 @@ message_read (message.Notification a) v = made_read message.Notification notific
 
 pub message_there : (ty : MessageType) (b : List ℕ) (m : Message) → IsValid m → type_of m ≡ ty → b ≡ body m → message_in ty b ≡ Some m
 message_there ty b m v t e = (λ i. message_in (sym t i) (e i)) ∙ message_read m v
+
+-- ---- the bodies that are read one by one
+
+pub start_read : (a : Start) → IsValid (message.Start a) → start_in (body (message.Start a)) ≡ Some a
+unfolding start_in body_as
+start_read a v = all_read start_format a (start_format.spelling a) v refl
+
+pub input_read : (a : InputCommand) → IsValid (message.Input a) → input_in (body (message.Input a)) ≡ Some a
+unfolding input_in body_as
+input_read a v = all_read input_format a (input_format.spelling a) v refl
+
+pub notification_read : (a : Notification) → IsValid (message.Notification a) → notification_in (body (message.Notification a)) ≡ Some a
+unfolding notification_in body_as
+notification_read a v = all_read notification_format a (notification_format.spelling a) v refl
+
+pub acknowledgement_read : (a : ProposeRunCompletionAck) → IsValid (message.ProposeRunCompletionAck a) → acknowledgement_in (body (message.ProposeRunCompletionAck a)) ≡ Some a
+unfolding acknowledgement_in body_as
+acknowledgement_read a v = all_read propose_run_completion_ack_format a (propose_run_completion_ack_format.spelling a) v refl
+
+pub proposal_read : (a : ProposeRunCompletion) → IsValid (message.ProposeRunCompletion a) → proposal_in (body (message.ProposeRunCompletion a)) ≡ Some a
+unfolding proposal_in body_as
+proposal_read a v = all_read propose_run_completion_format a (propose_run_completion_format.spelling a) v refl
+
+-- ---- one message
 
 abbrev message_or : Message → Option Message → Message
 message_or m None = m

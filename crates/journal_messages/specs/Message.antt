@@ -1,5 +1,6 @@
 -- Messages as frames.
-use Rattle.std.specs.Prelude.{◌≡◌, ℕ, ◌<◌, ◌^◌, List, [], ◌++◌, length, Result, Ok, Err}
+use Rattle.std.specs.Prelude.{◌≡◌, ℕ, ◌+◌, ◌<◌, ◌^◌, List, [], ◌++◌, length, take, drop, Result, Ok, Err}
+use Rattle.std.specs.Int.{w64, from_be_bytes}
 use Rattle.wire.specs.Format.{u16s, bytes}
 use Rattle.wire.specs.declared.fault.Fault.{Fault}
 use Rattle.wire.specs.declared.fault.Fault.TheVariants.{Memory, Malformed}
@@ -90,6 +91,10 @@ body (message.Notification m) = notification m
 -- the number of a type, a length and that many bytes
 abbrev pub frame : MessageType → List ℕ → List ℕ
 frame ty b = u16s (type_number ty) ++ bytes b
+
+-- how many bytes the frame at the front has, by the length that stands behind its type's number
+unfoldable pub frame_size : List ℕ → ℕ
+frame_size bs = 10 + from_be_bytes w64 (take 8 (drop 2 bs))
 
 -- the message as a frame: its type's number (2 bytes), its body's length (8 bytes), its body
 abbrev pub encoding : Message → List ℕ

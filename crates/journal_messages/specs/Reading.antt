@@ -11,7 +11,9 @@ use Rattle.journal_calls.specs.Bodies.{call_format, one_way_call_format, complet
 use Rattle.journal_values.specs.Bodies.{notification_format}
 use Rattle.journal_attempt.specs.declared.start.Start.{Start}
 use Rattle.journal_attempt.specs.declared.commands.InputCommand.{InputCommand}
+use Rattle.journal_attempt.specs.declared.runs.ProposeRunCompletion.{ProposeRunCompletion}
 use Rattle.journal_attempt.specs.declared.runs.ProposeRunCompletionAck.{ProposeRunCompletionAck}
+use Rattle.journal_state.specs.declared.state.GetStateEphemeralNotification.{GetStateEphemeralNotification}
 use Rattle.journal_values.specs.declared.notification.Notification.{Notification}
 use Rattle.journal_errors.specs.declared.types.MessageType.{MessageType}
 use Rattle.journal_errors.specs.declared.types.MessageType.TheVariants as type
@@ -38,22 +40,29 @@ notification_in = body_as notification_format
 unfoldable pub acknowledgement_in : List ℕ → Option ProposeRunCompletionAck
 acknowledgement_in = body_as propose_run_completion_ack_format
 
+-- the proposal whose body this is
+unfoldable pub proposal_in : List ℕ → Option ProposeRunCompletion
+proposal_in = body_as propose_run_completion_format
+
+-- the notification of an ephemeral read whose body this is
+unfoldable pub ephemeral_notification_in : List ℕ → Option GetStateEphemeralNotification
+ephemeral_notification_in = body_as get_state_ephemeral_notification_format
+
 -- the message of this type that the body spells
 unfoldable pub message_in : MessageType → List ℕ → Option Message
-message_in type.Start b = option_map message.Start (body_as start_format b)
+message_in type.Start b = option_map message.Start (start_in b)
 message_in type.Suspension b = option_map message.Suspension (body_as suspension_format b)
 message_in type.Error b = option_map message.Error (body_as error_format b)
 message_in type.End b = option_map (λ _. message.End) (body_as nothing_format b)
-message_in type.ProposeRunCompletion b =
-    option_map message.ProposeRunCompletion (body_as propose_run_completion_format b)
+message_in type.ProposeRunCompletion b = option_map message.ProposeRunCompletion (proposal_in b)
 message_in type.ProposeRunCompletionAck b =
-    option_map message.ProposeRunCompletionAck (body_as propose_run_completion_ack_format b)
+    option_map message.ProposeRunCompletionAck (acknowledgement_in b)
 message_in type.AwaitingOn b = option_map message.AwaitingOn (body_as awaiting_on_format b)
 message_in type.GetStateEphemeralCommand b =
     option_map message.GetStateEphemeralCommand (body_as get_state_ephemeral_command_format b)
-message_in type.GetStateEphemeralNotification b = option_map message.GetStateEphemeralNotification
-    (body_as get_state_ephemeral_notification_format b)
-message_in type.InputCommand b = option_map message.Input (body_as input_format b)
+message_in type.GetStateEphemeralNotification b =
+    option_map message.GetStateEphemeralNotification (ephemeral_notification_in b)
+message_in type.InputCommand b = option_map message.Input (input_in b)
 message_in type.GetEagerStateCommand b =
     option_map message.GetEagerState (body_as get_eager_state_format b)
 message_in type.GetLazyStateCommand b =
@@ -82,4 +91,4 @@ message_in type.AttachInvocationCommand b =
 message_in type.GetInvocationOutputCommand b =
     option_map message.GetInvocationOutput (body_as invocation_format b)
 message_in type.OutputCommand b = option_map message.Output (body_as output_format b)
-message_in type.Notification b = option_map message.Notification (body_as notification_format b)
+message_in type.Notification b = option_map message.Notification (notification_in b)

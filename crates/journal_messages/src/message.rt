@@ -2,9 +2,9 @@
 ghost use Rattle.std.specs.Prelude.{◌≡◌, ◌==◌, ◌++◌, IfOk, OnOk};
 ghost use Rattle.journal_errors.specs.Types.{type_number};
 ghost use Rattle.wire.specs.Reads.{Read};
-ghost use Rattle.journal_messages.specs.Reading.{acknowledgement_in, body_as, start_in, input_in, notification_in, message_in};
+ghost use Rattle.journal_messages.specs.Reading.{acknowledgement_in, body_as, ephemeral_notification_in, input_in, message_in, notification_in, proposal_in, start_in};
 ghost use Rattle.journal_messages.specs.Message.{IsWhole};
-ghost use Rattle.journal_messages.specs.Message.{body, encoding, type_of, IsValid, DecodesTo, Decodes};
+ghost use Rattle.journal_messages.specs.Message.{body, encoding, frame, type_of, IsValid, DecodesTo, Decodes};
 
 use bytes::Bytes;
 use journal_attempt::{
@@ -221,8 +221,18 @@ impl Encoder {
     }
 }
 
-#[tactic(auto, unfolding(crate::specs::Reading::body_as))]
+#[tactic(auto, unfolding(wire::specs::Format::bytes, crate::specs::Reading::body_as))]
 impl RawMessage {
+    /// The frame's bytes.
+    pub fn encode(&self, alloc: Global) -> Result<Bytes, AllocError>
+        ensures { IfOk result (λ b. b ≡ frame self.now.ty self.now.body) }
+    {
+        let mut frame = Vec::new(alloc);
+        self.ty.number().put(&mut frame)?;
+        self.body.put(&mut frame)?;
+        Ok(Bytes::from_vec(frame)?)
+    }
+
     pub fn has_type(&self, ty: MessageType) -> bool
         ensures { result ≡ (type_number self.now.ty == type_number ty) }
     {
@@ -230,14 +240,14 @@ impl RawMessage {
     }
 
     /// What the whole body spells, whatever the frame's type.
-    pub fn read_as<T: Wire>(&self, alloc: Global) -> Result<T, Fault>
+    fn read_as<T: Wire>(&self, alloc: Global) -> Result<T, Fault>
         ensures { Read (body_as T.format self.now.body) result }
     {
         whole(alloc, &self.body)
     }
 }
 
-#[tactic(auto, unfolding(crate::specs::Reading::start_in, crate::specs::Reading::input_in, crate::specs::Reading::notification_in, crate::specs::Reading::acknowledgement_in))]
+#[tactic(auto, unfolding(crate::specs::Reading::start_in, crate::specs::Reading::input_in, crate::specs::Reading::notification_in, crate::specs::Reading::acknowledgement_in, crate::specs::Reading::proposal_in, crate::specs::Reading::ephemeral_notification_in))]
 impl RawMessage {
     pub fn read_start(&self, alloc: Global) -> Result<Start, Fault>
         ensures { Read (start_in self.now.body) result }
@@ -262,6 +272,21 @@ impl RawMessage {
     {
         self.read_as(alloc)
     }
+
+    pub fn read_proposal(&self, alloc: Global) -> Result<ProposeRunCompletion, Fault>
+        ensures { Read (proposal_in self.now.body) result }
+    {
+        self.read_as(alloc)
+    }
+
+    pub fn read_ephemeral_notification(
+        &self,
+        alloc: Global,
+    ) -> Result<GetStateEphemeralNotification, Fault>
+        ensures { Read (ephemeral_notification_in self.now.body) result }
+    {
+        self.read_as(alloc)
+    }
 }
 
 #[tactic(auto, unfolding(crate::specs::Reading::message_in))]
@@ -270,7 +295,7 @@ impl RawMessage {
         ensures { Read (message_in self.now.ty self.now.body) result }
     {
         match self.ty {
-            MessageType::Start => Ok(Message::Start(self.read_as(alloc)?)),
+            MessageType::Start => Ok(Message::Start(self.read_start(alloc)?)),
             MessageType::Suspension => Ok(Message::Suspension(self.read_as(alloc)?)),
             MessageType::Error => Ok(Message::Error(self.read_as(alloc)?)),
             MessageType::End => {
@@ -278,19 +303,19 @@ impl RawMessage {
                 Ok(Message::End)
             }
             MessageType::ProposeRunCompletion => {
-                Ok(Message::ProposeRunCompletion(self.read_as(alloc)?))
+                Ok(Message::ProposeRunCompletion(self.read_proposal(alloc)?))
             }
             MessageType::ProposeRunCompletionAck => {
-                Ok(Message::ProposeRunCompletionAck(self.read_as(alloc)?))
+                Ok(Message::ProposeRunCompletionAck(self.read_acknowledgement(alloc)?))
             }
             MessageType::AwaitingOn => Ok(Message::AwaitingOn(self.read_as(alloc)?)),
             MessageType::GetStateEphemeralCommand => {
                 Ok(Message::GetStateEphemeralCommand(self.read_as(alloc)?))
             }
             MessageType::GetStateEphemeralNotification => {
-                Ok(Message::GetStateEphemeralNotification(self.read_as(alloc)?))
+                Ok(Message::GetStateEphemeralNotification(self.read_ephemeral_notification(alloc)?))
             }
-            MessageType::InputCommand => Ok(Message::Input(self.read_as(alloc)?)),
+            MessageType::InputCommand => Ok(Message::Input(self.read_input(alloc)?)),
             MessageType::GetEagerStateCommand => {
                 Ok(Message::GetEagerState(self.read_as(alloc)?))
             }
@@ -326,7 +351,7 @@ impl RawMessage {
                 Ok(Message::GetInvocationOutput(self.read_as(alloc)?))
             }
             MessageType::OutputCommand => Ok(Message::Output(self.read_as(alloc)?)),
-            MessageType::Notification => Ok(Message::Notification(self.read_as(alloc)?)),
+            MessageType::Notification => Ok(Message::Notification(self.read_notification(alloc)?)),
         }
     }
 }
