@@ -4,7 +4,7 @@ use Rattle.std.specs.Prelude.{is_some}
 use Rattle.journal_errors.specs.declared.error.Error.{Error}
 use Rattle.journal_messages.specs.declared.message.RawMessage.{RawMessage}
 use Rattle.journal_streams.specs.Frames.{NextFrame, Whole, Partial, Malformed, next_of}
-use Rattle.journal_streams.proofs.Cuts.{whole_more, malformed_more, whole_shorter}
+use Rattle.journal_protocol.proofs.Facts.{malformed_more, nothing_is_partial, whole_more, whole_shorter}
 use Rattle.vm_machine.specs.declared.machine.Machine.{Machine}
 use Rattle.vm_machine.specs.Outcomes.{called, called_at}
 use Rattle.vm_machine.specs.Inputs.{malformed_step}
@@ -13,17 +13,13 @@ use Rattle.invocation_vm.specs.Views.{View, received, spoiled, all_received, lef
 
 -- ---- frames, whatever the fuel
 
-none_in_none : next_of [] ≡ Partial
-unfolding next_of
-none_in_none = refl
-
 no_bytes : (a : List ℕ) → length a ≤ 0 → a ≡ []
 no_bytes [] h = refl
 no_bytes (x ∷ xs) h = absurd (omega arith)
 
 no_frame : (m : ℕ) → frames_by m [] ≡ ([], Rest [])
 no_frame zero = refl
-no_frame (suc m) = rw none_in_none refl
+no_frame (suc m) = rw nothing_is_partial refl
 
 from_enough : (n m : ℕ) (a : List ℕ) (o : NextFrame) → next_of a ≡ o → length a ≤ suc n → length a ≤ suc m → ((b : List ℕ) → length b ≤ n → length b ≤ m → frames_by n b ≡ frames_by m b)
     → frames_from o (λ rest. frames_by n rest) a ≡ frames_from o (λ rest. frames_by m rest) a
@@ -49,7 +45,7 @@ of_enough n a Malformed e h = refl
 -- the frames, by the first one
 pub frames_of-next : (a : List ℕ) → frames_of a ≡ frames_from (next_of a) (λ rest. frames_of rest) a
 unfolding frames_of
-frames_of-next [] = rw none_in_none refl
+frames_of-next [] = rw nothing_is_partial refl
 frames_of-next (x ∷ xs) = of_enough (length xs) (x ∷ xs) (next_of (x ∷ xs)) refl (omega arith)
 
 frames_of_none : frames_of [] ≡ ([], Rest [])

@@ -88,9 +88,13 @@ body (message.GetInvocationOutput m) = invocation m
 body (message.Output m) = output m
 body (message.Notification m) = notification m
 
--- the number of a type, a length and that many bytes
+-- a number, a length and that many bytes
+abbrev pub numbered_frame : ℕ → List ℕ → List ℕ
+numbered_frame n b = u16s n ++ bytes b
+
+-- the frame of a type's number
 abbrev pub frame : MessageType → List ℕ → List ℕ
-frame ty b = u16s (type_number ty) ++ bytes b
+frame ty b = numbered_frame (type_number ty) b
 
 -- how many bytes the frame at the front has, by the length that stands behind its type's number
 unfoldable pub frame_size : List ℕ → ℕ

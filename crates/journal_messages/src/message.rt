@@ -4,7 +4,7 @@ ghost use Rattle.journal_errors.specs.Types.{type_number};
 ghost use Rattle.wire.specs.Reads.{Read};
 ghost use Rattle.journal_messages.specs.Reading.{acknowledgement_in, body_as, ephemeral_notification_in, input_in, message_in, notification_in, proposal_in, start_in};
 ghost use Rattle.journal_messages.specs.Message.{IsWhole};
-ghost use Rattle.journal_messages.specs.Message.{body, encoding, frame, type_of, IsValid, DecodesTo, Decodes};
+ghost use Rattle.journal_messages.specs.Message.{body, encoding, frame, numbered_frame, type_of, IsValid, DecodesTo, Decodes};
 
 use bytes::Bytes;
 use journal_attempt::{
@@ -219,18 +219,25 @@ impl Encoder {
         self.encode_in(message, &mut frame)?;
         Ok(Bytes::from_vec(frame)?)
     }
+
+    /// The frame of any number, which needn't be a type's, and any body.
+    pub fn encode_raw(&self, number: u16, body: &Bytes) -> Result<Bytes, AllocError>
+        ensures { IfOk result (λ b. b ≡ numbered_frame number body.now) }
+    {
+        let mut frame = Vec::new(self.alloc);
+        number.put(&mut frame)?;
+        body.put(&mut frame)?;
+        Ok(Bytes::from_vec(frame)?)
+    }
 }
 
-#[tactic(auto, unfolding(wire::specs::Format::bytes, crate::specs::Reading::body_as))]
+#[tactic(auto, unfolding(crate::specs::Reading::body_as))]
 impl RawMessage {
     /// The frame's bytes.
     pub fn encode(&self, alloc: Global) -> Result<Bytes, AllocError>
         ensures { IfOk result (λ b. b ≡ frame self.now.ty self.now.body) }
     {
-        let mut frame = Vec::new(alloc);
-        self.ty.number().put(&mut frame)?;
-        self.body.put(&mut frame)?;
-        Ok(Bytes::from_vec(frame)?)
+        Encoder::new(alloc).encode_raw(self.ty.number(), &self.body)
     }
 
     pub fn has_type(&self, ty: MessageType) -> bool

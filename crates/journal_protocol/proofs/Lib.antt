@@ -1,1 +1,3 @@
-pub mod Typed
+pub mod Facts
+mod Typed
+mod Own

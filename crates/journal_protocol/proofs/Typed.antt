@@ -6,5 +6,5 @@ use Rattle.journal_messages.specs.Reading.{message_in}
 use Rattle.journal_messages.specs.declared.message.Message.{Message}
 use Rattle.journal_messages.proofs.Reading.{message_is}
 
-pub read_type : (ty : MessageType) (b : List ℕ) (m : Message) → message_in ty b ≡ Some m → type_of m ≡ ty
-read_type ty b m read = (message_is ty b m read).1
+pub type_read : (ty : MessageType) (b : List ℕ) (m : Message) → message_in ty b ≡ Some m → type_of m ≡ ty
+type_read ty b m read = (message_is ty b m read).1

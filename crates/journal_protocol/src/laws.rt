@@ -1,21 +1,47 @@
 //! Laws of frames and messages, as functions that do nothing.
-ghost use Rattle.std.specs.Prelude.{◌≡◌, ◌<◌, ◌^◌, ◌++◌, Bool, List, Some, length, true, ℕ};
+ghost use Rattle.std.specs.Prelude.{◌≡◌, ◌<◌, ◌^◌, ◌++◌, [], Bool, List, Some, length, true, ℕ};
+ghost use Rattle.journal_attempt.specs.declared.commands.InputCommand.{InputCommand};
+ghost use Rattle.journal_attempt.specs.declared.runs.ProposeRunCompletion.{ProposeRunCompletion};
+ghost use Rattle.journal_attempt.specs.declared.runs.ProposeRunCompletionAck.{ProposeRunCompletionAck};
+ghost use Rattle.journal_attempt.specs.declared.start.Start.{Start};
 ghost use Rattle.journal_equality.specs.HeaderEqual.{header_equal};
-ghost use Rattle.journal_errors.specs.Types.{type_number};
+ghost use Rattle.journal_errors.specs.Types.{type_at, type_number};
 ghost use Rattle.journal_errors.specs.declared.types.MessageType.{MessageType};
-ghost use Rattle.journal_messages.specs.Message.{IsWhole, body, encoding, frame, type_of};
-ghost use Rattle.journal_messages.specs.Reading.{message_in};
+ghost use Rattle.journal_errors.specs.declared.types.MessageType.TheVariants as type;
+ghost use Rattle.journal_messages.specs.Message.{IsWhole, body, encoding, frame, frame_size, type_of};
+ghost use Rattle.journal_messages.specs.Reading.{acknowledgement_in, input_in, message_in, notification_in, proposal_in, start_in};
 ghost use Rattle.journal_messages.specs.declared.message.Message.{Message};
+ghost use Rattle.journal_messages.specs.declared.message.Message.TheVariants as message;
 ghost use Rattle.journal_messages.specs.declared.message.RawMessage.{RawMessage};
-ghost use Rattle.journal_streams.specs.Frames.{Malformed, Whole, next_of};
+ghost use Rattle.journal_state.specs.declared.state.GetEagerStateCommand.{GetEagerStateCommand};
+ghost use Rattle.journal_state.specs.declared.state.SetStateCommand.{SetStateCommand};
+ghost use Rattle.journal_streams.specs.Frames.{Malformed, Partial, Whole, next_of};
+ghost use Rattle.journal_values.specs.declared.notification.Notification.{Notification};
 
 /// A frame is read off the front of a stream, whatever follows; so is a message's encoding.
-#[tactic(auto, using(journal_streams::proofs::Cuts::whole_spelled, journal_streams::proofs::Alone::framed))]
+#[tactic(auto, using(journal_streams::proofs::Cuts::whole_spelled, journal_streams::proofs::Alone::framed, journal_streams::proofs::Alone::nothing_is_partial))]
 pub fn frames_are_read_off()
     ensures frame { (ty : MessageType) (b rest : List ℕ) → length b < 2 ^ 64
         → next_of (frame ty b ++ rest) ≡ Whole (record { ty = ty; body = b }) rest }
     ensures message { (m : Message) (rest : List ℕ) → IsWhole m
         → next_of (encoding m ++ rest) ≡ Whole (record { ty = type_of m; body = body m }) rest }
+    ensures nothing { next_of [] ≡ Partial }
+{}
+
+/// The length of the frame at the front is known from its bytes, whatever follows. No frame is empty.
+#[tactic(auto, using(journal_messages::proofs::Framing::frame_sized, journal_messages::proofs::Framing::frame_there, journal_streams::proofs::Streams::frame_long))]
+pub fn frames_have_their_length()
+    ensures size { (ty : MessageType) (b rest : List ℕ) → length b < 2 ^ 64
+        → frame_size (frame ty b ++ rest) ≡ length (frame ty b) }
+    ensures some { (ty : MessageType) (b : List ℕ) → 0 < length (frame ty b) }
+    ensures shorter { (ty : MessageType) (b next rest : List ℕ) → rest ≡ frame ty b ++ next
+        → length next < length rest }
+{}
+
+/// A message with the encoding of a whole one has the type and the body of that one.
+pub fn encodings_are_of_one_form()
+    ensures ty { (m n : Message) → encoding m ≡ encoding n → IsWhole n → type_of m ≡ type_of n }
+    ensures body { (m n : Message) → encoding m ≡ encoding n → IsWhole n → body m ≡ body n }
 {}
 
 /// What is at the front of a stream doesn't change by bytes that follow, once it is a whole frame or none. What is left after a
@@ -36,17 +62,47 @@ pub fn messages_are_read_back()
     ensures { (m : Message) → IsWhole m → message_in (type_of m) (body m) ≡ Some m }
 {}
 
+/// The bodies that are read one by one: each message of these types that fits its frame is read back.
+#[tactic(auto, using(journal_streams::proofs::Alone::start_back, journal_streams::proofs::Alone::input_back, journal_streams::proofs::Alone::notification_back, journal_streams::proofs::Alone::acknowledgement_back, journal_streams::proofs::Alone::proposal_back))]
+pub fn bodies_are_read_back()
+    ensures start { (a : Start) → IsWhole (message.Start a)
+        → start_in (body (message.Start a)) ≡ Some a }
+    ensures input { (a : InputCommand) → IsWhole (message.Input a)
+        → input_in (body (message.Input a)) ≡ Some a }
+    ensures notification { (a : Notification) → IsWhole (message.Notification a)
+        → notification_in (body (message.Notification a)) ≡ Some a }
+    ensures acknowledgement { (a : ProposeRunCompletionAck)
+        → IsWhole (message.ProposeRunCompletionAck a)
+        → acknowledgement_in (body (message.ProposeRunCompletionAck a)) ≡ Some a }
+    ensures proposal { (a : ProposeRunCompletion) → IsWhole (message.ProposeRunCompletion a)
+        → proposal_in (body (message.ProposeRunCompletion a)) ≡ Some a }
+{}
+
+/// What is read of a command's own body says what the command says, if the two have one name and one key: the value that a
+/// command sets, and the result of an eager read. This holds too where the command doesn't fit its frame.
+#[tactic(auto, using(crate::proofs::Own::value_said, crate::proofs::Own::result_said))]
+pub fn stored_messages_keep_what_they_say()
+    ensures value { (a b : SetStateCommand) → a.name ≡ b.name → a.key ≡ b.key
+        → message_in type.SetStateCommand (body (message.SetState b)) ≡ Some (message.SetState a)
+        → a.value ≡ b.value }
+    ensures result { (a b : GetEagerStateCommand) → a.name ≡ b.name → a.key ≡ b.key
+        → message_in type.GetEagerStateCommand (body (message.GetEagerState b))
+        ≡ Some (message.GetEagerState a)
+        → a.result ≡ b.result }
+{}
+
 /// A message that is read has the type of its frame.
-#[tactic(auto, using(crate::proofs::Typed::read_type))]
+#[tactic(auto, using(crate::proofs::Typed::type_read))]
 pub fn read_messages_have_their_type()
     ensures { (ty : MessageType) (b : List ℕ) (m : Message) → message_in ty b ≡ Some m → type_of m
         ≡ ty }
 {}
 
-/// Types with one number are one type.
-#[tactic(auto, using(journal_streams::proofs::Numbers::one_number))]
+/// Types with one number are one type, and each type is found by its number.
+#[tactic(auto, using(journal_streams::proofs::Numbers::one_number, journal_streams::proofs::Numbers::type_found))]
 pub fn types_have_their_numbers()
-    ensures { (a b : MessageType) → type_number a ≡ type_number b → a ≡ b }
+    ensures found { (ty : MessageType) → type_at (type_number ty) ≡ Some ty }
+    ensures one { (a b : MessageType) → type_number a ≡ type_number b → a ≡ b }
 {}
 
 /// Each message is header-equal to itself.

@@ -37,7 +37,7 @@ frame_noted raw fits = ap (read_from note_by) (frame_back raw fits)
 
 -- a notification that is written can be read back
 notification_back : (n : Notification) → IsWhole (message.Notification n) → notification_in (stored_form (message.Notification n)).body ≡ Some n
-unfolding message_in notification_in
+unfolding message_in
 notification_back n whole = by_read (notification_in (stored_form (message.Notification n)).body) (read_back (message.Notification n) whole)
   where
     by_read : (o : Option Notification) → option_map message.Notification o ≡ Some (message.Notification n) → o ≡ Some n

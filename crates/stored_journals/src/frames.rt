@@ -11,7 +11,7 @@ use journal_messages::{Message, RawMessage};
 use journal_streams::Decoder;
 use journal_values::Notification;
 use std::alloc::{AllocError, Global};
-use wire::{Fault, Wire};
+use wire::Fault;
 
 /// What a frame is to a journal.
 pub(crate) enum Part {
@@ -50,14 +50,10 @@ fn is_notification(raw: &RawMessage) -> bool
 }
 
 /// The frame's bytes.
-#[tactic(auto, unfolding(wire::specs::Format::bytes))]
 pub(crate) fn frame_bytes(alloc: Global, raw: &RawMessage) -> Result<Bytes, AllocError>
     ensures { IfOk result (λ b. b ≡ frame_of raw.now) }
 {
-    let mut frame = Vec::new(alloc);
-    raw.ty.number().put(&mut frame)?;
-    raw.body.put(&mut frame)?;
-    Ok(Bytes::from_vec(frame)?)
+    raw.encode(alloc)
 }
 
 /// The frame that some bytes are, if they are one whole frame and nothing more.

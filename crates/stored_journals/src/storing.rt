@@ -16,7 +16,7 @@ ghost use Rattle.stored_journals.specs.Stored.{FaultsBy, IsStoringFault, NextFau
 use crate::frames::{frame_bytes, is_command_frame, part_of};
 use crate::journal::StoredJournal;
 use bytes::{Bytes, BytesMut};
-use journal_attempt::{ProposeRunCompletion, ProposeRunCompletionAck};
+use journal_attempt::ProposeRunCompletionAck;
 use journal_errors::Version;
 use journal_messages::{Encoder, Message, RawMessage};
 use journal_streams::Decoder;
@@ -36,14 +36,13 @@ fn is_proposal(raw: &RawMessage) -> bool
 }
 
 /// The proposal that a frame is, if it is one and can be read.
-#[tactic(auto, unfolding(vm_steps::specs::Heard::proposal_in))]
 fn proposal_of(alloc: Global, raw: &RawMessage) -> Result<Option<KeptProposal>, AllocError>
     ensures { IfOk result (λ proposal. proposal ≡ proposal_of raw.now) }
 {
     if !is_proposal(raw) {
         return Ok(None);
     }
-    match raw.read_as::<ProposeRunCompletion>(alloc) {
+    match raw.read_proposal(alloc) {
         Ok(proposal) => Ok(Some(KeptProposal {
             completion_id: proposal.id,
             result: proposal.result,

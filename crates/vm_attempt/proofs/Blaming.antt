@@ -10,7 +10,8 @@ use Rattle.journal_errors.specs.declared.faults.NamedFault.TheVariants as fault
 use Rattle.journal_messages.specs.declared.message.RawMessage.{RawMessage}
 use Rattle.journal_state.specs.declared.state.GetStateEphemeralNotification.{GetStateEphemeralNotification}
 use Rattle.journal_state.specs.declared.state.VoidOrValue.{VoidOrValue}
-use Rattle.vm_machine.specs.Ephemerals.{completed_by, ephemeral_notification_in, ephemeral_notification_step, result_comes}
+use Rattle.journal_protocol.specs.Bodies.{ephemeral_notification_in}
+use Rattle.vm_machine.specs.Ephemerals.{completed_by, ephemeral_notification_step, result_comes}
 use Rattle.journal_values.specs.declared.notification.Notification.{Notification}
 use Rattle.journal_attempt.specs.declared.start.Start.{Start}
 use Rattle.journal_errors.specs.declared.version.Version.{Version}

@@ -10,12 +10,10 @@ use Rattle.journal_messages.specs.declared.message.Message.TheVariants as messag
 use Rattle.journal_messages.specs.declared.message.RawMessage.{RawMessage}
 use Rattle.journal_values.specs.declared.notification.Notification.{Notification}
 use Rattle.journal_attempt.specs.declared.start.Start.{Start}
-use Rattle.journal_messages.specs.Reading.{body_as, notification_in, start_in}
+use Rattle.journal_messages.specs.Reading.{notification_in, start_in}
+use Rattle.journal_protocol.proofs.Facts.{acknowledgement_back, notification_back, start_back}
 use Rattle.journal_messages.specs.Message.{IsWhole}
 use Rattle.journal_errors.specs.Types.{type_number}
-use Rattle.wire.proofs.Read.{all_read}
-use Rattle.journal_values.specs.Bodies.{notification_format}
-use Rattle.journal_attempt.specs.Bodies.{start_format}
 use Rattle.vm_machine.specs.declared.phase.Phase.{Phase}
 use Rattle.vm_machine.specs.declared.phase.Phase.TheVariants.{WaitingStart, WaitingReplayEntries, Replaying, Processing, Closed}
 use Rattle.invocation_vm.specs.Frames.{Tail, Rest, Garbage, frames_of, joined}
@@ -35,7 +33,6 @@ use Rattle.vm_attempt.specs.Journals.{AcknowledgesNothing, is_acknowledgement, a
 use Rattle.vm_attempt.specs.Told.{AreRightlyKinded, Journal, NoneHasTwo, arrivals, begun, bytes_fed, frames_fed, start_state}
 use Rattle.std.specs.Prelude.{IsSome}
 use Rattle.std.specs.List.{find}
-use Rattle.journal_attempt.specs.Bodies.{propose_run_completion_ack_format}
 use Rattle.journal_attempt.specs.declared.runs.ProposeRunCompletionAck.{ProposeRunCompletionAck}
 use Rattle.journal_messages.specs.Reading.{acknowledgement_in}
 use Rattle.runs.specs.Kept.{is_for}
@@ -100,16 +97,8 @@ not_thirty n is = by_test (n == 30) refl
     by_test false e = refl
     by_test true e = let is_thirty : n ≡ 30 = grind (arith, nat_tests, e) in absurd (let z : (nat_le 10 30 && nat_lt 30 30) ≡ true = subst (λ k. (nat_le 10 k && nat_lt k 30) ≡ true) is_thirty is in cc)
 
-start_read : (a : Start) → start_format.valid a → start_in (stored_form (message.Start a)).body ≡ Some a
-unfolding start_in body_as
-start_read a v = all_read start_format a (start_format.spelling a) v refl
-
-notification_read : (a : Notification) → notification_format.valid a → notification_in (stored_form (message.Notification a)).body ≡ Some a
-unfolding notification_in body_as
-notification_read a v = all_read notification_format a (notification_format.spelling a) v refl
-
 reads_note : (n : Notification) → IsWhole (message.Notification n) → notification_in (notification_frame n).body ≡ Some n
-reads_note n whole = notification_read n whole.0
+reads_note n whole = notification_back n whole
 
 -- the journal is what its frames are read as
 journal_read : (journal : List Entry) → AllByRecursion CanBeFed journal → as_entries (map entry_frame journal) ≡ journal
@@ -125,10 +114,6 @@ entries_acknowledge : (journal : List Entry) → AllByRecursion CanBeFed journal
 entries_acknowledge [] all = tt
 entries_acknowledge (Recorded raw ∷ journal) all = (not_both (type_number raw.ty) 6 refl all.0.0, entries_acknowledge journal all.1)
 entries_acknowledge (Notified n ∷ journal) all = (refl, entries_acknowledge journal all.1)
-
-acknowledgement_read : (a : ProposeRunCompletionAck) → propose_run_completion_ack_format.valid a → acknowledgement_in (stored_form (message.ProposeRunCompletionAck a)).body ≡ Some a
-unfolding acknowledgement_in body_as
-acknowledgement_read a v = all_read propose_run_completion_ack_format a (propose_run_completion_ack_format.spelling a) v refl
 
 -- ---- each frame has its place
 
@@ -160,7 +145,7 @@ IsReadable raw = is_acknowledgement raw ≡ true → IsSome (acknowledgement_in 
 further_readable : (more : List Further) → Wholes more → AllByRecursion IsReadable (map further_frame more)
 further_readable [] all = tt
 further_readable (Notifies n ∷ more) all = ((λ is. absurd (cc)), further_readable more all.1)
-further_readable (Acknowledges a ∷ more) all = ((λ _. subst IsSome (sym (acknowledgement_read a all.0.0)) refl), further_readable more all.1)
+further_readable (Acknowledges a ∷ more) all = ((λ _. subst IsSome (sym (acknowledgement_back a all.0)) refl), further_readable more all.1)
 
 entries_readable : (journal : List Entry) → AllByRecursion CanBeFed journal → AllByRecursion IsReadable (map entry_frame journal)
 entries_readable [] all = tt
@@ -234,7 +219,7 @@ module _ (fixed : Fixed) (fed : Heard) (h : FeedsHonestly fixed fed) where
   begins = fed_begins (bytes_fed fed) h.unfed (S ∷ (J ++ N)) (h.start_is_whole.1, all_append Fits J N (entries_fit h.journal h.journal_is_whole) (further_fit h.more h.more_is_whole)) h.bytes
 
   reads_start : start_in S.body ≡ Some h.start
-  reads_start = start_read h.start h.start_is_whole.0
+  reads_start = start_back h.start h.start_is_whole
 
   -- the Start that was read is this one
   same_start : (first : RawMessage) (st : Start) → first ≡ S → start_in first.body ≡ Some st → st ≡ h.start

@@ -32,7 +32,6 @@ pub mod Steady
 pub mod Finishing
 pub mod Under
 pub mod Honest
-pub mod Rows
 pub mod Replayed
 pub mod Blaming
 pub mod Placing

@@ -12,7 +12,8 @@ use Rattle.journal_messages.specs.declared.message.Message.TheVariants as messag
 use Rattle.journal_messages.specs.declared.message.RawMessage.{RawMessage}
 use Rattle.journal_state.specs.declared.state.GetStateEphemeralNotification.{GetStateEphemeralNotification}
 use Rattle.journal_state.specs.declared.state.VoidOrValue.{VoidOrValue}
-use Rattle.vm_machine.specs.Ephemerals.{completed_by, ephemeral_notification_in, ephemeral_notification_step, result_comes}
+use Rattle.journal_protocol.specs.Bodies.{ephemeral_notification_in}
+use Rattle.vm_machine.specs.Ephemerals.{completed_by, ephemeral_notification_step, result_comes}
 use Rattle.journal_values.specs.declared.notification.Notification.{Notification}
 use Rattle.journal_attempt.specs.declared.start.Start.{Start}
 use Rattle.journal_errors.specs.Errors.{error_message}
@@ -30,7 +31,8 @@ use Rattle.invocation_vm.specs.Views.{View, after_closing, after_input, all_rece
 use Rattle.std.proofs.lemmas.Bool.{eqb-true}
 use Rattle.journal_attempt.specs.declared.runs.ProposeRunCompletion.{ProposeRunCompletion}
 use Rattle.vm_model.specs.Journal.{stored_form}
-use Rattle.vm_steps.specs.Heard.{is_proposal, proposal_in, proposals_among, proposed_by}
+use Rattle.journal_protocol.specs.Bodies.{proposal_in}
+use Rattle.vm_steps.specs.Heard.{is_proposal, proposals_among, proposed_by}
 use Rattle.vm_attempt.specs.Journals.{is_command_frame}
 use Rattle.vm_attempt.specs.Told.{Quiet, Wrote, commands_of}
 

@@ -10,7 +10,8 @@ use Rattle.journal_errors.specs.Types.{type_number}
 use Rattle.journal_messages.specs.declared.message.RawMessage.{RawMessage}
 use Rattle.journal_state.specs.declared.state.GetStateEphemeralNotification.{GetStateEphemeralNotification}
 use Rattle.journal_state.specs.declared.state.VoidOrValue.{VoidOrValue}
-use Rattle.vm_machine.specs.Ephemerals.{completed_by, ephemeral_notification_in, result_comes}
+use Rattle.journal_protocol.specs.Bodies.{ephemeral_notification_in}
+use Rattle.vm_machine.specs.Ephemerals.{completed_by, result_comes}
 use Rattle.journal_messages.specs.Reading.{notification_in, acknowledgement_in}
 use Rattle.journal_values.specs.declared.notification.Notification.{Notification}
 use Rattle.runs.specs.Kept.{is_for}

@@ -1,17 +1,13 @@
 -- What an attempt wrote, read from the bytes of its output.
-use Rattle.std.proofs.Common.{◌≡◌, ℕ, ◌+◌, ◌<◌, ◌^◌, cond, List, [], ◌∷◌, ◌++◌, length, map, Some, append_assoc, refl, sym, ap, ◌∙◌, ⊎_elim, subst, append-nil, length-append, arith}
+use Rattle.std.proofs.Common.{◌≡◌, ℕ, ◌<◌, ◌^◌, cond, List, [], ◌∷◌, ◌++◌, length, map, append_assoc, refl, sym, ap, ◌∙◌, ⊎_elim, append-nil}
 use Rattle.std.specs.List.{AllByRecursion, concat, flat_map}
 use Rattle.std.proofs.lemmas.Grind.{flat_map-append}
 use Rattle.std.proofs.lemmas.List.Folds.{concat-append}
-use Rattle.wire.specs.Format.{bytes, u16s, u64s}
 use Rattle.journal_messages.specs.declared.message.Message.{Message}
 use Rattle.journal_messages.specs.declared.message.RawMessage.{RawMessage}
-use Rattle.journal_errors.specs.declared.types.MessageType.{MessageType}
-use Rattle.journal_streams.specs.Frames.{NextFrame, Whole, next_of}
-use Rattle.journal_messages.specs.Message.{body, encoding, frame, type_of}
+use Rattle.journal_messages.specs.Message.{encoding}
 use Rattle.journal_messages.specs.Message.{IsWhole}
-use Rattle.journal_errors.specs.Types.{type_number}
-use Rattle.journal_streams.proofs.Cuts.{whole_spelled}
+use Rattle.journal_protocol.proofs.Facts.{one_body, one_type, proposal_back, whole_spelled}
 use Rattle.vm_parts.specs.Outboxes.{WholeFrames, WholeStream}
 use Rattle.vm_parts.proofs.Outboxes.{all_whole, bytes_of}
 use Rattle.invocation_vm.specs.Frames.{Rest, frames_from, frames_of}
@@ -21,12 +17,9 @@ use Rattle.vm_attempt.specs.Honest.{frame_bytes}
 use Rattle.vm_attempt.specs.Journals.{commands_among, is_command_frame}
 use Rattle.vm_steps.specs.Record.{Record, bytes_written, heard}
 use Rattle.vm_attempt.specs.Told.{BeforeInput, JournalCame, HasCome, Wrote, commands_of, written_by}
-use Rattle.journal_attempt.specs.Bodies.{propose_run_completion_format}
 use Rattle.journal_attempt.specs.declared.runs.ProposeRunCompletion.{ProposeRunCompletion}
 use Rattle.journal_messages.specs.declared.message.Message.TheVariants as message
-use Rattle.journal_messages.specs.Reading.{body_as}
-use Rattle.wire.proofs.Read.{all_read}
-use Rattle.vm_steps.specs.Heard.{proposal_in, proposals_among, proposals_in, proposed_by}
+use Rattle.vm_steps.specs.Heard.{proposals_among, proposals_in, proposed_by}
 use Rattle.vm_attempt.proofs.Quiet.{commands_append, forms_append, map_append, proposals_append}
 use Rattle.vm_attempt.specs.Fixed.{Fixed}
 
@@ -60,34 +53,9 @@ messages_spelled ms all = ap (λ l. (frames_of l).0) (sym (forms_spelled ms)) �
 
 -- ---- a frame is of one message only
 
-number_length : (n : ℕ) → length (u16s n) ≡ 2
-unfolding u16s
-number_length n = refl
-
-size_length : (n : ℕ) → length (u64s n) ≡ 8
-unfolding u64s
-size_length n = refl
-
-bytes_length : (b : List ℕ) → length (bytes b) ≡ 8 + length b
-unfolding bytes
-bytes_length b = length-append (u64s (length b)) b ∙ ap (λ k. k + length b) (size_length (length b))
-
-frame_length : (ty : MessageType) (b : List ℕ) → length (frame ty b) ≡ 10 + length b
-frame_length ty b = omega (arith, length-append (u16s (type_number ty)) (bytes b), number_length (type_number ty), bytes_length b)
-
-abbrev first_frame : NextFrame → RawMessage → RawMessage
-first_frame (Whole raw rest) other = raw
-first_frame next other = other
-
-framed_alone : (m : Message) → length (body m) < 2 ^ 64 → next_of (encoding m) ≡ Whole (stored_form m) []
-framed_alone m fits = ap next_of (sym (append-nil (encoding m))) ∙ whole_spelled (type_of m) (body m) [] fits
-
 -- a message with the frame of a whole one is stored as that one is
 same_form : (m n : Message) → encoding m ≡ encoding n → IsWhole n → stored_form m ≡ stored_form n
-same_form m n e whole =
-    let long : length (body m) ≡ length (body n) = omega (arith, sym (frame_length (type_of m) (body m)) ∙ ap length e ∙ frame_length (type_of n) (body n)) in
-    let fits : length (body m) < 2 ^ 64 = subst (λ k. k < 2 ^ 64) (sym long) whole.1 in
-    ap (λ o. first_frame o (stored_form n)) (sym (framed_alone m fits) ∙ ap next_of e ∙ framed_alone n whole.1)
+same_form m n e whole = λ i. record { ty = one_type m n e whole i; body = one_body m n e whole i }
 
 abbrev first_of : List (List ℕ) → List ℕ
 first_of [] = []
@@ -181,12 +149,8 @@ proposes_more taken output new written w f g ms is =
     ∙ ap (λ l. l ++ proposals_among (map stored_form ms)) (ap proposals_among (sym (output_forms taken output w.sent w.bytes w.whole f)))
 
 -- what a message proposes that can be read back
-proposal_read : (p : ProposeRunCompletion) → propose_run_completion_format.valid p → proposal_in (stored_form (message.ProposeRunCompletion p)).body ≡ Some p
-unfolding proposal_in body_as
-proposal_read p v = all_read propose_run_completion_format p (propose_run_completion_format.spelling p) v refl
-
 pub proposes_one : (p : ProposeRunCompletion) → IsWhole (message.ProposeRunCompletion p) → proposals_among (stored_form (message.ProposeRunCompletion p) ∷ []) ≡ record { completion_id = p.id; result = p.result } ∷ []
-proposes_one p whole = ap (λ o. proposed_by o []) (proposal_read p whole.0)
+proposes_one p whole = ap (λ o. proposed_by o []) (proposal_back p whole)
 
 -- the frames of messages propose what is among the messages
 pub frames_propose : (ms : List Message) → AllByRecursion IsWhole ms → proposals_in (concat (map encoding ms)) ≡ proposals_among (map stored_form ms)

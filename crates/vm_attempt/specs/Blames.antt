@@ -31,7 +31,7 @@ use Rattle.vm_types.specs.declared.steps.Answer.{Answer}
 use Rattle.vm_machine.specs.declared.machine.Machine.{Machine}
 use Rattle.vm_machine.specs.declared.phase.Phase.{Phase}
 use Rattle.vm_machine.specs.declared.phase.Phase.TheVariants.{WaitingStart, WaitingReplayEntries, Replaying, Processing, Closed}
-use Rattle.vm_machine.specs.Ephemerals.{ephemeral_notification_in}
+use Rattle.journal_protocol.specs.Bodies.{ephemeral_notification_in}
 use Rattle.vm_machine.specs.Inputs.{entries_in}
 use Rattle.vm_machine.specs.Outcomes.{Failed, ruled, ruled_by}
 use Rattle.vm_machine.specs.Proposals.{Proposes}

@@ -1,8 +1,7 @@
 //! Messages that come in: Start, the recorded commands, notifications, the results of ephemeral reads, and the closing of the input.
 ghost use Rattle.std.specs.Prelude.{◌≡◌, find, Some, None, IfOk, OnErr, true};
 ghost use Rattle.runs.specs.Kept.{is_for};
-ghost use Rattle.wire.specs.Reads.{Read};
-ghost use Rattle.vm_machine.specs.Ephemerals.{ephemeral_notification_in, ephemeral_notification_step};
+ghost use Rattle.vm_machine.specs.Ephemerals.{ephemeral_notification_step};
 ghost use Rattle.vm_machine.specs.Outcomes.{Gives};
 ghost use Rattle.vm_machine.specs.Phases.{is_waiting};
 ghost use Rattle.vm_machine.specs.Inputs.{from_version, started, info_of, entries_in, coverage_of, counted_entry, start_step, acknowledged, acknowledgement_step, entry_step, notification_step, message_step, malformed_step, close_step};
@@ -11,7 +10,6 @@ use bytes::Bytes;
 use journal_attempt::Start;
 use journal_errors::{NamedFault, Version};
 use journal_messages::RawMessage;
-use journal_state::GetStateEphemeralNotification;
 use journal_values::{Notification, NotificationId};
 use runs::completion_result;
 use std::alloc::{AllocError, Global};
@@ -211,16 +209,6 @@ fn receive_acknowledgement(machine: &mut Machine, raw: &RawMessage) -> Result<()
     }
 }
 
-#[tactic(auto, unfolding(vm_machine::specs::Ephemerals::ephemeral_notification_in))]
-fn read_ephemeral_notification(
-    raw: &RawMessage,
-    alloc: Global,
-) -> Result<GetStateEphemeralNotification, wire::Fault>
-    ensures { Read (ephemeral_notification_in raw.now.body) result }
-{
-    raw.read_as(alloc)
-}
-
 fn receive_ephemeral_notification(machine: &mut Machine, raw: &RawMessage) -> Result<(), Fault>
     ensures step { Gives (ephemeral_notification_step raw.now machine.old.phase machine.old) result
         machine.old machine.new }
@@ -232,7 +220,7 @@ fn receive_ephemeral_notification(machine: &mut Machine, raw: &RawMessage) -> Re
         Phase::Closed => return Ok(()),
         _ => return Err(refuse(NamedFault::UnexpectedState)),
     }
-    match read_ephemeral_notification(raw, machine.alloc) {
+    match raw.read_ephemeral_notification(machine.alloc) {
         Ok(notification) => machine.complete_ephemeral(notification.id, notification.result),
         Err(wire::Fault::Memory) => Err(Fault::Memory),
         Err(wire::Fault::Malformed) => Err(refuse(NamedFault::BadMessage)),

@@ -58,7 +58,8 @@ use Rattle.vm_machine.specs.Takes.{result_taken, take_step, taken_at, value_note
 use Rattle.vm_machine.specs.Inputs.{acknowledged, acknowledged_by, acknowledgement_step, close_step, closed_at, counted_entry, end_at, end_step, ended, enqueued, entries_in, entry_step, input_at, input_by, input_counted, input_numbered, input_past, input_read, input_step, malformed_step, message_step, notification_step, queued, start_step, started, started_with}
 use Rattle.journal_state.specs.declared.state.GetStateEphemeralNotification.{GetStateEphemeralNotification}
 use Rattle.journal_state.specs.declared.state.VoidOrValue.{VoidOrValue}
-use Rattle.vm_machine.specs.Ephemerals.{completed_by, ephemeral_notification_in, ephemeral_notification_step, result_comes}
+use Rattle.journal_protocol.specs.Bodies.{ephemeral_notification_in}
+use Rattle.vm_machine.specs.Ephemerals.{completed_by, ephemeral_notification_step, result_comes}
 use Rattle.vm_machine.specs.Reports.{is_retry, related_to, report_step}
 use Rattle.journal_values.specs.declared.notification.NotificationResult.{NotificationResult}
 use Rattle.vm_parts.specs.declared.context.Known.{Known}

@@ -18,7 +18,8 @@ use Rattle.vm_parts.specs.declared.context.Known.TheVariants as known_as
 use Rattle.vm_machine.specs.declared.machine.Machine.{Machine}
 use Rattle.vm_machine.specs.declared.phase.Phase.{Phase}
 use Rattle.vm_machine.specs.declared.phase.Phase.TheVariants.{WaitingStart, WaitingReplayEntries, Replaying, Processing, Closed}
-use Rattle.vm_machine.specs.Ephemerals.{asked_for, asking_fault, completed_by, ephemeral_notification_in, ephemeral_notification_step, ephemeral_step, read_in, read_numbered, read_of, ready_at_once, result_comes, take_ephemeral_step, value_found}
+use Rattle.journal_protocol.specs.Bodies.{ephemeral_notification_in}
+use Rattle.vm_machine.specs.Ephemerals.{asked_for, asking_fault, completed_by, ephemeral_notification_step, ephemeral_step, read_in, read_numbered, read_of, ready_at_once, result_comes, take_ephemeral_step, value_found}
 use Rattle.vm_machine.specs.Outcomes.{Outcome, Done, Failed, called, refused}
 use Rattle.vm_machine.specs.Phases.{is_from_v8, is_processing, is_running, state_fault}
 use Rattle.vm_laws.specs.Endings.{EventWrites, Writes, is_over}

@@ -14,7 +14,8 @@ use Rattle.vm_parts.specs.States.{known}
 use Rattle.vm_parts.specs.declared.context.Known.{Known}
 use Rattle.vm_parts.specs.declared.context.Known.TheVariants.{Unknown, Empty, Value as Holds}
 use Rattle.vm_machine.specs.declared.machine.Machine.{Machine}
-use Rattle.vm_machine.specs.Ephemerals.{ephemeral_notification_in, ephemeral_notification_step, take_ephemeral_step}
+use Rattle.journal_protocol.specs.Bodies.{ephemeral_notification_in}
+use Rattle.vm_machine.specs.Ephemerals.{ephemeral_notification_step, take_ephemeral_step}
 use Rattle.vm_machine.specs.Outcomes.{Done}
 use Rattle.vm_machine.specs.Phases.{is_closed, is_from_v8, is_replaying, is_waiting}
 

@@ -13,7 +13,7 @@ use Rattle.journal_errors.specs.Types.{type_number}
 use Rattle.journal_messages.specs.declared.message.Message.{Message}
 use Rattle.journal_messages.specs.declared.message.Message.TheVariants as message
 use Rattle.journal_messages.specs.declared.message.RawMessage.{RawMessage}
-use Rattle.journal_messages.specs.Reading.{body_as, input_in, message_in}
+use Rattle.journal_messages.specs.Reading.{input_in, message_in}
 use Rattle.vm_asks.specs.Carried.{AreBelow, all_carried, carried, carried_by, past, past_all, read_carried, read_past}
 use Rattle.vm_parts.specs.declared.context.Counters.{Counters}
 use Rattle.vm_parts.specs.Counting.{missing, most, next_index}

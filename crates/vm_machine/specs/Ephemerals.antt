@@ -5,10 +5,9 @@ use Rattle.std.specs.Option.{option_map, option_or}
 use Rattle.journal_errors.specs.declared.faults.NamedFault.{NamedFault}
 use Rattle.journal_errors.specs.declared.faults.NamedFault.TheVariants as fault
 use Rattle.journal_messages.specs.Message.{encoding}
-use Rattle.journal_messages.specs.Reading.{body_as}
+use Rattle.journal_protocol.specs.Bodies.{ephemeral_notification_in}
 use Rattle.journal_messages.specs.declared.message.Message.TheVariants as message
 use Rattle.journal_messages.specs.declared.message.RawMessage.{RawMessage}
-use Rattle.journal_state.specs.Bodies.{get_state_ephemeral_notification_format}
 use Rattle.journal_state.specs.declared.state.GetStateEphemeralNotification.{GetStateEphemeralNotification}
 use Rattle.journal_state.specs.declared.state.VoidOrValue.{VoidOrValue}
 use Rattle.journal_state.specs.declared.state.VoidOrValue.TheVariants as stored
@@ -105,10 +104,6 @@ abbrev pub may_answer : ℕ → Machine → Bool
 may_answer id v = not (is_some v.failure) && (is_processing v.phase && is_ready id v.ephemeral)
 
 -- ---- its notification
-
--- the notification whose body this is
-unfoldable pub ephemeral_notification_in : List ℕ → Option GetStateEphemeralNotification
-ephemeral_notification_in = body_as get_state_ephemeral_notification_format
 
 -- what stands under a key, as a value or none
 abbrev pub found_of : VoidOrValue → Option (List ℕ)

@@ -21,7 +21,7 @@ use Rattle.journal_messages.specs.declared.message.Message.TheVariants as messag
 use Rattle.journal_messages.specs.declared.message.RawMessage.{RawMessage}
 use Rattle.journal_messages.specs.Message.{type_of}
 use Rattle.journal_messages.specs.Reading.{message_in}
-use Rattle.journal_messages.proofs.Reading.{message_is}
+use Rattle.journal_protocol.proofs.Facts.{type_read}
 use Rattle.journal_streams.proofs.Numbers.{one_number}
 use Rattle.journal_values.specs.declared.notification.Notification.{Notification}
 use Rattle.journal_values.specs.declared.notification.NotificationId.{NotificationId}
@@ -364,7 +364,7 @@ exact_by command ignore raw None result is read e = absurd (cc)
 exact_by command ignore raw (Some n) result is read e = by_test (header_equal n command ignore) refl e
   where
     by_test : (b : Bool) → header_equal n command ignore ≡ b → (if b then Ok None else Err fault.CommandMismatch) ≡ Ok result → Exact command (Some n) result
-    by_test true t h = record { none = (let x : None ≡ result = cc in sym x); same = λ i. ap (is_among i) (same_carried command n ignore ((message_is raw.ty raw.body n read).1 ∙ is) t) }
+    by_test true t h = record { none = (let x : None ≡ result = cc in sym x); same = λ i. ap (is_among i) (same_carried command n ignore (type_read raw.ty raw.body n read ∙ is) t) }
     by_test false t h = absurd (cc)
 
 exact : (command : Message) (ignore : Bool) (raw : RawMessage) (result : Option NotificationResult) → found (Exactly command ignore) raw ≡ Ok result → Exact command (message_in raw.ty raw.body) result

@@ -14,7 +14,7 @@ use Rattle.journal_messages.specs.declared.message.Message.TheVariants as messag
 use Rattle.journal_messages.specs.declared.message.RawMessage.{RawMessage}
 use Rattle.journal_messages.specs.Message.{type_of}
 use Rattle.journal_messages.specs.Reading.{message_in}
-use Rattle.journal_messages.proofs.Reading.{message_is}
+use Rattle.journal_protocol.proofs.Facts.{type_read}
 use Rattle.journal_values.specs.declared.notification.Notification.{Notification}
 use Rattle.journal_values.specs.declared.notification.NotificationResult.{NotificationResult}
 use Rattle.vm_parts.specs.declared.context.StateMap.{StateMap}
@@ -77,7 +77,7 @@ quiet_says raw quiet g = by_message (message_in raw.ty raw.body) refl
   where
     by_message : (o : Option Message) → message_in raw.ty raw.body ≡ o → changed_by (read_before o []) g ≡ g
     by_message None is = refl
-    by_message (Some n) is = unchanged n (ap changes_state (message_is raw.ty raw.body n is).1 ∙ quiet) g
+    by_message (Some n) is = unchanged n (ap changes_state type_read raw.ty raw.body n is ∙ quiet) g
 
 lazy_quiet : (r : StateRead) → changes_state (lazy_type r) ≡ false
 lazy_quiet (reads.Value key name) = refl
@@ -103,7 +103,7 @@ recorded_changes (Exactly command ignore) raw result f compares g = by_type (typ
     by_type : (b : Bool) → (type_number raw.ty == type_number (type_of command)) ≡ b → (if b then reads_as ignore command (message_in raw.ty raw.body) else Err fault.CommandTypeMismatch) ≡ Ok result → changed_by (messages_in (raw ∷ [])) g ≡ changed command g
     by_type true is h =
         let x = unread command ignore true (message_in raw.ty raw.body) result h in
-        ap (λ o. changed_by (read_before o []) g) x.1 ∙ same_payload command x.0 ignore compares ((message_is raw.ty raw.body x.0 x.1).1 ∙ typed raw.ty (type_of command) is) x.2 g
+        ap (λ o. changed_by (read_before o []) g) x.1 ∙ same_payload command x.0 ignore compares (type_read raw.ty raw.body x.0 x.1 ∙ typed raw.ty (type_of command) is) x.2 g
     by_type false is h = absurd (cc)
 recorded_changes (Reads r id) raw result f compares g = quiet_says raw (read_quiet r id raw result f) g ∙ sym (read_says r id g)
 

@@ -27,7 +27,6 @@ pub mod Rests
 pub mod Carried
 pub mod RightKinds
 pub mod Comparing
-pub mod Rows
 pub mod Refusals
 pub mod Spans
 pub mod Gone

@@ -1,7 +1,6 @@
 -- What a call's own command says once it is stored: it changes the state as the call does, and an eager read is as the state is.
-use Rattle.std.proofs.Common.{◌≡◌, ◌⊎◌, ℕ, Bool, true, false, ◌&&◌, ◌||◌, List, [], ◌∷◌, ◌++◌, Option, Some, None, refl, sym, ap, ◌∙◌, drop, ⊎_elim}
+use Rattle.std.proofs.Common.{◌≡◌, ◌⊎◌, ℕ, Bool, true, false, ◌&&◌, ◌||◌, List, [], ◌∷◌, Option, Some, None, refl, sym, ap, ◌∙◌, ⊎_elim}
 use Rattle.std.specs.Prelude.{nat_eq, ◌==◌, if◌then◌else◌, Ok, Err}
-use Rattle.std.proofs.lemmas.List.{append_cancel_left}
 use Rattle.std.proofs.lemmas.Option.{same_Some}
 use Rattle.std.specs.Cmp.Lexicographic.{bytes_decides, pointwise}
 use Rattle.journal_errors.specs.declared.faults.NamedFault.TheVariants as fault
@@ -9,22 +8,18 @@ use Rattle.journal_messages.specs.declared.message.Message.{Message}
 use Rattle.journal_messages.specs.declared.message.Message.TheVariants as message
 use Rattle.journal_messages.specs.declared.message.RawMessage.{RawMessage}
 use Rattle.journal_values.specs.declared.notification.NotificationResult.{NotificationResult}
-use Rattle.journal_state.specs.declared.state.SetStateCommand.{SetStateCommand}
 use Rattle.journal_state.specs.declared.state.GetEagerStateCommand.{GetEagerStateCommand}
 use Rattle.journal_state.specs.declared.state.GetEagerStateKeysCommand.{GetEagerStateKeysCommand}
-use Rattle.journal_state.specs.declared.state.VoidOrValue.{VoidOrValue}
 use Rattle.journal_state.specs.declared.state.VoidOrValue.TheVariants as stands
 use Rattle.journal_errors.specs.declared.types.MessageType.{MessageType}
 use Rattle.journal_errors.specs.declared.types.MessageType.TheVariants as type
-use Rattle.journal_state.specs.Encoding.{get_eager_state, set_state, void_or_value}
 use Rattle.journal_equality.specs.HeaderEqual.{header_equal}
 use Rattle.journal_messages.specs.Message.{body, type_of}
 use Rattle.journal_messages.specs.Reading.{message_in}
 use Rattle.journal_errors.specs.Types.{type_number}
 use Rattle.journal_messages.specs.Message.{IsWhole}
 use Rattle.journal_streams.proofs.Alone.{read_back}
-use Rattle.journal_messages.proofs.Reading.{message_is}
-use Rattle.wire.specs.Format.{bytes, option, u64s}
+use Rattle.journal_protocol.proofs.Facts.{result_said, type_read, value_said}
 use Rattle.vm_parts.specs.declared.context.Known.{Known}
 use Rattle.vm_parts.specs.declared.context.Known.TheVariants.{Unknown, Empty, Value}
 use Rattle.vm_parts.specs.declared.context.StateMap.{StateMap}
@@ -68,7 +63,7 @@ plain_fits now raw m e = tt
 -- a stored command, as it is read
 plain_stored : (now : StateMap) (m : Message) (o : Option Message) → message_in (type_of m) (body m) ≡ o → is_eager (type_of m) ≡ false → Fits now (stored_form m) o
 plain_stored now m None is e = tt
-plain_stored now m (Some n) is e = plain_fits now (stored_form m) n (ap is_eager (message_is (type_of m) (body m) n is).1 ∙ e)
+plain_stored now m (Some n) is e = plain_fits now (stored_form m) n (ap is_eager (type_read (type_of m) (body m) n is) ∙ e)
 
 -- ---- texts and bytes
 
@@ -81,22 +76,6 @@ both false b e = absurd (cc)
 
 -- ---- what commands say of the state
 
-set_spelled : (c : SetStateCommand) → set_state c ≡ bytes c.name ++ (bytes c.key ++ bytes c.value)
-unfolding set_state
-set_spelled c = refl
-
--- behind their length
-bytes_behind : (v : List ℕ) → drop 8 (bytes v) ≡ v
-unfolding bytes u64s
-bytes_behind v = refl
-
--- a set state that is read from one of the same name and key has its value
-value_is : (a b : SetStateCommand) → a.name ≡ b.name → a.key ≡ b.key → set_state b ≡ set_state a → a.value ≡ b.value
-value_is a b n k e =
-    let e' : bytes b.name ++ (bytes b.key ++ bytes b.value) ≡ bytes b.name ++ (bytes b.key ++ bytes a.value) = sym (set_spelled b) ∙ e ∙ set_spelled a ∙ (λ i. bytes (n i) ++ (bytes (k i) ++ bytes a.value)) in
-    let v : bytes b.value ≡ bytes a.value = append_cancel_left (bytes b.key) (bytes b.value) (bytes a.value) (append_cancel_left (bytes b.name) (bytes b.key ++ bytes b.value) (bytes b.key ++ bytes a.value) e') in
-    sym (bytes_behind a.value) ∙ ap (drop 8) (sym v) ∙ bytes_behind b.value
-
 -- a command that is read from a stored one and is header-equal to it changes the state in the same way
 same_change : (m n : Message) (ignore : Bool) → message_in (type_of m) (body m) ≡ Some n → header_equal n m ignore ≡ true → (g : StateMap) → changed n g ≡ changed m g
 unfolding header_equal
@@ -105,14 +84,14 @@ same_change (message.SetState b) (message.SetState a) ignore is e g =
     let texts = both (pointwise nat_eq a.name b.name) (pointwise nat_eq a.key b.key) front.0 in
     let name = text_is a.name b.name texts.0 in
     let key = text_is a.key b.key texts.1 in
-    let value = value_is a b name key (message_is type.SetStateCommand (set_state b) (message.SetState a) is).2 in
+    let value = value_said a b name key is in
     (λ i. state_set (key i) (value i) g)
 same_change (message.ClearState b) (message.ClearState a) ignore is e g = ap (λ key. changed (message.ClearState (record { name = []; key = key })) g) (text_is a.key b.key (both (pointwise nat_eq a.name b.name) (pointwise nat_eq a.key b.key) e).1)
 same_change (message.ClearAllState b) (message.ClearAllState a) ignore is e g = refl
 same_change (message.SetState b) n ignore is e g = absurd (cc)
 same_change (message.ClearState b) n ignore is e g = absurd (cc)
 same_change (message.ClearAllState b) n ignore is e g = absurd (cc)
-same_change m n ignore is e g = unchanged n (ap changes_state (message_is (type_of m) (body m) n is).1) g
+same_change m n ignore is e g = unchanged n (ap changes_state (type_read (type_of m) (body m) n is)) g
 
 -- ---- a call's own command
 
@@ -158,7 +137,7 @@ own_changes state (Exactly command ignore) result f g =
     says_stored command g (changed command g) (λ none. absurd (let one : Some x.0 ≡ None = sym x.1 ∙ none in cc)) (λ n is. ap (λ z. changed z g) (same_Some _ _ (sym is ∙ x.1)) ∙ same_change command x.0 ignore x.1 x.2 g)
 own_changes state (Reads r id) result f g =
     let own = own_form r id state in
-    says_stored own g (changed (said_of (Reads r id)) g) (λ none. sym (read_says r id g)) (λ n is. unchanged n (ap changes_state (message_is (type_of own) (body own) n is).1 ∙ read_type r id state) g ∙ sym (read_says r id g))
+    says_stored own g (changed (said_of (Reads r id)) g) (λ none. sym (read_says r id g)) (λ n is. unchanged n (ap changes_state type_read (type_of own) (body own) n is ∙ read_type r id state) g ∙ sym (read_says r id g))
 
 -- ---- an eager read is as the state is
 
@@ -219,36 +198,18 @@ own_fits now state (Reads (reads.Keys name) id) result h plain f = keys_fit now 
 
 -- ---- what a recorded eager read brings
 
-result_is : (a b : Option VoidOrValue) → option void_or_value a ≡ option void_or_value b → a ≡ b
-unfolding option
-result_is None None e = refl
-result_is None (Some b) e = absurd (cc)
-result_is (Some a) None e = absurd (cc)
-result_is (Some stands.Void) (Some stands.Void) e = refl
-result_is (Some stands.Void) (Some (stands.Value w)) e = absurd (let x = ap (drop 1) e in cc)
-result_is (Some (stands.Value v)) (Some stands.Void) e = absurd (let x = ap (drop 1) e in cc)
-result_is (Some (stands.Value v)) (Some (stands.Value w)) e = ap (λ z. Some (stands.Value z)) (sym (bytes_behind v) ∙ ap (drop 10) e ∙ bytes_behind w)
-
-eager_spelled : (c : GetEagerStateCommand) → get_eager_state c ≡ bytes c.name ++ (bytes c.key ++ option void_or_value c.result)
-unfolding get_eager_state
-eager_spelled c = refl
-
-same_result : (a b : GetEagerStateCommand) → a.name ≡ b.name → a.key ≡ b.key → get_eager_state a ≡ get_eager_state b → a.result ≡ b.result
-same_result a b n k e =
-    let e' : bytes b.name ++ (bytes b.key ++ option void_or_value a.result) ≡ bytes b.name ++ (bytes b.key ++ option void_or_value b.result) = sym (λ i. bytes (n i) ++ (bytes (k i) ++ option void_or_value a.result)) ∙ sym (eager_spelled a) ∙ e ∙ eager_spelled b in
-    result_is a.result b.result (append_cancel_left (bytes b.key) (option void_or_value a.result) (option void_or_value b.result) (append_cancel_left (bytes b.name) (bytes b.key ++ option void_or_value a.result) (bytes b.key ++ option void_or_value b.result) e'))
-
 -- where a state gives a recorded eager read, it brings what the state has
 pub value_brought : (g : StateMap) (raw : RawMessage) (c : GetEagerStateCommand) → message_in raw.ty raw.body ≡ Some (message.GetEagerState c) → Fits g raw (Some (message.GetEagerState c)) → (known c.key g ≡ Unknown → ⊥) × (c.result ≡ recorded_value (known c.key g))
 value_brought g raw c is fits = by_known (known c.key g) (fits 0)
   where
-    read : (type.GetEagerStateCommand ≡ raw.ty) × (raw.body ≡ get_eager_state c)
-    read = let h = message_is raw.ty raw.body (message.GetEagerState c) is in (h.1, h.2)
+    -- what is read of the stored form that the entry is
+    reads_own : (k : Known) → raw ≡ stored_form (value_form c.key c.name 0 k) → message_in (type_of (value_form c.key c.name 0 k)) (body (value_form c.key c.name 0 k)) ≡ Some (message.GetEagerState c)
+    reads_own k e = sym (ap (λ (z : RawMessage). message_in z.ty z.body) e) ∙ is
 
     by_known : (k : Known) → raw ≡ stored_form (value_form c.key c.name 0 k) → (k ≡ Unknown → ⊥) × (c.result ≡ recorded_value k)
-    by_known Unknown e = absurd (let t : type.GetEagerStateCommand ≡ type.GetLazyStateCommand = read.0 ∙ ap (λ (z : RawMessage). z.ty) e in cc)
-    by_known Empty e = (λ u. absurd (cc), same_result c (record { name = c.name; key = c.key; result = Some stands.Void }) refl refl (sym read.1 ∙ ap (λ (z : RawMessage). z.body) e))
-    by_known (Value value) e = (λ u. absurd (cc), same_result c (record { name = c.name; key = c.key; result = Some (stands.Value value) }) refl refl (sym read.1 ∙ ap (λ (z : RawMessage). z.body) e))
+    by_known Unknown e = absurd (let t : type.GetEagerStateCommand ≡ type.GetLazyStateCommand = type_read raw.ty raw.body (message.GetEagerState c) is ∙ ap (λ (z : RawMessage). z.ty) e in cc)
+    by_known Empty e = (λ u. absurd (cc), result_said c (record { name = c.name; key = c.key; result = Some stands.Void }) refl refl (reads_own Empty e))
+    by_known (Value value) e = (λ u. absurd (cc), result_said c (record { name = c.name; key = c.key; result = Some (stands.Value value) }) refl refl (reads_own (Value value) e))
 
 abbrev keys_or : Message → Option (List (List ℕ))
 keys_or (message.GetEagerStateKeys c) = c.value
@@ -258,7 +219,7 @@ pub keys_brought : (g : StateMap) (raw : RawMessage) (c : GetEagerStateKeysComma
 keys_brought g raw c is fits whole = by_keys (known_keys g) (fits 0) whole
   where
     by_keys : (o : Option (List (List ℕ))) → raw ≡ stored_form (keys_form c.name 0 o) → IsWhole (keys_form c.name 0 o) → (o ≡ None → ⊥) × (c.value ≡ o)
-    by_keys None e w = absurd (let t : type.GetEagerStateKeysCommand ≡ type.GetLazyStateKeysCommand = (message_is raw.ty raw.body (message.GetEagerStateKeys c) is).1 ∙ ap (λ (z : RawMessage). z.ty) e in cc)
+    by_keys None e w = absurd (let t : type.GetEagerStateKeysCommand ≡ type.GetLazyStateKeysCommand = type_read raw.ty raw.body (message.GetEagerStateKeys c) is ∙ ap (λ (z : RawMessage). z.ty) e in cc)
     by_keys (Some keys) e w =
         let own = keys_form c.name 0 (Some keys) in
         let one : message.GetEagerStateKeys c ≡ own = same_Some _ _ (sym is ∙ ap (λ (z : RawMessage). message_in z.ty z.body) e ∙ read_back own w) in

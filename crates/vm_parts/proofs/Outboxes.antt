@@ -1,18 +1,14 @@
 -- The bytes of an outbox are cut into its frames by the lengths in them; one more frame is put behind the others.
 use Rattle.std.proofs.Common.{◌≡◌, ℕ, zero, suc, ◌+◌, ◌<◌, ◌≤◌, ◌^◌, List, [], ◌∷◌, ◌++◌, length, map, take, drop, refl, sym, ap, subst, ◌∙◌, append_assoc, length-append, arith, Result, Ok, Err}
 use Rattle.std.proofs.lemmas.List.{append-nil, drop_at}
-use Rattle.std.proofs.lemmas.Nat.{from_be_bytes-to_be_bytes_8}
 use Rattle.std.proofs.Math.Seq.{take-append_seam}
-use Rattle.std.specs.Int.{w64, from_be_bytes}
 use Rattle.std.specs.Prelude.{if◌then◌else◌, is_ok, IfOk, OnOk}
 use Rattle.std.specs.declared.alloc.AllocError.{AllocError}
 use Rattle.std.specs.List.{concat, flat_map, AllByRecursion}
-use Rattle.wire.specs.Format.{u16s, u64s, bytes}
-use Rattle.journal_errors.specs.Types.{type_number}
 use Rattle.journal_messages.specs.declared.message.Message.{Message}
-use Rattle.journal_messages.specs.Message.{encoding, body, type_of}
-use Rattle.journal_messages.specs.Message.{IsWhole}
-use Rattle.vm_parts.specs.Outboxes.{WholeFrames, WholeStream, len_of, front_len, first_frames, frames_in}
+use Rattle.journal_protocol.specs.Frames.{IsWhole, body, encoding, frame_size, type_of}
+use Rattle.journal_protocol.proofs.Facts.{frame_sized, frame_there}
+use Rattle.vm_parts.specs.Outboxes.{WholeFrames, WholeStream, len_of, first_frames, frames_in}
 
 pub all_whole : (ms ns : List Message) → AllByRecursion IsWhole ms → AllByRecursion IsWhole ns → AllByRecursion IsWhole (ms ++ ns)
 all_whole [] ns a b = b
@@ -33,26 +29,13 @@ bytes_of (m ∷ ms) = ap (λ t. encoding m ++ t) (bytes_of ms)
 
 -- ---- where a frame ends
 
--- a number in two bytes, a length in eight, and what follows
-front_len_of : (n len : ℕ) (rest : List ℕ) → len < 2 ^ 64 → front_len (u16s n ++ (u64s len ++ rest)) ≡ 10 + len
-unfolding u16s u64s
-front_len_of n len rest l = ap (λ k. 10 + k) (ap (from_be_bytes w64) (take-append_seam (u64s len) rest) ∙ from_be_bytes-to_be_bytes_8 len l)
+front_is : (m : Message) (rest : List ℕ) → IsWhole m → frame_size (encoding m ++ rest) ≡ length (encoding m)
+front_is m rest w = frame_sized (type_of m) (body m) rest w.1
 
-parts : (n : ℕ) (b rest : List ℕ) → (u16s n ++ bytes b) ++ rest ≡ u16s n ++ (u64s (length b) ++ (b ++ rest))
-unfolding bytes
-parts n b rest = append_assoc (u16s n) (u64s (length b) ++ b) rest ∙ ap (λ t. u16s n ++ t) (append_assoc (u64s (length b)) b rest)
+some : (m : Message) → 0 < length (encoding m)
+some m = frame_there (type_of m) (body m)
 
-encoding_len : (m : Message) → length (encoding m) ≡ 10 + length (body m)
-unfolding u16s u64s bytes
-encoding_len m = omega (arith, length-append (u64s (length (body m))) (body m))
-
-front_is : (m : Message) (rest : List ℕ) → IsWhole m → front_len (encoding m ++ rest) ≡ length (encoding m)
-front_is m rest w =
-    ap front_len (parts (type_number (type_of m)) (body m) rest)
-    ∙ front_len_of (type_number (type_of m)) (length (body m)) (body m ++ rest) w.1
-    ∙ sym (encoding_len m)
-
-one_apart : (n : ℕ) (bytes front rest : List ℕ) → bytes ≡ front ++ rest → 0 < length front → front_len bytes ≡ length front → first_frames (suc n) bytes ≡ front ∷ first_frames n rest
+one_apart : (n : ℕ) (bytes front rest : List ℕ) → bytes ≡ front ++ rest → 0 < length front → frame_size bytes ≡ length front → first_frames (suc n) bytes ≡ front ∷ first_frames n rest
 one_apart n [] front rest e p l = absurd (omega (arith, ap length e, length-append front rest))
 one_apart n (b ∷ bs) front rest e p l =
     rw (l) (
@@ -62,10 +45,10 @@ one_apart n (b ∷ bs) front rest e p l =
 apart : (n : ℕ) (ms : List Message) → AllByRecursion IsWhole ms → length (flat_map encoding ms) ≤ n → first_frames n (flat_map encoding ms) ≡ map encoding ms
 apart zero [] w l = refl
 apart (suc n) [] w l = refl
-apart zero (m ∷ ms) w l = absurd (omega (arith, length-append (encoding m) (flat_map encoding ms), encoding_len m))
+apart zero (m ∷ ms) w l = absurd (omega (arith, length-append (encoding m) (flat_map encoding ms), some m))
 apart (suc n) (m ∷ ms) w l =
-    one_apart n (encoding m ++ flat_map encoding ms) (encoding m) (flat_map encoding ms) refl (omega (arith, encoding_len m)) (front_is m (flat_map encoding ms) w.0)
-    ∙ ap (λ t. encoding m ∷ t) (apart n ms w.1 (omega (arith, length-append (encoding m) (flat_map encoding ms), encoding_len m)))
+    one_apart n (encoding m ++ flat_map encoding ms) (encoding m) (flat_map encoding ms) refl (omega (arith, some m)) (front_is m (flat_map encoding ms) w.0)
+    ∙ ap (λ t. encoding m ∷ t) (apart n ms w.1 (omega (arith, length-append (encoding m) (flat_map encoding ms), some m)))
 
 -- ---- the frames of a stream
 

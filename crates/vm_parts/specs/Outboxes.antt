@@ -1,10 +1,9 @@
 -- Frames that are written.
-use Rattle.std.specs.Prelude.{◌≡◌, ℕ, zero, suc, ◌+◌, ◌-◌, ◌^◌, List, [], ◌∷◌, length, map, min, take, drop}
-use Rattle.std.specs.Int.{w64, from_be_bytes}
+use Rattle.std.specs.Prelude.{◌≡◌, ℕ, zero, suc, ◌-◌, ◌^◌, List, [], ◌∷◌, length, map, min, take, drop}
 use Rattle.std.specs.List.{concat, flat_map, AllByRecursion}
 use Rattle.journal_messages.specs.declared.message.Message.{Message}
-use Rattle.journal_messages.specs.Message.{encoding}
-use Rattle.journal_messages.specs.Message.{IsWhole}
+use Rattle.journal_protocol.specs.Frames.{encoding, frame_size}
+use Rattle.journal_protocol.specs.Frames.{IsWhole}
 
 -- these are the frames of messages, each of which can be read back
 pub record WholeFrames (frames : List (List ℕ)) : Type 0 where
@@ -22,16 +21,11 @@ pub record WholeStream (bytes : List ℕ) : Type 0 where
 abbrev pub len_of : List (List ℕ) → ℕ
 len_of pieces = min (length (concat pieces)) (2 ^ 64 - 1)
 
--- how many bytes the frame at the front has: its type's number, its body's length, and that many
--- more
-abbrev pub front_len : List ℕ → ℕ
-front_len bytes = 10 + from_be_bytes w64 (take 8 (drop 2 bytes))
-
 -- the first n frames of some bytes, or all where there are fewer
 abbrev pub first_frames : ℕ → List ℕ → List (List ℕ)
 first_frames zero bytes = []
 first_frames (suc n) [] = []
-first_frames (suc n) (b ∷ bs) = let bytes = b ∷ bs in take (front_len bytes) bytes ∷ first_frames n (drop (front_len bytes) bytes)
+first_frames (suc n) (b ∷ bs) = let bytes = b ∷ bs in take (frame_size bytes) bytes ∷ first_frames n (drop (frame_size bytes) bytes)
 
 -- the frames that some bytes are, one after another
 unfoldable pub frames_in : List ℕ → List (List ℕ)

@@ -6,7 +6,7 @@ use Rattle.journal_messages.specs.declared.message.Message.{Message}
 use Rattle.journal_messages.specs.declared.message.RawMessage.{RawMessage}
 use Rattle.journal_errors.specs.declared.types.MessageType.TheVariants as type
 use Rattle.journal_messages.specs.Reading.{message_in}
-use Rattle.journal_messages.proofs.Reading.{message_is}
+use Rattle.journal_protocol.proofs.Facts.{type_read}
 use Rattle.journal_values.specs.declared.notification.Notification.{Notification}
 use Rattle.vm_parts.specs.declared.context.StateMap.{StateMap}
 use Rattle.vm_asks.specs.Carried.{carried_by, read_carried}
@@ -29,7 +29,7 @@ stored_input raw input reads id = by_read (message_in raw.ty raw.body) refl
   where
     by_read : (o : Option Message) → message_in raw.ty raw.body ≡ o → read_carries id o ≡ false
     by_read None is = refl
-    by_read (Some m) is = ap (is_among id) (input_carries m ((message_is raw.ty raw.body m is).1 ∙ typed raw.ty type.InputCommand (input_type raw input reads)))
+    by_read (Some m) is = ap (is_among id) (input_carries m (type_read raw.ty raw.body m is ∙ typed raw.ty type.InputCommand (input_type raw input reads)))
 
 -- it carries none at all
 pub input_carries_none : (raw : RawMessage) (input : InputCommand) → input_read_from raw ≡ Some input → carried_by raw ≡ []
@@ -37,7 +37,7 @@ input_carries_none raw input reads = by_read (message_in raw.ty raw.body) refl
   where
     by_read : (o : Option Message) → message_in raw.ty raw.body ≡ o → read_carried o ≡ []
     by_read None is = refl
-    by_read (Some m) is = input_carries m ((message_is raw.ty raw.body m is).1 ∙ typed raw.ty type.InputCommand (input_type raw input reads))
+    by_read (Some m) is = input_carries m (type_read raw.ty raw.body m is ∙ typed raw.ty type.InputCommand (input_type raw input reads))
 
 -- behind the input the commands carry the same ids
 pub carried_behind : (ns : List Notification) (raw : RawMessage) (input : InputCommand) (rest : List RawMessage) → input_read_from raw ≡ Some input → AreCarried ns (raw ∷ rest) → AreCarried ns rest

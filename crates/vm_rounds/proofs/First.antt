@@ -40,7 +40,7 @@ input_by i None h = cc
 input_by i (Some s) h = let e : s ≡ i = cc in ap Some e
 
 input_found : (b : List ℕ) (i : InputCommand) → message_in type.InputCommand b ≡ Some (message.Input i) → input_in b ≡ Some i
-unfolding message_in input_in
+unfolding message_in
 input_found b i h = input_by i (input_in b) h
 
 first_run : (s : Setup) (m : Meaning) (K : Knowledge) (i : InputCommand) → IsWhole (message.Input i) → IsOneRun s m K (journal_entries (encoding (message.Input i) ∷ []))

@@ -8,7 +8,7 @@ use Rattle.journal_errors.specs.declared.types.MessageType.{MessageType}
 use Rattle.journal_errors.specs.declared.types.MessageType.TheVariants as type
 use Rattle.journal_messages.specs.Reading.{input_in, message_in}
 use Rattle.journal_errors.specs.Types.{type_number}
-use Rattle.journal_messages.proofs.Reading.{message_is}
+use Rattle.journal_protocol.proofs.Facts.{type_read}
 use Rattle.vm_parts.specs.declared.context.StateMap.{StateMap}
 use Rattle.vm_model.specs.Calls.{Meaning, Setup}
 use Rattle.vm_model.specs.Journal.{Entry, commands_in, input_read_from, messages_in, read_before}
@@ -44,7 +44,7 @@ input_says journal b g = ap (λ l. changed_by (messages_in l) g) b.commands ∙ 
   where
     by_message : (o : Option Message) → message_in b.first.ty b.first.body ≡ o → changed_by (read_before o (messages_in b.rest)) g ≡ changed_by (messages_in b.rest) g
     by_message None is = refl
-    by_message (Some n) is = ap (changed_by (messages_in b.rest)) (unchanged n (ap changes_state (message_is b.first.ty b.first.body n is).1 ∙ changes_nothing b.first.ty (input_type b.first b.input b.reads)) g)
+    by_message (Some n) is = ap (changed_by (messages_in b.rest)) (unchanged n (ap changes_state type_read b.first.ty b.first.body n is ∙ changes_nothing b.first.ty (input_type b.first b.input b.reads)) g)
 
 -- a history begins with its input
 pub history_begins : (s : Setup) (m : Meaning) (base : StateMap) (journal : List Entry) → History s m base journal → Begins journal

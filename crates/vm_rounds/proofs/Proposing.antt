@@ -67,7 +67,8 @@ use Rattle.vm_store.proofs.Scanned.{written_append}
 use Rattle.vm_steps.specs.declared.progress.Progress.{Progress}
 use Rattle.vm_steps.specs.declared.progress.Reply.{Reply}
 use Rattle.vm_steps.specs.declared.progress.Reply.TheVariants as reply
-use Rattle.vm_steps.specs.Heard.{proposal_in, proposals_among, proposed_by}
+use Rattle.journal_protocol.specs.Bodies.{proposal_in}
+use Rattle.vm_steps.specs.Heard.{proposals_among, proposed_by}
 use Rattle.vm_steps.specs.Record.{Record}
 use Rattle.vm_steps.specs.Stepping.{Advances, Asks, CloseDoes, Closes, FeedDoes, Feeds, FinishDoes, Finishes, LacksMemory, Reads, StepAt, StepDoes, StepFrom, StepUnless, future_in, kept, kept_at, newly_proposed, noted, noted_at, replied, step_asked, taken_from, with_vm}
 use Rattle.vm_steps.specs.Steps.{StepMade}

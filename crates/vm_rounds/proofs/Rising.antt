@@ -11,7 +11,7 @@ use Rattle.journal_messages.specs.declared.message.Message.TheVariants as messag
 use Rattle.journal_messages.specs.declared.message.RawMessage.{RawMessage}
 use Rattle.journal_messages.specs.Message.{type_of}
 use Rattle.journal_messages.specs.Reading.{message_in}
-use Rattle.journal_messages.proofs.Reading.{message_is}
+use Rattle.journal_protocol.proofs.Facts.{type_read}
 use Rattle.journal_values.specs.declared.notification.Notification.{Notification}
 use Rattle.journal_values.specs.declared.notification.NotificationResult.{NotificationResult}
 use Rattle.vm_types.specs.declared.steps.Step.{Step}
@@ -190,7 +190,7 @@ read_carries_its r id raw result e = by_type (type_number raw.ty == type_number 
 
 stands_carry : (d : Demand) (raw : RawMessage) → Stands d raw → (carried_by raw ≡ ids_needed d) ⊎ (carried_by raw ≡ [])
 stands_carry (Exactly command ignore) raw (ty, (recorded, reads, equal)) =
-    let is : type_of recorded ≡ type_of command = (message_is raw.ty raw.body recorded reads).1 ∙ typed raw.ty (type_of command) (eq-eqb (type_number raw.ty) (type_number (type_of command)) ty) in
+    let is : type_of recorded ≡ type_of command = type_read raw.ty raw.body recorded reads ∙ typed raw.ty (type_of command) (eq-eqb (type_number raw.ty) (type_number (type_of command)) ty) in
     ⊎_elim
     (λ (x : carried recorded ≡ carried command). inl (ap read_carried reads ∙ x))
     (λ (x : carried recorded ≡ []). inr (ap read_carried reads ∙ x))

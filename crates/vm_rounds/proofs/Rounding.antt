@@ -101,7 +101,7 @@ start_by st None h = cc
 start_by st (Some s) h = let e : s ≡ st = cc in ap Some e
 
 start_found : (b : List ℕ) (st : Start) → message_in type.Start b ≡ Some (message.Start st) → start_in b ≡ Some st
-unfolding message_in start_in
+unfolding message_in
 start_found b st h = start_by st (start_in b) h
 
 pub start_reads : (st : Start) → IsWhole (message.Start st) → start_in (stored_form (message.Start st)).body ≡ Some st

@@ -23,7 +23,8 @@ use Rattle.vm_model.specs.Carried.{AreCarried, is_carried}
 use Rattle.vm_model.specs.Journal.{stored_form}
 use Rattle.vm_model.proofs.Once.{still_carried}
 use Rattle.vm_attempt.specs.Arrivals.{AllFound, FindsProposal, IsOfKept, arriving, kept_after, acknowledged_as, unacknowledged}
-use Rattle.vm_steps.specs.Heard.{acknowledged_from, is_proposal, proposal_in, proposals_among, proposed_by}
+use Rattle.journal_protocol.specs.Bodies.{proposal_in}
+use Rattle.vm_steps.specs.Heard.{acknowledged_from, is_proposal, proposals_among, proposed_by}
 use Rattle.vm_attempt.specs.Journals.{commands_among, is_acknowledgement, is_command_frame, is_notification, notifications_among, notified_by}
 use Rattle.vm_attempt.proofs.Advanced.{nothing_acknowledged}
 use Rattle.vm_attempt.proofs.Arriving.{arriving_alone, kept_none}
@@ -108,7 +109,7 @@ are_items version (raw ∷ raws) h = items_by version (is_command_frame raw) raw
 
 -- a notification that is written can be read back
 pub notification_back : (n : Notification) → IsWhole (message.Notification n) → notification_in (stored_form (message.Notification n)).body ≡ Some n
-unfolding message_in notification_in
+unfolding message_in
 notification_back n whole = by_read (notification_in (stored_form (message.Notification n)).body) (read_back (message.Notification n) whole)
   where
     by_read : (o : Option Notification) → option_map message.Notification o ≡ Some (message.Notification n) → o ≡ Some n
@@ -116,7 +117,7 @@ notification_back n whole = by_read (notification_in (stored_form (message.Notif
     by_read (Some x) h = let e : x ≡ n = cc in ap Some e
 
 acknowledgement_back : (ack : ProposeRunCompletionAck) → IsWhole (message.ProposeRunCompletionAck ack) → acknowledgement_in (stored_form (message.ProposeRunCompletionAck ack)).body ≡ Some ack
-unfolding message_in acknowledgement_in
+unfolding message_in
 acknowledgement_back ack whole = by_read (acknowledgement_in (stored_form (message.ProposeRunCompletionAck ack)).body) (read_back (message.ProposeRunCompletionAck ack) whole)
   where
     by_read : (o : Option ProposeRunCompletionAck) → option_map message.ProposeRunCompletionAck o ≡ Some (message.ProposeRunCompletionAck ack) → o ≡ Some ack

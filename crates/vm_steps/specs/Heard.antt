@@ -1,12 +1,11 @@
 -- What an attempt has heard: the pieces of its input, and the results of runs that it was told and
 -- has proposed.
 use Rattle.std.specs.Prelude.{◌==◌, ◌++◌, Bool, cond, if◌then◌else◌, List, [], ◌∷◌, ℕ, Option, Some, None}
-use Rattle.journal_attempt.specs.Bodies.{propose_run_completion_format}
 use Rattle.journal_attempt.specs.declared.runs.ProposeRunCompletion.{ProposeRunCompletion}
 use Rattle.journal_errors.specs.declared.version.Version.{Version}
 use Rattle.journal_errors.specs.Types.{type_number}
 use Rattle.journal_messages.specs.declared.message.RawMessage.{RawMessage}
-use Rattle.journal_messages.specs.Reading.{body_as}
+use Rattle.journal_protocol.specs.Bodies.{proposal_in}
 use Rattle.vm_parts.specs.declared.run_state.KeptProposal.{KeptProposal}
 use Rattle.journal_errors.specs.Versions.{is_from_v7}
 use Rattle.invocation_vm.specs.Frames.{frames_of}
@@ -17,10 +16,6 @@ use Rattle.vm_steps.specs.declared.progress.Fed.{Fed}
 -- the frame is one of a proposal
 abbrev pub is_proposal : RawMessage → Bool
 is_proposal raw = type_number raw.ty == 5
-
--- the proposal whose body this is
-unfoldable pub proposal_in : List ℕ → Option ProposeRunCompletion
-proposal_in = body_as propose_run_completion_format
 
 -- with the proposal that was read, as it is kept, if there was one
 abbrev pub proposed_by : Option ProposeRunCompletion → List KeptProposal → List KeptProposal

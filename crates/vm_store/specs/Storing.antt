@@ -12,7 +12,8 @@ use Rattle.invocation_vm.specs.Frames.{frames_of}
 use Rattle.vm_parts.specs.declared.run_state.KeptProposal.{KeptProposal}
 use Rattle.vm_machine.specs.Inputs.{completion_of}
 use Rattle.journal_errors.specs.Versions.{is_from_v7}
-use Rattle.vm_steps.specs.Heard.{is_proposal, proposal_in}
+use Rattle.journal_protocol.specs.Bodies.{proposal_in}
+use Rattle.vm_steps.specs.Heard.{is_proposal}
 use Rattle.vm_attempt.specs.Journals.{is_command_frame}
 use Rattle.vm_store.specs.declared.storing.Written.{Written}
 use Rattle.vm_store.specs.declared.storing.Written.TheVariants.{Command, Proposal}

@@ -10,7 +10,7 @@ use journal_messages::{Message, RawMessage};
 use journal_streams::Decoder;
 use journal_values::Notification;
 use std::alloc::{AllocError, Global};
-use wire::{Fault, Wire};
+use wire::Fault;
 
 /// Whether the frame is one of a command.
 pub fn is_command_frame(raw: &RawMessage) -> bool
@@ -28,14 +28,10 @@ fn is_notification(raw: &RawMessage) -> bool
 }
 
 /// The frame's bytes.
-#[tactic(auto, unfolding(wire::specs::Format::bytes))]
 pub fn frame_bytes(alloc: Global, raw: &RawMessage) -> Result<Bytes, AllocError>
     ensures { IfOk result (λ b. b ≡ frame_of raw.now) }
 {
-    let mut frame = Vec::new(alloc);
-    raw.ty.number().put(&mut frame)?;
-    raw.body.put(&mut frame)?;
-    Ok(Bytes::from_vec(frame)?)
+    raw.encode(alloc)
 }
 
 /// The frame that some bytes are, if they are one whole frame and nothing more.

@@ -15,7 +15,7 @@ use crate::arrival_faults::{room_fault, stored_proposal_fault};
 use crate::entry::{frame_bytes, is_command_frame};
 use crate::types::RoundFault;
 use bytes::{Bytes, BytesMut};
-use journal_attempt::{ProposeRunCompletion, ProposeRunCompletionAck};
+use journal_attempt::ProposeRunCompletionAck;
 use journal_errors::Version;
 use journal_messages::{Encoder, Message, RawMessage};
 use journal_streams::Decoder;
@@ -42,14 +42,13 @@ fn is_proposal(raw: &RawMessage) -> bool
 }
 
 /// The proposal that a frame is, if it is one and can be read.
-#[tactic(auto, unfolding(vm_steps::specs::Heard::proposal_in))]
 fn proposal_of(alloc: Global, raw: &RawMessage) -> Result<Option<KeptProposal>, AllocError>
     ensures { IfOk result (λ proposal. proposal ≡ proposal_of raw.now) }
 {
     if !is_proposal(raw) {
         return Ok(None);
     }
-    match raw.read_as::<ProposeRunCompletion>(alloc) {
+    match raw.read_proposal(alloc) {
         Ok(proposal) => Ok(Some(KeptProposal {
             completion_id: proposal.id,
             result: proposal.result,
