@@ -149,7 +149,7 @@ fn an_attempt_over_other_bytes(rt: HostRuntime) -> Result<(), Fail> {
     let received = attempt(&rt, alloc, Short { alloc, mark: false })?;
     assert_eq!(rt;
         received.as_slice(),
-        b"\0\0\0\x0b\0\0\0\0\0\0\0\0\0\0\x01x\0\x1d\0\0\0\x01\0\0\x04".as_slice()
+        b"\0\0\0\x0b\0\0\0\0\0\0\0\0\0\x01x\0\x1d\0\0\0\x01\0\0\x04".as_slice()
     );
     Ok(())
 }
@@ -160,7 +160,7 @@ fn an_attempt_over_the_other_spelling(rt: HostRuntime) -> Result<(), Fail> {
     let received = attempt(&rt, alloc, Short { alloc, mark: true })?;
     assert_eq!(rt;
         received.as_slice(),
-        b"\0\0\0\x0b\x01\0\0\0\0\0\0\0\0\0\x01x\0\x1d\0\0\0\x01\x01\0\x04".as_slice()
+        b"\0\0\0\x0b\x01\0\0\0\0\0\0\0\0\x01x\0\x1d\0\0\0\x01\x01\0\x04".as_slice()
     );
     Ok(())
 }
