@@ -1,0 +1,184 @@
+// One attempt over a layer, whole: a handler that sleeps and answers. The peer speaks the layer's bytes; the VM's own are translated
+// at the boundary, and nothing else knows of them. What the VM writes is the same over each layer.
+use crate::short::Short;
+use bytes::Bytes;
+use invocation_vm::{
+    AwaitResponse, CoreVM, NonEmptyValue, PayloadOptions, UnresolvedFuture, VM, VMOptions,
+    VMResult, Value,
+};
+use layers::{Layer, LayerFault, Own, translate};
+use std::alloc::Global;
+use std::process::Abort;
+use std::test::Fail;
+use std::time::Duration;
+use vectors::frames::{
+    AWAITING_ON_1, COMPLETION_1, END, INPUT_TILL, OUTPUT_X, SLEEP_TO_1000, START_1,
+};
+use vectors::headers::Headers;
+
+fn answered<T>(given: VMResult<T>) -> Result<T, Fail> {
+    match given {
+        Ok(answer) => Ok(answer),
+        Err(error) => Err(Fail::new(format_args!("{error:?}"))),
+    }
+}
+
+fn fail(fault: LayerFault) -> Fail {
+    Fail::new(format_args!("{fault:?}"))
+}
+
+fn translated<A: Layer, B: Layer>(
+    alloc: Global,
+    from: &A,
+    to: &B,
+    stream: &mut Bytes,
+) -> Result<Bytes, Fail> {
+    match translate(alloc, from, to, stream) {
+        Ok(out) => Ok(out),
+        Err(fault) => Err(fail(fault)),
+    }
+}
+
+/// All of these bytes in another layer; nothing is left of them.
+fn whole<A: Layer, B: Layer>(
+    rt: &impl Abort,
+    alloc: Global,
+    from: &A,
+    to: &B,
+    bytes: &[u8],
+) -> Result<Bytes, Fail> {
+    let mut stream = Bytes::copy_from_slice(alloc, bytes)?;
+    let out = translated(alloc, from, to, &mut stream)?;
+    assert!(rt; stream.is_empty());
+    Ok(out)
+}
+
+/// A VM whose peer speaks the layer.
+#[derive(Drop)]
+struct Session<L: Layer + Drop> {
+    alloc: Global,
+    layer: L,
+    vm: CoreVM,
+    /// What the peer has sent of a frame that isn't whole yet.
+    waiting: Vec<u8>,
+}
+
+impl<L: Layer + Drop> Session<L> {
+    /// The peer sends these frames, byte by byte.
+    fn send(&mut self, rt: &impl Abort, frames: &[u8]) -> Result<(), Fail> {
+        let own = Own { alloc: self.alloc };
+        let sent = whole(rt, self.alloc, &own, &self.layer, frames)?;
+        for byte in sent.as_slice() {
+            self.waiting.push(*byte)?;
+            let mut stream = Bytes::copy_from_slice(self.alloc, self.waiting.as_slice())?;
+            let fed = translated(self.alloc, &self.layer, &own, &mut stream)?;
+            self.waiting.clear();
+            self.waiting.extend_from_slice(stream.as_slice())?;
+            self.vm.notify_input(fed)?;
+        }
+        assert!(rt; self.waiting.as_slice().is_empty());
+        Ok(())
+    }
+
+    /// What the VM has written, as the peer reads it, is these messages.
+    fn receive(&mut self, rt: &impl Abort, frames: &[&[u8]]) -> Result<Bytes, Fail> {
+        let own = Own { alloc: self.alloc };
+        let output = self.vm.take_output()?;
+        let received = whole(rt, self.alloc, &own, &self.layer, output.as_slice())?;
+        let read = whole(rt, self.alloc, &self.layer, &own, received.as_slice())?;
+        let mut wanted = Vec::new(self.alloc);
+        for frame in frames {
+            wanted.extend_from_slice(frame)?;
+        }
+        assert_eq!(rt; read.as_slice(), wanted.as_slice());
+        Ok(received)
+    }
+}
+
+/// The attempt, and what the peer received last.
+fn attempt<L: Layer + Drop>(rt: &impl Abort, alloc: Global, layer: L) -> Result<Bytes, Fail> {
+    let headers = Headers::ContentType("application/vnd.restate.invocation.v8");
+    let vm: CoreVM = answered(VM::new(alloc, headers, VMOptions::default()))?;
+    let mut session = Session {
+        alloc,
+        layer,
+        vm,
+        waiting: Vec::new(alloc),
+    };
+    session.send(rt, START_1)?;
+    session.send(rt, INPUT_TILL)?;
+    let input = answered(session.vm.sys_input())?;
+    assert_eq!(rt; input.input.as_slice(), b"Till".as_slice());
+    let name = String::new(alloc);
+    let slept = answered(
+        session
+            .vm
+            .sys_sleep(name, Duration::from_millis(1000), None),
+    )?;
+    let asked = answered(session.vm.do_await(UnresolvedFuture::Single(slept)))?;
+    assert!(rt; matches!(asked, AwaitResponse::WaitingExternalProgress { .. }));
+    let _ = session.receive(rt, &[SLEEP_TO_1000, AWAITING_ON_1])?;
+    session.send(rt, COMPLETION_1)?;
+    let asked = answered(session.vm.do_await(UnresolvedFuture::Single(slept)))?;
+    assert_eq!(rt; asked, AwaitResponse::AnyCompleted);
+    assert_eq!(rt;
+        answered(session.vm.take_notification(slept))?,
+        Some(Value::Void)
+    );
+    let output = NonEmptyValue::Success(Bytes::from_static(b"x"));
+    answered(
+        session
+            .vm
+            .sys_write_output(output, PayloadOptions::stable_serialization()),
+    )?;
+    answered(session.vm.sys_end())?;
+    session.receive(rt, &[OUTPUT_X, END])
+}
+
+#[test]
+fn an_attempt_over_our_own_bytes(rt: HostRuntime) -> Result<(), Fail> {
+    let alloc = rt.alloc();
+    let received = attempt(&rt, alloc, Own { alloc })?;
+    assert!(rt; received.as_slice().ends_with(END));
+    Ok(())
+}
+
+#[test]
+fn an_attempt_over_other_bytes(rt: HostRuntime) -> Result<(), Fail> {
+    let alloc = rt.alloc();
+    let received = attempt(&rt, alloc, Short { alloc, mark: false })?;
+    assert_eq!(rt;
+        received.as_slice(),
+        b"\0\0\0\x0b\0\0\0\0\0\0\0\0\0\x01x\0\x1d\0\0\0\x01\0\0\x04".as_slice()
+    );
+    Ok(())
+}
+
+#[test]
+fn an_attempt_over_the_other_spelling(rt: HostRuntime) -> Result<(), Fail> {
+    let alloc = rt.alloc();
+    let received = attempt(&rt, alloc, Short { alloc, mark: true })?;
+    assert_eq!(rt;
+        received.as_slice(),
+        b"\0\0\0\x0b\x01\0\0\0\0\0\0\0\0\x01x\0\x1d\0\0\0\x01\x01\0\x04".as_slice()
+    );
+    Ok(())
+}
+
+#[test]
+fn what_is_no_frame_is_refused(rt: HostRuntime) -> Result<(), Fail> {
+    let alloc = rt.alloc();
+    let (short, own) = (Short { alloc, mark: false }, Own { alloc });
+    // A mark of 2, no mark at all, and a type that there isn't.
+    for bytes in [
+        &b"\0\0\0\x01\x02\0\x04"[..],
+        b"\0\0\0\0\0\x04",
+        b"\0\0\0\x01\0\xff\xff",
+    ] {
+        let mut stream = Bytes::copy_from_slice(alloc, bytes)?;
+        let refused = translate(alloc, &short, &own, &mut stream);
+        assert!(rt; matches!(refused, Err(LayerFault::Malformed)));
+        assert_eq!(rt; stream.as_slice(), bytes);
+    }
+    Ok(())
+}
