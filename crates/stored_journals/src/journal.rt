@@ -6,13 +6,14 @@ ghost use Rattle.vm_store.specs.declared.types.RoundFault.TheVariants as round_f
 ghost use Rattle.stored_journals.specs.Journals.{Appends, Enters, Holds, IsFault, IsSameKept, Kept, Loads, arriving_fault, given_fault, given_note_fault, may_be_given, note_of, noted_fault, proposing_fault, room_at, said_of};
 
 use crate::carried::{Carried, ids_in};
-use crate::frames::{Part, frame_in, is_input, note_in, part_of};
+use crate::frames::{Part, part_of};
 use crate::ids::Ids;
 use bytes::Bytes;
 use journal_messages::{Message, RawMessage};
 use journal_values::{Notification, NotificationId};
 use std::alloc::{AllocError, Global};
 use std::marker::Model;
+use vm_store::entry::{frame_in, is_input, note_in};
 use vm_store::types::RoundFault;
 
 /// A stored journal, without its entries.

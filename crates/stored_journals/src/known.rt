@@ -6,6 +6,7 @@ ghost use Rattle.vm_store.specs.Given.{as_given};
 ghost use Rattle.stored_journals.specs.Known.{as_completes};
 
 use journal_values::NotificationResult;
+use vm_store::arrival_faults::is_invocation_id;
 use vm_store::types::RoundFault;
 
 /// What completes an id that a command carries.
@@ -26,12 +27,6 @@ pub struct Known {
     pub kind: Option<Kind>,
     /// Whether it was completed.
     pub done: bool,
-}
-
-fn is_invocation_id(brings: &NotificationResult) -> bool
-    ensures { result ≡ is_invocation_id brings.now }
-{
-    matches!(brings, NotificationResult::InvocationId(_))
 }
 
 /// The fault of what completes an id of this kind that wasn't completed.

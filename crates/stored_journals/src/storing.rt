@@ -4,19 +4,16 @@ ghost use Rattle.journal_errors.specs.Versions.{is_from_v7};
 ghost use Rattle.journal_messages.specs.Message.{IsWhole, encoding};
 ghost use Rattle.journal_messages.specs.declared.message.Message.TheVariants as message;
 ghost use Rattle.vm_machine.specs.Inputs.{completion_of};
-ghost use Rattle.vm_steps.specs.Heard.{is_proposal};
 ghost use Rattle.vm_store.specs.Entries.{frame_of, note_in, note_of as note_by, said_at, said_by};
-ghost use Rattle.vm_store.specs.NextFrames.{NextWritten};
 ghost use Rattle.vm_store.specs.Storing.{acknowledgement, answer_to, completion_message, proposal_of, written_as};
 ghost use Rattle.vm_store.specs.declared.storing.Written.TheVariants as written;
 ghost use Rattle.vm_store.specs.declared.types.RoundFault.TheVariants as round_fault;
 ghost use Rattle.stored_journals.specs.Journals.{Appends, IsSameKept};
 ghost use Rattle.stored_journals.specs.Stored.{FaultsBy, IsStoringFault, NextFaultsBy, StoresBy, StoresNext, StoresOneBy, StoresRawBy, fits_in, storing_by};
 
-use crate::frames::{frame_bytes, is_command_frame, part_of};
+use crate::frames::part_of;
 use crate::journal::StoredJournal;
 use bytes::{Bytes, BytesMut};
-use journal_attempt::ProposeRunCompletionAck;
 use journal_errors::Version;
 use journal_messages::{Encoder, Message, RawMessage};
 use journal_streams::Decoder;
@@ -24,47 +21,9 @@ use journal_values::{Notification, NotificationId};
 use runs::completion_result;
 use std::alloc::{AllocError, Global};
 use vm_parts::KeptProposal;
-use vm_store::storing::Written;
+use vm_store::entry::frame_bytes;
+use vm_store::storing::{Written, answer_bytes, next_written, written_as};
 use vm_store::types::RoundFault;
-use wire::Fault;
-
-/// Whether the frame is one of a proposal.
-fn is_proposal(raw: &RawMessage) -> bool
-    ensures { result ≡ is_proposal raw.now }
-{
-    raw.ty.number() == 5
-}
-
-/// The proposal that a frame is, if it is one and can be read.
-fn proposal_of(alloc: Global, raw: &RawMessage) -> Result<Option<KeptProposal>, AllocError>
-    ensures { IfOk result (λ proposal. proposal ≡ proposal_of raw.now) }
-{
-    if !is_proposal(raw) {
-        return Ok(None);
-    }
-    match raw.read_proposal(alloc) {
-        Ok(proposal) => Ok(Some(KeptProposal {
-            completion_id: proposal.id,
-            result: proposal.result,
-        })),
-        Err(Fault::Memory) => Err(AllocError),
-        Err(Fault::Malformed) => Ok(None),
-    }
-}
-
-/// What is stored of a frame, if it is one of a command or of a proposal.
-fn written_as(alloc: Global, raw: RawMessage) -> Result<Option<Written>, AllocError>
-    ensures { IfOk result (λ written. written ≡ written_as raw) }
-{
-    if is_command_frame(&raw) {
-        return Ok(Some(Written::Command(raw)));
-    }
-    match proposal_of(alloc, &raw) {
-        Ok(Some(proposal)) => Ok(Some(Written::Proposal(proposal))),
-        Ok(None) => Ok(None),
-        Err(error) => Err(error),
-    }
-}
 
 /// The completion with the proposed result.
 fn completion_of(proposal: KeptProposal) -> Notification
@@ -83,33 +42,6 @@ fn note_bytes(alloc: Global, note: Notification) -> Result<Bytes, AllocError>
 {
     let message = Message::Notification(note);
     Encoder::new(alloc).encode(&message)
-}
-
-/// The frame that acknowledges the proposal for the run of this id.
-fn acknowledgement_bytes(alloc: Global, id: u32) -> Result<Bytes, AllocError>
-    ensures bytes { IfOk result (λ b. b ≡ encoding (acknowledgement id)) }
-    ensures whole { OnOk result (IsWhole (acknowledgement id)) }
-{
-    let message = Message::ProposeRunCompletionAck(ProposeRunCompletionAck { id });
-    Encoder::new(alloc).encode(&message)
-}
-
-/// The frame that answers a proposal: from version 7 on its acknowledgement, before it the completion that was stored.
-fn answer_bytes(
-    alloc: Global,
-    version: Version,
-    id: u32,
-    completion: &Bytes,
-) -> Result<Bytes, AllocError>
-    ensures bytes { IfOk result (λ b. b
-        ≡ (if is_from_v7 version then encoding (acknowledgement id) else completion.now)) }
-    ensures whole { OnOk result (is_from_v7 version ≡ true → IsWhole (acknowledgement id)) }
-{
-    if version >= Version::V7 {
-        acknowledgement_bytes(alloc, id)
-    } else {
-        completion.clone()
-    }
 }
 
 /// A frame is appended to what is known, and to the entries.
@@ -254,18 +186,6 @@ fn store_item(
         Written::Proposal(proposal) => {
             store_proposal(alloc, version, journal, entries, feed, proposal)
         }
-    }
-}
-
-/// The next frame that was written, if it is whole.
-fn next_written(unstored: &mut Decoder) -> Result<Option<RawMessage>, RoundFault>
-    ensures ok { IfOk result (λ o. NextWritten unstored.old o unstored.new) }
-    ensures err { IfErr result (λ f. f ≡ round_fault.Memory) }
-{
-    match unstored.next_frame() {
-        Ok(raw) => Ok(raw),
-        Err(Fault::Memory) => Err(RoundFault::Memory),
-        Err(Fault::Malformed) => Ok(None),
     }
 }
 

@@ -9,7 +9,7 @@ use bytes::Bytes;
 use journal_values::{Notification, NotificationId, NotificationResult};
 use std::alloc::{AllocError, Global};
 
-fn is_invocation_id(brings: &NotificationResult) -> bool
+pub fn is_invocation_id(brings: &NotificationResult) -> bool
     ensures { result ≡ is_invocation_id brings.now }
 {
     matches!(brings, NotificationResult::InvocationId(_))

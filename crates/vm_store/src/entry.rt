@@ -21,7 +21,7 @@ pub fn is_command_frame(raw: &RawMessage) -> bool
 }
 
 /// Whether the frame is one of a notification.
-fn is_notification(raw: &RawMessage) -> bool
+pub fn is_notification(raw: &RawMessage) -> bool
     ensures { result ≡ is_notification raw.now }
 {
     raw.ty.number() == 30

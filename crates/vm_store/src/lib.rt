@@ -4,7 +4,7 @@
 
 pub mod arrival_faults;
 mod completions;
-mod entry;
+pub mod entry;
 pub mod given;
 pub mod handed;
 pub mod storing;

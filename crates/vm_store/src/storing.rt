@@ -59,7 +59,7 @@ fn proposal_of(alloc: Global, raw: &RawMessage) -> Result<Option<KeptProposal>, 
 }
 
 /// What is stored of a frame, if it is one of a command or of a proposal.
-fn written_as(alloc: Global, raw: RawMessage) -> Result<Option<Written>, AllocError>
+pub fn written_as(alloc: Global, raw: RawMessage) -> Result<Option<Written>, AllocError>
     ensures { IfOk result (λ written. written ≡ written_as raw) }
 {
     if is_command_frame(&raw) {
@@ -94,7 +94,7 @@ fn acknowledgement_bytes(alloc: Global, id: u32) -> Result<Bytes, AllocError>
 }
 
 /// The frame that answers a proposal: from version 7 on its acknowledgement, before it the completion that was stored.
-fn answer_bytes(
+pub fn answer_bytes(
     alloc: Global,
     version: Version,
     id: u32,
@@ -205,7 +205,7 @@ fn store_item(
 }
 
 /// The next frame that was written, if it is whole.
-fn next_written(unstored: &mut Decoder) -> Result<Option<RawMessage>, RoundFault>
+pub fn next_written(unstored: &mut Decoder) -> Result<Option<RawMessage>, RoundFault>
     ensures ok { IfOk result (λ o. NextWritten unstored.old o unstored.new) }
     ensures err { IfErr result (λ f. f ≡ round_fault.Memory) }
 {
