@@ -1,1 +1,4 @@
+pub mod Entries
+pub mod Numbered
 pub mod Places
+pub mod Rising

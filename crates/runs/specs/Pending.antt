@@ -1,6 +1,6 @@
 -- Runs that were called and whose results are neither known nor proposed, in the order of their
 -- calls.
-use Rattle.std.specs.Prelude.{ℕ, ◌==◌, ◌&&◌, Bool, true, false, List}
+use Rattle.std.specs.Prelude.{ℕ, min, ◌==◌, ◌&&◌, Bool, true, false, List, Option, Some, None}
 use Rattle.std.specs.List.{list_any}
 use Rattle.vm_parts.specs.declared.run_state.PendingRun.{PendingRun}
 use Rattle.vm_parts.specs.declared.run_state.RunExecution.{RunExecution}
@@ -53,3 +53,8 @@ may_execute any run = waits run.execution && is_one_of any run.handle
 -- the run from when it is executed
 abbrev pub started : PendingRun → PendingRun
 started run = record run { execution = Executing }
+
+-- the less of two handles, where there is another
+abbrev pub lesser : Option ℕ → ℕ → ℕ
+lesser None handle = handle
+lesser (Some other) handle = min other handle

@@ -2,6 +2,8 @@
 #![tactic(auto)]
 
 pub mod kept;
+mod ordered_proposals;
+mod ordered_runs;
 pub mod run_state;
 mod same;
 pub mod settling;

@@ -1,28 +1,30 @@
 //! The runs that were called and whose results are neither known nor proposed, in the order of their calls.
-ghost use Rattle.std.specs.Prelude.{◌≡◌, [], ◌∷◌, ◌++◌, OnOk, OnErr, find, position};
+ghost use Rattle.std.specs.Prelude.{◌≡◌, [], ◌∷◌, ◌++◌, OnOk, OnErr, find, position, true};
 ghost use Rattle.std.specs.List.{list_any};
 ghost use Rattle.std.specs.Option.{option_map};
 ghost use Rattle.runs.specs.Firsts.{with_first, without_first};
 ghost use Rattle.runs.specs.Pending.{handle_of, has_handle, info_of, is_executing, is_executing_in, is_one_of, may_execute, started, to_execute};
 
+use crate::ordered_runs::OrderedRuns;
 use std::alloc::{AllocError, Global};
 use std::marker::Model;
 use vm_parts::{NotificationHandle, PendingRun, RunExecution};
 use wire::Text;
 
-/// Contracts see the list of the runs.
+/// The runs that were called after one whose handle isn't above all handles before it: in a machine there are none, since
+/// handles rise. Contracts see their list.
 #[derive(Drop)]
-pub struct RunState {
+struct LateRuns {
     pending: Vec<PendingRun>,
 }
 
-impl Model for RunState {
+impl Model for LateRuns {
     ghost use Rattle.std.specs.Prelude.{List};
     ghost use Rattle.vm_parts.specs.declared.run_state.PendingRun.{PendingRun};
 
     ghost Value = { List PendingRun };
 
-    ghost view = { λ state. state.pending.items };
+    ghost view = { λ late. late.pending.items };
 }
 
 fn is_one_of(handle: u32, any_handle: &[u32]) -> bool
@@ -31,35 +33,28 @@ fn is_one_of(handle: u32, any_handle: &[u32]) -> bool
     any_handle.iter().any(|other| *other == handle)
 }
 
-impl RunState {
+impl LateRuns {
     /// No runs.
-    pub fn new(alloc: Global) -> RunState
+    fn new(alloc: Global) -> LateRuns
         ensures { result ≡ [] }
     {
-        RunState {
+        LateRuns {
             pending: Vec::new(alloc),
         }
     }
 
-    /// A run was called whose result isn't known.
-    pub fn insert_run_to_execute(
-        &mut self,
-        handle: NotificationHandle,
-        completion_id: u32,
-        command_index: u32,
-        command_name: Text,
-    ) -> Result<(), AllocError>
-        ensures ok { OnOk result (self.new ≡ self.old
-            ++ to_execute handle completion_id command_index command_name ∷ []) }
+    fn is_empty(&self) -> bool
+        ensures { result ≡ true → self.now ≡ [] }
+    {
+        self.pending.is_empty()
+    }
+
+    /// A run is called after the others.
+    fn push(&mut self, run: PendingRun) -> Result<(), AllocError>
+        ensures ok { OnOk result (self.new ≡ self.old ++ run ∷ []) }
         ensures err { OnErr result (self.new ≡ self.old) }
     {
-        self.pending.push(PendingRun {
-            handle: handle.0,
-            completion_id,
-            command_index,
-            name: command_name,
-            execution: RunExecution::Waiting,
-        })?;
+        self.pending.push(run)?;
         Ok(())
     }
 
@@ -78,8 +73,7 @@ impl RunState {
         self.pending.iter().position(|run| run.handle == handle.0)
     }
 
-    /// Of the runs that wait and have one of these handles the first is executed from now on.
-    pub fn try_execute_run(&mut self, any_handle: &[u32]) -> Option<NotificationHandle>
+    fn try_execute_run(&mut self, any_handle: &[u32]) -> Option<NotificationHandle>
         ensures run { result ≡ option_map handle_of (find (may_execute any_handle.now) self.old) }
         ensures rest { self.new ≡ with_first (may_execute any_handle.now) started self.old }
     {
@@ -89,8 +83,7 @@ impl RunState {
         Some(NotificationHandle(run.handle))
     }
 
-    /// The index and the name of the run's command.
-    pub fn get_run_info(&self, handle: &NotificationHandle) -> Option<(u32, &str)>
+    fn get_run_info(&self, handle: &NotificationHandle) -> Option<(u32, &str)>
         ensures { option_map (λ info. (info.0, info.1.now)) result
             ≡ option_map info_of (find (has_handle handle.now) self.now) }
     {
@@ -98,16 +91,14 @@ impl RunState {
         Some((run.command_index, run.name.as_str()))
     }
 
-    /// Whether a run with one of these handles is being executed.
-    pub fn any_executing_in_this_set(&self, any_handle: &[u32]) -> bool
+    fn any_executing_in_this_set(&self, any_handle: &[u32]) -> bool
         ensures { result ≡ list_any (is_executing_in any_handle.now) self.now }
     {
         self.pending.iter().any(|run| run.execution == RunExecution::Executing
             && is_one_of(run.handle, any_handle))
     }
 
-    /// Whether any run is being executed.
-    pub fn any_executing(&self) -> bool
+    fn any_executing(&self) -> bool
         ensures { result ≡ list_any is_executing self.now }
     {
         self.pending
@@ -115,12 +106,122 @@ impl RunState {
             .any(|run| run.execution == RunExecution::Executing)
     }
 
-    /// The run's result is proposed, so it isn't pending any more; none where no run has the handle.
-    pub fn notify_execution_completed(&mut self, executed: NotificationHandle) -> Option<PendingRun>
+    fn notify_execution_completed(&mut self, executed: NotificationHandle) -> Option<PendingRun>
         ensures run { result ≡ find (has_handle executed) self.old }
         ensures rest { self.new ≡ without_first (has_handle executed) self.old }
     {
         let at = self.place_of(executed)?;
         Some(self.pending.remove(at))
+    }
+}
+
+/// Contracts see the list of the runs.
+#[derive(Drop)]
+pub struct RunState {
+    ordered: OrderedRuns,
+    late: LateRuns,
+}
+
+impl Model for RunState {
+    ghost use Rattle.std.specs.Prelude.{◌++◌, List};
+    ghost use Rattle.vm_parts.specs.declared.run_state.PendingRun.{PendingRun};
+
+    ghost Value = { List PendingRun };
+
+    ghost view = { λ state. state.ordered ++ state.late };
+}
+
+impl RunState {
+    /// No runs.
+    pub fn new(alloc: Global) -> RunState
+        ensures { result ≡ [] }
+    {
+        RunState {
+            ordered: OrderedRuns::new(alloc),
+            late: LateRuns::new(alloc),
+        }
+    }
+
+    /// A run is called after the others.
+    fn push(&mut self, run: PendingRun) -> Result<(), AllocError>
+        ensures ok { OnOk result (self.new ≡ self.old ++ run ∷ []) }
+        ensures err { OnErr result (self.new ≡ self.old) }
+    {
+        if !self.late.is_empty() {
+            return self.late.push(run);
+        }
+        match self.ordered.push(run)? {
+            None => Ok(()),
+            Some(run) => self.late.push(run),
+        }
+    }
+
+    /// A run was called whose result isn't known.
+    pub fn insert_run_to_execute(
+        &mut self,
+        handle: NotificationHandle,
+        completion_id: u32,
+        command_index: u32,
+        command_name: Text,
+    ) -> Result<(), AllocError>
+        ensures ok { OnOk result (self.new ≡ self.old
+            ++ to_execute handle completion_id command_index command_name ∷ []) }
+        ensures err { OnErr result (self.new ≡ self.old) }
+    {
+        self.push(PendingRun {
+            handle: handle.0,
+            completion_id,
+            command_index,
+            name: command_name,
+            execution: RunExecution::Waiting,
+        })
+    }
+
+    /// Of the runs that wait and have one of these handles the first is executed from now on.
+    pub fn try_execute_run(&mut self, any_handle: &[u32]) -> Option<NotificationHandle>
+        ensures run { result ≡ option_map handle_of (find (may_execute any_handle.now) self.old) }
+        ensures rest { self.new ≡ with_first (may_execute any_handle.now) started self.old }
+    {
+        match self.ordered.try_execute_run(any_handle) {
+            Some(handle) => Some(handle),
+            None => self.late.try_execute_run(any_handle),
+        }
+    }
+
+    /// The index and the name of the run's command.
+    pub fn get_run_info(&self, handle: &NotificationHandle) -> Option<(u32, &str)>
+        ensures { option_map (λ info. (info.0, info.1.now)) result
+            ≡ option_map info_of (find (has_handle handle.now) self.now) }
+    {
+        match self.ordered.get_run_info(handle) {
+            Some(info) => Some(info),
+            None => self.late.get_run_info(handle),
+        }
+    }
+
+    /// Whether a run with one of these handles is being executed.
+    pub fn any_executing_in_this_set(&self, any_handle: &[u32]) -> bool
+        ensures { result ≡ list_any (is_executing_in any_handle.now) self.now }
+    {
+        self.ordered.any_executing_in_this_set(any_handle)
+            || self.late.any_executing_in_this_set(any_handle)
+    }
+
+    /// Whether any run is being executed. It looks at each, until one is.
+    pub fn any_executing(&self) -> bool
+        ensures { result ≡ list_any is_executing self.now }
+    {
+        self.ordered.any_executing() || self.late.any_executing()
+    }
+
+    /// The run's result is proposed, so it isn't pending any more; none where no run has the handle.
+    pub fn notify_execution_completed(&mut self, executed: NotificationHandle) -> Option<PendingRun>
+        ensures run { result ≡ find (has_handle executed) self.old }
+        ensures rest { self.new ≡ without_first (has_handle executed) self.old }
+    {
+        match self.ordered.notify_execution_completed(executed) {
+            Some(run) => Some(run),
+            None => self.late.notify_execution_completed(executed),
+        }
     }
 }

@@ -1,30 +1,30 @@
-use Rattle.std.proofs.Common.{Some, ap, sym, ◌∙◌}
-use Rattle.std.specs.List.{find, position}
+use Rattle.std.proofs.Common.{ap, find, sym, ◌++◌, ◌∙◌}
 use Rattle.std.specs.Option.{option_map}
 use Rattle.runs.specs.Firsts.{without_first}
 use Rattle.runs.specs.Kept.{is_for, result_of}
-use Rattle.runs.proofs.Places.{first_at, found, removed, no_find, no_removal}
+use Rattle.runs.proofs.Places.{earlier_of, later_of, none_of, without_earlier_of, without_later}
 use Rattle.runs.proofs.kept.KeptProposals.acknowledge.Goals as goal
 
-pub returns-in_err-at-clause-found : goal.returns-in_err-at-clause-found
-returns-in_err-at-clause-found c =
-    c.from_residual.ensures ∙ sym (ap (option_map result_of) (no_find (is_for c.args.completion_id) c.args.self.now (sym c.in_err-at.ensures)))
-
-pub returns-in_err-at-clause-rest : goal.returns-in_err-at-clause-rest
-returns-in_err-at-clause-rest c = sym (no_removal (is_for c.args.completion_id) c.args.self.now (sym c.in_err-at.ensures))
-
-pub returns-clause-found : goal.returns-clause-found
-returns-clause-found c =
+pub returns-in-Some-clause-found : goal.returns-in-Some-clause-found
+returns-in-Some-clause-found c =
     let p = is_for c.args.completion_id in
-    let kept = c.self.inside.kept.items in
-    let first = first_at p kept c.in_ok-at.at c.remove.result (c.in_ok-at.ensures ∙ ap (position p) (sym c.self.view_is)) in
-    ap (λ k. Some (result_of k)) c.remove.ensures.value
-    ∙ sym (ap (option_map result_of) (found p kept c.in_ok-at.at c.remove.result first))
-    ∙ ap (λ ks. option_map result_of (find p ks)) c.self.view_is
+    earlier_of result_of p c.self.inside.ordered c.self.inside.late c.in-Some.proposed c.in-Some.ensures.found ∙ ap (λ l. option_map result_of (find p l)) c.self.view_is
 
-pub returns-clause-rest : goal.returns-clause-rest
-returns-clause-rest c =
+pub returns-in-Some-clause-rest : goal.returns-in-Some-clause-rest
+returns-in-Some-clause-rest c =
     let p = is_for c.args.completion_id in
-    let kept = c.self.inside.kept.items in
-    let first = first_at p kept c.in_ok-at.at c.remove.result (c.in_ok-at.ensures ∙ ap (position p) (sym c.self.view_is)) in
-    c.remove.ensures.items ∙ removed p kept c.in_ok-at.at c.remove.result first ∙ ap (without_first p) c.self.view_is
+    ap (λ l. l ++ c.self.inside.late) c.acknowledge.ensures.rest
+    ∙ without_earlier_of result_of p c.self.inside.ordered c.self.inside.late c.in-Some.proposed c.in-Some.ensures.found ∙ ap (without_first p) c.self.view_is
+
+pub returns-in-None-clause-found : goal.returns-in-None-clause-found
+returns-in-None-clause-found c =
+    let p = is_for c.args.completion_id in
+    later_of result_of p c.self.inside.ordered c.self.inside.late c.acknowledge-in-None.result c.in-None.ensures.found c.acknowledge-in-None.ensures.found
+    ∙ ap (λ l. option_map result_of (find p l)) c.self.view_is
+
+pub returns-in-None-clause-rest : goal.returns-in-None-clause-rest
+returns-in-None-clause-rest c =
+    let p = is_for c.args.completion_id in
+    ap (λ l. l ++ c.acknowledge-in-None.new.self) c.acknowledge.ensures.rest
+    ∙ ap (λ l. without_first p c.self.inside.ordered ++ l) c.acknowledge-in-None.ensures.rest
+    ∙ sym (without_later p c.self.inside.ordered c.self.inside.late (none_of result_of p c.self.inside.ordered c.self.inside.late c.in-None.ensures.found)) ∙ ap (without_first p) c.self.view_is

@@ -1,26 +1,28 @@
-use Rattle.std.proofs.Common.{Some, ap, sym, ◌∙◌}
-use Rattle.std.specs.List.{find, position}
+use Rattle.std.proofs.Common.{ap, find, sym, ◌++◌, ◌∙◌}
 use Rattle.runs.specs.Firsts.{without_first}
 use Rattle.runs.specs.Pending.{has_handle}
-use Rattle.runs.proofs.Places.{first_at, found, removed, no_find, no_removal}
+use Rattle.runs.proofs.Places.{found_earlier, found_later, without_earlier, without_later}
 use Rattle.runs.proofs.run_state.RunState.notify_execution_completed.Goals as goal
 
-pub returns-in_err-at-clause-run : goal.returns-in_err-at-clause-run
-returns-in_err-at-clause-run c = c.from_residual.ensures ∙ sym (no_find (has_handle c.args.executed) c.args.self.now (sym c.in_err-at.ensures))
-
-pub returns-in_err-at-clause-rest : goal.returns-in_err-at-clause-rest
-returns-in_err-at-clause-rest c = sym (no_removal (has_handle c.args.executed) c.args.self.now (sym c.in_err-at.ensures))
-
-pub returns-clause-run : goal.returns-clause-run
-returns-clause-run c =
+pub returns-in-Some-clause-run : goal.returns-in-Some-clause-run
+returns-in-Some-clause-run c =
     let p = has_handle c.args.executed in
-    let runs = c.self.inside.pending.items in
-    let first = first_at p runs c.in_ok-at.at c.remove.result (c.in_ok-at.ensures ∙ ap (position p) (sym c.self.view_is)) in
-    ap Some c.remove.ensures.value ∙ sym (found p runs c.in_ok-at.at c.remove.result first) ∙ ap (find p) c.self.view_is
+    found_earlier p c.self.inside.ordered c.self.inside.late c.in-Some.run' c.in-Some.ensures.run ∙ ap (find p) c.self.view_is
 
-pub returns-clause-rest : goal.returns-clause-rest
-returns-clause-rest c =
+pub returns-in-Some-clause-rest : goal.returns-in-Some-clause-rest
+returns-in-Some-clause-rest c =
     let p = has_handle c.args.executed in
-    let runs = c.self.inside.pending.items in
-    let first = first_at p runs c.in_ok-at.at c.remove.result (c.in_ok-at.ensures ∙ ap (position p) (sym c.self.view_is)) in
-    c.remove.ensures.items ∙ removed p runs c.in_ok-at.at c.remove.result first ∙ ap (without_first p) c.self.view_is
+    ap (λ runs. runs ++ c.self.inside.late) c.notify_execution_completed.ensures.rest
+    ∙ sym (without_earlier p c.self.inside.ordered c.self.inside.late c.in-Some.run' (sym c.in-Some.ensures.run)) ∙ ap (without_first p) c.self.view_is
+
+pub returns-in-None-clause-run : goal.returns-in-None-clause-run
+returns-in-None-clause-run c =
+    let p = has_handle c.args.executed in
+    found_later p c.self.inside.ordered c.self.inside.late c.notify_execution_completed-in-None.result c.in-None.ensures.run c.notify_execution_completed-in-None.ensures.run ∙ ap (find p) c.self.view_is
+
+pub returns-in-None-clause-rest : goal.returns-in-None-clause-rest
+returns-in-None-clause-rest c =
+    let p = has_handle c.args.executed in
+    ap (λ runs. runs ++ c.notify_execution_completed-in-None.new.self) c.notify_execution_completed.ensures.rest
+    ∙ ap (λ runs. without_first p c.self.inside.ordered ++ runs) c.notify_execution_completed-in-None.ensures.rest
+    ∙ sym (without_later p c.self.inside.ordered c.self.inside.late (sym c.in-None.ensures.run)) ∙ ap (without_first p) c.self.view_is

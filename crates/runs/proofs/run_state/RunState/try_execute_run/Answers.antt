@@ -1,35 +1,29 @@
-use Rattle.std.proofs.Common.{Some, ap, sym, ◌∙◌}
-use Rattle.std.proofs.Math.ListN.{set}
-use Rattle.std.specs.List.{find, position}
+use Rattle.std.proofs.Common.{ap, find, sym, ◌++◌, ◌∙◌}
 use Rattle.std.specs.Option.{option_map}
 use Rattle.runs.specs.Firsts.{with_first}
 use Rattle.runs.specs.Pending.{handle_of, may_execute, started}
-use Rattle.runs.proofs.Places.{first_at, found, changed, no_find, no_change}
+use Rattle.runs.proofs.Places.{earlier_of, later_of, with_earlier_of, with_later, none_of}
 use Rattle.runs.proofs.run_state.RunState.try_execute_run.Goals as goal
 
-pub returns-in_err-at-clause-run : goal.returns-in_err-at-clause-run
-returns-in_err-at-clause-run c =
-    c.from_residual.ensures ∙ sym (ap (option_map handle_of) (no_find (may_execute c.args.any_handle.now) c.args.self.now (sym c.in_err-at.ensures)))
-
-pub returns-in_err-at-clause-rest : goal.returns-in_err-at-clause-rest
-returns-in_err-at-clause-rest c = sym (no_change (may_execute c.args.any_handle.now) started c.args.self.now (sym c.in_err-at.ensures))
-
-pub returns-clause-run : goal.returns-clause-run
-returns-clause-run c =
+pub returns-in-Some-clause-run : goal.returns-in-Some-clause-run
+returns-in-Some-clause-run c =
     let p = may_execute c.args.any_handle.now in
-    let runs = c.self.inside.pending.items in
-    let run = c.index_mut-run.result.now in
-    let first = first_at p runs c.in_ok-at.at run (c.in_ok-at.ensures ∙ ap (position p) (sym c.self.view_is)) in
-    ap (λ r. Some (handle_of r)) c.index_mut-run.ensures.value
-    ∙ sym (ap (option_map handle_of) (found p runs c.in_ok-at.at run first))
-    ∙ ap (λ rs. option_map handle_of (find p rs)) c.self.view_is
+    earlier_of handle_of p c.self.inside.ordered c.self.inside.late c.in-Some.handle c.in-Some.ensures.run ∙ ap (λ runs. option_map handle_of (find p runs)) c.self.view_is
 
-pub returns-clause-rest : goal.returns-clause-rest
-returns-clause-rest c =
+pub returns-in-Some-clause-rest : goal.returns-in-Some-clause-rest
+returns-in-Some-clause-rest c =
     let p = may_execute c.args.any_handle.now in
-    let runs = c.self.inside.pending.items in
-    let run = c.index_mut-run.result.now in
-    let first = first_at p runs c.in_ok-at.at run (c.in_ok-at.ensures ∙ ap (position p) (sym c.self.view_is)) in
-    ap (λ r. set runs c.in_ok-at.at (started r)) c.index_mut-run.ensures.value
-    ∙ changed p started runs c.in_ok-at.at run first
-    ∙ ap (with_first p started) c.self.view_is
+    ap (λ runs. runs ++ c.self.inside.late) c.try_execute_run.ensures.rest
+    ∙ with_earlier_of handle_of p c.self.inside.ordered c.self.inside.late started c.in-Some.handle c.in-Some.ensures.run ∙ ap (with_first p started) c.self.view_is
+
+pub returns-in-None-clause-run : goal.returns-in-None-clause-run
+returns-in-None-clause-run c =
+    let p = may_execute c.args.any_handle.now in
+    later_of handle_of p c.self.inside.ordered c.self.inside.late c.try_execute_run-in-None.result c.in-None.ensures.run c.try_execute_run-in-None.ensures.run ∙ ap (λ runs. option_map handle_of (find p runs)) c.self.view_is
+
+pub returns-in-None-clause-rest : goal.returns-in-None-clause-rest
+returns-in-None-clause-rest c =
+    let p = may_execute c.args.any_handle.now in
+    ap (λ runs. runs ++ c.try_execute_run-in-None.new.self) c.try_execute_run.ensures.rest
+    ∙ ap (λ runs. with_first p started c.self.inside.ordered ++ runs) c.try_execute_run-in-None.ensures.rest
+    ∙ sym (with_later p started c.self.inside.ordered c.self.inside.late (none_of handle_of p c.self.inside.ordered c.self.inside.late c.in-None.ensures.run)) ∙ ap (with_first p started) c.self.view_is
