@@ -6,7 +6,7 @@
 
    Memory. A session is a block of the heap and what hangs on it, by the program's malloc, realloc and free, which must belong
    together, and give blocks aligned as C asks. The library keeps nothing that it is passed: lines and bytes are copied, and
-   what it writes goes to the caller's buffers alone. Want of memory is answered, and never ends the program.
+   what it writes goes to the caller's buffers alone. Out of memory is answered, and never ends the program.
 
    Pointers. A palqytun_vm is all zeroes, or what palqytun_new left; it is not written by hand, and not used from two
    copies. Every pointer is valid for its length, also if that is 0: NULL is never passed. The buffers of one call don't
