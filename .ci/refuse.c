@@ -32,7 +32,7 @@ static unsigned long at, seen;
 static const char *refused, *each;
 static struct run running[MOST];
 static int many, most = 1;
-/* Whether nothing is refused any more: in a child behind its refusal, and in here. */
+/* Whether nothing is refused any more: in a child after its refusal, and in here. */
 static int is_over;
 
 /* What is allocated before this, the loader asked for. */

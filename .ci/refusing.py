@@ -10,7 +10,7 @@ SECONDS = 300  # for all runs of a program; refuse.c has those of one
 
 class Run:
     def __init__(self, status, output, said):
-        """A run's status as subprocess gives it, or None where it hadn't ended in time, and what it wrote."""
+        """A run's status as subprocess gives it, or None if it hadn't ended in time, and what it wrote."""
         self.status, self.output, self.said = status, output, said
 
     def ended(self):
@@ -26,7 +26,7 @@ def read(path):
 
 def all_runs(room, words, given, env):
     """Returns the ordinary run, and those that lack one allocation each, in the order of the allocations. The ordinary one counts as one that
-    hadn't ended where it didn't wait for each of the others."""
+    hadn't ended if it didn't wait for each of the others."""
     each = tempfile.mkdtemp(dir=room)
     with open(f"{each}/in", "wb") as it:
         it.write(given)

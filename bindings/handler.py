@@ -1,7 +1,7 @@
 """A handler on the VM by asyncio: it sleeps, reads its state, calls another handler, and sleeps again.
 
 It is run against beginnings of the recorded journal `journal.hex`, one attempt each, as a runtime would: with the entries that were stored
-by then. An attempt replays what is recorded, writes what comes next, and is suspended where a result isn't there yet; the last one finds
+by then. An attempt replays what is recorded, writes what comes next, and is suspended if a result isn't there yet; the last one finds
 all of them, and ends.
 """
 
@@ -67,7 +67,7 @@ async def greeter(context):
 
 
 async def attempt(handler, stream):
-    """One attempt: what it ended with, which is nothing where it was suspended, and all that it sent."""
+    """One attempt: what it ended with, which is nothing if it was suspended, and all that it sent."""
     # What it waits for it says once, when it is suspended.
     with VM(CONTENT_TYPE, awaiting="never") as vm:
         try:

@@ -6,10 +6,10 @@
 
    Memory. A session is a block of the heap and what hangs on it, by the program's malloc, realloc and free, which must belong
    together, and give blocks aligned as C asks. The library keeps nothing that it is passed: lines and bytes are copied, and
-   what it writes goes to the caller's buffers alone. Want of memory is answered, and never ends the program.
+   what it writes goes to the caller's buffers alone. Out of memory is answered, and never ends the program.
 
    Pointers. A palqytun_vm is all zeroes, or what palqytun_new left; it is not written by hand, and not used from two
-   copies. Every pointer is valid for its length, also where that is 0: NULL is never passed. The buffers of one call don't
+   copies. Every pointer is valid for its length, also if that is 0: NULL is never passed. The buffers of one call don't
    overlap.
 
    Threads. There is no global state, so different sessions may be used at once. One session may go from thread to thread, but has
@@ -36,7 +36,7 @@ enum {
     PALQYTUN_DONE = 0,
     /* No memory was found. Each call below says what then stands. */
     PALQYTUN_NO_MEMORY = 1,
-    /* The palqytun_vm has no session: palqytun_new didn't make one, or palqytun_free let it go. Nothing was done. */
+    /* The palqytun_vm has no session: palqytun_new didn't make one, or palqytun_free freed it. Nothing was done. */
     PALQYTUN_NO_SESSION = 2,
     /* The session has no VM: none was made yet, or a later one was refused. Nothing was done. */
     PALQYTUN_NO_VM = 3,
@@ -60,7 +60,7 @@ typedef struct {
     size_t len;
 } palqytun_told;
 
-/* Makes a session without a VM. It is the caller's, who lets it go by palqytun_free. A session that was there is let go first.
+/* Makes a session without a VM. It is the caller's, who frees it by palqytun_free. A session that was there is freed first.
    PALQYTUN_NO_MEMORY: there is none. */
 uint32_t palqytun_new(palqytun_vm *vm);
 
@@ -69,7 +69,7 @@ uint32_t palqytun_new(palqytun_vm *vm);
    itself finds no memory it has failed, and the line is answered by `err 500 ""`.) */
 palqytun_told palqytun_line(palqytun_vm *vm, const uint8_t *line, size_t line_len);
 
-/* Writes the last answer to the front of out, and tells how long it is. It has no line end, and no 0 behind it. It stays, and can
+/* Writes the last answer to the front of out, and tells how long it is. It has no line end, and no 0 after it. It stays, and can
    be read again. PALQYTUN_NO_ROOM: len is the length that it needs. */
 palqytun_told palqytun_answer(palqytun_vm *vm, uint8_t *out, size_t out_len);
 
@@ -83,7 +83,7 @@ uint32_t palqytun_feed(palqytun_vm *vm, const uint8_t *bytes, size_t bytes_len);
    PALQYTUN_NO_MEMORY: they still wait. */
 palqytun_told palqytun_take_output(palqytun_vm *vm, uint8_t *out, size_t out_len);
 
-/* Lets the session go, with all its memory. Nothing is done where there is none. */
+/* Frees the session, with all its memory. Nothing is done if there is none. */
 void palqytun_free(palqytun_vm *vm);
 
 /* ---- Typed calls
@@ -91,11 +91,11 @@ void palqytun_free(palqytun_vm *vm);
    Each makes one call of the VM, and returns what it is answered: a palqytun_replied. Its numbers are there at once. Its texts and
    bytes are its parts: they stay in the session until the next typed call, and palqytun_part copies them out. Where the status is
    neither PALQYTUN_DONE nor PALQYTUN_REFUSED the call was not made, and the last reply stays. PALQYTUN_NO_MEMORY says that of a text
-   or bytes that could not be copied; where the VM itself finds no memory it has failed, and the error's code is 500.
+   or bytes that could not be copied; if the VM itself finds no memory it has failed, and the error's code is 500.
 
    A name may be empty: then the command has none. */
 
-/* Bytes that are lent for a call, or a text in UTF-8. at is not NULL, also where len is 0. */
+/* Bytes that are lent for a call, or a text in UTF-8. at is not NULL, also if len is 0. */
 typedef struct {
     const uint8_t *at;
     size_t len;
@@ -134,7 +134,7 @@ typedef struct {
     size_t headers_len;
 } palqytun_target;
 
-/* A node of a tree that is awaited. A row of nodes has each node behind the trees of its children: it takes the last of the trees in
+/* A node of a tree that is awaited. A row of nodes has each node after the trees of its children: it takes the last of the trees in
    front of it, as many as its number says. So a node names none that comes later. */
 typedef struct {
     uint32_t kind;
@@ -259,7 +259,7 @@ enum {
     PALQYTUN_HANDLE = 1,
     /* first: the handle. Part 0: the id. */
     PALQYTUN_AWAKEABLE = 2,
-    /* first: the handle; second: 1 where the result is there already. */
+    /* first: the handle; second: 1 if the result is there already. */
     PALQYTUN_RUN = 3,
     /* first: the id of an ephemeral read; of an await: of one whose value is there. */
     PALQYTUN_EPHEMERAL = 4,
@@ -280,7 +280,7 @@ enum {
     PALQYTUN_INPUT = 11,
     /* What is awaited is done. */
     PALQYTUN_AWAKE = 12,
-    /* first: 1 where input is waited for; second: 1 where the result of a run is. */
+    /* first: 1 if input is waited for; second: 1 if the result of a run is. */
     PALQYTUN_WAITING = 13,
     /* first: the handle of the run that is to be executed now. */
     PALQYTUN_EXECUTE_RUN = 14,
@@ -295,7 +295,7 @@ enum {
     PALQYTUN_KEYS = 19,
     /* Part 0: the invocation's id. */
     PALQYTUN_INVOCATION_ID = 20,
-    /* number: the code; first: 1 where it relates to a command; second: its index; third: the type of its message (docs/WIRE.md).
+    /* number: the code; first: 1 if it relates to a command; second: its index; third: the type of its message (docs/WIRE.md).
        Parts: 0 the text, 1 the stack trace, 2 the command's name. */
     PALQYTUN_ERROR = 21
 };
@@ -377,7 +377,7 @@ palqytun_replied palqytun_get_promise(palqytun_vm *vm, palqytun_bytes key);
 palqytun_replied palqytun_peek_promise(palqytun_vm *vm, palqytun_bytes key);
 palqytun_replied palqytun_complete_promise(palqytun_vm *vm, palqytun_bytes key, const palqytun_value *value, bool unstable);
 
-/* A run, and its result once it was executed; or the error of one that was executed for so many milliseconds and may be tried again. Of an
+/* A run, and its result once it was executed; or the error of one that was executed for that many milliseconds and may be tried again. Of an
    error the policy says whether the invocation fails to be tried again, pauses, or has it as the run's result. */
 palqytun_replied palqytun_run(palqytun_vm *vm, palqytun_bytes name);
 palqytun_replied palqytun_propose(palqytun_vm *vm, uint32_t handle, const palqytun_value *value, const palqytun_policy *policy);

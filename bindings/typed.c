@@ -141,7 +141,7 @@ static int look(palqytun_vm *vm)
     return ended;
 }
 
-/* An error of the handler's own, on a VM that is let go afterwards: it fails by it. */
+/* An error of the handler's own, on a VM that is freed afterwards: it fails by it. */
 static int report(palqytun_vm *vm)
 {
     const palqytun_options options = {0};

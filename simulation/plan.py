@@ -22,7 +22,7 @@ class Tree:
 @dataclass(frozen=True)
 class Makes:
     """A call with commands. A command's ids stand in braces, `{0}` for the call's first; `brings` says what completes each of them.
-    The call is tracked as a `call` or a `send` where its invocation is cancelled with the handler's."""
+    The call is tracked as a `call` or a `send` if its invocation is cancelled with the handler's."""
 
     commands: tuple[str, ...]
     brings: tuple[str, ...] = ()

@@ -101,7 +101,7 @@ class Played:
         return [it for it, id in runs.items() if it in given and id not in came and it not in self.proposed]
 
     def execute(self) -> bool:
-        """A run's result is told, if one waits; at times of one that doesn't, or a failure that is to be tried again."""
+        """A run's result is reported, if one waits; at times of one that doesn't, or a failure that is to be tried again."""
         pending = self.pending_runs()
         if self.dice.random() < 0.03:
             self.lines.append('run_result 98 success "x"')

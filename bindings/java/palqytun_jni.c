@@ -16,7 +16,7 @@ static void raise(JNIEnv *env, uint32_t status)
         (*env)->ThrowNew(env, thrown, text);
 }
 
-/* The session that Java holds; NULL, with an exception, if it was let go. */
+/* The session that Java holds; NULL, with an exception, if it was freed. */
 static palqytun_vm *session_at(JNIEnv *env, jlong vm)
 {
     if (vm == 0)

@@ -53,7 +53,7 @@ def result_of(answer: str) -> Result | None:
 
 
 def input_of(answer: str) -> Input:
-    """What `sys_input` answered: a field is `name="bytes"`, `name=word`, where `-` is none, or for the headers `headers=[{"text" "text"}]`."""
+    """What `sys_input` answered: a field is `name="bytes"`, `name=word`, in which `-` is none, or for the headers `headers=[{"text" "text"}]`."""
     data: dict[str, bytes] = {}
     words: dict[str, str] = {}
     headers: list[str] = []

@@ -21,7 +21,7 @@ _ABSENT = Optional(False, Bytes(b"", 0))
 _NO_PAIRS = (Pair * 1)(Pair(Bytes(b"", 0), Bytes(b"", 0)))
 NO_TEXT = Bytes(b"", 0)
 
-# A command as `related` has it: `last`, `next(TYPE NAME)` or `at(N TYPE NAME)`, where the name is a text in quotes or `-`.
+# A command as `related` has it: `last`, `next(TYPE NAME)` or `at(N TYPE NAME)`; the name is a text in quotes or `-`.
 _RELATED = re.compile(r'last|(?:(next)\(|at\(([0-9]+) )([A-Za-z]+) (?:-|"((?:[^"\\\n\r]|\\.)*)")\)')
 _ESCAPED = re.compile(rb'\\(?:x([0-9A-Fa-f]{2})|(["\\]))')
 _TYPES = (

@@ -1,6 +1,6 @@
 """The invocation VM: `VM` has a method for each call, under the call's own name.
 
-A call that the VM refuses raises `VMError`, with the error's code and text; want of memory raises `MemoryError`. An argument of the wrong
+A call that the VM refuses raises `VMError`, with the error's code and text; out of memory raises `MemoryError`. An argument of the wrong
 type is a `TypeError`, and one that the VM can't read a `BadLine`; both name it, and nothing was done. Payloads are `bytes`, names and keys
 are `str`, times are whole milliseconds since the Unix epoch, and a handle is an `int`, which the VM hands out.
 
@@ -28,7 +28,7 @@ palqytun.errors.Suspended: 599 SUSPENDED
 The methods make the typed calls of the shared object. A line of text (docs/VMSCRIPT.md) can be sent by `VM.line`. A VM may go from thread to thread, but has one call at a time: guard one that threads share
 by a lock of your own.
 
-The shared object lies in this package; `./bindings/build` puts it there. It is loaded by the first `VM`. The environment variable
+The shared object is in this package; `./bindings/build` puts it there. It is loaded by the first `VM`. The environment variable
 `PALQYTUN_LIBRARY` may name another.
 """
 
@@ -149,7 +149,7 @@ _STATES: tuple[State, ...] = ("WaitingPreFlight", "Replaying", "Processing", "Cl
 
 
 class VM:
-    """One VM, for one attempt of an invocation. It may stand in a `with`, whose end lets it go.
+    """One VM, for one attempt of an invocation. It may stand in a `with`, whose end frees it.
 
     The examples of the methods go on from the VM above, once `sys_input` was called.
     """

@@ -27,7 +27,7 @@ class Code(enum.IntEnum):
     JOURNAL_MISMATCH = 570
     """The handler makes another call than the journal has recorded."""
     PROTOCOL_VIOLATION = 571
-    """The bytes that were fed aren't what may come, or a call came where it may not."""
+    """The bytes that were fed aren't what may come, or a call came when it may not."""
     UNSUPPORTED_FEATURE = 573
     """The version of the VM has no such call or argument."""
     CLOSED = 598
@@ -39,7 +39,7 @@ class Code(enum.IntEnum):
 class VMError(Exception):
     """An error that the VM answered: its `code` and its `text`. The VM has failed, and answers the same to each later call.
 
-    `hint` says what to do in its place, where the call came out of order; else it is `None`.
+    `hint` says what to do in its place, if the call came out of order; else it is `None`.
     """
 
     def __init__(self, code: int, text: str, hint: str | None = None) -> None:

@@ -10,11 +10,11 @@ __all__ = ["Future", "all_completed", "all_succeeded_or_first_failed", "first_co
 
 
 Nodes = tuple[tuple[int, int], ...]
-"""The nodes of a tree, each behind those of its children: a kind and how many children, or 0 and a handle."""
+"""The nodes of a tree, each after those of its children: a kind and how many children, or 0 and a handle."""
 
 
 class Future(str):
-    """A node over handles and futures, as a line spells it. The five functions of this module make them.
+    """A node over handles and futures, as a line writes it. The five functions of this module make them.
 
     >>> first_completed(17, all_completed(18, 19))
     'fc(17,ac(18,19))'

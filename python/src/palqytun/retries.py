@@ -14,7 +14,7 @@ Numbers = tuple[int, int, int, int, bool, int, bool, int, bool, int, bool]
 
 
 class RetryPolicy(str):
-    """When a run whose try failed is tried again, as a line spells it. The four functions of this module make the policies."""
+    """When a run whose try failed is tried again, as a line writes it. The four functions of this module make the policies."""
 
     __slots__ = ("numbers",)
     numbers: Numbers
@@ -53,7 +53,7 @@ def retry_never() -> RetryPolicy:
 
 
 def retry_fixed(interval: int | None = None, *, attempts: int | None = None, duration: int | None = None, pause: bool = False) -> RetryPolicy:
-    """Tried again after `interval` ms, until so many attempts were made or so many ms have passed. `pause` pauses the invocation then;
+    """Tried again after `interval` ms, until that many attempts were made or that many ms have passed. `pause` pauses the invocation then;
     without it the error is the run's result.
 
     >>> retry_fixed(500, attempts=3)

@@ -45,7 +45,7 @@ def until_all_ended(
     is_checkpointed: bool = False,
     wrong: str = "",
 ) -> None:
-    """Runs a worker until each invocation has ended, or it dies at commit number `dies`; or where a wrong runtime has committed a first part,
+    """Runs a worker until each invocation has ended, or it dies at commit number `dies`; or when a wrong runtime has committed a first part,
     the `dies_between`th time. It is the whole of a process."""
     global _left
     random.seed(seed)

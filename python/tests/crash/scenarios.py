@@ -235,7 +235,7 @@ def deaths_at_commits(room: Room, numbers: Iterable[int], **options: Any) -> Rep
 
 
 def is_found(room: Room, wrong: str) -> bool:
-    """Whether a runtime with a mistake is found by deaths where it has committed a first part and not the rest, at some time."""
+    """Whether a runtime with a mistake is found by deaths after it has committed a first part and not the rest, at some time."""
     try:
         for number in range(1, 31):
             path, effects = room.copy(f"wrong-{wrong}-{number}")

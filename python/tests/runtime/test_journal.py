@@ -83,7 +83,7 @@ def future(kind, completions=(), nested=()):
     return bytes([kind]) + listed + bytes(16) + number(len(nested), 8) + b"".join(nested)
 
 
-# The two frames that docs/WIRE.md spells out.
+# The two frames that docs/WIRE.md writes out.
 SLEEP = "0012 0000000000000014 00000190baf7798e 00000001 0000000000000000"
 FAILED = (
     "001e 000000000000002e 00 00000001 02 00000199 0000000000000002 6e6f 0000000000000001 0000000000000001 6b 0000000000000001 76"

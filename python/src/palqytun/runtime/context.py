@@ -172,7 +172,7 @@ class Context:
         raise AttemptEnds() from error
 
     def _reader(self, kind: Any) -> Callable[[Any], Any]:
-        """Reads what the VM has for a value; there being none is None, whatever the type."""
+        """Reads what the VM has for a value; there being none is None, for every type."""
         return lambda came: None if came is core.VOID else self._codec.decode(came, kind)
 
     def _given(self, value: Any) -> bytes | core.Failure:

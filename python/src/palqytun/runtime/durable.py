@@ -208,7 +208,7 @@ class Tasks:
         self.all: list[Task[Any]] = [main]
 
     def run(self, thrown: Cancelled | None = None) -> None:
-        """Runs each that can go on, until all wait or the handler is done. A cancellation comes to each that waits for the journal."""
+        """Runs each that can go on, until all wait or the handler is done. A cancellation reaches each that waits for the journal."""
         has_moved = True
         while has_moved and not self.main.done:
             has_moved = False

@@ -90,7 +90,7 @@ class Engine:
         return out
 
     def tell(self, out: Outcome) -> None:
-        """What a transaction did is told to those whom it touches."""
+        """Those whom a transaction touches are notified."""
         for invocation in out.touched:
             self._touch(invocation)
         if out.due is not None:

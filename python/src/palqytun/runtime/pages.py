@@ -24,7 +24,7 @@ _SAFE = (
 
 
 def is_same(given: str, wanted: str) -> bool:
-    """Compares secrets, in a time that says nothing of where they part."""
+    """Compares secrets, in a time that says nothing of the place of a difference."""
     return hmac.compare_digest(given.encode(), wanted.encode())
 
 

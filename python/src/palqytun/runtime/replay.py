@@ -60,7 +60,7 @@ def _replayed(app: App, vm: core.VM, service: str, name: str, may_write: bool) -
     try:
         _drive(app, vm, context, context.tasks)
     except (core.VMError, AttemptEnds):
-        pass  # suspended where the journal ends, or refused, and then the core has said so
+        pass  # suspended at the journal's end, or refused, and then the core has said so
     except CaughtTooMuch as error:
         return str(error)
     except Exception as error:

@@ -1,4 +1,4 @@
-"""The transactions of an attempt: what it wrote is stored with its effects, what came for it is moved to its journal, and it ends."""
+"""The transactions of an attempt: what it wrote is stored with its effects, what came for it is put into its journal, and it ends."""
 
 from __future__ import annotations
 
