@@ -55,7 +55,7 @@ long_enough bs l = front_is bs ∙ ap (λ b. if b then Partial
 
 sized_long : (n : ℕ) (bs : List ℕ) → n + 2 ≤ length bs → sized n bs
     ≡ spelled (type_at (from_be_bytes w16 (take 2 (drop n bs)))) (body_in (take n bs))
-        (drop (n + 2) bs)
+    (drop (n + 2) bs)
 sized_long n bs l = ap (λ b. if b then Partial
     else spelled (type_at (from_be_bytes w16 (take 2 (drop n bs)))) (body_in (take n bs))
     (drop (n + 2) bs)) (less_not (length bs) (n + 2) l)
@@ -103,7 +103,7 @@ frame_parts : (ty : MessageType) (p rest : List ℕ) → short_frame ty p ++ res
 frame_parts ty p rest =
     append_assoc (to_be_bytes w32 (length p)) (p ++ to_be_bytes w16 (type_number ty)) rest
     ∙ ap (λ z. to_be_bytes w32 (length p)
-        ++ z) (append_assoc p (to_be_bytes w16 (type_number ty)) rest)
+    ++ z) (append_assoc p (to_be_bytes w16 (type_number ty)) rest)
 
 size_read : (n : ℕ) (rest : List ℕ) → n < 2 ^ 32
     → from_be_bytes w32 (take 4 (to_be_bytes w32 n ++ rest)) ≡ n
@@ -135,7 +135,7 @@ payload_read ty p rest =
       two (type_number ty),
     ))
     ∙ ap (λ z. spelled (type_at (from_be_bytes w16 (take 2 z)))
-        (body_in (take (length p) (p ++ tail)))
+    (body_in (take (length p) (p ++ tail)))
     (drop (length p + 2) (p ++ tail))) (drop_at p tail (length p) refl)
     ∙ ap (λ z. spelled z (body_in (take (length p) (p ++ tail))) (drop (length p + 2) (p ++ tail)))
     (number_read ty rest)

@@ -44,7 +44,7 @@ whole_of : (x : NextFrame) (bs more : List ℕ) (m : Message) (rest : List ℕ) 
     → front_of x ≡ Whole m rest → own_front (bs ++ more) ≡ Whole m (rest ++ more)
 whole_of (frame.Whole raw next) bs more m rest h e =
     rw (cuts.whole_more bs more raw next h)
-        (whole_if (message_in raw.ty raw.body) next m rest more e)
+    (whole_if (message_in raw.ty raw.body) next m rest more e)
 whole_of frame.Partial bs more m rest h e = absurd cc
 whole_of frame.Malformed bs more m rest h e = absurd cc
 
@@ -56,7 +56,7 @@ malformed_of : (x : NextFrame) (bs more : List ℕ) → next_of bs ≡ x
     → front_of x ≡ Malformed → own_front (bs ++ more) ≡ Malformed
 malformed_of (frame.Whole raw next) bs more h e =
     rw (cuts.whole_more bs more raw next h)
-        (malformed_if (message_in raw.ty raw.body) next (next ++ more) e)
+    (malformed_if (message_in raw.ty raw.body) next (next ++ more) e)
 malformed_of frame.Partial bs more h e = absurd cc
 malformed_of frame.Malformed bs more h e = rw (cuts.malformed_more bs more h) refl
 
