@@ -143,7 +143,7 @@ fn fractions(rt: HostRuntime) {
 }
 
 /// With 4294967294 nanoseconds, times one more than this by this, each multiplication adds one nanosecond; it takes one away
-/// the other way round.
+/// the other way round. After 10,000 failures the delay stays.
 #[test]
 fn fractions_close_to_one(rt: HostRuntime) {
     let row = Row {
@@ -152,7 +152,9 @@ fn fractions_close_to_one(rt: HostRuntime) {
         maximum: None,
         delays: &[
             (2, Duration::from_nanos(4_294_967_295)),
-            (4_294_967_295, Duration::from_nanos(8_589_934_588)),
+            (10_000, Duration::from_nanos(4_294_977_293)),
+            (10_001, Duration::from_nanos(4_294_977_293)),
+            (4_294_967_295, Duration::from_nanos(4_294_977_293)),
         ],
     };
     holds(&rt, &row);
@@ -162,7 +164,8 @@ fn fractions_close_to_one(rt: HostRuntime) {
         maximum: None,
         delays: &[
             (2, Duration::from_nanos(4_294_967_294)),
-            (4_294_967_295, Duration::from_nanos(1)),
+            (10_000, Duration::from_nanos(4_294_957_296)),
+            (4_294_967_295, Duration::from_nanos(4_294_957_296)),
         ],
     };
     holds(&rt, &row);

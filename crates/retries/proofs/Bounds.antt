@@ -6,7 +6,7 @@ use Rattle.std.specs.Duration.{as_nanos, max_nanos}
 use Rattle.std.specs.Option.{unwrap_or}
 use Rattle.std.specs.declared.time.Duration.{Duration}
 use Rattle.retries.specs.declared.fraction.Fraction.{Fraction}
-use Rattle.retries.specs.Intervals.{times, multiplied, interval, delay}
+use Rattle.retries.specs.Intervals.{times, multiplied, interval, delay, most_counted}
 use Rattle.retries.proofs.Multiples.{multiplied-zero, multiplied-suc, multiplied_falls, times_rises}
 
 -- a bound of one multiplication is of no account where the next is bounded too
@@ -58,6 +58,6 @@ abbrev pub longest : Duration
 longest = record { secs = 18446744073709551615; nanos = 999999999 }
 
 pub delay_is : (f : Fraction) (initial : Duration) (most : Option Duration) (count : ℕ) → as_nanos initial ≤ max_nanos → as_nanos (unwrap_or most longest) ≤ max_nanos
-    → min (multiplied f (as_nanos initial) (count - 1)) (as_nanos (unwrap_or most longest)) ≡ delay initial f most count
-delay_is f initial None count h k = sym (interval_is f (as_nanos initial) count h)
-delay_is f initial (Some most) count h k = interval_within f (as_nanos initial) count (as_nanos most) h k
+    → min (multiplied f (as_nanos initial) (min count most_counted - 1)) (as_nanos (unwrap_or most longest)) ≡ delay initial f most count
+delay_is f initial None count h k = sym (interval_is f (as_nanos initial) (min count most_counted) h)
+delay_is f initial (Some most) count h k = interval_within f (as_nanos initial) (min count most_counted) (as_nanos most) h k

@@ -25,6 +25,11 @@ abbrev pub at_most : Option Duration → ℕ → ℕ
 at_most None n = n
 at_most (Some most) n = min n (as_nanos most)
 
+-- so many failures change a delay; after more it stays
+abbrev pub most_counted : ℕ
+most_counted = 10000
+
 -- the delay behind so many failures
 abbrev pub delay : Duration → Fraction → Option Duration → ℕ → ℕ
-delay initial f most count = at_most most (interval (as_nanos initial) f count)
+delay initial f most count =
+    at_most most (interval (as_nanos initial) f (min count most_counted))

@@ -6,6 +6,10 @@ ghost use Rattle.retries.specs.Intervals.{delay, multiplied};
 use crate::fraction::Fraction;
 use std::time::Duration;
 
+/// So many failures change a delay; after more it stays. So it takes no more multiplications than these, which is less than a
+/// millisecond.
+const MOST_COUNTED: u32 = 10_000;
+
 /// The delay behind this many failures.
 pub fn delay(
     initial_interval: Duration,
@@ -16,7 +20,7 @@ pub fn delay(
     ensures { as_nanos result ≡ delay initial_interval factor max_interval count }
 {
     let most = max_interval.unwrap_or(Duration::MAX).as_nanos();
-    let steps = count.saturating_sub(1);
+    let steps = count.min(MOST_COUNTED).saturating_sub(1);
     Duration::from_nanos_u128(bounded(initial_interval.as_nanos(), factor, most, steps))
 }
 

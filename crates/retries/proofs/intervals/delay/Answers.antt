@@ -1,7 +1,7 @@
-use Rattle.std.proofs.Common.{◌≡◌, ◌-◌, ◌≤◌, min, arith, ap, ◌∙◌}
+use Rattle.std.proofs.Common.{ℕ, ◌≡◌, ◌-◌, ◌≤◌, min, arith, ap, ◌∙◌}
 use Rattle.std.specs.Duration.{as_nanos, max_nanos}
 use Rattle.std.specs.Option.{unwrap_or}
-use Rattle.retries.specs.Intervals.{multiplied}
+use Rattle.retries.specs.Intervals.{most_counted, multiplied}
 use Rattle.retries.proofs.Bounds.{delay_is, longest}
 use Rattle.retries.proofs.intervals.delay.Goals as goal
 
@@ -15,5 +15,6 @@ returns c =
     c.from_nanos_u128.ensures ∙ c.bounded.ensures
     ∙ ap (λ m. min (multiplied c.args.factor m c.saturating_sub-steps.result) c.as_nanos-most.result) c.as_nanos.ensures
     ∙ ap (λ m. min (multiplied c.args.factor (as_nanos initial) m) c.as_nanos-most.result) c.saturating_sub-steps.ensures
-    ∙ ap (min (multiplied c.args.factor (as_nanos initial) (c.args.count - 1))) (c.as_nanos-most.ensures ∙ is)
+    ∙ ap (λ (m : ℕ). min (multiplied c.args.factor (as_nanos initial) (m - 1)) c.as_nanos-most.result) c.min.ensures
+    ∙ ap (min (multiplied c.args.factor (as_nanos initial) (min c.args.count most_counted - 1))) (c.as_nanos-most.ensures ∙ is)
     ∙ d

@@ -6,4 +6,4 @@ pub returns-clause-whole : goal.returns-clause-whole
 returns-clause-whole c initial f most steps fits one = whole initial f most steps (omega arith) one
 
 pub returns-clause-below : goal.returns-clause-below
-returns-clause-below c initial f most steps fits = below initial f most steps (omega arith)
+returns-clause-below c initial f most steps fits few = below initial f most steps (omega arith) few
