@@ -8,6 +8,7 @@ use Rattle.journal_messages.specs.declared.message.Message.{Message}
 use Rattle.journal_messages.specs.Message.{encoding, type_of}
 use Rattle.lines.specs.Atoms.{IsAtom, IsNumber}
 use Rattle.lines.specs.Pieces.{AreWords}
+use Rattle.frame_lines.specs.Messages.{AreFieldsOf}
 use Rattle.frame_lines.specs.Names.{type_name}
 
 -- a frame as it is: `raw`, the number of its type, and its body
@@ -28,17 +29,18 @@ abbrev pub IsRest : List (Bor (List ℕ)) → List ℕ → Type 0
 IsRest (rest ∷ []) shown = IsAtom rest.now shown
 IsRest others shown = ⊥
 
--- the bytes are a message of the type
-pub record Encodes (ty : MessageType) (frame : List ℕ) : Type 0 where
+-- the bytes are a message of the type, whose fields the words are
+pub record Encodes (ty : MessageType) (words : List (Bor (List ℕ))) (frame : List ℕ) : Type 0 where
   pub message : Message
   pub typed : type_of message ≡ ty
+  pub fields : AreFieldsOf words message
   pub is : frame ≡ encoding message
 
--- the word names a type, and the bytes are a message of it; of its fields nothing is said here
-pub record IsNamed (name frame : List ℕ) : Type 0 where
+-- the word names a type, and the bytes are a message of it, whose fields the others are
+pub record IsNamed (name : List ℕ) (words : List (Bor (List ℕ))) (frame : List ℕ) : Type 0 where
   pub ty : MessageType
   pub named : name ≡ type_name ty
-  pub encodes : Encodes ty frame
+  pub encodes : Encodes ty words frame
 
 -- the words show these bytes as they are: a frame of any type, or the rest of a stream
 abbrev pub ShowAsIs : List (Bor (List ℕ)) → List ℕ → Type 0
@@ -49,7 +51,7 @@ ShowAsIs (name ∷ others) shown = ((name.now ≡ codes "raw") × AreRaw others 
 -- the words show these bytes: as they are, or as a message
 abbrev pub Shows : List (Bor (List ℕ)) → List ℕ → Type 0
 Shows [] shown = ⊥
-Shows (name ∷ others) shown = ShowAsIs (name ∷ others) shown ⊎ IsNamed name.now shown
+Shows (name ∷ others) shown = ShowAsIs (name ∷ others) shown ⊎ IsNamed name.now others shown
 
 -- the words of a line show these bytes
 abbrev pub LineShows : List ℕ → List ℕ → Type 0

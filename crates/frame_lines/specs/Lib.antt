@@ -1,3 +1,10 @@
 pub mod Statuses
 pub mod Names
+pub mod Notation
+pub mod Choices
+pub mod Futures
+pub mod Forms
+pub mod Messages
+pub mod Printed
+pub mod Runs
 pub mod FrameLines

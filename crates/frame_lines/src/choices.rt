@@ -1,230 +1,371 @@
 //! Choices as they are written on a line: the case, and in round brackets what it holds.
-//! Each case is named once, to a visitor that prints or takes it.
-use crate::forms::{Form, take_all};
+ghost use Rattle.std.specs.Prelude.{◌≡◌, ◌++◌, IfOk, IfSome, List, ℕ, OnOk, true};
+ghost use Rattle.std.specs.Borrow.{Bor};
+ghost use Rattle.lines.specs.Pieces.{AreWords};
+ghost use Rattle.frame_lines.specs.Choices.{behavior, kind, notification_id, notification_result, signal, signal_result, target, value_or_failure, void_or_value};
+ghost use Rattle.frame_lines.specs.Notation.{AreFields, IsBehind, SaysInside, closed, holding, put_all};
+
+use crate::forms::Form;
 use crate::value::Value;
 use bytes::Bytes;
+use journal_attempt::FutureKind;
 use journal_calls::{InvocationTarget, Signal, SignalResult};
 use journal_errors::ErrorBehavior;
 use journal_state::VoidOrValue;
 use journal_values::{NotificationId, NotificationResult, ValueOrFailure};
-use lines::fields::Fields;
+use line_parts::fields::text_behind;
 use lines::line::Line;
 use lines::pieces::{between, words};
 use std::alloc::{AllocError, Global};
-use wire::{Fault, Wire};
+use wire::Fault;
 
-/// What prints or takes the case of a choice.
-pub trait Cases {
-    type Error;
-
-    /// A case with no brackets.
-    fn bare(&mut self, name: &str) -> Result<(), Self::Error>;
-
-    /// A case with a value in its brackets.
-    fn value<T: Value>(&mut self, name: &str, value: &mut T) -> Result<(), Self::Error>;
-
-    /// A case with fields in its brackets.
-    fn form<T: Form>(&mut self, name: &str, form: &mut T) -> Result<(), Self::Error>;
+/// Writes a case with a value in its brackets.
+fn print_holding<T: Value>(word: &str, value: &T, line: &mut Line) -> Result<(), AllocError>
+    ensures { OnOk result (line.new ≡ line.old ++ holding word.now T.notation value.now) }
+{
+    line.word(word)?;
+    line.word("(")?;
+    value.print(line)?;
+    line.word(")")
 }
 
-/// A type whose values are cases. Their bytes begin with the case's number, the first one's with 0.
-pub trait Choice: Wire {
-    /// Hands the visitor the case that the choice is at.
-    fn case<V: Cases>(&mut self, visitor: &mut V) -> Result<(), V::Error>;
+/// Writes a case with fields in its brackets. The word has the bracket at its end.
+fn print_bracketed<T: Form>(word: &str, form: &T, line: &mut Line) -> Result<(), AllocError>
+    ensures { OnOk result (line.new ≡ line.old
+        ++ closed (put_all (word.now, true) (T.fields.printed form.now))) }
+{
+    line.word(word)?;
+    form.print(line, true)?;
+    line.word(")")?;
+    Ok(())
 }
 
-impl Cases for Line {
-    type Error = AllocError;
-
-    fn bare(&mut self, name: &str) -> Result<(), AllocError> {
-        self.word(name)
-    }
-
-    fn value<T: Value>(&mut self, name: &str, value: &mut T) -> Result<(), AllocError> {
-        self.word(name)?;
-        self.open("(")?;
-        value.print(self)?;
-        self.word(")")
-    }
-
-    fn form<T: Form>(&mut self, name: &str, form: &mut T) -> Result<(), AllocError> {
-        self.word(name)?;
-        self.open("(")?;
-        form.fields(self)?;
-        self.word(")")
+/// What stands in round brackets behind this word, if the text is that.
+fn held<'a>(text: &'a [u8], word: &str) -> Option<&'a [u8]>
+    ensures { IfSome result (λ inside. IsBehind word.now text.now inside.now) }
+{
+    let Some(behind) = text_behind(text, word) else {
+        return None;
+    };
+    match between(behind, b'(', b')') {
+        Ok(inside) => Some(inside),
+        Err(_) => None,
     }
 }
 
-/// A case as it was read: its name, and what stands in its brackets, if it has any.
-#[derive(Drop)]
-struct Case<'a> {
-    alloc: Global,
-    name: &'a [u8],
-    inside: Option<&'a [u8]>,
-    /// A choice was at a case of this name, and has taken what stands in the brackets.
-    is_taken: bool,
+/// The value in brackets.
+fn value_in<T: Value>(alloc: Global, inside: &[u8]) -> Result<T, Fault>
+    ensures { IfOk result (SaysInside T.notation.Says inside.now) }
+{
+    T::parse(alloc, inside.trim_ascii())
 }
 
-impl<'a> Case<'a> {
-    fn of(alloc: Global, text: &'a [u8]) -> Result<Case<'a>, Fault> {
-        let (name, inside) = match text.iter().position(|byte| *byte == b'(') {
-            None => (text, None),
-            Some(at) => (&text[..at], Some(between(&text[at..], b'(', b')')?)),
-        };
-        Ok(Case {
-            alloc,
-            name,
-            inside,
-            is_taken: false,
-        })
-    }
-
-    /// Takes what stands in the brackets, if the case has this name.
-    fn take(&mut self, name: &str) -> Option<&'a [u8]> {
-        if self.name != name.as_bytes() {
-            return None;
-        }
-        self.is_taken = self.inside.is_some();
-        self.inside
-    }
+/// What the fields in brackets are.
+fn form_in<T: Form>(alloc: Global, inside: &[u8]) -> Result<T, Fault>
+    ensures { IfOk result (λ it. (words : List (Bor (List ℕ))) × AreWords inside.now words
+        × AreFields T.fields words it) }
+{
+    let words = words(alloc, inside)?;
+    T::read(alloc, words.as_slice())
 }
 
-impl Cases for Case<'_> {
-    type Error = Fault;
+impl Value for ErrorBehavior {
+    ghost notation = { behavior };
 
-    fn bare(&mut self, name: &str) -> Result<(), Fault> {
-        self.is_taken = self.name == name.as_bytes() && self.inside.is_none();
-        Ok(())
+    fn is_left_out(&self) -> bool {
+        false
     }
 
-    fn value<T: Value>(&mut self, name: &str, value: &mut T) -> Result<(), Fault> {
-        if let Some(inside) = self.take(name) {
-            *value = T::parse(self.alloc, inside.trim_ascii())?;
-        }
-        Ok(())
-    }
-
-    fn form<T: Form>(&mut self, name: &str, form: &mut T) -> Result<(), Fault> {
-        if let Some(inside) = self.take(name) {
-            let pieces = words(self.alloc, inside)?;
-            take_all(form, Fields::of_pieces(self.alloc, pieces.as_slice())?)?;
-        }
-        Ok(())
-    }
-}
-
-/// The bytes of each case while it holds nothing: its number, and as many zeros as any case has, or more.
-static CASES: [[u8; 27]; 5] = [
-    [
-        0, 0, 0, 0, 0, 0, 0, 0, 0, 0, 0, 0, 0, 0, 0, 0, 0, 0, 0, 0, 0, 0, 0, 0, 0, 0, 0,
-    ],
-    [
-        1, 0, 0, 0, 0, 0, 0, 0, 0, 0, 0, 0, 0, 0, 0, 0, 0, 0, 0, 0, 0, 0, 0, 0, 0, 0, 0,
-    ],
-    [
-        2, 0, 0, 0, 0, 0, 0, 0, 0, 0, 0, 0, 0, 0, 0, 0, 0, 0, 0, 0, 0, 0, 0, 0, 0, 0, 0,
-    ],
-    [
-        3, 0, 0, 0, 0, 0, 0, 0, 0, 0, 0, 0, 0, 0, 0, 0, 0, 0, 0, 0, 0, 0, 0, 0, 0, 0, 0,
-    ],
-    [
-        4, 0, 0, 0, 0, 0, 0, 0, 0, 0, 0, 0, 0, 0, 0, 0, 0, 0, 0, 0, 0, 0, 0, 0, 0, 0, 0,
-    ],
-];
-
-impl<T: Choice> Value for T {
-    fn print(&mut self, line: &mut Line) -> Result<(), AllocError> {
-        self.case(line)
-    }
-
-    fn parse(alloc: Global, text: &[u8]) -> Result<T, Fault> {
-        let mut case = Case::of(alloc, text)?;
-        for bytes in &CASES {
-            let mut choice = T::get(alloc, &mut Bytes::from_static(bytes))?;
-            choice.case(&mut case)?;
-            if case.is_taken {
-                return Ok(choice);
-            }
-        }
-        Err(Fault::Malformed)
-    }
-}
-
-impl Choice for ErrorBehavior {
-    fn case<V: Cases>(&mut self, visitor: &mut V) -> Result<(), V::Error> {
-        visitor.bare(match self {
+    fn print(&self, line: &mut Line) -> Result<(), AllocError> {
+        line.word(match self {
             ErrorBehavior::Retry => "Retry",
             ErrorBehavior::Pause => "Pause",
             ErrorBehavior::Fail => "Fail",
         })
     }
-}
 
-impl Choice for VoidOrValue {
-    fn case<V: Cases>(&mut self, visitor: &mut V) -> Result<(), V::Error> {
-        match self {
-            VoidOrValue::Void => visitor.bare("void"),
-            VoidOrValue::Value(value) => visitor.value("value", value),
+    fn parse(_alloc: Global, text: &[u8]) -> Result<ErrorBehavior, Fault> {
+        if text == b"Retry".as_slice() {
+            return Ok(ErrorBehavior::Retry);
         }
+        if text == b"Pause".as_slice() {
+            return Ok(ErrorBehavior::Pause);
+        }
+        if text == b"Fail".as_slice() {
+            return Ok(ErrorBehavior::Fail);
+        }
+        Err(Fault::Malformed)
+    }
+
+    fn missing(_alloc: Global) -> Option<ErrorBehavior> {
+        None
     }
 }
 
-impl Choice for ValueOrFailure {
-    fn case<V: Cases>(&mut self, visitor: &mut V) -> Result<(), V::Error> {
-        match self {
-            ValueOrFailure::Value(value) => visitor.value("value", value),
-            ValueOrFailure::Failure(failure) => visitor.form("failure", failure),
+impl Value for FutureKind {
+    ghost notation = { kind };
+
+    fn is_left_out(&self) -> bool {
+        false
+    }
+
+    fn print(&self, line: &mut Line) -> Result<(), AllocError> {
+        line.word(match self {
+            FutureKind::FirstCompleted => "FirstCompleted",
+            FutureKind::AllCompleted => "AllCompleted",
+            FutureKind::FirstSucceededOrAllFailed => "FirstSucceededOrAllFailed",
+            FutureKind::AllSucceededOrFirstFailed => "AllSucceededOrFirstFailed",
+            FutureKind::Unknown => "Unknown",
+        })
+    }
+
+    fn parse(_alloc: Global, text: &[u8]) -> Result<FutureKind, Fault> {
+        if text == b"FirstCompleted".as_slice() {
+            return Ok(FutureKind::FirstCompleted);
         }
+        if text == b"AllCompleted".as_slice() {
+            return Ok(FutureKind::AllCompleted);
+        }
+        if text == b"FirstSucceededOrAllFailed".as_slice() {
+            return Ok(FutureKind::FirstSucceededOrAllFailed);
+        }
+        if text == b"AllSucceededOrFirstFailed".as_slice() {
+            return Ok(FutureKind::AllSucceededOrFirstFailed);
+        }
+        if text == b"Unknown".as_slice() {
+            return Ok(FutureKind::Unknown);
+        }
+        Err(Fault::Malformed)
+    }
+
+    fn missing(_alloc: Global) -> Option<FutureKind> {
+        None
     }
 }
 
-impl Choice for SignalResult {
-    fn case<V: Cases>(&mut self, visitor: &mut V) -> Result<(), V::Error> {
+impl Value for VoidOrValue {
+    ghost notation = { void_or_value };
+
+    fn is_left_out(&self) -> bool {
+        false
+    }
+
+    fn print(&self, line: &mut Line) -> Result<(), AllocError> {
         match self {
-            SignalResult::Void => visitor.bare("void"),
-            SignalResult::Value(value) => visitor.value("value", value),
-            SignalResult::Failure(failure) => visitor.form("failure", failure),
+            VoidOrValue::Void => line.word("void"),
+            VoidOrValue::Value(it) => print_holding("value", it, line),
         }
+    }
+
+    fn parse(alloc: Global, text: &[u8]) -> Result<VoidOrValue, Fault> {
+        if text == b"void".as_slice() {
+            return Ok(VoidOrValue::Void);
+        }
+        if let Some(inside) = held(text, "value") {
+            return Ok(VoidOrValue::Value(value_in(alloc, inside)?));
+        }
+        Err(Fault::Malformed)
+    }
+
+    fn missing(_alloc: Global) -> Option<VoidOrValue> {
+        None
     }
 }
 
-impl Choice for NotificationResult {
-    fn case<V: Cases>(&mut self, visitor: &mut V) -> Result<(), V::Error> {
+impl Value for ValueOrFailure {
+    ghost notation = { value_or_failure };
+
+    fn is_left_out(&self) -> bool {
+        false
+    }
+
+    fn print(&self, line: &mut Line) -> Result<(), AllocError> {
         match self {
-            NotificationResult::Void => visitor.bare("void"),
-            NotificationResult::Value(value) => visitor.value("value", value),
-            NotificationResult::Failure(failure) => visitor.form("failure", failure),
-            NotificationResult::StateKeys(keys) => visitor.value("state_keys", keys),
-            NotificationResult::InvocationId(id) => visitor.value("invocation_id", id),
+            ValueOrFailure::Value(it) => print_holding("value", it, line),
+            ValueOrFailure::Failure(it) => print_bracketed("failure(", it, line),
         }
+    }
+
+    fn parse(alloc: Global, text: &[u8]) -> Result<ValueOrFailure, Fault> {
+        if let Some(inside) = held(text, "value") {
+            return Ok(ValueOrFailure::Value(value_in(alloc, inside)?));
+        }
+        if let Some(inside) = held(text, "failure") {
+            return Ok(ValueOrFailure::Failure(form_in(alloc, inside)?));
+        }
+        Err(Fault::Malformed)
+    }
+
+    fn missing(_alloc: Global) -> Option<ValueOrFailure> {
+        None
     }
 }
 
-impl Choice for NotificationId {
-    fn case<V: Cases>(&mut self, visitor: &mut V) -> Result<(), V::Error> {
+impl Value for SignalResult {
+    ghost notation = { signal_result };
+
+    fn is_left_out(&self) -> bool {
+        false
+    }
+
+    fn print(&self, line: &mut Line) -> Result<(), AllocError> {
         match self {
-            NotificationId::CompletionId(id) => visitor.value("completion", id),
-            NotificationId::SignalId(id) => visitor.value("signal", id),
-            NotificationId::SignalName(name) => visitor.value("name", name),
+            SignalResult::Void => line.word("void"),
+            SignalResult::Value(it) => print_holding("value", it, line),
+            SignalResult::Failure(it) => print_bracketed("failure(", it, line),
         }
+    }
+
+    fn parse(alloc: Global, text: &[u8]) -> Result<SignalResult, Fault> {
+        if text == b"void".as_slice() {
+            return Ok(SignalResult::Void);
+        }
+        if let Some(inside) = held(text, "value") {
+            return Ok(SignalResult::Value(value_in(alloc, inside)?));
+        }
+        if let Some(inside) = held(text, "failure") {
+            return Ok(SignalResult::Failure(form_in(alloc, inside)?));
+        }
+        Err(Fault::Malformed)
+    }
+
+    fn missing(_alloc: Global) -> Option<SignalResult> {
+        None
     }
 }
 
-impl Choice for Signal {
-    fn case<V: Cases>(&mut self, visitor: &mut V) -> Result<(), V::Error> {
+impl Value for NotificationResult {
+    ghost notation = { notification_result };
+
+    fn is_left_out(&self) -> bool {
+        false
+    }
+
+    fn print(&self, line: &mut Line) -> Result<(), AllocError> {
         match self {
-            Signal::Index(index) => visitor.value("index", index),
-            Signal::Name(name) => visitor.value("name", name),
+            NotificationResult::Void => line.word("void"),
+            NotificationResult::Value(it) => print_holding("value", it, line),
+            NotificationResult::Failure(it) => print_bracketed("failure(", it, line),
+            NotificationResult::StateKeys(it) => print_holding("state_keys", it, line),
+            NotificationResult::InvocationId(it) => print_holding("invocation_id", it, line),
         }
+    }
+
+    fn parse(alloc: Global, text: &[u8]) -> Result<NotificationResult, Fault> {
+        if text == b"void".as_slice() {
+            return Ok(NotificationResult::Void);
+        }
+        if let Some(inside) = held(text, "value") {
+            return Ok(NotificationResult::Value(value_in(alloc, inside)?));
+        }
+        if let Some(inside) = held(text, "failure") {
+            return Ok(NotificationResult::Failure(form_in(alloc, inside)?));
+        }
+        if let Some(inside) = held(text, "state_keys") {
+            return Ok(NotificationResult::StateKeys(value_in(alloc, inside)?));
+        }
+        if let Some(inside) = held(text, "invocation_id") {
+            return Ok(NotificationResult::InvocationId(value_in(alloc, inside)?));
+        }
+        Err(Fault::Malformed)
+    }
+
+    fn missing(_alloc: Global) -> Option<NotificationResult> {
+        None
     }
 }
 
-impl Choice for InvocationTarget {
-    fn case<V: Cases>(&mut self, visitor: &mut V) -> Result<(), V::Error> {
+impl Value for NotificationId {
+    ghost notation = { notification_id };
+
+    fn is_left_out(&self) -> bool {
+        false
+    }
+
+    fn print(&self, line: &mut Line) -> Result<(), AllocError> {
         match self {
-            InvocationTarget::InvocationId(id) => visitor.value("InvocationId", id),
-            InvocationTarget::WorkflowId(id) => visitor.form("WorkflowId", id),
-            InvocationTarget::IdempotencyId(id) => visitor.form("IdempotencyId", id),
+            NotificationId::CompletionId(it) => print_holding("completion", it, line),
+            NotificationId::SignalId(it) => print_holding("signal", it, line),
+            NotificationId::SignalName(it) => print_holding("name", it, line),
         }
+    }
+
+    fn parse(alloc: Global, text: &[u8]) -> Result<NotificationId, Fault> {
+        if let Some(inside) = held(text, "completion") {
+            return Ok(NotificationId::CompletionId(value_in(alloc, inside)?));
+        }
+        if let Some(inside) = held(text, "signal") {
+            return Ok(NotificationId::SignalId(value_in(alloc, inside)?));
+        }
+        if let Some(inside) = held(text, "name") {
+            return Ok(NotificationId::SignalName(value_in(alloc, inside)?));
+        }
+        Err(Fault::Malformed)
+    }
+
+    fn missing(_alloc: Global) -> Option<NotificationId> {
+        None
+    }
+}
+
+impl Value for Signal {
+    ghost notation = { signal };
+
+    fn is_left_out(&self) -> bool {
+        false
+    }
+
+    fn print(&self, line: &mut Line) -> Result<(), AllocError> {
+        match self {
+            Signal::Index(it) => print_holding("index", it, line),
+            Signal::Name(it) => print_holding("name", it, line),
+        }
+    }
+
+    fn parse(alloc: Global, text: &[u8]) -> Result<Signal, Fault> {
+        if let Some(inside) = held(text, "index") {
+            return Ok(Signal::Index(value_in(alloc, inside)?));
+        }
+        if let Some(inside) = held(text, "name") {
+            return Ok(Signal::Name(value_in(alloc, inside)?));
+        }
+        Err(Fault::Malformed)
+    }
+
+    fn missing(_alloc: Global) -> Option<Signal> {
+        None
+    }
+}
+
+impl Value for InvocationTarget {
+    ghost notation = { target };
+
+    fn is_left_out(&self) -> bool {
+        false
+    }
+
+    fn print(&self, line: &mut Line) -> Result<(), AllocError> {
+        match self {
+            InvocationTarget::InvocationId(it) => print_holding("InvocationId", it, line),
+            InvocationTarget::WorkflowId(it) => print_bracketed("WorkflowId(", it, line),
+            InvocationTarget::IdempotencyId(it) => print_bracketed("IdempotencyId(", it, line),
+        }
+    }
+
+    fn parse(alloc: Global, text: &[u8]) -> Result<InvocationTarget, Fault> {
+        if let Some(inside) = held(text, "InvocationId") {
+            return Ok(InvocationTarget::InvocationId(value_in(alloc, inside)?));
+        }
+        if let Some(inside) = held(text, "WorkflowId") {
+            return Ok(InvocationTarget::WorkflowId(form_in(alloc, inside)?));
+        }
+        if let Some(inside) = held(text, "IdempotencyId") {
+            return Ok(InvocationTarget::IdempotencyId(form_in(alloc, inside)?));
+        }
+        Err(Fault::Malformed)
+    }
+
+    fn missing(_alloc: Global) -> Option<InvocationTarget> {
+        None
     }
 }

@@ -1,8 +1,9 @@
 //! A frame as a line, and a line as a frame.
-ghost use Rattle.std.specs.Prelude.{◌≡◌, ◌++◌, IfErr, IfOk};
+ghost use Rattle.std.specs.Prelude.{◌≡◌, ◌++◌, IfErr, IfOk, OnOk};
 ghost use Rattle.wire.specs.Format.{u16s, bytes};
 ghost use Rattle.lines.specs.Atoms.{IsAtom};
 ghost use Rattle.lines.specs.Readings.{Blames};
+ghost use Rattle.frame_lines.specs.Printed.{frame_text, raw_text, rest_text};
 ghost use Rattle.frame_lines.specs.FrameLines.{Encodes, IsRaw, LineShows, LineShowsAsIs, ShowAsIs, Shows};
 
 use crate::message::{parse_message, print_message};
@@ -11,14 +12,15 @@ use bytes::Bytes;
 use journal_errors::MessageType;
 use journal_messages::{Encoder, RawMessage};
 use lines::atoms::{bytes_of, number_of};
-use lines::fields::Fields;
 use lines::line::Line;
 use lines::pieces::words;
 use std::alloc::{AllocError, Global};
 use wire::{Fault, Wire};
 
 /// Writes the type's number and the body of a frame.
-fn print_raw(raw: &RawMessage, line: &mut Line) -> Result<(), AllocError> {
+fn print_raw(raw: &RawMessage, line: &mut Line) -> Result<(), AllocError>
+    ensures { OnOk result (line.new ≡ line.old ++ raw_text raw.now) }
+{
     line.word("raw ")?;
     line.number(u64::from(raw.ty.number()))?;
     line.word(" ")?;
@@ -26,24 +28,28 @@ fn print_raw(raw: &RawMessage, line: &mut Line) -> Result<(), AllocError> {
 }
 
 /// Writes the message of a frame, or the frame as it is where its body doesn't decode.
-pub fn print_frame(alloc: Global, raw: &RawMessage, line: &mut Line) -> Result<(), AllocError> {
+pub fn print_frame(alloc: Global, raw: &RawMessage, line: &mut Line) -> Result<(), AllocError>
+    ensures { OnOk result (line.new ≡ line.old ++ frame_text raw.now) }
+{
     match raw.read(alloc) {
-        Ok(mut message) => print_message(&mut message, line),
+        Ok(message) => print_message(&message, line),
         Err(Fault::Malformed) => print_raw(raw, line),
         Err(Fault::Memory) => Err(AllocError),
     }
 }
 
 /// Writes bytes that are no whole frame.
-pub fn print_rest(rest: &[u8], line: &mut Line) -> Result<(), AllocError> {
+pub fn print_rest(rest: &[u8], line: &mut Line) -> Result<(), AllocError>
+    ensures { OnOk result (line.new ≡ line.old ++ rest_text rest.now) }
+{
     line.word("rest ")?;
     line.hex(rest)
 }
 
-fn frame_of_message(alloc: Global, ty: MessageType, fields: Fields<'_>) -> Result<Bytes, Fault>
-    ensures { IfOk result (Encodes ty) }
+fn frame_of_message(alloc: Global, ty: MessageType, words: &[&[u8]]) -> Result<Bytes, Fault>
+    ensures { IfOk result (Encodes ty words.now) }
 {
-    let message = parse_message(ty, fields)?;
+    let message = parse_message(alloc, ty, words)?;
     Ok(Encoder::new(alloc).encode(&message)?)
 }
 
@@ -90,7 +96,7 @@ pub fn frame_of_words(alloc: Global, words: &[&[u8]]) -> Result<Bytes, Fault>
         [b"raw", number, body] => frame_of_raw(alloc, *number, *body),
         [b"rest", rest] => shared(alloc, *rest),
         [name, fields @ ..] => match type_named(*name) {
-            Some(ty) => frame_of_message(alloc, ty, Fields::of_pieces(alloc, fields)?),
+            Some(ty) => frame_of_message(alloc, ty, fields),
             None => Err(Fault::Malformed),
         },
         [] => Err(Fault::Malformed),

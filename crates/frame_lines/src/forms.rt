@@ -1,67 +1,117 @@
-//! The fields of messages, in their order. Each is named once, to a visitor that prints or takes it.
+//! The fields of messages: printing them in their order, and reading them in any.
+ghost use Rattle.std.specs.Prelude.{◌≡◌, ℕ, List, true, IfOk};
+ghost use Rattle.std.specs.Borrow.{Bor};
+ghost use Rattle.std.specs.List.{list_all, list_any};
+ghost use Rattle.line_parts.specs.Fields.{is_named, texts as behind_name};
+ghost use Rattle.lines.specs.Pieces.{texts};
+ghost use Rattle.frame_lines.specs.Notation.{AreFields, Fields, SayField, SayPair, put, put_all, unless_left_out};
+
 pub mod calls;
 pub mod control;
+pub mod held;
 pub mod notifications;
-pub mod parts;
 pub mod state;
 
 use crate::value::Value;
-use bytes::Bytes;
-use lines::fields::Fields;
+use line_parts::fields::{are_named, field_of};
 use lines::line::Line;
 use std::alloc::{AllocError, Global};
-use wire::{Fault, Wire};
+use wire::Fault;
 
-/// What prints or takes the fields of a form.
-pub trait Visitor {
-    type Error;
-
-    fn field<T: Value>(&mut self, name: &str, value: &mut T) -> Result<(), Self::Error>;
-}
-
-/// A type whose values are written as fields.
-pub trait Form {
-    /// Hands the visitor each field, in their order.
-    fn fields<V: Visitor>(&mut self, visitor: &mut V) -> Result<(), V::Error>;
-}
-
-impl Visitor for Line {
-    type Error = AllocError;
-
-    /// Writes a field, if it isn't left out.
-    fn field<T: Value>(&mut self, name: &str, value: &mut T) -> Result<(), AllocError> {
-        if value.is_left_out() {
-            return Ok(());
-        }
-        self.name(name)?;
-        value.print(self)
+/// Writes a field, if it isn't left out, behind a blank unless it is the first. Answers whether the next is the first.
+#[tactic(auto, unfolding(crate::specs::Notation::put))]
+pub fn print_field<T: Value>(
+    line: &mut Line,
+    is_first: bool,
+    name: &str,
+    value: &T,
+) -> Result<bool, AllocError>
+    ensures { IfOk result (λ then. put (line.old, is_first)
+        (name.now, unless_left_out T.notation value.now) ≡ (line.new, then)) }
+{
+    if value.is_left_out() {
+        return Ok(is_first);
     }
+    if !is_first {
+        line.word(" ")?;
+    }
+    line.word(name)?;
+    line.word("=")?;
+    value.print(line)?;
+    Ok(false)
 }
 
-impl Visitor for Fields<'_> {
-    type Error = Fault;
+/// The values of fields, one after another: a pair of the first and the others.
+pub trait Parts: Drop {
+    /// What the words say of the fields of these names.
+    ghost Said: { List (List ℕ) → List (Bor (List ℕ)) → Self → Type 0 };
 
-    /// Takes a field out. One that isn't there stays at its default, and must be at one.
-    fn field<T: Value>(&mut self, name: &str, value: &mut T) -> Result<(), Fault> {
-        match self.take_text(name) {
-            Some(text) => *value = T::parse(self.alloc(), text)?,
-            None if value.is_left_out() => {}
-            None => return Err(Fault::Malformed),
-        }
+    /// Reads the fields of these names, each written with its `=`.
+    fn take(alloc: Global, names: &[&str], words: &[&[u8]]) -> Result<Self, Fault>
+        ensures { IfOk result (Said (texts names.now) words.now) };
+}
+
+impl Parts for () {
+    ghost Said = { λ _ _ _. Unit {0} };
+
+    fn take(_alloc: Global, _names: &[&str], _words: &[&[u8]]) -> Result<(), Fault> {
         Ok(())
     }
 }
 
-/// As many as the bytes of any blank form, or more.
-pub static ZEROS: [u8; 64] = [0; 64];
-
-/// A value whose fields are at their defaults, as far as they have one: its bytes are all 0.
-pub fn blank<T: Wire>(alloc: Global) -> Result<T, Fault> {
-    T::get(alloc, &mut Bytes::from_static(&ZEROS))
+/// Reads the field of this name, written with its `=`.
+#[tactic(auto, using(crate::proofs::Saying::field_said, crate::proofs::Saying::field_left_out))]
+fn take_field<T: Value>(alloc: Global, name: &str, words: &[&[u8]]) -> Result<T, Fault>
+    ensures { IfOk result (SayField T.notation (behind_name name.now words.now)) }
+{
+    match field_of(words, name)? {
+        Some(text) => T::parse(alloc, text),
+        None => T::missing(alloc).ok_or(Fault::Malformed),
+    }
 }
 
-/// Takes the fields of a blank form, which are all that there are.
-pub fn take_all<T: Form>(form: &mut T, mut fields: Fields<'_>) -> Result<(), Fault> {
-    form.fields(&mut fields)?;
-    fields.end()
+impl<A: Value, B: Parts> Parts for (A, B) {
+    ghost Said = { SayPair A.notation B.Said };
+
+    fn take(alloc: Global, names: &[&str], words: &[&[u8]]) -> Result<(A, B), Fault> {
+        let [name, others @ ..] = names else {
+            return Err(Fault::Malformed);
+        };
+        let first = take_field(alloc, *name, words)?;
+        match B::take(alloc, others, words) {
+            Ok(others) => Ok((first, others)),
+            Err(fault) => {
+                drop(first);
+                Err(fault)
+            }
+        }
+    }
+}
+
+/// The values of the fields of these names, each written with its `=`, which are all that there are.
+pub fn values_of<T: Parts>(alloc: Global, words: &[&[u8]], names: &[&str]) -> Result<T, Fault>
+    ensures only { IfOk result
+        (λ _. list_all (λ word. list_any (λ name. is_named name.now word.now) names.now) words.now
+        ≡ true) }
+    ensures said { IfOk result (T.Said (texts names.now) words.now) }
+{
+    if !are_named(words, names) {
+        return Err(Fault::Malformed);
+    }
+    T::take(alloc, names, words)
+}
+
+/// A type whose values are written as fields.
+pub trait Form: Drop {
+    /// The fields.
+    ghost fields: { Fields Self };
+
+    /// Writes the fields in their order, as `print_field` does each.
+    fn print(&self, line: &mut Line, is_first: bool) -> Result<bool, AllocError>
+        ensures { IfOk result (λ then. put_all (line.old, is_first) (fields.printed self.now)
+            ≡ (line.new, then)) };
+
+    /// What these words are the fields of.
+    fn read(alloc: Global, words: &[&[u8]]) -> Result<Self, Fault>
+        ensures { IfOk result (AreFields fields words.now) };
 }

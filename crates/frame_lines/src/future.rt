@@ -1,50 +1,66 @@
 //! What an attempt waits for, as it is written on a line.
-use crate::choices::{Cases, Choice};
-use crate::forms::{Form, Visitor, blank, take_all};
+ghost use Rattle.std.specs.Prelude.{◌≡◌, ◌∷◌, ◌++◌, ◌==◌, if◌then◌else◌, List, OnOk, codes, reverse};
+ghost use Rattle.journal_attempt.specs.declared.future.FutureNode.{FutureNode};
+ghost use Rattle.frame_lines.specs.Futures.{ends_text, future, future_text, head_text, left_then, node, nodes_text};
+
+use crate::forms::{Form, print_field, values_of};
 use crate::nested::{Begun, begun_of};
 use crate::value::Value;
 use journal_attempt::{Future, FutureKind, FutureNode};
-use lines::fields::Fields;
 use lines::line::Line;
 use std::alloc::{AllocError, Global};
-use wire::{Fault, Items};
+use wire::{Fault, Items, Text};
 
-impl Choice for FutureKind {
-    fn case<V: Cases>(&mut self, visitor: &mut V) -> Result<(), V::Error> {
-        visitor.bare(match self {
-            FutureKind::FirstCompleted => "FirstCompleted",
-            FutureKind::AllCompleted => "AllCompleted",
-            FutureKind::FirstSucceededOrAllFailed => "FirstSucceededOrAllFailed",
-            FutureKind::AllSucceededOrFirstFailed => "AllSucceededOrFirstFailed",
-            FutureKind::Unknown => "Unknown",
+/// What a future waits for itself, without those that nest in it.
+impl Form for FutureNode {
+    ghost fields = { node };
+
+    fn print(&self, line: &mut Line, is_first: bool) -> Result<bool, AllocError> {
+        let is_first = print_field(line, is_first, "kind", &self.kind)?;
+        let is_first = print_field(line, is_first, "completions", &self.waiting_completions)?;
+        let is_first = print_field(line, is_first, "signals", &self.waiting_signals)?;
+        Ok(print_field(line, is_first, "named", &self.waiting_named_signals)?)
+    }
+
+    fn read(alloc: Global, words: &[&[u8]]) -> Result<FutureNode, Fault> {
+        let names = ["kind=", "completions=", "signals=", "named="];
+        let (kind, (waiting_completions, (waiting_signals, (waiting_named_signals, ())))) =
+            values_of::<(FutureKind, (Items<u32>, (Items<u32>, (Items<Text>, ()))))>(
+                alloc, words, &names,
+            )?;
+        Ok(FutureNode {
+            kind,
+            waiting_completions,
+            waiting_signals,
+            waiting_named_signals,
+            nested: 0,
         })
     }
 }
 
-/// What a future waits for itself, without those that nest in it.
-impl Form for FutureNode {
-    fn fields<V: Visitor>(&mut self, visitor: &mut V) -> Result<(), V::Error> {
-        visitor.field("kind", &mut self.kind)?;
-        visitor.field("completions", &mut self.waiting_completions)?;
-        visitor.field("signals", &mut self.waiting_signals)?;
-        visitor.field("named", &mut self.waiting_named_signals)
-    }
+/// What stands behind a future's own fields: its end, or the front of the list of those that nest in it.
+fn behind_fields(nested: u64) -> &'static str
+    ensures { result.now ≡ (if nested == 0 then codes ")" else codes " nested=[") }
+{
+    if nested == 0 { ")" } else { " nested=[" }
 }
 
 /// Writes a future as far as those that nest in it.
-fn print_head(node: &FutureNode, line: &mut Line) -> Result<(), AllocError> {
-    let mut head = node.clone()?;
-    line.open("(")?;
-    head.fields(line)?;
-    if node.nested == 0 {
-        return line.word(")");
-    }
-    line.name("nested")?;
-    line.open("[")
+fn print_head(node: &FutureNode, line: &mut Line) -> Result<(), AllocError>
+    ensures { OnOk result (line.new ≡ line.old ++ head_text node.now) }
+{
+    line.word("(")?;
+    node.print(line, true)?;
+    line.word(behind_fields(node.nested))?;
+    Ok(())
 }
 
 /// Ends the futures whose nested ones are all written, where so many are left at each level, the innermost last.
-fn print_ends(left: &mut Vec<u64>, line: &mut Line) -> Result<(), AllocError> {
+#[tactic(auto, using(crate::proofs::Nesting::ends_begun, crate::proofs::Nesting::ends_more, crate::proofs::Nesting::another_comes, crate::proofs::Nesting::one_less_left, crate::proofs::Nesting::all_ended, crate::proofs::Nesting::none_left))]
+fn print_ends(left: &mut Vec<u64>, line: &mut Line) -> Result<(), AllocError>
+    ensures text { OnOk result (line.new ≡ line.old ++ ends_text (reverse left.old.items)) }
+    ensures left { OnOk result (reverse left.new.items ≡ left_then (reverse left.old.items)) }
+{
     while let Some(count) = left.pop() {
         if count > 1 {
             left.push(count - 1)?;
@@ -55,29 +71,48 @@ fn print_ends(left: &mut Vec<u64>, line: &mut Line) -> Result<(), AllocError> {
     Ok(())
 }
 
+/// Writes a future as far as those that nest in it, and ends what is whole by it.
+fn print_node(node: &FutureNode, left: &mut Vec<u64>, line: &mut Line) -> Result<(), AllocError>
+    ensures { OnOk result ((others : List FutureNode) → line.new
+        ++ nodes_text (reverse left.new.items) others ≡ line.old
+        ++ nodes_text (reverse left.old.items) (node.now ∷ others)) }
+{
+    print_head(node, line)?;
+    if node.nested == 0 {
+        print_ends(left, line)?;
+        return Ok(());
+    }
+    left.push(node.nested)?;
+    Ok(())
+}
+
+/// Writes a future, by its nodes.
+fn print_nodes(alloc: Global, nodes: &[FutureNode], line: &mut Line) -> Result<(), AllocError>
+    ensures { OnOk result (line.new ≡ line.old ++ future_text nodes.now) }
+{
+    // How many futures are still to be written at each level, the innermost last.
+    let mut left = Vec::new(alloc);
+    for node in nodes {
+        print_node(node, &mut left, line)?;
+    }
+    Ok(())
+}
+
 fn node_of(alloc: Global, future: &Begun<'_>) -> Result<FutureNode, Fault> {
-    let mut node: FutureNode = blank(alloc)?;
-    take_all(
-        &mut node,
-        Fields::of_pieces(alloc, future.fields.as_slice())?,
-    )?;
+    let mut node = FutureNode::read(alloc, future.fields.as_slice())?;
     node.nested = future.nested.unwrap_or(0);
     Ok(node)
 }
 
 impl Value for Future {
-    fn print(&mut self, line: &mut Line) -> Result<(), AllocError> {
-        // How many futures are still to be written at each level, the innermost last.
-        let mut left = Vec::new(self.alloc());
-        for node in self.nodes() {
-            print_head(node, line)?;
-            if node.nested == 0 {
-                print_ends(&mut left, line)?;
-            } else {
-                left.push(node.nested)?;
-            }
-        }
-        Ok(())
+    ghost notation = { future };
+
+    fn is_left_out(&self) -> bool {
+        false
+    }
+
+    fn print(&self, line: &mut Line) -> Result<(), AllocError> {
+        print_nodes(self.alloc(), self.nodes(), line)
     }
 
     fn parse(alloc: Global, text: &[u8]) -> Result<Future, Fault> {
@@ -86,5 +121,9 @@ impl Value for Future {
             nodes.push(node_of(alloc, future)?)?;
         }
         Future::from_nodes(nodes).ok_or(Fault::Malformed)
+    }
+
+    fn missing(_alloc: Global) -> Option<Future> {
+        None
     }
 }

@@ -3,11 +3,11 @@
 
 pub mod choices;
 pub mod entry;
-pub mod exit_status;
 pub mod forms;
 pub mod future;
 pub mod message;
 pub mod nested;
 pub mod run;
+pub mod run_end;
 pub mod type_names;
 pub mod value;

@@ -1,89 +1,153 @@
 //! A message as a line.
-ghost use Rattle.std.specs.Prelude.{◌≡◌, IfOk};
+ghost use Rattle.std.specs.Prelude.{◌≡◌, ◌++◌, false, IfOk, OnOk};
 ghost use Rattle.journal_messages.specs.Message.{type_of};
+ghost use Rattle.frame_lines.specs.Messages.{AreFieldsOf, fields_of, message_text};
+ghost use Rattle.frame_lines.specs.Notation.{put_all};
 
-use crate::forms::{Form, Visitor, ZEROS};
+use crate::forms::Form;
 use crate::type_names::name_of;
-use bytes::Bytes;
-use journal_errors::MessageType;
-use journal_messages::{Message, RawMessage};
-use lines::fields::Fields;
+use journal_attempt::{
+    AwaitingOn, InputCommand, OutputCommand, ProposeRunCompletion, ProposeRunCompletionAck,
+    RunCommand, SleepCommand, Start, Suspension,
+};
+use journal_calls::{
+    CallCommand, CompleteAwakeableCommand, CompletePromiseCommand, InvocationCommand,
+    OneWayCallCommand, PromiseCommand, SendSignalCommand,
+};
+use journal_errors::{ErrorMessage, MessageType};
+use journal_messages::Message;
+use journal_state::{
+    ClearAllStateCommand, ClearStateCommand, GetEagerStateCommand, GetEagerStateKeysCommand,
+    GetLazyStateCommand, GetLazyStateKeysCommand, GetStateEphemeralCommand,
+    GetStateEphemeralNotification, SetStateCommand,
+};
+use journal_values::Notification;
 use lines::line::Line;
 use std::alloc::{AllocError, Global};
 use wire::Fault;
 
-impl Form for Message {
-    fn fields<V: Visitor>(&mut self, visitor: &mut V) -> Result<(), V::Error>
-        ensures { type_of self.new ≡ type_of self.old }
-    {
-        match self {
-            Message::Start(m) => m.fields(visitor),
-            Message::Suspension(m) => m.fields(visitor),
-            Message::Error(m) => m.fields(visitor),
-            Message::End => Ok(()),
-            Message::ProposeRunCompletion(m) => m.fields(visitor),
-            Message::ProposeRunCompletionAck(m) => m.fields(visitor),
-            Message::AwaitingOn(m) => m.fields(visitor),
-            Message::GetStateEphemeralCommand(m) => m.fields(visitor),
-            Message::GetStateEphemeralNotification(m) => m.fields(visitor),
-            Message::Input(m) => m.fields(visitor),
-            Message::GetEagerState(m) => m.fields(visitor),
-            Message::GetLazyState(m) => m.fields(visitor),
-            Message::GetEagerStateKeys(m) => m.fields(visitor),
-            Message::GetLazyStateKeys(m) => m.fields(visitor),
-            Message::SetState(m) => m.fields(visitor),
-            Message::ClearState(m) => m.fields(visitor),
-            Message::ClearAllState(m) => m.fields(visitor),
-            Message::Sleep(m) => m.fields(visitor),
-            Message::Call(m) => m.fields(visitor),
-            Message::OneWayCall(m) => m.fields(visitor),
-            Message::CompleteAwakeable(m) => m.fields(visitor),
-            Message::SendSignal(m) => m.fields(visitor),
-            Message::GetPromise(m) => m.fields(visitor),
-            Message::PeekPromise(m) => m.fields(visitor),
-            Message::CompletePromise(m) => m.fields(visitor),
-            Message::Run(m) => m.fields(visitor),
-            Message::AttachInvocation(m) => m.fields(visitor),
-            Message::GetInvocationOutput(m) => m.fields(visitor),
-            Message::Output(m) => m.fields(visitor),
-            Message::Notification(m) => m.fields(visitor),
-        }
+/// Writes the message's fields behind its name.
+#[tactic(auto, unfolding(crate::specs::Messages::fields_of))]
+fn print_fields(message: &Message, line: &mut Line) -> Result<bool, AllocError>
+    ensures { IfOk result (λ then. put_all (line.old, false) (fields_of message.now)
+        ≡ (line.new, then)) }
+{
+    match message {
+        Message::Start(m) => m.print(line, false),
+        Message::Suspension(m) => m.print(line, false),
+        Message::Error(m) => m.print(line, false),
+        Message::End => Ok(false),
+        Message::ProposeRunCompletion(m) => m.print(line, false),
+        Message::ProposeRunCompletionAck(m) => m.print(line, false),
+        Message::AwaitingOn(m) => m.print(line, false),
+        Message::GetStateEphemeralCommand(m) => m.print(line, false),
+        Message::GetStateEphemeralNotification(m) => m.print(line, false),
+        Message::Input(m) => m.print(line, false),
+        Message::GetEagerState(m) => m.print(line, false),
+        Message::GetLazyState(m) => m.print(line, false),
+        Message::GetEagerStateKeys(m) => m.print(line, false),
+        Message::GetLazyStateKeys(m) => m.print(line, false),
+        Message::SetState(m) => m.print(line, false),
+        Message::ClearState(m) => m.print(line, false),
+        Message::ClearAllState(m) => m.print(line, false),
+        Message::Sleep(m) => m.print(line, false),
+        Message::Call(m) => m.print(line, false),
+        Message::OneWayCall(m) => m.print(line, false),
+        Message::CompleteAwakeable(m) => m.print(line, false),
+        Message::SendSignal(m) => m.print(line, false),
+        Message::GetPromise(m) => m.print(line, false),
+        Message::PeekPromise(m) => m.print(line, false),
+        Message::CompletePromise(m) => m.print(line, false),
+        Message::Run(m) => m.print(line, false),
+        Message::AttachInvocation(m) => m.print(line, false),
+        Message::GetInvocationOutput(m) => m.print(line, false),
+        Message::Output(m) => m.print(line, false),
+        Message::Notification(m) => m.print(line, false),
     }
 }
 
 /// Writes the type's name, and the fields that aren't at their default.
-pub fn print_message(message: &mut Message, line: &mut Line) -> Result<(), AllocError> {
+pub fn print_message(message: &Message, line: &mut Line) -> Result<(), AllocError>
+    ensures { OnOk result (line.new ≡ line.old ++ message_text message.now) }
+{
     line.word(name_of(message.ty()))?;
-    message.fields(line)
+    print_fields(message, line)?;
+    Ok(())
 }
 
-/// The message of this type that holds nothing yet: that of the one body of zeros that spells one.
-fn blank_message(alloc: Global, ty: MessageType) -> Result<Message, Fault>
-    ensures { IfOk result (λ message. type_of message ≡ ty) }
+/// The message of this type that these words are the fields of.
+#[tactic(auto, unfolding(crate::specs::Messages::AreFieldsOf))]
+pub fn parse_message(alloc: Global, ty: MessageType, words: &[&[u8]]) -> Result<Message, Fault>
+    ensures typed { IfOk result (λ message. type_of message ≡ ty) }
+    ensures fields { IfOk result (AreFieldsOf words.now) }
 {
-    for len in 0..=ZEROS.len() {
-        let body = Bytes::from_static(&ZEROS[..len]);
-        match (RawMessage { ty, body }).read(alloc) {
-            Err(Fault::Malformed) => {}
-            read => return read,
-        }
+    match ty {
+        MessageType::Start => Ok(Message::Start(Start::read(alloc, words)?)),
+        MessageType::Suspension => Ok(Message::Suspension(Suspension::read(alloc, words)?)),
+        MessageType::Error => Ok(Message::Error(ErrorMessage::read(alloc, words)?)),
+        MessageType::End if words.is_empty() => Ok(Message::End),
+        MessageType::End => Err(Fault::Malformed),
+        MessageType::ProposeRunCompletion => Ok(Message::ProposeRunCompletion(
+            ProposeRunCompletion::read(alloc, words)?,
+        )),
+        MessageType::ProposeRunCompletionAck => Ok(Message::ProposeRunCompletionAck(
+            ProposeRunCompletionAck::read(alloc, words)?,
+        )),
+        MessageType::AwaitingOn => Ok(Message::AwaitingOn(AwaitingOn::read(alloc, words)?)),
+        MessageType::GetStateEphemeralCommand => Ok(Message::GetStateEphemeralCommand(
+            GetStateEphemeralCommand::read(alloc, words)?,
+        )),
+        MessageType::GetStateEphemeralNotification => Ok(Message::GetStateEphemeralNotification(
+            GetStateEphemeralNotification::read(alloc, words)?,
+        )),
+        MessageType::InputCommand => Ok(Message::Input(InputCommand::read(alloc, words)?)),
+        MessageType::GetEagerStateCommand => Ok(Message::GetEagerState(GetEagerStateCommand::read(
+            alloc, words,
+        )?)),
+        MessageType::GetLazyStateCommand => Ok(Message::GetLazyState(GetLazyStateCommand::read(
+            alloc, words,
+        )?)),
+        MessageType::GetEagerStateKeysCommand => Ok(Message::GetEagerStateKeys(
+            GetEagerStateKeysCommand::read(alloc, words)?,
+        )),
+        MessageType::GetLazyStateKeysCommand => Ok(Message::GetLazyStateKeys(
+            GetLazyStateKeysCommand::read(alloc, words)?,
+        )),
+        MessageType::SetStateCommand => Ok(Message::SetState(SetStateCommand::read(alloc, words)?)),
+        MessageType::ClearStateCommand => Ok(Message::ClearState(ClearStateCommand::read(
+            alloc, words,
+        )?)),
+        MessageType::ClearAllStateCommand => Ok(Message::ClearAllState(ClearAllStateCommand::read(
+            alloc, words,
+        )?)),
+        MessageType::SleepCommand => Ok(Message::Sleep(SleepCommand::read(alloc, words)?)),
+        MessageType::CallCommand => Ok(Message::Call(CallCommand::read(alloc, words)?)),
+        MessageType::OneWayCallCommand => Ok(Message::OneWayCall(OneWayCallCommand::read(
+            alloc, words,
+        )?)),
+        MessageType::CompleteAwakeableCommand => Ok(Message::CompleteAwakeable(
+            CompleteAwakeableCommand::read(alloc, words)?,
+        )),
+        MessageType::SendSignalCommand => Ok(Message::SendSignal(SendSignalCommand::read(
+            alloc, words,
+        )?)),
+        MessageType::GetPromiseCommand => Ok(Message::GetPromise(PromiseCommand::read(
+            alloc, words,
+        )?)),
+        MessageType::PeekPromiseCommand => Ok(Message::PeekPromise(PromiseCommand::read(
+            alloc, words,
+        )?)),
+        MessageType::CompletePromiseCommand => Ok(Message::CompletePromise(
+            CompletePromiseCommand::read(alloc, words)?,
+        )),
+        MessageType::RunCommand => Ok(Message::Run(RunCommand::read(alloc, words)?)),
+        MessageType::AttachInvocationCommand => Ok(Message::AttachInvocation(
+            InvocationCommand::read(alloc, words)?,
+        )),
+        MessageType::GetInvocationOutputCommand => Ok(Message::GetInvocationOutput(
+            InvocationCommand::read(alloc, words)?,
+        )),
+        MessageType::OutputCommand => Ok(Message::Output(OutputCommand::read(alloc, words)?)),
+        MessageType::Notification => Ok(Message::Notification(Notification::read(alloc, words)?)),
     }
-    Err(Fault::Malformed)
-}
-
-/// Takes the fields of a blank message, which are all that there are.
-fn take_fields(message: &mut Message, mut fields: Fields<'_>) -> Result<(), Fault>
-    ensures { type_of message.new ≡ type_of message.old }
-{
-    message.fields(&mut fields)?;
-    fields.end()
-}
-
-/// The message of this type that all of the fields make.
-pub fn parse_message(ty: MessageType, fields: Fields<'_>) -> Result<Message, Fault>
-    ensures { IfOk result (λ message. type_of message ≡ ty) }
-{
-    let mut message = blank_message(fields.alloc(), ty)?;
-    take_fields(&mut message, fields)?;
-    Ok(message)
 }

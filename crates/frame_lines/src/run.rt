@@ -1,39 +1,49 @@
 //! The two runs of the program: a stream of frames to lines, and lines to a stream of frames.
-ghost use Rattle.std.specs.Prelude.{◌≡◌, ◌++◌, IfOk, IfSome, IfNone, OnErr};
+ghost use Rattle.std.specs.Prelude.{◌≡◌, ◌++◌, ◌<◌, length, IfErr, IfOk, IfSome, IfNone, IsTrue, ◌↔◌, OnErr, OnOk};
+ghost use Rattle.std.specs.Io.KnownBytes.{IsAtEnd};
+ghost use Rattle.journal_streams.specs.Frames.{Whole, next_of};
 ghost use Rattle.journal_messages.specs.Message.{frame};
+ghost use Rattle.wire.specs.declared.fault.Fault.TheVariants.{Malformed};
+ghost use Rattle.frame_lines.specs.Printed.{frame_text};
+ghost use Rattle.frame_lines.specs.Runs.{Adds, AreShown, ArePrinted, HasNoFrame, IsBadFor, IsBadLine, IsComment, IsFirstLine, IsShownBy, IsShownInside, IsUnshown, IsUnshownInside, NoneIsBad, Tells, line_text, rest_lines};
 
 use crate::entry::{frame_of, print_frame, print_rest};
-use crate::exit_status::ExitStatus;
+use crate::run_end::RunEnd;
 use bytes::Bytes;
 use journal_messages::RawMessage;
 use journal_streams::Decoder;
 use lines::line::Line;
+use memchr::memchr;
 use std::alloc::{AllocError, Global};
-use std::io::{self, Read, Write};
+use streams::{Sink, Source};
 use wire::Fault;
 
-/// Writes a line.
-fn write_line<W: Write>(line: Line, writer: &mut W) -> io::Result<()> {
-    writer.write_all(line.as_str().as_bytes())?;
-    writer.write_all(b"\n")
+/// Adds the line of a frame.
+fn add_frame_line(alloc: Global, raw: &RawMessage, text: &mut Line) -> Result<(), AllocError>
+    ensures { OnOk result (text.new ≡ text.old ++ line_text (frame_text raw.now)) }
+{
+    print_frame(alloc, raw, text)?;
+    text.word("\n")
 }
 
-fn write_frame<W: Write>(alloc: Global, raw: &RawMessage, writer: &mut W) -> io::Result<()> {
-    let mut line = Line::new(alloc);
-    print_frame(alloc, raw, &mut line)?;
-    write_line(line, writer)
-}
-
-fn write_rest<W: Write>(alloc: Global, rest: &[u8], writer: &mut W) -> io::Result<()> {
-    let mut line = Line::new(alloc);
-    print_rest(rest, &mut line)?;
-    write_line(line, writer)
+/// Adds the line of bytes that are no whole frame, if there are any.
+fn add_rest_line(rest: &[u8], text: &mut Line) -> Result<(), AllocError>
+    ensures { OnOk result (text.new ≡ text.old ++ rest_lines rest.now) }
+{
+    if rest.is_empty() {
+        return Ok(());
+    }
+    print_rest(rest, text)?;
+    text.word("\n")
 }
 
 /// The next frame, if a whole one of a known type waits. An `Err` changes nothing.
 fn next_whole(decoder: &mut Decoder) -> Result<Option<RawMessage>, AllocError>
-    ensures none { IfOk result (λ next. IfNone next (decoder.new ≡ decoder.old)) }
+    ensures none { IfOk result
+        (λ next. IfNone next ((decoder.new ≡ decoder.old) × HasNoFrame decoder.old)) }
     ensures some { IfOk result
+        (λ next. IfSome next (λ raw. next_of decoder.old ≡ Whole raw decoder.new)) }
+    ensures spelled { IfOk result
         (λ next. IfSome next (λ raw. decoder.old ≡ frame raw.ty raw.body ++ decoder.new)) }
     ensures err { OnErr result (decoder.new ≡ decoder.old) }
 {
@@ -44,31 +54,47 @@ fn next_whole(decoder: &mut Decoder) -> Result<Option<RawMessage>, AllocError>
     }
 }
 
-/// Writes each whole frame that waits as a line.
-fn write_frames<W: Write>(alloc: Global, decoder: &mut Decoder, writer: &mut W) -> io::Result<()> {
-    while let Some(raw) = next_whole(decoder)? {
-        write_frame(alloc, &raw, writer)?;
+/// The lines of the frames that wait, and of what is behind them.
+#[tactic(auto, using(crate::proofs::Streaming::none_printed, crate::proofs::Streaming::frame_printed, crate::proofs::Streaming::all_printed))]
+fn lines_of(alloc: Global, mut decoder: Decoder) -> Result<Line, AllocError>
+    ensures { IfOk result (λ text. ArePrinted decoder text) }
+{
+    let mut text = Line::new(alloc);
+    while let Some(raw) = next_whole(&mut decoder)? {
+        add_frame_line(alloc, &raw, &mut text)?;
     }
-    Ok(())
+    add_rest_line(decoder.waiting(), &mut text)?;
+    Ok(text)
 }
 
-fn try_decode<R: Read, W: Write>(alloc: Global, reader: &mut R, writer: &mut W) -> io::Result<()> {
-    let mut stream = Vec::new(alloc);
-    reader.read_to_end(&mut stream)?;
+/// The lines of a stream of frames.
+fn lines_of_stream(alloc: Global, stream: Vec<u8>) -> Result<Line, AllocError>
+    ensures { IfOk result (λ text. ArePrinted stream.items text) }
+{
+    let stream = Bytes::from_vec(stream)?;
     let mut decoder = Decoder::new(alloc);
-    decoder.push(Bytes::from_vec(stream)?)?;
-    write_frames(alloc, &mut decoder, writer)?;
-    if !decoder.waiting().is_empty() {
-        write_rest(alloc, decoder.waiting(), writer)?;
-    }
-    writer.flush()
+    decoder.push(stream)?;
+    lines_of(alloc, decoder)
 }
 
 /// Reads a stream of frames to its end, and writes a line a frame. Bytes that are no whole frame are the last line.
-pub fn decode<R: Read, W: Write>(alloc: Global, reader: &mut R, writer: &mut W) -> ExitStatus {
-    match try_decode(alloc, reader, writer) {
-        Ok(()) => ExitStatus::Done,
-        Err(_) => ExitStatus::Failed,
+pub fn decode<R: Source, W: Sink>(alloc: Global, reader: &mut R, writer: &mut W) -> RunEnd
+    // Reading has failed, or memory was lacking, and nothing is written. Each other run has read all that there was, and has written
+    // a line for each whole frame, in order, and one for the rest, if there is one; or a beginning of them, where writing has failed.
+    ensures { Tells ArePrinted NoneIsBad (R.remaining reader.old) (W.contents writer.old)
+        (W.contents writer.new) (R.fails reader.old) (W.fails writer.old)
+        (IsAtEnd (R.remaining reader.new)) (writer.new ≡ writer.old) result }
+{
+    let mut stream = Vec::new(alloc);
+    if let Err(error) = reader.read_whole(&mut stream) {
+        return RunEnd::ReadFailed(error);
+    }
+    let Ok(text) = lines_of_stream(alloc, stream) else {
+        return RunEnd::NoMemory;
+    };
+    match writer.write_whole(text.as_str().as_bytes()) {
+        Ok(()) => RunEnd::Written,
+        Err(error) => RunEnd::WriteFailed(error),
     }
 }
 
@@ -76,54 +102,100 @@ pub fn decode<R: Read, W: Write>(alloc: Global, reader: &mut R, writer: &mut W) 
 #[derive(Clone, Copy)]
 pub enum Unread {
     Memory,
-    /// The line of this number has no meaning.
+    /// The line of this number, counted from 1, has no meaning.
     Line(u64),
 }
 
-/// Adds the frame that a line shows. An empty line and one that begins with `#` show none.
-fn add_frame(alloc: Global, line: &[u8], frames: &mut Vec<u8>) -> Result<(), Fault> {
-    let line = line.trim_ascii();
-    if line.is_empty() || line[0] == b'#' {
+/// The first line, without its end, and what follows it.
+#[tactic(auto, using(crate::proofs::FirstLines::ends_at, crate::proofs::FirstLines::never_ends))]
+fn first_line(text: &[u8]) -> (&[u8], &[u8])
+    requires { 0 < length text.now }
+    ensures shorter { length result.1.now < length text.now }
+    ensures first { IsFirstLine text.now result.0.now result.1.now }
+{
+    match memchr(b'\n', text) {
+        Some(at) => (&text[..at], &text[at + 1..]),
+        None => (text, &text[text.len()..]),
+    }
+}
+
+/// Whether a line is empty, or begins with `#`.
+fn is_comment(line: &[u8]) -> bool
+    ensures { IsTrue result ↔ IsComment line.now }
+{
+    match line {
+        [] => true,
+        [first, ..] => *first == b'#',
+    }
+}
+
+/// Adds what a line shows that has no blanks around it.
+fn add_shown(alloc: Global, line: &[u8], frames: &mut Vec<u8>) -> Result<(), Fault>
+    ensures value { OnOk result (Adds (IsShownInside line.now) frames.old.items frames.new.items) }
+    ensures none { IfErr result (λ fault. fault ≡ Malformed → IsUnshownInside line.now) }
+{
+    if is_comment(line) {
         return Ok(());
     }
     if std::str::from_utf8(line).is_err() {
         return Err(Fault::Malformed);
     }
-    let frame = frame_of(alloc, line)?;
+    let frame = match frame_of(alloc, line) {
+        Ok(frame) => frame,
+        Err(fault) => return Err(fault),
+    };
     frames.extend_from_slice(frame.as_slice())?;
     Ok(())
 }
 
-/// The frames that lines show, one after another.
-pub fn frames_of(alloc: Global, text: &[u8]) -> Result<Vec<u8>, Unread> {
+/// Adds what a line shows.
+fn add_line(alloc: Global, line: &[u8], frames: &mut Vec<u8>) -> Result<(), Fault>
+    ensures value { OnOk result (Adds (IsShownBy line.now) frames.old.items frames.new.items) }
+    ensures none { IfErr result (λ fault. fault ≡ Malformed → IsUnshown line.now) }
+{
+    add_shown(alloc, line.trim_ascii(), frames)
+}
+
+/// What lines show, one after another.
+#[tactic(auto, using(crate::proofs::Streaming::none_read, crate::proofs::Streaming::line_read, crate::proofs::Streaming::all_read, crate::proofs::Streaming::stops))]
+pub fn frames_of(alloc: Global, text: &[u8]) -> Result<Vec<u8>, Unread>
+    ensures value { IfOk result (λ frames. AreShown text.now frames.items) }
+    ensures none { IfErr result (IsBadFor text.now) }
+{
     let mut frames = Vec::new(alloc);
     let mut number = 0u64;
-    for line in text.split(|byte| *byte == b'\n') {
-        number = number.saturating_add(1);
-        match add_frame(alloc, line, &mut frames) {
+    let mut rest = text;
+    while !rest.is_empty() {
+        let (line, behind) = first_line(rest);
+        number += 1;
+        match add_line(alloc, line, &mut frames) {
             Ok(()) => {}
             Err(Fault::Memory) => return Err(Unread::Memory),
             Err(Fault::Malformed) => return Err(Unread::Line(number)),
         }
+        rest = behind;
     }
     Ok(frames)
 }
 
 /// Reads lines to their end, and writes the frames that they show. Where a line has no meaning nothing is written.
-pub fn encode<R: Read, W: Write>(alloc: Global, reader: &mut R, writer: &mut W) -> ExitStatus {
+pub fn encode<R: Source, W: Sink>(alloc: Global, reader: &mut R, writer: &mut W) -> RunEnd
+    // As for `decode`, and what is written are the bytes that the lines show, one line behind another; or nothing, where the line of
+    // the number that is told shows none.
+    ensures { Tells AreShown IsBadLine (R.remaining reader.old) (W.contents writer.old)
+        (W.contents writer.new) (R.fails reader.old) (W.fails writer.old)
+        (IsAtEnd (R.remaining reader.new)) (writer.new ≡ writer.old) result }
+{
     let mut text = Vec::new(alloc);
-    if reader.read_to_end(&mut text).is_err() {
-        return ExitStatus::Failed;
+    if let Err(error) = reader.read_whole(&mut text) {
+        return RunEnd::ReadFailed(error);
     }
     match frames_of(alloc, text.as_slice()) {
-        Ok(frames) => {
-            if writer.write_all(frames.as_slice()).is_ok() && writer.flush().is_ok() {
-                ExitStatus::Done
-            } else {
-                ExitStatus::Failed
-            }
-        }
-        Err(Unread::Memory) => ExitStatus::Failed,
-        Err(Unread::Line(number)) => ExitStatus::BadLine(number),
+        Ok(frames) => match writer.write_whole(frames.as_slice()) {
+            Ok(()) => RunEnd::Written,
+            Err(error) => RunEnd::WriteFailed(error),
+        },
+        Err(Unread::Memory) => RunEnd::NoMemory,
+        Err(Unread::Line(number)) => RunEnd::BadLine(number),
     }
 }

@@ -1,62 +1,85 @@
 //! The values of fields as they are written on a line.
+ghost use Rattle.std.specs.Prelude.{◌≡◌, ◌++◌, IfOk, IfSome, OnOk, true};
+ghost use Rattle.line_parts.specs.Words.{IsNumberOf, text_at};
+ghost use Rattle.frame_lines.specs.Notation.{Notation, SayItems, SaysInside, SaysPair, bytes, flag, header, list, listed, number, optional, pair, string};
+
 use bytes::Bytes;
 use journal_values::Header;
-use lines::atoms::{bytes_of, number_of};
+use line_parts::atoms::{shared_of, text_of, u32_of};
+use lines::atoms::number_of;
 use lines::line::Line;
-use lines::pieces::{between, items, words};
+use lines::pieces::{between, pieces, words_within};
 use std::alloc::{AllocError, Global};
 use wire::{Fault, Items, Text};
 
-/// A type whose values stand behind a field's name. Without a default its field must always stand.
+/// A type whose values stand behind a field's name.
 pub trait Value: Drop {
+    /// How the values are printed.
+    ghost notation: { Notation Self };
+
     /// Whether the value is a default, whose field is left out.
-    fn is_left_out(&self) -> bool {
-        false
-    }
+    fn is_left_out(&self) -> bool
+        ensures { result ≡ notation.is_left_out self.now };
 
-    /// Writes the value, which stays as it is.
-    fn print(&mut self, line: &mut Line) -> Result<(), AllocError>;
+    fn print(&self, line: &mut Line) -> Result<(), AllocError>
+        ensures { OnOk result (line.new ≡ line.old ++ notation.text self.now) };
 
-    fn parse(alloc: Global, text: &[u8]) -> Result<Self, Fault>;
+    fn parse(alloc: Global, text: &[u8]) -> Result<Self, Fault>
+        ensures { IfOk result (notation.Says text.now) };
+
+    /// The default, if there is one. Without one the field must always stand.
+    fn missing(alloc: Global) -> Option<Self>
+        ensures { IfSome result (λ it. notation.is_left_out it ≡ true) };
 }
 
 impl Value for u32 {
+    ghost notation = { number 32 };
+
     fn is_left_out(&self) -> bool {
         *self == 0
     }
 
-    fn print(&mut self, line: &mut Line) -> Result<(), AllocError> {
+    fn print(&self, line: &mut Line) -> Result<(), AllocError> {
         line.number(u64::from(*self))
     }
 
     fn parse(_alloc: Global, text: &[u8]) -> Result<u32, Fault> {
-        let Some(number) = number_of(text) else {
-            return Err(Fault::Malformed);
-        };
-        u32::try_from(number).map_err(|_| Fault::Malformed)
+        u32_of(text)
+    }
+
+    fn missing(_alloc: Global) -> Option<u32> {
+        Some(0)
     }
 }
 
 impl Value for u64 {
+    ghost notation = { number 64 };
+
     fn is_left_out(&self) -> bool {
         *self == 0
     }
 
-    fn print(&mut self, line: &mut Line) -> Result<(), AllocError> {
+    fn print(&self, line: &mut Line) -> Result<(), AllocError> {
         line.number(*self)
     }
 
     fn parse(_alloc: Global, text: &[u8]) -> Result<u64, Fault> {
         number_of(text).ok_or(Fault::Malformed)
     }
+
+    fn missing(_alloc: Global) -> Option<u64> {
+        Some(0)
+    }
 }
 
 impl Value for bool {
+    ghost notation = { flag };
+
     fn is_left_out(&self) -> bool {
         !*self
     }
 
-    fn print(&mut self, line: &mut Line) -> Result<(), AllocError> {
+    fn print(&self, line: &mut Line) -> Result<(), AllocError> {
         line.word(if *self { "true" } else { "false" })
     }
 
@@ -67,45 +90,60 @@ impl Value for bool {
             _ => Err(Fault::Malformed),
         }
     }
+
+    fn missing(_alloc: Global) -> Option<bool> {
+        Some(false)
+    }
 }
 
 impl Value for Bytes {
+    ghost notation = { bytes };
+
     fn is_left_out(&self) -> bool {
         self.is_empty()
     }
 
-    fn print(&mut self, line: &mut Line) -> Result<(), AllocError> {
+    fn print(&self, line: &mut Line) -> Result<(), AllocError> {
         line.quoted(self.as_slice())
     }
 
     fn parse(alloc: Global, text: &[u8]) -> Result<Bytes, Fault> {
-        Ok(Bytes::from_vec(bytes_of(alloc, text)?)?)
+        shared_of(alloc, text)
+    }
+
+    fn missing(_alloc: Global) -> Option<Bytes> {
+        Some(Bytes::new())
     }
 }
 
 impl Value for Text {
+    ghost notation = { string };
+
     fn is_left_out(&self) -> bool {
         self.as_str().is_empty()
     }
 
-    fn print(&mut self, line: &mut Line) -> Result<(), AllocError> {
+    fn print(&self, line: &mut Line) -> Result<(), AllocError> {
         line.quoted(self.as_str().as_bytes())
     }
 
     fn parse(alloc: Global, text: &[u8]) -> Result<Text, Fault> {
-        match String::from_utf8(bytes_of(alloc, text)?) {
-            Ok(text) => Ok(Text::from_string(text)),
-            Err(_) => Err(Fault::Malformed),
-        }
+        text_of(alloc, text)
+    }
+
+    fn missing(alloc: Global) -> Option<Text> {
+        Some(Text::from_string(String::new(alloc)))
     }
 }
 
 impl<T: Value> Value for Option<T> {
+    ghost notation = { optional T.notation };
+
     fn is_left_out(&self) -> bool {
         self.is_none()
     }
 
-    fn print(&mut self, line: &mut Line) -> Result<(), AllocError> {
+    fn print(&self, line: &mut Line) -> Result<(), AllocError> {
         match self {
             Some(value) => value.print(line),
             None => Ok(()),
@@ -115,71 +153,145 @@ impl<T: Value> Value for Option<T> {
     fn parse(alloc: Global, text: &[u8]) -> Result<Option<T>, Fault> {
         Ok(Some(T::parse(alloc, text)?))
     }
+
+    fn missing(_alloc: Global) -> Option<Option<T>> {
+        Some(None)
+    }
 }
 
-impl<T: Value + Clone> Value for Items<T> {
+/// Writes items with a comma and a blank between each two.
+fn print_items<T: Value>(items: &[T], line: &mut Line) -> Result<(), AllocError>
+    ensures { OnOk result (line.new ≡ line.old ++ listed T.notation.text items.now) }
+{
+    let [first, others @ ..] = items else {
+        return Ok(());
+    };
+    first.print(line)?;
+    for item in others {
+        line.word(", ")?;
+        item.print(line)?;
+    }
+    Ok(())
+}
+
+/// The items between commas.
+fn items_of<T: Value>(alloc: Global, text: &[u8]) -> Result<Items<T>, Fault>
+    ensures { IfOk result (SayItems T.notation.Says text.now) }
+{
+    let mut items = Items::new(alloc);
+    if text.is_empty() {
+        return Ok(items);
+    }
+    let pieces = pieces(alloc, text, b',')?;
+    for piece in &pieces {
+        items.push(T::parse(alloc, piece.trim_ascii())?)?;
+    }
+    Ok(items)
+}
+
+impl<T: Value> Value for Items<T> {
+    ghost notation = { list T.notation };
+
     fn is_left_out(&self) -> bool {
         self.is_empty()
     }
 
-    fn print(&mut self, line: &mut Line) -> Result<(), AllocError> {
-        line.open("[")?;
-        for (i, item) in self.as_slice().iter().enumerate() {
-            if i > 0 {
-                line.word(", ")?;
-            }
-            let mut copy = item.clone()?;
-            copy.print(line)?;
-        }
+    fn print(&self, line: &mut Line) -> Result<(), AllocError> {
+        line.word("[")?;
+        print_items(self.as_slice(), line)?;
         line.word("]")
     }
 
     fn parse(alloc: Global, text: &[u8]) -> Result<Items<T>, Fault> {
-        let mut parsed = Items::new(alloc);
-        for item in items(alloc, text)? {
-            parsed.push(T::parse(alloc, item)?)?;
-        }
-        Ok(parsed)
+        let inside = between(text, b'[', b']')?;
+        items_of(alloc, inside.trim_ascii())
+    }
+
+    fn missing(alloc: Global) -> Option<Items<T>> {
+        Some(Items::new(alloc))
     }
 }
 
-impl<A: Value, B: Value> Value for (A, B) {
-    fn print(&mut self, line: &mut Line) -> Result<(), AllocError> {
-        print_pair(&mut self.0, &mut self.1, line)
-    }
-
-    fn parse(alloc: Global, text: &[u8]) -> Result<(A, B), Fault> {
-        let pair = words(alloc, between(text, b'(', b')')?)?;
-        match pair.as_slice() {
-            [first, second] => {
-                let first = A::parse(alloc, *first)?;
-                let second = B::parse(alloc, *second)?;
-                Ok((first, second))
-            }
-            _ => Err(Fault::Malformed),
-        }
-    }
-}
-
-impl Value for Header {
-    fn print(&mut self, line: &mut Line) -> Result<(), AllocError> {
-        print_pair(&mut self.key, &mut self.value, line)
-    }
-
-    fn parse(alloc: Global, text: &[u8]) -> Result<Header, Fault> {
-        let (key, value) = <(Text, Text)>::parse(alloc, text)?;
-        Ok(Header { key, value })
-    }
-}
-
-fn print_pair<A: Value, B: Value>(
-    first: &mut A,
-    second: &mut B,
-    line: &mut Line,
-) -> Result<(), AllocError> {
-    line.open("(")?;
+/// Writes two values in round brackets.
+fn print_pair<A: Value, B: Value>(first: &A, second: &B, line: &mut Line) -> Result<(), AllocError>
+    ensures { OnOk result (line.new ≡ line.old
+        ++ (pair A.notation B.notation).text (first.now, second.now)) }
+{
+    line.word("(")?;
     first.print(line)?;
     line.word(" ")?;
     second.print(line)?;
     line.word(")")
+}
+
+/// The value of the word at this place.
+#[tactic(auto, using(crate::proofs::Saying::said_at))]
+fn value_at<T: Value>(alloc: Global, words: &[&[u8]], place: usize) -> Result<T, Fault>
+    ensures { IfOk result (T.notation.Says (text_at place words.now)) }
+{
+    match words.get(place) {
+        Some(word) => T::parse(alloc, *word),
+        None => Err(Fault::Malformed),
+    }
+}
+
+/// The two values in round brackets.
+fn pair_of<A: Value, B: Value>(alloc: Global, text: &[u8]) -> Result<(A, B), Fault>
+    ensures { IfOk result (SaysPair A.notation.Says B.notation.Says text.now) }
+{
+    let words = words_within(alloc, text, b'(', b')')?;
+    if words.len() != 2 {
+        return Err(Fault::Malformed);
+    }
+    let first = value_at(alloc, words.as_slice(), 0)?;
+    match value_at(alloc, words.as_slice(), 1) {
+        Ok(second) => Ok((first, second)),
+        Err(fault) => {
+            drop(first);
+            Err(fault)
+        }
+    }
+}
+
+impl<A: Value, B: Value> Value for (A, B) {
+    ghost notation = { pair A.notation B.notation };
+
+    fn is_left_out(&self) -> bool {
+        false
+    }
+
+    fn print(&self, line: &mut Line) -> Result<(), AllocError> {
+        print_pair(&self.0, &self.1, line)
+    }
+
+    fn parse(alloc: Global, text: &[u8]) -> Result<(A, B), Fault> {
+        pair_of(alloc, text)
+    }
+
+    fn missing(_alloc: Global) -> Option<(A, B)> {
+        None
+    }
+}
+
+impl Value for Header {
+    ghost notation = { header };
+
+    fn is_left_out(&self) -> bool {
+        false
+    }
+
+    fn print(&self, line: &mut Line) -> Result<(), AllocError> {
+        print_pair(&self.key, &self.value, line)
+    }
+
+    fn parse(alloc: Global, text: &[u8]) -> Result<Header, Fault> {
+        match pair_of(alloc, text) {
+            Ok((key, value)) => Ok(Header { key, value }),
+            Err(fault) => Err(fault),
+        }
+    }
+
+    fn missing(_alloc: Global) -> Option<Header> {
+        None
+    }
 }

@@ -1,11 +1,12 @@
 //! `frames`: a stream of frames as lines that people read, and such lines as a stream of frames.
 #![tactic(auto)]
 
-use frame_lines::exit_status::ExitStatus;
 use frame_lines::run::{decode, encode};
+use frame_lines::run_end::RunEnd;
 use std::env::{self, Env};
 use std::io;
 use std::process::ExitCode;
+use streams::Plain;
 
 const USAGE: &str = "usage: frames [--encode]";
 
@@ -22,21 +23,31 @@ fn arguments(rt: &(impl Env + AllocGlobal)) -> io::Result<Option<bool>> {
     Ok(Some(true))
 }
 
+/// Writes what is read in the other form.
+fn turn(rt: &HostRuntime, encodes: bool) -> RunEnd {
+    let mut reader = Plain(rt.reader());
+    let mut writer = Plain(io::writer(rt));
+    if encodes {
+        encode(rt.alloc(), &mut reader, &mut writer)
+    } else {
+        decode(rt.alloc(), &mut reader, &mut writer)
+    }
+}
+
 fn main(rt: HostRuntime) -> ExitCode {
-    let status = match arguments(&rt) {
-        Ok(Some(false)) => decode(rt.alloc(), &mut rt.reader(), &mut io::writer(&rt)),
-        Ok(Some(true)) => encode(rt.alloc(), &mut rt.reader(), &mut io::writer(&rt)),
-        Ok(None) => ExitStatus::Usage,
-        Err(_) => ExitStatus::Failed,
+    let end = match arguments(&rt) {
+        Ok(Some(encodes)) => turn(&rt, encodes),
+        Ok(None) => RunEnd::Usage,
+        Err(error) => RunEnd::ReadFailed(error),
     };
-    match status {
-        ExitStatus::Usage => {
+    match end {
+        RunEnd::Usage => {
             let _ = rt.eprintln(USAGE);
         }
-        ExitStatus::BadLine(number) => {
+        RunEnd::BadLine(number) => {
             let _ = rt.eprintln(format_args!("frames: line {number} is no frame"));
         }
-        ExitStatus::Done | ExitStatus::Failed => {}
+        _ => {}
     }
-    ExitCode::from(status.code())
+    ExitCode::from(end.code())
 }

@@ -4,13 +4,14 @@ use crate::frame_rows::{bad_lines, expect, frame_rows, parts_of, rows_in_other_f
 use crate::reading::whole_in;
 use bytes::Bytes;
 use frame_lines::entry::{frame_of, print_frame};
-use frame_lines::exit_status::ExitStatus;
 use frame_lines::run::{Unread, decode, encode, frames_of};
+use frame_lines::run_end::RunEnd;
 use journal_protocol::RawMessage;
 use lines::line::Line;
 use std::alloc::{AllocError, Global};
 use std::io::{self, Read, Write};
 use std::test::Fail;
+use streams::Plain;
 use wire::Fault;
 
 fn printed(alloc: Global, raw: &RawMessage) -> Result<Line, AllocError> {
@@ -167,17 +168,17 @@ static RUN_FRAMES: [u8; 12] = [0, 4, 0, 0, 0, 0, 0, 0, 0, 0, 0, 31];
 const RUN_LINES: &str = "End\nrest 0x001f\n";
 
 /// Whether the frames are read to their end, and these lines written.
-fn is_decoded(alloc: Global, mut frames: &[u8], lines: &str) -> bool {
-    let mut written = Vec::new(alloc);
-    let end = decode(alloc, &mut frames, &mut written);
-    end == ExitStatus::Done && written.as_slice() == lines.as_bytes()
+fn is_decoded(alloc: Global, frames: &[u8], lines: &str) -> bool {
+    let mut written = Plain(Vec::new(alloc));
+    let end = decode(alloc, &mut Plain(frames), &mut written);
+    end.code() == 0 && written.0.as_slice() == lines.as_bytes()
 }
 
 /// Whether the lines are read to their end, and these frames written.
-fn is_encoded(alloc: Global, mut lines: &[u8], frames: &[u8]) -> bool {
-    let mut written = Vec::new(alloc);
-    let end = encode(alloc, &mut lines, &mut written);
-    end == ExitStatus::Done && written.as_slice() == frames
+fn is_encoded(alloc: Global, lines: &[u8], frames: &[u8]) -> bool {
+    let mut written = Plain(Vec::new(alloc));
+    let end = encode(alloc, &mut Plain(lines), &mut written);
+    end.code() == 0 && written.0.as_slice() == frames
 }
 
 #[test]
@@ -186,33 +187,33 @@ fn whole_runs(rt: HostRuntime) {
     assert!(rt; is_encoded(rt.alloc(), RUN_LINES.as_bytes(), &RUN_FRAMES));
 }
 
-/// How runs end whose reader fails after 12 bytes, and at once.
-fn failing_reads(alloc: Global, out: &mut Vec<u8>) -> [ExitStatus; 2] {
+/// The exit codes of runs whose reader fails after 12 bytes, and at once.
+fn failing_reads(alloc: Global, out: &mut Plain<Vec<u8>>) -> [u8; 2] {
     [
-        decode(alloc, &mut Failing { left: 12 }, out),
-        encode(alloc, &mut Failing { left: 0 }, out),
+        decode(alloc, &mut Plain(Failing { left: 12 }), out).code(),
+        encode(alloc, &mut Plain(Failing { left: 0 }), out).code(),
     ]
 }
 
-/// How runs end whose writer fails after 3 bytes, and after 9.
-fn failing_writes(alloc: Global, mut frames: &[u8], mut lines: &[u8]) -> [ExitStatus; 2] {
+/// The exit codes of runs whose writer fails after 3 bytes, and after 9.
+fn failing_writes(alloc: Global, frames: &[u8], lines: &[u8]) -> [u8; 2] {
     [
-        decode(alloc, &mut frames, &mut Failing { left: 3 }),
-        encode(alloc, &mut lines, &mut Failing { left: 9 }),
+        decode(alloc, &mut Plain(frames), &mut Plain(Failing { left: 3 })).code(),
+        encode(alloc, &mut Plain(lines), &mut Plain(Failing { left: 9 })).code(),
     ]
 }
 
 /// Whether lines without a meaning are blamed, and nothing is written, as by reads that fail.
-fn is_nothing_written(alloc: Global, mut lines: &[u8]) -> bool {
-    let mut out = Vec::new(alloc);
+fn is_nothing_written(alloc: Global, lines: &[u8]) -> bool {
+    let mut out = Plain(Vec::new(alloc));
     let reads = failing_reads(alloc, &mut out);
-    let end = encode(alloc, &mut lines, &mut out);
-    reads == [ExitStatus::Failed; 2] && end == ExitStatus::BadLine(1) && out.is_empty()
+    let end = encode(alloc, &mut Plain(lines), &mut out);
+    reads == [1; 2] && matches!(&end, RunEnd::BadLine(1)) && out.0.is_empty()
 }
 
 #[test]
 fn failing_runs(rt: HostRuntime) {
     let end = [0, 4, 0, 0, 0, 0, 0, 0, 0, 0];
-    assert!(rt; failing_writes(rt.alloc(), &end, b"End") == [ExitStatus::Failed; 2]);
+    assert!(rt; failing_writes(rt.alloc(), &end, b"End") == [1; 2]);
     assert!(rt; is_nothing_written(rt.alloc(), b"Stop"));
 }

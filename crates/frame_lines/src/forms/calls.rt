@@ -1,91 +1,456 @@
 //! The commands on other invocations, signals, promises, runs and time.
-use crate::forms::{Form, Visitor};
+ghost use Rattle.frame_lines.specs.Forms.{call, call_request, complete_awakeable, complete_promise, invocation, one_way_call, promise, run, send_signal, sleep};
+
+use crate::forms::{Form, print_field, values_of};
+use bytes::Bytes;
 use journal_attempt::{RunCommand, SleepCommand};
 use journal_calls::{
     CallCommand, CallRequest, CompleteAwakeableCommand, CompletePromiseCommand, InvocationCommand,
-    OneWayCallCommand, PromiseCommand, SendSignalCommand,
+    InvocationTarget, OneWayCallCommand, PromiseCommand, SendSignalCommand, Signal, SignalResult,
 };
+use journal_values::{Header, ValueOrFailure};
+use lines::line::Line;
+use std::alloc::{AllocError, Global};
+use wire::{Fault, Items, Text};
 
 impl Form for SleepCommand {
-    fn fields<V: Visitor>(&mut self, visitor: &mut V) -> Result<(), V::Error> {
-        visitor.field("wake_up_time", &mut self.wake_up_time)?;
-        visitor.field("result_completion_id", &mut self.result_completion_id)?;
-        visitor.field("name", &mut self.name)
+    ghost fields = { sleep };
+
+    fn print(&self, line: &mut Line, is_first: bool) -> Result<bool, AllocError> {
+        let is_first = print_field(line, is_first, "wake_up_time", &self.wake_up_time)?;
+        let is_first = print_field(
+            line,
+            is_first,
+            "result_completion_id",
+            &self.result_completion_id,
+        )?;
+        Ok(print_field(line, is_first, "name", &self.name)?)
+    }
+
+    fn read(alloc: Global, words: &[&[u8]]) -> Result<SleepCommand, Fault> {
+        let names = ["wake_up_time=", "result_completion_id=", "name="];
+        let (wake_up_time, (result_completion_id, (name, ()))) = values_of::<
+            (u64, (u32, (Text, ()))),
+        >(alloc, words, &names)?;
+        Ok(SleepCommand {
+            wake_up_time,
+            result_completion_id,
+            name,
+        })
     }
 }
 
 impl Form for CallRequest {
-    fn fields<V: Visitor>(&mut self, visitor: &mut V) -> Result<(), V::Error> {
-        visitor.field("service_name", &mut self.service_name)?;
-        visitor.field("handler_name", &mut self.handler_name)?;
-        visitor.field("key", &mut self.key)?;
-        visitor.field("idempotency_key", &mut self.idempotency_key)?;
-        visitor.field("scope", &mut self.scope)?;
-        visitor.field("limit_key", &mut self.limit_key)?;
-        visitor.field("headers", &mut self.headers)?;
-        visitor.field("parameter", &mut self.parameter)?;
-        visitor.field(
+    ghost fields = { call_request };
+
+    fn print(&self, line: &mut Line, is_first: bool) -> Result<bool, AllocError> {
+        let is_first = print_field(line, is_first, "service_name", &self.service_name)?;
+        let is_first = print_field(line, is_first, "handler_name", &self.handler_name)?;
+        let is_first = print_field(line, is_first, "key", &self.key)?;
+        let is_first = print_field(line, is_first, "idempotency_key", &self.idempotency_key)?;
+        let is_first = print_field(line, is_first, "scope", &self.scope)?;
+        let is_first = print_field(line, is_first, "limit_key", &self.limit_key)?;
+        let is_first = print_field(line, is_first, "headers", &self.headers)?;
+        let is_first = print_field(line, is_first, "parameter", &self.parameter)?;
+        let is_first = print_field(
+            line,
+            is_first,
             "invocation_id_notification_idx",
-            &mut self.invocation_id_notification_idx,
+            &self.invocation_id_notification_idx,
         )?;
-        visitor.field("name", &mut self.name)
+        Ok(print_field(line, is_first, "name", &self.name)?)
     }
-}
 
-impl Form for CompleteAwakeableCommand {
-    fn fields<V: Visitor>(&mut self, visitor: &mut V) -> Result<(), V::Error> {
-        visitor.field("awakeable_id", &mut self.awakeable_id)?;
-        visitor.field("result", &mut self.result)
-    }
-}
-
-impl Form for SendSignalCommand {
-    fn fields<V: Visitor>(&mut self, visitor: &mut V) -> Result<(), V::Error> {
-        visitor.field("target_invocation_id", &mut self.target_invocation_id)?;
-        visitor.field("signal", &mut self.signal)?;
-        visitor.field("result", &mut self.result)
-    }
-}
-
-impl Form for PromiseCommand {
-    fn fields<V: Visitor>(&mut self, visitor: &mut V) -> Result<(), V::Error> {
-        visitor.field("key", &mut self.key)?;
-        visitor.field("result_completion_id", &mut self.result_completion_id)
-    }
-}
-
-impl Form for CompletePromiseCommand {
-    fn fields<V: Visitor>(&mut self, visitor: &mut V) -> Result<(), V::Error> {
-        visitor.field("key", &mut self.key)?;
-        visitor.field("completion", &mut self.completion)?;
-        visitor.field("result_completion_id", &mut self.result_completion_id)
-    }
-}
-
-impl Form for RunCommand {
-    fn fields<V: Visitor>(&mut self, visitor: &mut V) -> Result<(), V::Error> {
-        visitor.field("name", &mut self.name)?;
-        visitor.field("result_completion_id", &mut self.result_completion_id)
-    }
-}
-
-impl Form for InvocationCommand {
-    fn fields<V: Visitor>(&mut self, visitor: &mut V) -> Result<(), V::Error> {
-        visitor.field("target", &mut self.target)?;
-        visitor.field("result_completion_id", &mut self.result_completion_id)
+    fn read(alloc: Global, words: &[&[u8]]) -> Result<CallRequest, Fault> {
+        let names = [
+            "service_name=",
+            "handler_name=",
+            "key=",
+            "idempotency_key=",
+            "scope=",
+            "limit_key=",
+            "headers=",
+            "parameter=",
+            "invocation_id_notification_idx=",
+            "name=",
+        ];
+        let (
+            service_name,
+            (
+                handler_name,
+                (
+                    key,
+                    (
+                        idempotency_key,
+                        (
+                            scope,
+                            (
+                                limit_key,
+                                (
+                                    headers,
+                                    (parameter, (invocation_id_notification_idx, (name, ()))),
+                                ),
+                            ),
+                        ),
+                    ),
+                ),
+            ),
+        ) = values_of::<
+            (
+                Text,
+                (
+                    Text,
+                    (
+                        Text,
+                        (
+                            Option<Text>,
+                            (
+                                Option<Text>,
+                                (Option<Text>, (Items<Header>, (Bytes, (u32, (Text, ()))))),
+                            ),
+                        ),
+                    ),
+                ),
+            ),
+        >(alloc, words, &names)?;
+        Ok(CallRequest {
+            service_name,
+            handler_name,
+            key,
+            idempotency_key,
+            scope,
+            limit_key,
+            headers,
+            parameter,
+            invocation_id_notification_idx,
+            name,
+        })
     }
 }
 
 impl Form for CallCommand {
-    fn fields<V: Visitor>(&mut self, visitor: &mut V) -> Result<(), V::Error> {
-        self.request.fields(visitor)?;
-        visitor.field("result_completion_id", &mut self.result_completion_id)
+    ghost fields = { call };
+
+    fn print(&self, line: &mut Line, is_first: bool) -> Result<bool, AllocError> {
+        let is_first = self.request.print(line, is_first)?;
+        Ok(print_field(
+            line,
+            is_first,
+            "result_completion_id",
+            &self.result_completion_id,
+        )?)
+    }
+
+    fn read(alloc: Global, words: &[&[u8]]) -> Result<CallCommand, Fault> {
+        let names = [
+            "service_name=",
+            "handler_name=",
+            "key=",
+            "idempotency_key=",
+            "scope=",
+            "limit_key=",
+            "headers=",
+            "parameter=",
+            "invocation_id_notification_idx=",
+            "name=",
+            "result_completion_id=",
+        ];
+        let (
+            service_name,
+            (
+                handler_name,
+                (
+                    key,
+                    (
+                        idempotency_key,
+                        (
+                            scope,
+                            (
+                                limit_key,
+                                (
+                                    headers,
+                                    (
+                                        parameter,
+                                        (
+                                            invocation_id_notification_idx,
+                                            (name, (result_completion_id, ())),
+                                        ),
+                                    ),
+                                ),
+                            ),
+                        ),
+                    ),
+                ),
+            ),
+        ) = values_of::<
+            (
+                Text,
+                (
+                    Text,
+                    (
+                        Text,
+                        (
+                            Option<Text>,
+                            (
+                                Option<Text>,
+                                (
+                                    Option<Text>,
+                                    (Items<Header>, (Bytes, (u32, (Text, (u32, ()))))),
+                                ),
+                            ),
+                        ),
+                    ),
+                ),
+            ),
+        >(alloc, words, &names)?;
+        Ok(CallCommand {
+            request: CallRequest {
+                service_name,
+                handler_name,
+                key,
+                idempotency_key,
+                scope,
+                limit_key,
+                headers,
+                parameter,
+                invocation_id_notification_idx,
+                name,
+            },
+            result_completion_id,
+        })
     }
 }
 
 impl Form for OneWayCallCommand {
-    fn fields<V: Visitor>(&mut self, visitor: &mut V) -> Result<(), V::Error> {
-        self.request.fields(visitor)?;
-        visitor.field("invoke_time", &mut self.invoke_time)
+    ghost fields = { one_way_call };
+
+    fn print(&self, line: &mut Line, is_first: bool) -> Result<bool, AllocError> {
+        let is_first = self.request.print(line, is_first)?;
+        Ok(print_field(line, is_first, "invoke_time", &self.invoke_time)?)
+    }
+
+    fn read(alloc: Global, words: &[&[u8]]) -> Result<OneWayCallCommand, Fault> {
+        let names = [
+            "service_name=",
+            "handler_name=",
+            "key=",
+            "idempotency_key=",
+            "scope=",
+            "limit_key=",
+            "headers=",
+            "parameter=",
+            "invocation_id_notification_idx=",
+            "name=",
+            "invoke_time=",
+        ];
+        let (
+            service_name,
+            (
+                handler_name,
+                (
+                    key,
+                    (
+                        idempotency_key,
+                        (
+                            scope,
+                            (
+                                limit_key,
+                                (
+                                    headers,
+                                    (
+                                        parameter,
+                                        (invocation_id_notification_idx, (name, (invoke_time, ()))),
+                                    ),
+                                ),
+                            ),
+                        ),
+                    ),
+                ),
+            ),
+        ) = values_of::<
+            (
+                Text,
+                (
+                    Text,
+                    (
+                        Text,
+                        (
+                            Option<Text>,
+                            (
+                                Option<Text>,
+                                (
+                                    Option<Text>,
+                                    (Items<Header>, (Bytes, (u32, (Text, (u64, ()))))),
+                                ),
+                            ),
+                        ),
+                    ),
+                ),
+            ),
+        >(alloc, words, &names)?;
+        Ok(OneWayCallCommand {
+            request: CallRequest {
+                service_name,
+                handler_name,
+                key,
+                idempotency_key,
+                scope,
+                limit_key,
+                headers,
+                parameter,
+                invocation_id_notification_idx,
+                name,
+            },
+            invoke_time,
+        })
+    }
+}
+
+impl Form for CompleteAwakeableCommand {
+    ghost fields = { complete_awakeable };
+
+    fn print(&self, line: &mut Line, is_first: bool) -> Result<bool, AllocError> {
+        let is_first = print_field(line, is_first, "awakeable_id", &self.awakeable_id)?;
+        Ok(print_field(line, is_first, "result", &self.result)?)
+    }
+
+    fn read(alloc: Global, words: &[&[u8]]) -> Result<CompleteAwakeableCommand, Fault> {
+        let names = ["awakeable_id=", "result="];
+        let (awakeable_id, (result, ())) = values_of::<(Text, (ValueOrFailure, ()))>(
+            alloc, words, &names,
+        )?;
+        Ok(CompleteAwakeableCommand {
+            awakeable_id,
+            result,
+        })
+    }
+}
+
+impl Form for SendSignalCommand {
+    ghost fields = { send_signal };
+
+    fn print(&self, line: &mut Line, is_first: bool) -> Result<bool, AllocError> {
+        let is_first = print_field(
+            line,
+            is_first,
+            "target_invocation_id",
+            &self.target_invocation_id,
+        )?;
+        let is_first = print_field(line, is_first, "signal", &self.signal)?;
+        Ok(print_field(line, is_first, "result", &self.result)?)
+    }
+
+    fn read(alloc: Global, words: &[&[u8]]) -> Result<SendSignalCommand, Fault> {
+        let names = ["target_invocation_id=", "signal=", "result="];
+        let (target_invocation_id, (signal, (result, ()))) = values_of::<
+            (Text, (Signal, (SignalResult, ()))),
+        >(alloc, words, &names)?;
+        Ok(SendSignalCommand {
+            target_invocation_id,
+            signal,
+            result,
+        })
+    }
+}
+
+impl Form for PromiseCommand {
+    ghost fields = { promise };
+
+    fn print(&self, line: &mut Line, is_first: bool) -> Result<bool, AllocError> {
+        let is_first = print_field(line, is_first, "key", &self.key)?;
+        Ok(print_field(
+            line,
+            is_first,
+            "result_completion_id",
+            &self.result_completion_id,
+        )?)
+    }
+
+    fn read(alloc: Global, words: &[&[u8]]) -> Result<PromiseCommand, Fault> {
+        let names = ["key=", "result_completion_id="];
+        let (key, (result_completion_id, ())) = values_of::<(Text, (u32, ()))>(
+            alloc, words, &names,
+        )?;
+        Ok(PromiseCommand {
+            key,
+            result_completion_id,
+        })
+    }
+}
+
+impl Form for CompletePromiseCommand {
+    ghost fields = { complete_promise };
+
+    fn print(&self, line: &mut Line, is_first: bool) -> Result<bool, AllocError> {
+        let is_first = print_field(line, is_first, "key", &self.key)?;
+        let is_first = print_field(line, is_first, "completion", &self.completion)?;
+        Ok(print_field(
+            line,
+            is_first,
+            "result_completion_id",
+            &self.result_completion_id,
+        )?)
+    }
+
+    fn read(alloc: Global, words: &[&[u8]]) -> Result<CompletePromiseCommand, Fault> {
+        let names = ["key=", "completion=", "result_completion_id="];
+        let (key, (completion, (result_completion_id, ()))) = values_of::<
+            (Text, (ValueOrFailure, (u32, ()))),
+        >(alloc, words, &names)?;
+        Ok(CompletePromiseCommand {
+            key,
+            completion,
+            result_completion_id,
+        })
+    }
+}
+
+impl Form for RunCommand {
+    ghost fields = { run };
+
+    fn print(&self, line: &mut Line, is_first: bool) -> Result<bool, AllocError> {
+        let is_first = print_field(line, is_first, "name", &self.name)?;
+        Ok(print_field(
+            line,
+            is_first,
+            "result_completion_id",
+            &self.result_completion_id,
+        )?)
+    }
+
+    fn read(alloc: Global, words: &[&[u8]]) -> Result<RunCommand, Fault> {
+        let names = ["name=", "result_completion_id="];
+        let (name, (result_completion_id, ())) = values_of::<(Text, (u32, ()))>(
+            alloc, words, &names,
+        )?;
+        Ok(RunCommand {
+            name,
+            result_completion_id,
+        })
+    }
+}
+
+impl Form for InvocationCommand {
+    ghost fields = { invocation };
+
+    fn print(&self, line: &mut Line, is_first: bool) -> Result<bool, AllocError> {
+        let is_first = print_field(line, is_first, "target", &self.target)?;
+        Ok(print_field(
+            line,
+            is_first,
+            "result_completion_id",
+            &self.result_completion_id,
+        )?)
+    }
+
+    fn read(alloc: Global, words: &[&[u8]]) -> Result<InvocationCommand, Fault> {
+        let names = ["target=", "result_completion_id="];
+        let (target, (result_completion_id, ())) = values_of::<(InvocationTarget, (u32, ()))>(
+            alloc, words, &names,
+        )?;
+        Ok(InvocationCommand {
+            target,
+            result_completion_id,
+        })
     }
 }

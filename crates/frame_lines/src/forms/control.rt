@@ -1,62 +1,242 @@
 //! The messages that begin and end an attempt, and what it tells of itself.
-use crate::forms::{Form, Visitor};
+ghost use Rattle.frame_lines.specs.Forms.{awaiting_on, error, propose_run_completion, propose_run_completion_ack, start, suspension};
+
+use crate::forms::{Form, print_field, values_of};
+use bytes::Bytes;
 use journal_attempt::{
-    AwaitingOn, ProposeRunCompletion, ProposeRunCompletionAck, Start, Suspension,
+    AwaitingOn, Future, ProposeRunCompletion, ProposeRunCompletionAck, Start, Suspension,
 };
-use journal_errors::ErrorMessage;
+use journal_errors::{ErrorBehavior, ErrorMessage};
+use journal_values::ValueOrFailure;
+use lines::line::Line;
+use std::alloc::{AllocError, Global};
+use wire::{Fault, Items, Text};
 
 impl Form for Start {
-    fn fields<V: Visitor>(&mut self, visitor: &mut V) -> Result<(), V::Error> {
-        visitor.field("id", &mut self.id)?;
-        visitor.field("debug_id", &mut self.debug_id)?;
-        visitor.field("key", &mut self.key)?;
-        visitor.field("known_entries", &mut self.known_entries)?;
-        visitor.field("state", &mut self.state)?;
-        visitor.field("partial", &mut self.partial)?;
-        visitor.field("retry_count", &mut self.retry_count)?;
-        visitor.field("duration", &mut self.duration)?;
-        visitor.field("random_seed", &mut self.random_seed)?;
-        visitor.field("scope", &mut self.scope)?;
-        visitor.field("limit_key", &mut self.limit_key)?;
-        visitor.field("idempotency_key", &mut self.idempotency_key)
+    ghost fields = { start };
+
+    fn print(&self, line: &mut Line, is_first: bool) -> Result<bool, AllocError> {
+        let is_first = print_field(line, is_first, "id", &self.id)?;
+        let is_first = print_field(line, is_first, "debug_id", &self.debug_id)?;
+        let is_first = print_field(line, is_first, "key", &self.key)?;
+        let is_first = print_field(line, is_first, "known_entries", &self.known_entries)?;
+        let is_first = print_field(line, is_first, "state", &self.state)?;
+        let is_first = print_field(line, is_first, "partial", &self.partial)?;
+        let is_first = print_field(line, is_first, "retry_count", &self.retry_count)?;
+        let is_first = print_field(line, is_first, "duration", &self.duration)?;
+        let is_first = print_field(line, is_first, "random_seed", &self.random_seed)?;
+        let is_first = print_field(line, is_first, "scope", &self.scope)?;
+        let is_first = print_field(line, is_first, "limit_key", &self.limit_key)?;
+        Ok(print_field(line, is_first, "idempotency_key", &self.idempotency_key)?)
+    }
+
+    fn read(alloc: Global, words: &[&[u8]]) -> Result<Start, Fault> {
+        let names = [
+            "id=",
+            "debug_id=",
+            "key=",
+            "known_entries=",
+            "state=",
+            "partial=",
+            "retry_count=",
+            "duration=",
+            "random_seed=",
+            "scope=",
+            "limit_key=",
+            "idempotency_key=",
+        ];
+        let (
+            id,
+            (
+                debug_id,
+                (
+                    key,
+                    (
+                        known_entries,
+                        (
+                            state,
+                            (
+                                partial,
+                                (
+                                    retry_count,
+                                    (
+                                        duration,
+                                        (random_seed, (scope, (limit_key, (idempotency_key, ())))),
+                                    ),
+                                ),
+                            ),
+                        ),
+                    ),
+                ),
+            ),
+        ) = values_of::<
+            (
+                Bytes,
+                (
+                    Text,
+                    (
+                        Text,
+                        (
+                            u32,
+                            (
+                                Items<(Bytes, Bytes)>,
+                                (
+                                    bool,
+                                    (
+                                        u32,
+                                        (
+                                            u64,
+                                            (
+                                                u64,
+                                                (Option<Text>, (Option<Text>, (Option<Text>, ()))),
+                                            ),
+                                        ),
+                                    ),
+                                ),
+                            ),
+                        ),
+                    ),
+                ),
+            ),
+        >(alloc, words, &names)?;
+        Ok(Start {
+            id,
+            debug_id,
+            key,
+            known_entries,
+            state,
+            partial,
+            retry_count,
+            duration,
+            random_seed,
+            scope,
+            limit_key,
+            idempotency_key,
+        })
     }
 }
 
 impl Form for Suspension {
-    fn fields<V: Visitor>(&mut self, visitor: &mut V) -> Result<(), V::Error> {
-        visitor.field("future", &mut self.future)
+    ghost fields = { suspension };
+
+    fn print(&self, line: &mut Line, is_first: bool) -> Result<bool, AllocError> {
+        Ok(print_field(line, is_first, "future", &self.future)?)
+    }
+
+    fn read(alloc: Global, words: &[&[u8]]) -> Result<Suspension, Fault> {
+        let names = ["future="];
+        let (future, ()) = values_of::<(Future, ())>(alloc, words, &names)?;
+        Ok(Suspension { future })
     }
 }
 
 impl Form for AwaitingOn {
-    fn fields<V: Visitor>(&mut self, visitor: &mut V) -> Result<(), V::Error> {
-        visitor.field("future", &mut self.future)?;
-        visitor.field("executing_side_effects", &mut self.executing_side_effects)
+    ghost fields = { awaiting_on };
+
+    fn print(&self, line: &mut Line, is_first: bool) -> Result<bool, AllocError> {
+        let is_first = print_field(line, is_first, "future", &self.future)?;
+        Ok(print_field(
+            line,
+            is_first,
+            "executing_side_effects",
+            &self.executing_side_effects,
+        )?)
+    }
+
+    fn read(alloc: Global, words: &[&[u8]]) -> Result<AwaitingOn, Fault> {
+        let names = ["future=", "executing_side_effects="];
+        let (future, (executing_side_effects, ())) = values_of::<(Future, (bool, ()))>(
+            alloc, words, &names,
+        )?;
+        Ok(AwaitingOn {
+            future,
+            executing_side_effects,
+        })
     }
 }
 
 impl Form for ErrorMessage {
-    fn fields<V: Visitor>(&mut self, visitor: &mut V) -> Result<(), V::Error> {
-        visitor.field("code", &mut self.code)?;
-        visitor.field("message", &mut self.message)?;
-        visitor.field("stacktrace", &mut self.stacktrace)?;
-        visitor.field("behaviour", &mut self.behavior)?;
-        visitor.field("index", &mut self.index)?;
-        visitor.field("type", &mut self.ty)?;
-        visitor.field("name", &mut self.name)?;
-        visitor.field("delay", &mut self.delay)
+    ghost fields = { error };
+
+    fn print(&self, line: &mut Line, is_first: bool) -> Result<bool, AllocError> {
+        let is_first = print_field(line, is_first, "code", &self.code)?;
+        let is_first = print_field(line, is_first, "message", &self.message)?;
+        let is_first = print_field(line, is_first, "stacktrace", &self.stacktrace)?;
+        let is_first = print_field(line, is_first, "behaviour", &self.behavior)?;
+        let is_first = print_field(line, is_first, "index", &self.index)?;
+        let is_first = print_field(line, is_first, "type", &self.ty)?;
+        let is_first = print_field(line, is_first, "name", &self.name)?;
+        Ok(print_field(line, is_first, "delay", &self.delay)?)
+    }
+
+    fn read(alloc: Global, words: &[&[u8]]) -> Result<ErrorMessage, Fault> {
+        let names = [
+            "code=",
+            "message=",
+            "stacktrace=",
+            "behaviour=",
+            "index=",
+            "type=",
+            "name=",
+            "delay=",
+        ];
+        let (code, (message, (stacktrace, (behavior, (index, (ty, (name, (delay, ())))))))) =
+            values_of::<
+                (
+                    u32,
+                    (
+                        Text,
+                        (
+                            Text,
+                            (
+                                ErrorBehavior,
+                                (
+                                    Option<u32>,
+                                    (Option<u32>, (Option<Text>, (Option<u64>, ()))),
+                                ),
+                            ),
+                        ),
+                    ),
+                ),
+            >(alloc, words, &names)?;
+        Ok(ErrorMessage {
+            code,
+            message,
+            stacktrace,
+            behavior,
+            index,
+            ty,
+            name,
+            delay,
+        })
     }
 }
 
 impl Form for ProposeRunCompletion {
-    fn fields<V: Visitor>(&mut self, visitor: &mut V) -> Result<(), V::Error> {
-        visitor.field("id", &mut self.id)?;
-        visitor.field("result", &mut self.result)
+    ghost fields = { propose_run_completion };
+
+    fn print(&self, line: &mut Line, is_first: bool) -> Result<bool, AllocError> {
+        let is_first = print_field(line, is_first, "id", &self.id)?;
+        Ok(print_field(line, is_first, "result", &self.result)?)
+    }
+
+    fn read(alloc: Global, words: &[&[u8]]) -> Result<ProposeRunCompletion, Fault> {
+        let names = ["id=", "result="];
+        let (id, (result, ())) = values_of::<(u32, (ValueOrFailure, ()))>(alloc, words, &names)?;
+        Ok(ProposeRunCompletion { id, result })
     }
 }
 
 impl Form for ProposeRunCompletionAck {
-    fn fields<V: Visitor>(&mut self, visitor: &mut V) -> Result<(), V::Error> {
-        visitor.field("id", &mut self.id)
+    ghost fields = { propose_run_completion_ack };
+
+    fn print(&self, line: &mut Line, is_first: bool) -> Result<bool, AllocError> {
+        Ok(print_field(line, is_first, "id", &self.id)?)
+    }
+
+    fn read(alloc: Global, words: &[&[u8]]) -> Result<ProposeRunCompletionAck, Fault> {
+        let names = ["id="];
+        let (id, ()) = values_of::<(u32, ())>(alloc, words, &names)?;
+        Ok(ProposeRunCompletionAck { id })
     }
 }

@@ -1,25 +1,58 @@
 //! What comes in for an attempt, and the read whose result the journal doesn't keep.
-use crate::forms::{Form, Visitor};
-use journal_state::{GetStateEphemeralCommand, GetStateEphemeralNotification};
-use journal_values::Notification;
+ghost use Rattle.frame_lines.specs.Forms.{get_state_ephemeral_command, get_state_ephemeral_notification, notification};
+
+use crate::forms::{Form, print_field, values_of};
+use journal_state::{GetStateEphemeralCommand, GetStateEphemeralNotification, VoidOrValue};
+use journal_values::{Notification, NotificationId, NotificationResult};
+use lines::line::Line;
+use std::alloc::{AllocError, Global};
+use wire::{Fault, Text};
 
 impl Form for GetStateEphemeralCommand {
-    fn fields<V: Visitor>(&mut self, visitor: &mut V) -> Result<(), V::Error> {
-        visitor.field("id", &mut self.id)?;
-        visitor.field("key", &mut self.key)
+    ghost fields = { get_state_ephemeral_command };
+
+    fn print(&self, line: &mut Line, is_first: bool) -> Result<bool, AllocError> {
+        let is_first = print_field(line, is_first, "id", &self.id)?;
+        Ok(print_field(line, is_first, "key", &self.key)?)
+    }
+
+    fn read(alloc: Global, words: &[&[u8]]) -> Result<GetStateEphemeralCommand, Fault> {
+        let names = ["id=", "key="];
+        let (id, (key, ())) = values_of::<(u32, (Text, ()))>(alloc, words, &names)?;
+        Ok(GetStateEphemeralCommand { id, key })
     }
 }
 
 impl Form for GetStateEphemeralNotification {
-    fn fields<V: Visitor>(&mut self, visitor: &mut V) -> Result<(), V::Error> {
-        visitor.field("id", &mut self.id)?;
-        visitor.field("result", &mut self.result)
+    ghost fields = { get_state_ephemeral_notification };
+
+    fn print(&self, line: &mut Line, is_first: bool) -> Result<bool, AllocError> {
+        let is_first = print_field(line, is_first, "id", &self.id)?;
+        Ok(print_field(line, is_first, "result", &self.result)?)
+    }
+
+    fn read(alloc: Global, words: &[&[u8]]) -> Result<GetStateEphemeralNotification, Fault> {
+        let names = ["id=", "result="];
+        let (id, (result, ())) = values_of::<(u32, (Option<VoidOrValue>, ()))>(
+            alloc, words, &names,
+        )?;
+        Ok(GetStateEphemeralNotification { id, result })
     }
 }
 
 impl Form for Notification {
-    fn fields<V: Visitor>(&mut self, visitor: &mut V) -> Result<(), V::Error> {
-        visitor.field("id", &mut self.id)?;
-        visitor.field("result", &mut self.result)
+    ghost fields = { notification };
+
+    fn print(&self, line: &mut Line, is_first: bool) -> Result<bool, AllocError> {
+        let is_first = print_field(line, is_first, "id", &self.id)?;
+        Ok(print_field(line, is_first, "result", &self.result)?)
+    }
+
+    fn read(alloc: Global, words: &[&[u8]]) -> Result<Notification, Fault> {
+        let names = ["id=", "result="];
+        let (id, (result, ())) = values_of::<(NotificationId, (NotificationResult, ()))>(
+            alloc, words, &names,
+        )?;
+        Ok(Notification { id, result })
     }
 }

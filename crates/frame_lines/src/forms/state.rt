@@ -1,71 +1,179 @@
 //! The commands on a handler's input, state and output.
-use crate::forms::{Form, Visitor};
+ghost use Rattle.frame_lines.specs.Forms.{clear_all_state, clear_state, get_eager_state, get_eager_state_keys, get_lazy_state, get_lazy_state_keys, input, output, set_state};
+
+use crate::forms::{Form, print_field, values_of};
+use bytes::Bytes;
 use journal_attempt::{InputCommand, OutputCommand};
 use journal_state::{
     ClearAllStateCommand, ClearStateCommand, GetEagerStateCommand, GetEagerStateKeysCommand,
-    GetLazyStateCommand, GetLazyStateKeysCommand, SetStateCommand,
+    GetLazyStateCommand, GetLazyStateKeysCommand, SetStateCommand, VoidOrValue,
 };
+use journal_values::{Header, ValueOrFailure};
+use lines::line::Line;
+use std::alloc::{AllocError, Global};
+use wire::{Fault, Items, Text};
 
 impl Form for InputCommand {
-    fn fields<V: Visitor>(&mut self, visitor: &mut V) -> Result<(), V::Error> {
-        visitor.field("headers", &mut self.headers)?;
-        visitor.field("value", &mut self.value)
+    ghost fields = { input };
+
+    fn print(&self, line: &mut Line, is_first: bool) -> Result<bool, AllocError> {
+        let is_first = print_field(line, is_first, "headers", &self.headers)?;
+        Ok(print_field(line, is_first, "value", &self.value)?)
+    }
+
+    fn read(alloc: Global, words: &[&[u8]]) -> Result<InputCommand, Fault> {
+        let names = ["headers=", "value="];
+        let (headers, (value, ())) = values_of::<(Items<Header>, (Bytes, ()))>(
+            alloc, words, &names,
+        )?;
+        Ok(InputCommand { headers, value })
     }
 }
 
 impl Form for GetEagerStateCommand {
-    fn fields<V: Visitor>(&mut self, visitor: &mut V) -> Result<(), V::Error> {
-        visitor.field("name", &mut self.name)?;
-        visitor.field("key", &mut self.key)?;
-        visitor.field("result", &mut self.result)
+    ghost fields = { get_eager_state };
+
+    fn print(&self, line: &mut Line, is_first: bool) -> Result<bool, AllocError> {
+        let is_first = print_field(line, is_first, "name", &self.name)?;
+        let is_first = print_field(line, is_first, "key", &self.key)?;
+        Ok(print_field(line, is_first, "result", &self.result)?)
+    }
+
+    fn read(alloc: Global, words: &[&[u8]]) -> Result<GetEagerStateCommand, Fault> {
+        let names = ["name=", "key=", "result="];
+        let (name, (key, (result, ()))) = values_of::<(Text, (Text, (Option<VoidOrValue>, ())))>(
+            alloc, words, &names,
+        )?;
+        Ok(GetEagerStateCommand { name, key, result })
     }
 }
 
 impl Form for GetLazyStateCommand {
-    fn fields<V: Visitor>(&mut self, visitor: &mut V) -> Result<(), V::Error> {
-        visitor.field("name", &mut self.name)?;
-        visitor.field("key", &mut self.key)?;
-        visitor.field("result_completion_id", &mut self.result_completion_id)
+    ghost fields = { get_lazy_state };
+
+    fn print(&self, line: &mut Line, is_first: bool) -> Result<bool, AllocError> {
+        let is_first = print_field(line, is_first, "name", &self.name)?;
+        let is_first = print_field(line, is_first, "key", &self.key)?;
+        Ok(print_field(
+            line,
+            is_first,
+            "result_completion_id",
+            &self.result_completion_id,
+        )?)
+    }
+
+    fn read(alloc: Global, words: &[&[u8]]) -> Result<GetLazyStateCommand, Fault> {
+        let names = ["name=", "key=", "result_completion_id="];
+        let (name, (key, (result_completion_id, ()))) = values_of::<(Text, (Text, (u32, ())))>(
+            alloc, words, &names,
+        )?;
+        Ok(GetLazyStateCommand {
+            name,
+            key,
+            result_completion_id,
+        })
     }
 }
 
 impl Form for GetEagerStateKeysCommand {
-    fn fields<V: Visitor>(&mut self, visitor: &mut V) -> Result<(), V::Error> {
-        visitor.field("value", &mut self.value)?;
-        visitor.field("name", &mut self.name)
+    ghost fields = { get_eager_state_keys };
+
+    fn print(&self, line: &mut Line, is_first: bool) -> Result<bool, AllocError> {
+        let is_first = print_field(line, is_first, "value", &self.value)?;
+        Ok(print_field(line, is_first, "name", &self.name)?)
+    }
+
+    fn read(alloc: Global, words: &[&[u8]]) -> Result<GetEagerStateKeysCommand, Fault> {
+        let names = ["value=", "name="];
+        let (value, (name, ())) = values_of::<(Option<Items<Bytes>>, (Text, ()))>(
+            alloc, words, &names,
+        )?;
+        Ok(GetEagerStateKeysCommand { value, name })
     }
 }
 
 impl Form for GetLazyStateKeysCommand {
-    fn fields<V: Visitor>(&mut self, visitor: &mut V) -> Result<(), V::Error> {
-        visitor.field("result_completion_id", &mut self.result_completion_id)?;
-        visitor.field("name", &mut self.name)
+    ghost fields = { get_lazy_state_keys };
+
+    fn print(&self, line: &mut Line, is_first: bool) -> Result<bool, AllocError> {
+        let is_first = print_field(
+            line,
+            is_first,
+            "result_completion_id",
+            &self.result_completion_id,
+        )?;
+        Ok(print_field(line, is_first, "name", &self.name)?)
+    }
+
+    fn read(alloc: Global, words: &[&[u8]]) -> Result<GetLazyStateKeysCommand, Fault> {
+        let names = ["result_completion_id=", "name="];
+        let (result_completion_id, (name, ())) = values_of::<(u32, (Text, ()))>(
+            alloc, words, &names,
+        )?;
+        Ok(GetLazyStateKeysCommand {
+            result_completion_id,
+            name,
+        })
     }
 }
 
 impl Form for SetStateCommand {
-    fn fields<V: Visitor>(&mut self, visitor: &mut V) -> Result<(), V::Error> {
-        visitor.field("name", &mut self.name)?;
-        visitor.field("key", &mut self.key)?;
-        visitor.field("value", &mut self.value)
+    ghost fields = { set_state };
+
+    fn print(&self, line: &mut Line, is_first: bool) -> Result<bool, AllocError> {
+        let is_first = print_field(line, is_first, "name", &self.name)?;
+        let is_first = print_field(line, is_first, "key", &self.key)?;
+        Ok(print_field(line, is_first, "value", &self.value)?)
+    }
+
+    fn read(alloc: Global, words: &[&[u8]]) -> Result<SetStateCommand, Fault> {
+        let names = ["name=", "key=", "value="];
+        let (name, (key, (value, ()))) = values_of::<(Text, (Text, (Bytes, ())))>(
+            alloc, words, &names,
+        )?;
+        Ok(SetStateCommand { name, key, value })
     }
 }
 
 impl Form for ClearStateCommand {
-    fn fields<V: Visitor>(&mut self, visitor: &mut V) -> Result<(), V::Error> {
-        visitor.field("name", &mut self.name)?;
-        visitor.field("key", &mut self.key)
+    ghost fields = { clear_state };
+
+    fn print(&self, line: &mut Line, is_first: bool) -> Result<bool, AllocError> {
+        let is_first = print_field(line, is_first, "name", &self.name)?;
+        Ok(print_field(line, is_first, "key", &self.key)?)
+    }
+
+    fn read(alloc: Global, words: &[&[u8]]) -> Result<ClearStateCommand, Fault> {
+        let names = ["name=", "key="];
+        let (name, (key, ())) = values_of::<(Text, (Text, ()))>(alloc, words, &names)?;
+        Ok(ClearStateCommand { name, key })
     }
 }
 
 impl Form for ClearAllStateCommand {
-    fn fields<V: Visitor>(&mut self, visitor: &mut V) -> Result<(), V::Error> {
-        visitor.field("name", &mut self.name)
+    ghost fields = { clear_all_state };
+
+    fn print(&self, line: &mut Line, is_first: bool) -> Result<bool, AllocError> {
+        Ok(print_field(line, is_first, "name", &self.name)?)
+    }
+
+    fn read(alloc: Global, words: &[&[u8]]) -> Result<ClearAllStateCommand, Fault> {
+        let names = ["name="];
+        let (name, ()) = values_of::<(Text, ())>(alloc, words, &names)?;
+        Ok(ClearAllStateCommand { name })
     }
 }
 
 impl Form for OutputCommand {
-    fn fields<V: Visitor>(&mut self, visitor: &mut V) -> Result<(), V::Error> {
-        visitor.field("result", &mut self.result)
+    ghost fields = { output };
+
+    fn print(&self, line: &mut Line, is_first: bool) -> Result<bool, AllocError> {
+        Ok(print_field(line, is_first, "result", &self.result)?)
+    }
+
+    fn read(alloc: Global, words: &[&[u8]]) -> Result<OutputCommand, Fault> {
+        let names = ["result="];
+        let (result, ()) = values_of::<(ValueOrFailure, ())>(alloc, words, &names)?;
+        Ok(OutputCommand { result })
     }
 }

@@ -75,7 +75,7 @@ pub fn left_shown(alloc: Global, left: &Residue) -> Result<String, Fail> {
 }
 
 /// What is sent, as frames are shown.
-pub fn future_shown(alloc: Global, mut future: Future) -> Result<Line, AllocError> {
+pub fn future_shown(alloc: Global, future: Future) -> Result<Line, AllocError> {
     let mut line = Line::new(alloc);
     future.print(&mut line)?;
     Ok(line)

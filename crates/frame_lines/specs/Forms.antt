@@ -1,0 +1,202 @@
+-- The fields of messages, in their order.
+use Rattle.std.specs.Prelude.{codes}
+use Rattle.journal_attempt.specs.declared.commands.InputCommand.{InputCommand}
+use Rattle.journal_attempt.specs.declared.commands.OutputCommand.{OutputCommand}
+use Rattle.journal_attempt.specs.declared.commands.SleepCommand.{SleepCommand}
+use Rattle.journal_attempt.specs.declared.control.AwaitingOn.{AwaitingOn}
+use Rattle.journal_attempt.specs.declared.control.Suspension.{Suspension}
+use Rattle.journal_attempt.specs.declared.runs.ProposeRunCompletion.{ProposeRunCompletion}
+use Rattle.journal_attempt.specs.declared.runs.ProposeRunCompletionAck.{ProposeRunCompletionAck}
+use Rattle.journal_attempt.specs.declared.runs.RunCommand.{RunCommand}
+use Rattle.journal_attempt.specs.declared.start.Start.{Start}
+use Rattle.journal_calls.specs.declared.calls.CallCommand.{CallCommand}
+use Rattle.journal_calls.specs.declared.calls.CallRequest.{CallRequest}
+use Rattle.journal_calls.specs.declared.calls.OneWayCallCommand.{OneWayCallCommand}
+use Rattle.journal_calls.specs.declared.invocations.InvocationCommand.{InvocationCommand}
+use Rattle.journal_calls.specs.declared.promises.CompletePromiseCommand.{CompletePromiseCommand}
+use Rattle.journal_calls.specs.declared.promises.PromiseCommand.{PromiseCommand}
+use Rattle.journal_calls.specs.declared.signals.CompleteAwakeableCommand.{CompleteAwakeableCommand}
+use Rattle.journal_calls.specs.declared.signals.SendSignalCommand.{SendSignalCommand}
+use Rattle.journal_errors.specs.declared.error_message.ErrorMessage.{ErrorMessage}
+use Rattle.journal_state.specs.declared.state.ClearAllStateCommand.{ClearAllStateCommand}
+use Rattle.journal_state.specs.declared.state.ClearStateCommand.{ClearStateCommand}
+use Rattle.journal_state.specs.declared.state.GetEagerStateCommand.{GetEagerStateCommand}
+use Rattle.journal_state.specs.declared.state.GetEagerStateKeysCommand.{GetEagerStateKeysCommand}
+use Rattle.journal_state.specs.declared.state.GetLazyStateCommand.{GetLazyStateCommand}
+use Rattle.journal_state.specs.declared.state.GetLazyStateKeysCommand.{GetLazyStateKeysCommand}
+use Rattle.journal_state.specs.declared.state.GetStateEphemeralCommand.{GetStateEphemeralCommand}
+use Rattle.journal_state.specs.declared.state.GetStateEphemeralNotification.{GetStateEphemeralNotification}
+use Rattle.journal_state.specs.declared.state.SetStateCommand.{SetStateCommand}
+use Rattle.journal_values.specs.declared.notification.Notification.{Notification}
+use Rattle.frame_lines.specs.Choices.{behavior, notification_id, notification_result, signal, signal_result, target, value_or_failure, void_or_value}
+use Rattle.frame_lines.specs.Futures.{future}
+use Rattle.frame_lines.specs.Notation.{Fields, bytes, field, flag, header, list, nothing, number, optional, pair, string}
+
+abbrev pub start : Fields Start
+start =
+    field (codes "id") (λ m. m.id) bytes (
+    field (codes "debug_id") (λ m. m.debug_id) string (
+    field (codes "key") (λ m. m.key) string (
+    field (codes "known_entries") (λ m. m.known_entries) (number 32) (
+    field (codes "state") (λ m. m.state) (list (pair bytes bytes)) (
+    field (codes "partial") (λ m. m.partial) flag (
+    field (codes "retry_count") (λ m. m.retry_count) (number 32) (
+    field (codes "duration") (λ m. m.duration) (number 64) (
+    field (codes "random_seed") (λ m. m.random_seed) (number 64) (
+    field (codes "scope") (λ m. m.scope) (optional string) (
+    field (codes "limit_key") (λ m. m.limit_key) (optional string) (
+    field (codes "idempotency_key") (λ m. m.idempotency_key) (optional string) nothing)))))))))))
+
+abbrev pub suspension : Fields Suspension
+suspension =
+    field (codes "future") (λ m. m.future) future nothing
+
+abbrev pub error : Fields ErrorMessage
+error =
+    field (codes "code") (λ m. m.code) (number 32) (
+    field (codes "message") (λ m. m.message) string (
+    field (codes "stacktrace") (λ m. m.stacktrace) string (
+    field (codes "behaviour") (λ m. m.behavior) behavior (
+    field (codes "index") (λ m. m.index) (optional (number 32)) (
+    field (codes "type") (λ m. m.ty) (optional (number 32)) (
+    field (codes "name") (λ m. m.name) (optional string) (
+    field (codes "delay") (λ m. m.delay) (optional (number 64)) nothing)))))))
+
+abbrev pub propose_run_completion : Fields ProposeRunCompletion
+propose_run_completion =
+    field (codes "id") (λ m. m.id) (number 32) (
+    field (codes "result") (λ m. m.result) value_or_failure nothing)
+
+abbrev pub propose_run_completion_ack : Fields ProposeRunCompletionAck
+propose_run_completion_ack =
+    field (codes "id") (λ m. m.id) (number 32) nothing
+
+abbrev pub awaiting_on : Fields AwaitingOn
+awaiting_on =
+    field (codes "future") (λ m. m.future) future (
+    field (codes "executing_side_effects") (λ m. m.executing_side_effects) flag nothing)
+
+abbrev pub get_state_ephemeral_command : Fields GetStateEphemeralCommand
+get_state_ephemeral_command =
+    field (codes "id") (λ m. m.id) (number 32) (
+    field (codes "key") (λ m. m.key) string nothing)
+
+abbrev pub get_state_ephemeral_notification : Fields GetStateEphemeralNotification
+get_state_ephemeral_notification =
+    field (codes "id") (λ m. m.id) (number 32) (
+    field (codes "result") (λ m. m.result) (optional void_or_value) nothing)
+
+abbrev pub input : Fields InputCommand
+input =
+    field (codes "headers") (λ m. m.headers) (list header) (
+    field (codes "value") (λ m. m.value) bytes nothing)
+
+abbrev pub get_eager_state : Fields GetEagerStateCommand
+get_eager_state =
+    field (codes "name") (λ m. m.name) string (
+    field (codes "key") (λ m. m.key) string (
+    field (codes "result") (λ m. m.result) (optional void_or_value) nothing))
+
+abbrev pub get_lazy_state : Fields GetLazyStateCommand
+get_lazy_state =
+    field (codes "name") (λ m. m.name) string (
+    field (codes "key") (λ m. m.key) string (
+    field (codes "result_completion_id") (λ m. m.result_completion_id) (number 32) nothing))
+
+abbrev pub get_eager_state_keys : Fields GetEagerStateKeysCommand
+get_eager_state_keys =
+    field (codes "value") (λ m. m.value) (optional (list bytes)) (
+    field (codes "name") (λ m. m.name) string nothing)
+
+abbrev pub get_lazy_state_keys : Fields GetLazyStateKeysCommand
+get_lazy_state_keys =
+    field (codes "result_completion_id") (λ m. m.result_completion_id) (number 32) (
+    field (codes "name") (λ m. m.name) string nothing)
+
+abbrev pub set_state : Fields SetStateCommand
+set_state =
+    field (codes "name") (λ m. m.name) string (
+    field (codes "key") (λ m. m.key) string (
+    field (codes "value") (λ m. m.value) bytes nothing))
+
+abbrev pub clear_state : Fields ClearStateCommand
+clear_state =
+    field (codes "name") (λ m. m.name) string (
+    field (codes "key") (λ m. m.key) string nothing)
+
+abbrev pub clear_all_state : Fields ClearAllStateCommand
+clear_all_state =
+    field (codes "name") (λ m. m.name) string nothing
+
+abbrev pub sleep : Fields SleepCommand
+sleep =
+    field (codes "wake_up_time") (λ m. m.wake_up_time) (number 64) (
+    field (codes "result_completion_id") (λ m. m.result_completion_id) (number 32) (
+    field (codes "name") (λ m. m.name) string nothing))
+
+-- the fields of a request, and others behind them
+abbrev pub behind_request : {A : Type 0} → (A → CallRequest) → Fields A → Fields A
+behind_request request others =
+    field (codes "service_name") (λ m. (request m).service_name) string (
+    field (codes "handler_name") (λ m. (request m).handler_name) string (
+    field (codes "key") (λ m. (request m).key) string (
+    field (codes "idempotency_key") (λ m. (request m).idempotency_key) (optional string) (
+    field (codes "scope") (λ m. (request m).scope) (optional string) (
+    field (codes "limit_key") (λ m. (request m).limit_key) (optional string) (
+    field (codes "headers") (λ m. (request m).headers) (list header) (
+    field (codes "parameter") (λ m. (request m).parameter) bytes (
+    field (codes "invocation_id_notification_idx") (λ m. (request m).invocation_id_notification_idx)
+    (number 32) (
+    field (codes "name") (λ m. (request m).name) string others)))))))))
+
+abbrev pub call_request : Fields CallRequest
+call_request = behind_request (λ m. m) nothing
+
+abbrev pub call : Fields CallCommand
+call = behind_request (λ m. m.request)
+    (field (codes "result_completion_id") (λ m. m.result_completion_id) (number 32) nothing)
+
+abbrev pub one_way_call : Fields OneWayCallCommand
+one_way_call = behind_request (λ m. m.request)
+    (field (codes "invoke_time") (λ m. m.invoke_time) (number 64) nothing)
+
+abbrev pub complete_awakeable : Fields CompleteAwakeableCommand
+complete_awakeable =
+    field (codes "awakeable_id") (λ m. m.awakeable_id) string (
+    field (codes "result") (λ m. m.result) value_or_failure nothing)
+
+abbrev pub send_signal : Fields SendSignalCommand
+send_signal =
+    field (codes "target_invocation_id") (λ m. m.target_invocation_id) string (
+    field (codes "signal") (λ m. m.signal) signal (
+    field (codes "result") (λ m. m.result) signal_result nothing))
+
+abbrev pub promise : Fields PromiseCommand
+promise =
+    field (codes "key") (λ m. m.key) string (
+    field (codes "result_completion_id") (λ m. m.result_completion_id) (number 32) nothing)
+
+abbrev pub complete_promise : Fields CompletePromiseCommand
+complete_promise =
+    field (codes "key") (λ m. m.key) string (
+    field (codes "completion") (λ m. m.completion) value_or_failure (
+    field (codes "result_completion_id") (λ m. m.result_completion_id) (number 32) nothing))
+
+abbrev pub run : Fields RunCommand
+run =
+    field (codes "name") (λ m. m.name) string (
+    field (codes "result_completion_id") (λ m. m.result_completion_id) (number 32) nothing)
+
+abbrev pub invocation : Fields InvocationCommand
+invocation =
+    field (codes "target") (λ m. m.target) target (
+    field (codes "result_completion_id") (λ m. m.result_completion_id) (number 32) nothing)
+
+abbrev pub output : Fields OutputCommand
+output =
+    field (codes "result") (λ m. m.result) value_or_failure nothing
+
+abbrev pub notification : Fields Notification
+notification =
+    field (codes "id") (λ m. m.id) notification_id (
+    field (codes "result") (λ m. m.result) notification_result nothing)

@@ -1,0 +1,44 @@
+-- How a future is printed. Which future a text says is not said here.
+use Rattle.std.specs.Prelude.{ℕ, ◌==◌, ◌-◌, nat_lt, if◌then◌else◌, List, [], ◌∷◌, ◌++◌, codes, true}
+use Rattle.journal_attempt.specs.declared.future.FutureNode.{FutureNode}
+use Rattle.frame_lines.specs.Choices.{choice, kind}
+use Rattle.frame_lines.specs.Notation.{Fields, Notation, field, list, nothing, number, put_all, string}
+
+-- what a future waits for itself
+abbrev pub node : Fields FutureNode
+node =
+    field (codes "kind") (λ n. n.kind) kind (
+    field (codes "completions") (λ n. n.waiting_completions) (list (number 32)) (
+    field (codes "signals") (λ n. n.waiting_signals) (list (number 32)) (
+    field (codes "named") (λ n. n.waiting_named_signals) (list string) nothing)))
+
+-- a future up to the first that nests in it; whole where none does
+unfoldable pub head_text : FutureNode → List ℕ
+head_text n = (put_all (codes "(", true) (node.printed n)).0
+    ++ (if n.nested == 0 then codes ")" else codes " nested=[")
+
+-- Behind a future that is whole, within others of which so many are left in each, the innermost
+-- first: those that are whole by it end, and behind a comma another comes.
+abbrev pub ends_text : List ℕ → List ℕ
+ends_text [] = []
+ends_text (left ∷ outer) = if nat_lt 1 left then codes ", " else codes "])" ++ ends_text outer
+
+-- and so many are left then
+abbrev pub left_then : List ℕ → List ℕ
+left_then [] = []
+left_then (left ∷ outer) = if nat_lt 1 left then (left - 1) ∷ outer else left_then outer
+
+-- futures in preorder, each with those that nest in it in brackets; so many are left in each that
+-- is open, the innermost first
+unfoldable pub nodes_text : List ℕ → List FutureNode → List ℕ
+nodes_text left [] = []
+nodes_text left (n ∷ nodes) =
+    head_text n ++ (if n.nested == 0 then ends_text left ++ nodes_text (left_then left) nodes
+    else nodes_text (n.nested ∷ left) nodes)
+
+-- a future, by its nodes
+abbrev pub future_text : List FutureNode → List ℕ
+future_text nodes = nodes_text [] nodes
+
+abbrev pub future : Notation (List FutureNode)
+future = choice future_text (λ text it. Unit {0})

@@ -1,0 +1,145 @@
+-- What the program's two runs read and write.
+use Rattle.std.specs.Prelude.{◌≡◌, ◌≢◌, ◌⊎◌, ◌+◌, ℕ, List, [], ◌∷◌, ◌++◌, length, flat_map, All, Option, IfSome}
+use Rattle.std.specs.Io.KnownBytes.{Appends}
+use Rattle.std.specs.Str.{IsTrimAscii, IsUtf8}
+use Rattle.std.specs.declared.io.Error.{Error as IoError}
+use Rattle.journal_messages.specs.declared.message.RawMessage.{RawMessage}
+use Rattle.journal_streams.specs.Frames.{Malformed, Partial, Whole, next_of}
+use Rattle.streams.specs.Streams.{AppendsSome}
+use Rattle.frame_lines.specs.FrameLines.{LineShows, LineShowsAsIs}
+use Rattle.frame_lines.specs.Printed.{frame_text, rest_text}
+use Rattle.frame_lines.specs.declared.run.Unread.{Unread}
+use Rattle.frame_lines.specs.declared.run.Unread.TheVariants as unread
+use Rattle.frame_lines.specs.declared.run_end.RunEnd.{RunEnd}
+use Rattle.frame_lines.specs.declared.run_end.RunEnd.TheVariants as run_end
+
+-- something that this holds of is added
+abbrev pub Adds : (List ℕ → Type 0) → List ℕ → List ℕ → Type 0
+Adds holds old new = (added : List ℕ) × holds added × (new ≡ old ++ added)
+
+-- ---- frames to lines
+
+-- the stream is these frames, one after another, and then this rest
+abbrev pub AreFirstFrames : List RawMessage → List ℕ → List ℕ → Type 0
+AreFirstFrames [] stream rest = stream ≡ rest
+AreFirstFrames (raw ∷ frames) stream rest = (behind : List ℕ) × (next_of stream ≡ Whole raw behind)
+    × AreFirstFrames frames behind rest
+
+-- no whole frame of a known type stands at the front
+abbrev pub HasNoFrame : List ℕ → Type 0
+HasNoFrame stream = (next_of stream ≡ Partial) ⊎ (next_of stream ≡ Malformed)
+
+-- a text with a line's end
+abbrev pub line_text : List ℕ → List ℕ
+line_text text = text ++ 10 ∷ []
+
+-- the line of the bytes that are no whole frame, if there are any
+abbrev pub rest_lines : List ℕ → List ℕ
+rest_lines [] = []
+rest_lines (b ∷ rest) = line_text (rest_text (b ∷ rest))
+
+-- A line for each whole frame of the stream, in order, and one for what is behind them, if there is
+-- anything.
+pub record ArePrinted (stream lines : List ℕ) : Type 0 where
+  pub frames : List RawMessage
+  pub rest : List ℕ
+  pub are_frames : AreFirstFrames frames stream rest
+  pub no_more : HasNoFrame rest
+  pub is : lines ≡ flat_map (λ raw. line_text (frame_text raw)) frames ++ rest_lines rest
+
+-- ---- lines to frames
+
+-- the text's first line, without its end, and what follows it; the last line may have no end
+abbrev pub IsFirstLine : List ℕ → List ℕ → List ℕ → Type 0
+IsFirstLine text line rest =
+    All (λ b. b ≢ 10) line × ((text ≡ line ++ 10 ∷ rest) ⊎ ((text ≡ line) × (rest ≡ [])))
+
+-- nothing, or a comment
+abbrev pub IsComment : List ℕ → Type 0
+IsComment [] = Unit {0}
+IsComment (b ∷ line) = b ≡ 35
+
+-- a line shows these bytes; an empty one and a comment show none
+abbrev pub IsShownInside : List ℕ → List ℕ → Type 0
+IsShownInside line bytes = (IsComment line × (bytes ≡ [])) ⊎ LineShows line bytes
+
+-- the same of what stands on the line without the blanks around it
+abbrev pub IsShownBy : List ℕ → List ℕ → Type 0
+IsShownBy line bytes = (inside : List ℕ) × IsTrimAscii line inside × IsShownInside inside bytes
+
+-- the text's lines show these bytes, one line behind another, up to this rest
+abbrev pub AreShownBefore : List (List ℕ) → List ℕ → List ℕ → List ℕ → Type 0
+AreShownBefore [] text rest bytes = (text ≡ rest) × (bytes ≡ [])
+AreShownBefore (line ∷ lines) text rest bytes =
+    (behind : List ℕ) × (first : List ℕ) × (others : List ℕ) × (text ≢ [])
+    × IsFirstLine text line behind × IsShownBy line first
+    × AreShownBefore lines behind rest others × (bytes ≡ first ++ others)
+
+-- the bytes are those that the text's lines show
+pub record AreShown (text bytes : List ℕ) : Type 0 where
+  pub lines : List (List ℕ)
+  pub shown : AreShownBefore lines text [] bytes
+
+-- a line that is no comment, and isn't UTF-8 or shows no frame as it is and no rest
+abbrev pub IsUnshownInside : List ℕ → Type 0
+IsUnshownInside line =
+    (IsComment line → ⊥) × ((IsUtf8 line → ⊥) ⊎ ((bytes : List ℕ) → LineShowsAsIs line bytes → ⊥))
+
+-- the same of what stands on the line without the blanks around it
+abbrev pub IsUnshown : List ℕ → Type 0
+IsUnshown line = (inside : List ℕ) × IsTrimAscii line inside × IsUnshownInside inside
+
+-- the line of this number, counted from 1, has no meaning, and each before it has one
+pub record IsBadLine (text : List ℕ) (number : ℕ) : Type 0 where
+  pub lines : List (List ℕ)
+  pub rest : List ℕ
+  pub bytes : List ℕ
+  pub shown : AreShownBefore lines text rest bytes
+  pub counted : number ≡ length lines + 1
+  pub line : List ℕ
+  pub others : List ℕ
+  pub first : IsFirstLine rest line others
+  pub unshown : IsUnshown line
+
+-- why a text isn't read: a line has no meaning, or there is no memory
+abbrev pub IsBadFor : List ℕ → Unread → Type 0
+IsBadFor text unread.Memory = Unit {0}
+IsBadFor text (unread.Line number) = IsBadLine text number
+
+-- no line of a stream is without a meaning
+abbrev pub NoneIsBad : List ℕ → ℕ → Type 0
+NoneIsBad stream number = ⊥
+
+-- ---- runs
+
+-- All that the reader had left, where this is known, is written in the other form.
+pub record Turns (turned : List ℕ → List ℕ → Type 0) (left : Option (List ℕ)) (written : List ℕ → Type 0) : Type 0 where
+  pub input : List ℕ
+  pub output : List ℕ
+  pub all : IfSome left (λ bytes. input ≡ bytes)
+  pub is_turned : turned input output
+  pub is_written : written output
+
+-- The line of this number of all that the reader had left, where this is known, has no meaning.
+pub record StopsAt (bad : List ℕ → ℕ → Type 0) (left : Option (List ℕ)) (number : ℕ) : Type 0 where
+  pub input : List ℕ
+  pub all : IfSome left (λ bytes. input ≡ bytes)
+  pub is_bad : bad input number
+
+-- What each end of a run says. `turned` says what an input is in the other form, and `bad` which of
+-- its lines has no meaning; `held` and `holds` are what the writer held and holds now; `read` says
+-- that all was read, and `unwritten` that nothing was written.
+abbrev pub Tells : (List ℕ → List ℕ → Type 0) → (List ℕ → ℕ → Type 0) → Option (List ℕ)
+    → Option (List ℕ) → Option (List ℕ) → (IoError → Type 0) → (IoError → Type 0) → Type 0 → Type 0
+    → RunEnd → Type 0
+Tells turned bad left held holds read_fails write_fails read unwritten run_end.Usage = ⊥
+Tells turned bad left held holds read_fails write_fails read unwritten (run_end.ReadFailed e) =
+    read_fails e × unwritten
+Tells turned bad left held holds read_fails write_fails read unwritten (run_end.BadLine number) =
+    StopsAt bad left number × read × unwritten
+Tells turned bad left held holds read_fails write_fails read unwritten run_end.NoMemory =
+    read × unwritten
+Tells turned bad left held holds read_fails write_fails read unwritten (run_end.WriteFailed e) =
+    write_fails e × read × Turns turned left (AppendsSome held holds)
+Tells turned bad left held holds read_fails write_fails read unwritten run_end.Written =
+    read × Turns turned left (Appends held holds)
