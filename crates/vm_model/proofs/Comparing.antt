@@ -77,7 +77,7 @@ quiet_says raw quiet g = by_message (message_in raw.ty raw.body) refl
   where
     by_message : (o : Option Message) → message_in raw.ty raw.body ≡ o → changed_by (read_before o []) g ≡ g
     by_message None is = refl
-    by_message (Some n) is = unchanged n (ap changes_state type_read raw.ty raw.body n is ∙ quiet) g
+    by_message (Some n) is = unchanged n (ap changes_state (type_read raw.ty raw.body n is) ∙ quiet) g
 
 lazy_quiet : (r : StateRead) → changes_state (lazy_type r) ≡ false
 lazy_quiet (reads.Value key name) = refl

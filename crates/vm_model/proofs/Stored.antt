@@ -137,7 +137,7 @@ own_changes state (Exactly command ignore) result f g =
     says_stored command g (changed command g) (λ none. absurd (let one : Some x.0 ≡ None = sym x.1 ∙ none in cc)) (λ n is. ap (λ z. changed z g) (same_Some _ _ (sym is ∙ x.1)) ∙ same_change command x.0 ignore x.1 x.2 g)
 own_changes state (Reads r id) result f g =
     let own = own_form r id state in
-    says_stored own g (changed (said_of (Reads r id)) g) (λ none. sym (read_says r id g)) (λ n is. unchanged n (ap changes_state type_read (type_of own) (body own) n is ∙ read_type r id state) g ∙ sym (read_says r id g))
+    says_stored own g (changed (said_of (Reads r id)) g) (λ none. sym (read_says r id g)) (λ n is. unchanged n (ap changes_state (type_read (type_of own) (body own) n is) ∙ read_type r id state) g ∙ sym (read_says r id g))
 
 -- ---- an eager read is as the state is
 

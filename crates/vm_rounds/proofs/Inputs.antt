@@ -44,7 +44,7 @@ input_says journal b g = ap (λ l. changed_by (messages_in l) g) b.commands ∙ 
   where
     by_message : (o : Option Message) → message_in b.first.ty b.first.body ≡ o → changed_by (read_before o (messages_in b.rest)) g ≡ changed_by (messages_in b.rest) g
     by_message None is = refl
-    by_message (Some n) is = ap (changed_by (messages_in b.rest)) (unchanged n (ap changes_state type_read b.first.ty b.first.body n is ∙ changes_nothing b.first.ty (input_type b.first b.input b.reads)) g)
+    by_message (Some n) is = ap (changed_by (messages_in b.rest)) (unchanged n (ap changes_state (type_read b.first.ty b.first.body n is) ∙ changes_nothing b.first.ty (input_type b.first b.input b.reads)) g)
 
 -- a history begins with its input
 pub history_begins : (s : Setup) (m : Meaning) (base : StateMap) (journal : List Entry) → History s m base journal → Begins journal
