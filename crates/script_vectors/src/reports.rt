@@ -1,192 +1,156 @@
-// Errors that the handler's runner reports.
-use crate::table::assert_table;
+// Arguments that are refused, and readers and writers that fail.
+use round_reports::run::run;
+use round_reports::run_end::RunEnd;
+use std::alloc::Global;
+use std::io::Cursor;
+use std::process::Abort;
 use std::test::Fail;
+use streams::{Plain, Sink, Source};
+use vectors::transports::{Breaking, Pipe};
 
-/// Before any command.
-const FIRST: &str = r#"
-vm "application/vnd.restate.invocation.v7" => ok V7
-error 500 "no"                             => ok
-state                                      => ok Closed
-index                                      => ok -1
-output                                     => ok <of_nothing>
-output                                     => ok 0x
-failed                                     => err 500 "no"
+const V7: &str = "application/vnd.restate.invocation.v7";
 
-vm "application/vnd.restate.invocation.v7" => ok V7
-error 500 "no" rel=last                    => ok
-state                                      => ok Closed
-index                                      => ok -1
-output                                     => ok <of_start>
-output                                     => ok 0x
-failed                                     => err 500 "no"
+/// How a run ends, as a row tells it.
+#[derive(Clone, Copy, Debug, PartialEq, Eq)]
+enum Told {
+    Reported,
+    Stopped,
+    NoMeaning(u64),
+    ReadFailed,
+    WriteFailed,
+    UnknownHandler,
+    UnknownContentType,
+    NoMemory,
+}
 
-vm "application/vnd.restate.invocation.v7" => ok V7
-error 500 "no" rel=next(Sleep "n")         => ok
-state                                      => ok Closed
-index                                      => ok -1
-output                                     => ok <of_a_first_sleep>
-output                                     => ok 0x
-failed                                     => err 500 "no"
+fn told_of(end: &RunEnd) -> Told {
+    match end {
+        RunEnd::Reported => Told::Reported,
+        RunEnd::Stopped(_) => Told::Stopped,
+        RunEnd::NoMeaning(line) => Told::NoMeaning(*line),
+        RunEnd::ReadFailed(_) => Told::ReadFailed,
+        RunEnd::WriteFailed(_) => Told::WriteFailed,
+        RunEnd::UnknownHandler => Told::UnknownHandler,
+        RunEnd::UnknownContentType => Told::UnknownContentType,
+        RunEnd::NoMemory => Told::NoMemory,
+    }
+}
 
-vm "application/vnd.restate.invocation.v7" => ok V7
-error 500 "no" rel=at(7 Call -)            => ok
-state                                      => ok Closed
-index                                      => ok -1
-output                                     => ok <of_a_call>
-output                                     => ok 0x
-failed                                     => err 500 "no"
+/// The status of the process that each end has.
+fn code(told: Told) -> u8 {
+    match told {
+        Told::Reported => 0,
+        Told::NoMeaning(_) | Told::UnknownHandler => 2,
+        _ => 1,
+    }
+}
+
+/// The run ends so, and the process with its status.
+fn assert_ends<R: Source, W: Sink>(
+    rt: &impl Abort,
+    alloc: Global,
+    content_type: &str,
+    handler: &str,
+    reader: &mut R,
+    writer: &mut W,
+    wanted: Told,
+) {
+    let end = run(alloc, content_type, handler, reader, writer);
+    assert_eq!(rt; told_of(&end), wanted);
+    assert_eq!(rt; end.code(), code(wanted));
+}
+
+const SCRIPT: &[u8] = b"world input=\"a\"\nround\npiece all\nstep 2\nstore all\n";
+
+const REPORT: &str = r#"round 1
+answer input id="abc" seed=0 key="" headers=[] value="a" scope=- limit=- idem=-
+answer handle 17
+output Sleep wake_up_time=1000 result_completion_id=1
+entries 2
+journal
+Input value="a"
+Sleep wake_up_time=1000 result_completion_id=1
 "#;
 
-/// After the clearing of a state key.
-const LATER: &str = r#"
-vm "application/vnd.restate.invocation.v7" => ok V7
-input <start_1 input_till>                 => ok
-sys_input                                  => ok id="abc" seed=0 key="" headers=[] value="Till" scope=- limit=- idem=-
-clear "k" name="n"                         => ok
-error 500 "no"                             => ok
-state                                      => ok Closed
-index                                      => ok 1
-output                                     => ok <clear_k of_nothing>
-output                                     => ok 0x
-failed                                     => err 500 "no"
+/// Arguments, and how they are refused.
+static ARGUMENTS: [(&str, &str, Told); 6] = [
+    (V7, "", Told::UnknownHandler),
+    (V7, "Sleeper", Told::UnknownHandler),
+    ("text/plain", "sleeper ", Told::UnknownHandler),
+    ("text/plain", "sleeper", Told::UnknownContentType),
+    ("", "counter", Told::UnknownContentType),
+    (
+        "application/vnd.restate.invocation.v9",
+        "counter",
+        Told::UnknownContentType,
+    ),
+];
 
-vm "application/vnd.restate.invocation.v7" => ok V7
-input <start_1 input_till>                 => ok
-sys_input                                  => ok id="abc" seed=0 key="" headers=[] value="Till" scope=- limit=- idem=-
-clear "k" name="n"                         => ok
-error 500 "no" rel=last                    => ok
-state                                      => ok Closed
-index                                      => ok 1
-output                                     => ok <clear_k of_the_clearing>
-output                                     => ok 0x
-failed                                     => err 500 "no"
-
-vm "application/vnd.restate.invocation.v7" => ok V7
-input <start_1 input_till>                 => ok
-sys_input                                  => ok id="abc" seed=0 key="" headers=[] value="Till" scope=- limit=- idem=-
-clear "k" name="n"                         => ok
-error 500 "no" rel=next(Sleep "n")         => ok
-state                                      => ok Closed
-index                                      => ok 1
-output                                     => ok <clear_k of_a_third_sleep>
-output                                     => ok 0x
-failed                                     => err 500 "no"
-
-vm "application/vnd.restate.invocation.v7" => ok V7
-input <start_1 input_till>                 => ok
-sys_input                                  => ok id="abc" seed=0 key="" headers=[] value="Till" scope=- limit=- idem=-
-clear "k" name="n"                         => ok
-error 500 "no" rel=at(7 Call -)            => ok
-state                                      => ok Closed
-index                                      => ok 1
-output                                     => ok <clear_k of_a_call>
-output                                     => ok 0x
-failed                                     => err 500 "no"
-"#;
-
-/// What the option makes of an error whose code is that of a mismatch, whatever it asks for.
-const MISMATCHES: &str = r#"
-vm "application/vnd.restate.invocation.v7" mismatch=pause => ok V7
-error 570 "no"                                 => ok
-output                                         => ok <mismatch_paused>
-output                                         => ok 0x
-failed                                         => err 570 "no"
-
-vm "application/vnd.restate.invocation.v7" mismatch=fail => ok V7
-error 570 "no" behaviour=pause                 => ok
-output                                         => ok <mismatch_failed>
-output                                         => ok 0x
-failed                                         => err 570 "no"
-
-vm "application/vnd.restate.invocation.v7" mismatch=follow => ok V7
-error 570 "no" behaviour=fail                  => ok
-output                                         => ok <mismatch_retried>
-output                                         => ok 0x
-failed                                         => err 570 "no"
-"#;
-
-/// Before V7 an error is retried.
-const BEFORE_V7: &str = r#"
-vm "application/vnd.restate.invocation.v5" mismatch=pause => ok V5
-error 570 "no"                                 => ok
-output                                         => ok <mismatch_retried>
-output                                         => ok 0x
-failed                                         => err 570 "no"
-
-vm "application/vnd.restate.invocation.v5" => ok V5
-error 570 "no" behaviour=pause             => ok
-output                                     => ok <error_unsupported>
-output                                     => ok 0x
-failed                                     => err 573 "UnsupportedFeatureForNegotiatedVersion"
-
-vm "application/vnd.restate.invocation.v5" => ok V5
-error 570 "no" behaviour=fail              => ok
-output                                     => ok <error_unsupported>
-output                                     => ok 0x
-failed                                     => err 573 "UnsupportedFeatureForNegotiatedVersion"
-
-vm "application/vnd.restate.invocation.v6" mismatch=pause => ok V6
-error 570 "no"                                 => ok
-output                                         => ok <mismatch_retried>
-output                                         => ok 0x
-failed                                         => err 570 "no"
-
-vm "application/vnd.restate.invocation.v6" => ok V6
-error 570 "no" behaviour=pause             => ok
-output                                     => ok <error_unsupported>
-output                                     => ok 0x
-failed                                     => err 573 "UnsupportedFeatureForNegotiatedVersion"
-
-vm "application/vnd.restate.invocation.v6" => ok V6
-error 570 "no" behaviour=fail              => ok
-output                                     => ok <error_unsupported>
-output                                     => ok 0x
-failed                                     => err 573 "UnsupportedFeatureForNegotiatedVersion"
-"#;
-
-/// A VM that has failed, and one that is closed.
-const LATE: &str = r#"
-# The first error stays.
-vm "application/vnd.restate.invocation.v7" => ok V7
-end                                        => err 571 "UnexpectedStateError"
-output                                     => ok <error_state>
-output                                     => ok 0x
-error 500 "no" rel=last                    => ok
-error 570 "no" behaviour=pause             => ok
-failed                                     => err 571 "UnexpectedStateError"
-
-# An error of a closed VM isn't sent.
-vm "application/vnd.restate.invocation.v7" => ok V7
-input <start_1 input_till>                 => ok
-sys_input                                  => ok id="abc" seed=0 key="" headers=[] value="Till" scope=- limit=- idem=-
-end                                        => ok
-output                                     => ok <end>
-output                                     => ok 0x
-error 500 "no" rel=last                    => ok
-failed                                     => err 500 "no"
-"#;
-
-#[test]
-fn error_relates_to_a_first_command(rt: HostRuntime) -> Result<(), Fail> {
-    assert_table(&rt, rt.alloc(), FIRST)
+/// With these arguments nothing is read and nothing is written.
+fn assert_untouched(
+    rt: &impl Abort,
+    alloc: Global,
+    content_type: &str,
+    handler: &str,
+    wanted: Told,
+) {
+    let mut reader = Plain(Cursor::new(SCRIPT));
+    let mut writer = Plain(Vec::new(alloc));
+    assert_ends(
+        rt,
+        alloc,
+        content_type,
+        handler,
+        &mut reader,
+        &mut writer,
+        wanted,
+    );
+    assert_eq!(rt; reader.0.position(), 0);
+    assert!(rt; writer.0.is_empty());
 }
 
 #[test]
-fn error_relates_to_a_later_command(rt: HostRuntime) -> Result<(), Fail> {
-    assert_table(&rt, rt.alloc(), LATER)
+fn refused_arguments_read_and_write_nothing(rt: HostRuntime) {
+    for (content_type, handler, wanted) in &ARGUMENTS {
+        assert_untouched(&rt, rt.alloc(), *content_type, *handler, *wanted);
+    }
+}
+
+/// A read that fails behind this beginning of the script writes nothing.
+fn assert_broken(rt: &impl Abort, alloc: Global, front: &[u8]) {
+    let mut reader = Plain(Breaking {
+        front: Cursor::new(front),
+    });
+    let mut writer = Plain(Vec::new(alloc));
+    let wanted = Told::ReadFailed;
+    assert_ends(rt, alloc, V7, "sleeper", &mut reader, &mut writer, wanted);
+    assert!(rt; writer.0.is_empty());
 }
 
 #[test]
-fn option_says_what_becomes_of_a_mismatch(rt: HostRuntime) -> Result<(), Fail> {
-    assert_table(&rt, rt.alloc(), MISMATCHES)
+fn failed_reads_write_nothing(rt: HostRuntime) -> Result<(), Fail> {
+    for place in 0..=SCRIPT.len() {
+        let front = SCRIPT.get(..place).ok_or("no such place")?;
+        assert_broken(&rt, rt.alloc(), front);
+    }
+    Ok(())
+}
+
+/// A run into a pipe with room for this beginning of the report, that can be flushed so often, ends so, and leaves it there.
+fn assert_piped(rt: &impl Abort, alloc: Global, front: &str, flushes: usize, wanted: Told) {
+    let mut writer = Plain(Pipe::new(alloc, front.len(), flushes));
+    let mut reader = Plain(Cursor::new(SCRIPT));
+    assert_ends(rt, alloc, V7, "sleeper", &mut reader, &mut writer, wanted);
+    assert!(rt; writer.0.taken.as_slice() == front.as_bytes());
 }
 
 #[test]
-fn error_is_retried_before_v7(rt: HostRuntime) -> Result<(), Fail> {
-    assert_table(&rt, rt.alloc(), BEFORE_V7)
-}
-
-#[test]
-fn error_of_a_failed_or_closed_vm_is_not_sent(rt: HostRuntime) -> Result<(), Fail> {
-    assert_table(&rt, rt.alloc(), LATE)
+fn failed_writes_leave_a_beginning(rt: HostRuntime) -> Result<(), Fail> {
+    for room in 0..REPORT.len() {
+        let front = REPORT.get(..room).ok_or("no such place")?;
+        assert_piped(&rt, rt.alloc(), front, 1, Told::WriteFailed);
+    }
+    assert_piped(&rt, rt.alloc(), REPORT, 0, Told::WriteFailed);
+    assert_piped(&rt, rt.alloc(), REPORT, 1, Told::Reported);
+    Ok(())
 }

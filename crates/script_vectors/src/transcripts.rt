@@ -62,26 +62,6 @@ fn assert_writes<R: Source>(
     assert!(rt; writer.0.as_slice() == transcript.as_bytes());
 }
 
-/// Scripts, and their transcripts.
-static SCRIPTS: [(&[u8], &str); 8] = [
-    (b"", ""),
-    (b"\n", "\n"),
-    (b"   \n", "\n"),
-    (b"state", "none\n"),
-    (b"state\n", "none\n"),
-    (b"\nstate\n\n", "\nnone\n\n"),
-    (b"\xff\nstate\r\n", "bad\nnone\n"),
-    (b"input \"\xff\"\n# \xff\n", "bad\n\n"),
-];
-
-#[test]
-fn each_line_is_answered_once(rt: HostRuntime) {
-    for (script, transcript) in &SCRIPTS {
-        let mut reader = Plain(Cursor::new(*script));
-        assert_writes(&rt, rt.alloc(), &mut reader, *transcript, Told::Done);
-    }
-}
-
 #[test]
 fn failed_read_writes_nothing(rt: HostRuntime) {
     let mut reader = Plain(Breaking {
