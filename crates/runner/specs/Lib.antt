@@ -1,3 +1,2 @@
-pub mod ContentTypes
 pub mod Runs
 pub mod Statuses

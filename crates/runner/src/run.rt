@@ -9,14 +9,13 @@ ghost use Rattle.runner.specs.Runs.{SendsWhole, end_after, IsFed, Drives, IsDriv
 ghost use Rattle.handlers.specs.Named.{step_named};
 ghost use Rattle.runner.specs.declared.run_end.RunEnd.TheVariants as run_end;
 
-use crate::content_type::ContentType;
 use crate::run_end::{AttemptEnd, RunEnd};
 use bytes::Bytes;
 use handlers::named::Named;
 use invocation_vm::VMOptions;
 use std::alloc::{AllocError, Global};
 use streams::{Sink, Source};
-use vm_attempt::{Attempt, Handler, Progress};
+use vm_attempt::{Attempt, ContentType, Handler, Progress};
 
 /// Makes a step, and tells how the attempt ends, if it is the last one.
 fn step_of<H: Handler>(attempt: &mut Attempt<H>) -> Option<AttemptEnd>

@@ -1,3 +1,4 @@
+pub mod ContentTypes
 pub mod Fixed
 pub mod Agreement
 pub mod Arrivals

@@ -2,9 +2,11 @@
 #![tactic(auto)]
 
 mod attempt;
+mod content_type;
 mod laws;
 
 pub use attempt::Attempt;
+pub use content_type::ContentType;
 pub use laws::{
     answers_are_told, attempts_begin, attempts_keep, attempts_write, calls_follow, frames_arrive,
     histories_are_replayed, honest_attempts_fail_by_themselves, honest_bytes_are_honest,

@@ -1,7 +1,6 @@
 pub mod Rounds
 pub mod Courses
 pub mod Inside
-pub mod ContentTypes
 pub mod Fresh
 pub mod Sound
 pub mod Owning

@@ -3,7 +3,6 @@
 #![tactic(auto)]
 
 mod answers;
-mod content_type;
 mod desk;
 mod round;
 mod rounds;

@@ -14,14 +14,13 @@ ghost use Rattle.vm_store.specs.Worlds.{IsJournal, start_message};
 ghost use Rattle.vm_store.specs.declared.types.RoundFault.TheVariants as round_fault;
 
 use crate::answers::copy_answers;
-use crate::content_type::ContentType;
 use crate::desk::{Desk, arrive_in, happen};
 use bytes::{Bytes, BytesMut};
 use invocation_vm::VMResult;
 use journal_errors::{Error, Version};
 use journal_streams::Decoder;
 use std::alloc::{AllocError, Global};
-use vm_attempt::{Attempt, Handler};
+use vm_attempt::{Attempt, ContentType, Handler};
 use vm_store::handed::start_bytes;
 use vm_store::types::{Event, Report, Round, RoundFault, Setting};
 

@@ -29,9 +29,9 @@ impl ContentType<'_> {
 impl HeaderMap for ContentType<'_> {
     type Error = Infallible;
 
-    ghost use Rattle.runner.specs.ContentTypes.{found};
+    ghost use Rattle.vm_attempt.specs.ContentTypes.{content_type_under};
 
-    ghost found = { λ headers name. found headers.0.now name };
+    ghost found = { λ headers name. content_type_under headers.0.now name };
 
     fn extract(&self, name: &str) -> Result<Option<&str>, Infallible> {
         if name == "content-type" {

@@ -3,6 +3,6 @@ use Rattle.std.specs.Prelude.{ℕ, List, codes, nat_eq, if◌then◌else◌, Opt
 use Rattle.std.specs.Cmp.Lexicographic.{pointwise}
 
 -- the text under `content-type`; under any other name there is no header
-abbrev pub found : List ℕ → List ℕ → Option (Option (List ℕ))
-found content_type name =
+abbrev pub content_type_under : List ℕ → List ℕ → Option (Option (List ℕ))
+content_type_under content_type name =
     if pointwise nat_eq name (codes "content-type") then Some (Some content_type) else Some None
