@@ -9,7 +9,7 @@ import time
 from collections.abc import Callable
 
 import crash_app
-from palqytun.runtime import claiming, effects, inbox, invocations, journal, lease, storing
+from palqytun.runtime import appending, claiming, committer, effects, inbox, invocations, journal, lease, storing
 from palqytun.runtime.database.sqlite import SQLite
 from palqytun.runtime.engine import Engine, Unavailable
 
@@ -138,7 +138,12 @@ def completions_first() -> None:
         self.entries = [lease.Entry(at, it.completes, it.frame) for at, it in zip(places, swapped)]
         write(self, db, **changed)  # type: ignore[arg-type]
 
+    def swapped_too(self: appending.Append, now: float) -> object:
+        places, swapped = [it.at for it in self.growth.entries], sorted(self.growth.entries, key=lambda it: it.completes is None)
+        return ((self.growth.lease.invocation, at, it.completes, it.frame, now) for at, it in zip(places, swapped))
+
     lease.Growth.write = wrong  # type: ignore[method-assign]
+    appending.Append.entries = swapped_too  # type: ignore[method-assign, assignment]
 
 
 def timers_first() -> None:
@@ -191,8 +196,15 @@ def unfenced() -> None:
         sql = "INSERT INTO journal(invocation, at, completes, frame) VALUES (?,?,?,?) ON CONFLICT DO NOTHING"
         db.many(sql, rows)  # type: ignore[attr-defined]
 
+    def append(db: object, appends: list[appending.Append]) -> list[bool]:
+        for it in appends:
+            progress = {"retries": 0, "failing_since": None} if it.growth.has_progress else {}
+            write(it.growth, db, **progress)
+        return [True] * len(appends)
+
     lease.Growth.fence = fence  # type: ignore[method-assign]
     lease.Growth.write = write  # type: ignore[method-assign]
+    committer.append = append  # type: ignore[assignment]
 
 
 WRONG = {it.__name__: it for it in (completions_first, timers_first, ends_first, states_first, unfenced)}

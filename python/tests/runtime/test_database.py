@@ -1,16 +1,20 @@
 """The two databases: migrations, errors, groups of operations, and workers that hear of each other."""
 
 import asyncio
+import struct
 import time
 import unittest
 from unittest import mock
 
 import support  # isort: skip
 import runtime_app
-from palqytun.runtime import App, Context, Service, TerminalError, journal
+from palqytun.runtime import App, Context, Service, TerminalError, invocations, journal
 from palqytun.runtime.committer import Committer, Stopped
 from palqytun.runtime.database import Conflict, Lost, connect, schema
 from palqytun.runtime.database.sqlite import InUse
+from palqytun.runtime.invocations import CLAIMED, Claimable, New
+from palqytun.runtime.lease import Growth
+from palqytun.runtime.outcome import Outcome
 from support import Runtime
 
 
@@ -98,6 +102,45 @@ class Databases(support.OnADatabase):
             await committer.close()
             with self.assertRaises(Stopped):
                 await committer.submit(insert("late"))
+
+        asyncio.run(go())
+
+    def test_stores_of_a_group(self):
+        """Each has its own fence: one whose lease is lost isn't stored, and those beside it are."""
+        ids = [f"inv_{n}" for n in range(3)]
+        frame = struct.pack(">HQQ3sI", 26, 15, 3, b"run", 1)
+
+        def claimed(db):
+            for id in ids:
+                invocations.create(db, runtime_app.app, Outcome(), New("S", "echo", id=id))
+            found = [Claimable(*row) for row in db.rows(f"SELECT {CLAIMED} FROM invocations ORDER BY id")]
+            db.change("UPDATE invocations SET retries=3, failing_since=1.5")
+            return invocations.claim(db, "one", found)
+
+        def grown(claim):
+            growth = Growth(claim.lease)
+            growth.store(frame + struct.pack(">HQIBQ2s", 5, 15, 1, 0, 2, b"ok"), 0)
+            return growth
+
+        async def go():
+            committer = Committer(connect(self.url))
+            claims = await committer.submit(claimed)
+            await committer.submit(lambda db: db.change("UPDATE invocations SET epoch=2 WHERE id=?", (ids[1],)))
+            before = committer.counts["transactions"]
+            assert await asyncio.gather(*[committer.append(grown(it)) for it in claims]) == [True, False, True]
+            assert committer.counts["transactions"] == before + 1
+            rows = await committer.submit(lambda db: db.rows("SELECT invocation, at, completes, frame FROM journal WHERE at>0 ORDER BY invocation, at"))
+            completed = journal.completion(1, journal.value(b"ok"))
+            assert [(id, at, done, bytes(it)) for id, at, done, it in rows] == [
+                row for id in (ids[0], ids[2]) for row in ((id, 1, None, frame), (id, 2, 1, completed))
+            ]
+            rows = await committer.submit(lambda db: db.rows("SELECT entries, retries, failing_since FROM invocations ORDER BY id"))
+            assert [tuple(row) for row in rows] == [(3, 0, None), (1, 3, 1.5), (3, 0, None)]
+            # The same store again: the place isn't free any more, so it is fenced too.
+            for it in claims:
+                it.lease.journal.undo()
+            assert await asyncio.gather(*[committer.append(grown(it)) for it in claims]) == [False, False, False]
+            await committer.close()
 
         asyncio.run(go())
 

@@ -16,6 +16,7 @@ from .context import Action, AttemptEnds, CaughtTooMuch, Context, given_failure
 from .database import Database
 from .durable import Task, Tasks
 from .invocations import Claim
+from .lease import Growth
 from .outcome import Outcome
 from .services import App, Cancelled, TerminalError, plain
 
@@ -30,6 +31,9 @@ class Worker(Protocol):
 
     async def write(self, operation: Callable[[Database], Outcome], claim: Claim) -> Outcome:
         """Commits a transaction on the claim's journal."""
+
+    async def append(self, growth: Growth) -> None:
+        """Commits what is appended to a claim's journal, where nobody else is touched."""
 
 
 class WithoutEnd(Exception):
@@ -107,7 +111,7 @@ class Attempt:
                 if fault is not None:
                     await self.worker.write(lambda db: storing.pause(db, self.worker.app, self.claim, f"{type(fault).__name__}: {fault}"), self.claim)
                     return
-                await self._store()
+                await self._rest()
                 if not self._has_ended:
                     raise WithoutEnd(self.claim.invocation)
         finally:
@@ -228,7 +232,7 @@ class Attempt:
         await self._wait(None if self._executing else patience, context)
 
     async def _wait(self, patience: float | None, context: Context) -> None:
-        """Until a run has a result, or something comes, or patience is over."""
+        """Until a run has a result, which is stored, or something comes, or patience is over."""
         if not self.bell.poked and not self._done():
             await self.bell.heard(patience)
         done = self._done()
@@ -237,6 +241,8 @@ class Attempt:
         for task in done:
             handle = self._executing.pop(task)
             self._vm.propose_run_completion(handle, task.result(), policy=context.actions[handle].policy)
+        if done:
+            await self._rest()
 
     def _done(self) -> list[asyncio.Task[Any]]:
         return [task for task in self._executing if task.done()]
@@ -245,14 +251,23 @@ class Attempt:
         self.bell.poked = False
         self._feed(await self.worker.write(lambda db: storing.pull(db, self.claim), self.claim))
 
-    async def _store(self) -> bool:
-        """Stores all that was written, and feeds what that brings; answers whether it brought something."""
+    async def _rest(self) -> None:
+        """Stores all that was written, up to now."""
         self._waiting += self._vm.take_output()
+        if self._waiting:
+            await self._store()
+
+    async def _store(self) -> bool:
+        """Stores what was taken of the output, and feeds what that brings; answers whether it brought something."""
         output, at = bytes(self._waiting), self._written
-        if not output:
-            return False
         self._waiting.clear()
-        out = await self.worker.write(lambda db: storing.store(db, self.worker.app, self.claim, output, at), self.claim)
+        if journal.only_steps(output):
+            growth = Growth(self.claim.lease)
+            growth.store(output, at)
+            await self.worker.append(growth)
+            out = Outcome(feed=growth.feed)
+        else:
+            out = await self.worker.write(lambda db: storing.store(db, self.worker.app, self.claim, output, at), self.claim)
         self._written += len(output)
         return self._feed(out)
 

@@ -119,9 +119,12 @@ def _generic(origin: Any, parts: tuple[Any, ...], value: Any) -> Any:
     return value
 
 
+_AS_READ = frozenset([int, float, str, bool, list, dict])
+
+
 def typed(kind: Any, value: Any) -> Any:
     """A value that `json` read, as one of a type."""
-    if kind is Any or kind is object:
+    if kind is Any or kind is object or (type(value) is kind and kind in _AS_READ):
         return value
     if kind is None or kind is type(None):
         if value is None:
@@ -155,14 +158,18 @@ def typed(kind: Any, value: Any) -> Any:
     return value
 
 
+# `json.dumps` and `json.loads` make these anew for each call, and look which of UTF-8, 16 and 32 some bytes are.
+_ENCODER, _DECODER = json.JSONEncoder(separators=(",", ":"), default=_plain), json.JSONDecoder()
+
+
 class JsonCodec:
     content_type = "application/json"
 
     def encode(self, value: Any) -> bytes:
         if value is None:
             return b""
-        return json.dumps(value, separators=(",", ":"), default=_plain).encode()
+        return _ENCODER.encode(value).encode()
 
     def decode(self, data: bytes, kind: Any) -> Any:
-        value = json.loads(data) if data else None
+        value = _DECODER.decode(data.decode()) if data else None
         return typed(kind, value)

@@ -15,10 +15,12 @@ import time
 from collections.abc import Callable
 from typing import Any, TypeVar
 
+from .appending import Append, append
 from .database import Conflict, Database, Lost
+from .lease import Growth
 
 T = TypeVar("T")
-Operation = Callable[[Database], Any]
+Operation = Callable[[Database], Any] | Append
 _TRIES = 20  # of a transaction that meets conflicts
 _QUICK = 0.001  # seconds; a commit that takes less isn't worth a thread
 _LASTS = 0.25  # seconds that a group is to take, so that beats and short transactions don't wait for long
@@ -46,7 +48,14 @@ class Committer:
 
     def submit(self, operation: Callable[[Database], T], is_urgent: bool = False) -> asyncio.Future[T]:
         """Queues an operation, at the front if it is urgent. Its future has what the operation answered, once that is committed."""
-        future: asyncio.Future[T] = asyncio.get_running_loop().create_future()
+        return self._queued(operation, is_urgent)
+
+    def append(self, growth: Growth) -> asyncio.Future[bool]:
+        """Queues a store that touches nothing but its own journal. Its future has whether it was stored, once the group is committed."""
+        return self._queued(Append(growth), False)
+
+    def _queued(self, operation: Operation, is_urgent: bool) -> asyncio.Future[Any]:
+        future: asyncio.Future[Any] = asyncio.get_running_loop().create_future()
         if self.lost is not None:
             future.set_exception(Stopped(str(self.lost)))
         else:
@@ -159,7 +168,9 @@ class Committer:
     def _made(self, operations: list[Operation]) -> list[Any]:
         self.db.begin()
         try:
-            return [operation(self.db) for operation in operations]
+            appends = [it for it in operations if isinstance(it, Append)]
+            stored = iter(append(self.db, appends) if appends else ())
+            return [next(stored) if isinstance(it, Append) else it(self.db) for it in operations]
         except BaseException:
             self._rollback()
             raise

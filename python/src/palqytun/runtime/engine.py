@@ -17,7 +17,7 @@ from .committer import Committer, Stopped
 from .database import Conflict, Database, Lost, connect
 from .invocations import Claim, New
 from .journal import Result
-from .lease import Fenced
+from .lease import Fenced, Growth
 from .outcome import Outcome
 from .services import App, TerminalError
 
@@ -88,6 +88,13 @@ class Engine:
         claim.lease.journal.keep()
         self.tell(out)
         return out
+
+    async def append(self, growth: Growth) -> None:
+        """Commits what an attempt appends to its own journal, where nobody else is touched."""
+        assert self._committer is not None
+        if growth.entries and not await self._committer.append(growth):
+            raise growth.lease.lost(growth.before)
+        growth.lease.journal.keep()
 
     def tell(self, out: Outcome) -> None:
         """Those whom a transaction touches are notified."""

@@ -40,9 +40,11 @@ def _tell(db: Database, out: Outcome, invocation: str) -> None:
     db.notify(f"to {invocation}")
 
 
-def peek(db: Database, invocation: str) -> list[tuple[int, bytes]]:
-    """What waits, in the order of its arrival, each with its number."""
-    return [(seq, bytes(frame)) for seq, frame in db.rows("SELECT seq, frame FROM inbox WHERE invocation=? ORDER BY seq", (invocation,))]
+def peek(db: Database, invocation: str, epoch: int | None = None) -> list[tuple[int, bytes]]:
+    """What waits, in the order of its arrival, each with its number. If an epoch is given and the lease is another's, nothing."""
+    is_own = "" if epoch is None else " AND EXISTS (SELECT 1 FROM invocations WHERE id=invocation AND epoch=? AND status='running')"
+    sql = f"SELECT seq, frame FROM inbox WHERE invocation=?{is_own} ORDER BY seq"
+    return [(seq, bytes(frame)) for seq, frame in db.rows(sql, (invocation,) if epoch is None else (invocation, epoch))]
 
 
 def remove(db: Database, rows: Sequence[tuple[Any, ...]]) -> None:

@@ -219,7 +219,7 @@ def claim(db: Database, worker: str, rows: list[Claimable]) -> list[Claim]:
 
 def _claim(db: Database, it: Claimable, now: float, entries: list[tuple[Any, ...]], arrived: list[tuple[Any, ...]]) -> Claim:
     """Moves what came for a leased invocation to its journal, and makes ready what its attempt is fed."""
-    growth = Growth(Lease(it.id, it.epoch + 1, _loaded(it.id, it.entries, entries)))
+    growth = Growth(Lease(it.id, it.epoch + 1, _loaded(it.id, it.entries, entries)), is_fenced=True)
     for _, frame in arrived:
         growth.arrive(bytes(frame))
     inbox.remove(db, arrived)

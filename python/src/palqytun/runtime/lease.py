@@ -11,6 +11,10 @@ from dataclasses import dataclass, field
 from .database import Database
 from .journal import Entry, Journal, Result, Stored, completion
 
+INSERTED = "INSERT INTO journal(invocation, at, completes, frame, stored) VALUES (?,?,?,?,?)"
+_FENCED = "WHERE id=? AND epoch=? AND entries=? AND status='running'"
+_PROGRESS = "retries=0, failing_since=NULL"  # the attempts before this one aren't counted any more
+
 
 class Fenced(Exception):
     """The lease is another's by now: what this attempt still does is lost."""
@@ -36,6 +40,7 @@ class Growth:
     entries: list[Entry] = field(default_factory=list)
     feed: list[bytes] = field(default_factory=list)
     has_progress: bool = False  # the attempt itself wrote something
+    is_fenced: bool = False  # the transaction has taken the invocation's row, by this epoch, and keeps it
     before: int = 0
 
     def __post_init__(self) -> None:
@@ -44,9 +49,10 @@ class Growth:
 
     def fence(self, db: Database) -> None:
         """Keeps the invocation's row until the commit. It stands before any effect, so that a lost lease has none."""
-        sql = f"SELECT 1 FROM invocations WHERE id=? AND epoch=? AND entries=? AND status='running'{db.lock}"
+        sql = f"SELECT 1 FROM invocations {_FENCED}{db.lock}"
         if not db.rows(sql, (self.lease.invocation, self.lease.epoch, self.before)):
             raise self.lease.lost(self.before)
+        self.is_fenced = True
 
     def arrive(self, notification: bytes) -> None:
         entry = self.lease.journal.arrive(notification)
@@ -66,11 +72,18 @@ class Growth:
     def write(self, db: Database, **changed: object) -> None:
         """Writes the entries, with further changes of the invocation's row. It is called once."""
         names = "".join(f", {name}=?" for name in changed)
-        sql = f"UPDATE invocations SET entries=?{names} WHERE id=? AND epoch=? AND entries=? AND status='running'"
+        sql = f"UPDATE invocations SET entries=?{names} {_FENCED}"
         values = (self.lease.journal.entries, *changed.values(), self.lease.invocation, self.lease.epoch, self.before)
-        if db.change(sql, values) != 1:
+        if self.is_fenced:
+            db.put(sql, values)
+        elif db.change(sql, values) != 1:
             raise self.lease.lost(self.before)
         if self.entries:
             now = time.time()
             rows = [(self.lease.invocation, it.at, it.completes, it.frame, now) for it in self.entries]
-            db.many("INSERT INTO journal(invocation, at, completes, frame, stored) VALUES (?,?,?,?,?)", rows)
+            db.many(INSERTED, rows)
+
+    def grow(self, db: Database) -> bool:
+        """Writes the new count of entries alone, if the lease isn't lost; answers whether it did."""
+        sql = f"UPDATE invocations SET entries=?, {_PROGRESS} {_FENCED}" if self.has_progress else f"UPDATE invocations SET entries=? {_FENCED}"
+        return db.change(sql, (self.lease.journal.entries, self.lease.invocation, self.lease.epoch, self.before)) == 1

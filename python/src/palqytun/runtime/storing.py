@@ -93,9 +93,9 @@ def _end(db: Database, out: Outcome, claim: Claim, growth: Growth, result: Resul
 def pull(db: Database, claim: Claim) -> Outcome:
     """Moves what came for a running invocation to its journal."""
     out, growth = Outcome(), Growth(claim.lease)
-    rows = inbox.peek(db, claim.invocation)
+    # What came for another's attempt would seem dishonest to this one. So it is read only if the lease isn't lost, and `write` fences.
+    rows = inbox.peek(db, claim.invocation, claim.lease.epoch)
     if rows:
-        growth.fence(db)  # else what came for another's attempt would seem dishonest to this one
         for _, frame in rows:
             growth.arrive(frame)
         growth.write(db)

@@ -18,6 +18,8 @@ CANCEL = 1  # the signal that cancels an invocation
 
 _START, _SUSPENSION, _ERROR, _END, _PROPOSAL, _ACK, _AWAITING_ON = 1, 2, 3, 4, 5, 6, 7
 _INPUT, _LAST_COMMAND, _NOTIFICATION, _RUN = 10, 29, 30, 26
+_EAGER_STATE, _EAGER_KEYS = 11, 13
+_STEPS = frozenset([_PROPOSAL, _AWAITING_ON, _EAGER_STATE, _EAGER_KEYS, _RUN])
 _HEAD = struct.Struct(">HQ")
 _FAILURE = b"\2"  # the first byte of a result that is a failure
 
@@ -490,6 +492,11 @@ def is_input(kind: int) -> bool:
 
 def is_notification(kind: int) -> bool:
     return kind == _NOTIFICATION
+
+
+def only_steps(output: bytes) -> bool:
+    """Whether an output has neither an end nor a command that asks something of the runtime."""
+    return all(kind in _STEPS for kind, _ in split(output))
 
 
 def only_runs(output: bytes) -> bool:

@@ -14,6 +14,7 @@ stands after every notification that its attempt had been fed when it wrote the 
 from __future__ import annotations
 
 from dataclasses import dataclass, field
+from typing import NamedTuple
 
 from . import frames
 from .frames import Begin, Change, Command, End, Failed, Kind, Notification, Proposal, Suspension
@@ -29,8 +30,7 @@ class Dishonest(Exception):
         self.rule = rule
 
 
-@dataclass(frozen=True)
-class Entry:
+class Entry(NamedTuple):
     """An entry that is to be stored at this place. `completes` is the completion id, if it is a completion."""
 
     at: int

@@ -1,0 +1,75 @@
+"""Stores that grow a journal and touch nothing else: those of steps, whose commands ask nothing of the runtime.
+
+Most stores are such. Those of a group are made together: on a server by one statement, in one round trip, however many they are. Each has a
+fence of its own: one whose lease is lost isn't stored, and those beside it are.
+"""
+
+from __future__ import annotations
+
+import time
+from collections.abc import Iterator, Sequence
+from dataclasses import dataclass
+
+from .database import Database
+from .lease import INSERTED, Growth
+
+_AT_ONCE = 200  # stores that one statement makes
+
+_ASKED = "(?,?,?::bigint,?::bigint,?::bigint,?)"
+_ENTRY = "(?,?,?::bigint,?::bigint,?,?::float8)"
+# An UPDATE that keeps the fence, and an INSERT of the entries of those that it has changed.
+_TOGETHER = (
+    "WITH asked(number, id, epoch, before, entries, has_progress) AS (VALUES {asked}), grown AS ("
+    "UPDATE invocations AS it SET entries=asked.entries, retries=CASE WHEN asked.has_progress THEN 0 ELSE it.retries END,"
+    " failing_since=CASE WHEN asked.has_progress THEN NULL ELSE it.failing_since END FROM asked"
+    " WHERE it.id=asked.id AND it.epoch=asked.epoch AND it.entries=asked.before AND it.status='running' RETURNING asked.number), added AS ("
+    "INSERT INTO journal(invocation, at, completes, frame, stored) SELECT invocation, at, completes, frame, stored"
+    " FROM (VALUES {entries}) AS entry(number, invocation, at, completes, frame, stored) WHERE number IN (SELECT number FROM grown)"
+    ") SELECT number FROM grown"
+)
+
+
+@dataclass(frozen=True)
+class Append:
+    """What one attempt appends to its journal, as an operation of a group. Its answer is whether it was stored."""
+
+    growth: Growth
+
+    def asked(self) -> tuple[object, ...]:
+        """The fence, the new count of entries, and whether the attempt itself wrote something."""
+        lease = self.growth.lease
+        return (lease.invocation, lease.epoch, self.growth.before, lease.journal.entries, self.growth.has_progress)
+
+    def entries(self, now: float) -> Iterator[tuple[object, ...]]:
+        own = self.growth.lease.invocation
+        return ((own, it.at, it.completes, it.frame, now) for it in self.growth.entries)
+
+
+def append(db: Database, appends: Sequence[Append]) -> list[bool]:
+    """Makes these stores; answers of each whether it was stored. One that wasn't has lost its lease."""
+    if not db.is_remote:
+        return _one_by_one(db, appends)
+    answers = [False] * len(appends)
+    for first in range(0, len(appends), _AT_ONCE):
+        for number in _together(db, appends[first : first + _AT_ONCE]):
+            answers[first + number] = True
+    return answers
+
+
+def _one_by_one(db: Database, appends: Sequence[Append]) -> list[bool]:
+    answers, rows, now = list[bool](), list[tuple[object, ...]](), time.time()
+    for it in appends:
+        answers.append(it.growth.grow(db))
+        if answers[-1]:
+            rows += it.entries(now)
+    db.many(INSERTED, rows)
+    return answers
+
+
+def _together(db: Database, appends: Sequence[Append]) -> list[int]:
+    """The numbers of the stores that were made."""
+    now = time.time()
+    asked = [(number, *it.asked()) for number, it in enumerate(appends)]
+    entries = [(number, *row) for number, it in enumerate(appends) for row in it.entries(now)]
+    sql = _TOGETHER.format(asked=",".join([_ASKED] * len(asked)), entries=",".join([_ENTRY] * len(entries)))
+    return [number for (number,) in db.rows(sql, [part for row in (*asked, *entries) for part in row])]
