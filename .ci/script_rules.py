@@ -315,7 +315,8 @@ class Awaited:
         return f"await {self.kind}(17,18)"
 
 
-ALL_AWAITED = tuple(Awaited(*it) for it in product(KINDS, product((PENDING, SUCCEEDED, FAILED), repeat=2)))
+STATES = (PENDING, SUCCEEDED, FAILED)
+ALL_AWAITED = tuple(Awaited(kind, (first, second)) for kind, first, second in product(KINDS, STATES, STATES))
 
 # By these options an await that waits says what for, from version 7 on; by `awaiting=never` it says nothing.
 SAYS = "idle but awaiting=never, replay=off"
