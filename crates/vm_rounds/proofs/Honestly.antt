@@ -12,7 +12,7 @@ use Rattle.invocation_vm.specs.Frames.{Garbage, Rest, Tail, frames_of, joined}
 use Rattle.invocation_vm.proofs.Cuts.{frames_of-append}
 use Rattle.vm_asks.specs.Carried.{all_carried}
 use Rattle.vm_parts.specs.declared.context.StateMap.{StateMap}
-use Rattle.vm_parts.specs.Entries.{journal_entries as state_entries}
+use Rattle.vm_parts.specs.Entries.{entries_of as state_entries}
 use Rattle.vm_machine.specs.Inputs.{entries_in}
 use Rattle.vm_model.specs.Calls.{Meaning, Setup}
 use Rattle.vm_model.specs.Carried.{AreCarried, AreOfTheirKind, is_for_invocation, names_invocation}

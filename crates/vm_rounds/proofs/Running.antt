@@ -13,7 +13,7 @@ use Rattle.journal_values.specs.declared.notification.NotificationId.TheVariants
 use Rattle.journal_values.specs.declared.notification.NotificationResult.{NotificationResult}
 use Rattle.invocation_vm.specs.Frames.{Tail, frames_of}
 use Rattle.vm_parts.specs.declared.context.StateMap.{StateMap}
-use Rattle.vm_parts.specs.Entries.{journal_entries as state_entries}
+use Rattle.vm_parts.specs.Entries.{entries_of as state_entries}
 use Rattle.vm_machine.specs.Inputs.{coverage_of}
 use Rattle.vm_model.specs.Calls.{Meaning, Setup}
 use Rattle.vm_model.specs.Carried.{AreCarried, ComeOnce}

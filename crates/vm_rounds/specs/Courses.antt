@@ -6,7 +6,7 @@ use Rattle.journal_values.specs.declared.notification.Notification.{Notification
 use Rattle.journal_attempt.specs.declared.start.Start.{Start}
 use Rattle.vm_machine.specs.Inputs.{coverage_of}
 use Rattle.vm_parts.specs.declared.context.StateMap.{StateMap}
-use Rattle.vm_parts.specs.Entries.{journal_entries as state_entries}
+use Rattle.vm_parts.specs.Entries.{entries_of as state_entries}
 use Rattle.vm_model.specs.Calls.{Meaning}
 use Rattle.vm_model.specs.Histories.{Knowledge}
 use Rattle.vm_model.specs.HonestRounds.{Attempted, HonestRounds}
