@@ -1,4 +1,4 @@
-// Worlds whose journal is given, as a runtime makes one. Worked journals and their faults stand as text in `round_vectors`.
+// Worlds whose journal is given, as a runtime makes one. Worked journals and their faults stand as text in `crates/vmrounds/rows`.
 use crate::bench::{assert_journal, identity};
 use bytes::Bytes;
 use invocation_vm::{VMOptions, Version};

@@ -1,5 +1,5 @@
 //! The test bench of attempts and of rounds in Rust: whole runs that are replayed, cut and refused; handlers that no program has;
-//! random rounds; and runs of `vmrun`. Worked rounds and faults stand as text in `round_vectors`.
+//! random rounds; and runs of `vmrun`. Worked rounds and faults stand as text in `crates/vmrounds/rows`.
 #![tactic(auto)]
 
 #[cfg(test)]
