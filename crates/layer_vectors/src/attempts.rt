@@ -3,8 +3,8 @@
 use crate::short::Short;
 use bytes::Bytes;
 use invocation_vm::{
-    AwaitResponse, CoreVM, NonEmptyValue, PayloadOptions, UnresolvedFuture, VM, VMOptions,
-    VMResult, Value,
+    AwaitResponse, CoreVM, NonEmptyValue, NotificationHandle, PayloadOptions, UnresolvedFuture, VM,
+    VMOptions, VMResult, Value,
 };
 use layers::{Layer, LayerFault, Own, translate};
 use std::alloc::Global;
@@ -95,21 +95,16 @@ impl<L: Layer + Drop> Session<L> {
     }
 }
 
-/// The attempt, and what the peer received last.
-fn attempt<L: Layer + Drop>(rt: &impl Abort, alloc: Global, layer: L) -> Result<Bytes, Fail> {
-    let headers = Headers::ContentType("application/vnd.restate.invocation.v8");
-    let vm: CoreVM = answered(VM::new(alloc, headers, VMOptions::default()))?;
-    let mut session = Session {
-        alloc,
-        layer,
-        vm,
-        waiting: Vec::new(alloc),
-    };
+/// The handler reads its input, sleeps and waits.
+fn sleeps<L: Layer + Drop>(
+    rt: &impl Abort,
+    session: &mut Session<L>,
+) -> Result<NotificationHandle, Fail> {
     session.send(rt, START_1)?;
     session.send(rt, INPUT_TILL)?;
     let input = answered(session.vm.sys_input())?;
     assert_eq!(rt; input.input.as_slice(), b"Till".as_slice());
-    let name = String::new(alloc);
+    let name = String::new(session.alloc);
     let slept = answered(
         session
             .vm
@@ -118,6 +113,15 @@ fn attempt<L: Layer + Drop>(rt: &impl Abort, alloc: Global, layer: L) -> Result<
     let asked = answered(session.vm.do_await(UnresolvedFuture::Single(slept)))?;
     assert!(rt; matches!(asked, AwaitResponse::WaitingExternalProgress { .. }));
     let _ = session.receive(rt, &[SLEEP_TO_1000, AWAITING_ON_1])?;
+    Ok(slept)
+}
+
+/// The sleep is over: the handler writes its output and ends.
+fn ends<L: Layer + Drop>(
+    rt: &impl Abort,
+    session: &mut Session<L>,
+    slept: NotificationHandle,
+) -> Result<Bytes, Fail> {
     session.send(rt, COMPLETION_1)?;
     let asked = answered(session.vm.do_await(UnresolvedFuture::Single(slept)))?;
     assert_eq!(rt; asked, AwaitResponse::AnyCompleted);
@@ -133,6 +137,20 @@ fn attempt<L: Layer + Drop>(rt: &impl Abort, alloc: Global, layer: L) -> Result<
     )?;
     answered(session.vm.sys_end())?;
     session.receive(rt, &[OUTPUT_X, END])
+}
+
+/// The attempt, and what the peer received last.
+fn attempt<L: Layer + Drop>(rt: &impl Abort, alloc: Global, layer: L) -> Result<Bytes, Fail> {
+    let headers = Headers::ContentType("application/vnd.restate.invocation.v8");
+    let vm: CoreVM = answered(VM::new(alloc, headers, VMOptions::default()))?;
+    let mut session = Session {
+        alloc,
+        layer,
+        vm,
+        waiting: Vec::new(alloc),
+    };
+    let slept = sleeps(rt, &mut session)?;
+    ends(rt, &mut session, slept)
 }
 
 #[test]
