@@ -1,5 +1,5 @@
 //! Which id each handle stands for.
-ghost use Rattle.std.specs.Prelude.{◌≡◌, [], ◌∷◌, ◌++◌, true, OnOk, OnErr, MatchOption};
+ghost use Rattle.std.specs.Prelude.{◌≡◌, [], ◌∷◌, ◌++◌, true, OnOk, OnErr, IfSome, MatchOption};
 ghost use Rattle.std.specs.Option.{is_some, option_copied};
 ghost use Rattle.vm_parts.specs.Deliveries.{id_at, unmapped};
 ghost use Rattle.vm_parts.specs.Mappings.{live, Ascend, AllUnder, IsAt, Absent};
@@ -16,8 +16,8 @@ pub struct Held {
     pub id: Option<NotificationId>,
 }
 
-/// Handles in the order in which they got their ids. As a counter hands them out they ascend, and are searched by
-/// halving; from the first that doesn't they are kept apart.
+/// Handles in the order in which they got their ids. As a counter hands them out they ascend, and are looked for at their distance from
+/// the last, and then by halving; from the first that doesn't ascend they are kept apart.
 #[derive(Drop)]
 pub struct Handles {
     ascending: Vec<Held>,
@@ -36,14 +36,39 @@ impl Model for Handles {
     ghost invariant = { λ s. Ascend s.ascending.items };
 }
 
+/// Where a handle stands if none is missing from it to the last. Most are found so, since a counter hands them out.
+fn place_from_last(held: &[Held], handle: u32) -> Option<usize>
+    ensures { IfSome result (λ place. IsAt handle held.now place) }
+{
+    let last = held.last()?;
+    let back = last.handle.checked_sub(handle)?;
+    let place = (held.len() - 1).checked_sub(back as usize)?;
+    if held[place].handle == handle {
+        Some(place)
+    } else {
+        None
+    }
+}
+
 /// Where a handle stands, found by halving.
-fn place_of(held: &[Held], handle: u32) -> Option<usize>
+fn place_by_halving(held: &[Held], handle: u32) -> Option<usize>
     requires { Ascend held.now }
     ensures { MatchOption result (Absent handle held.now) (λ place. IsAt handle held.now place) }
 {
     match held.binary_search_by_key(&handle, |held| held.handle) {
         Ok(place) => Some(place),
         Err(_) => None,
+    }
+}
+
+/// Where a handle stands.
+fn place_of(held: &[Held], handle: u32) -> Option<usize>
+    requires { Ascend held.now }
+    ensures { MatchOption result (Absent handle held.now) (λ place. IsAt handle held.now place) }
+{
+    match place_from_last(held, handle) {
+        Some(place) => Some(place),
+        None => place_by_halving(held, handle),
     }
 }
 

@@ -2,7 +2,7 @@ use Rattle.std.proofs.Common.{rules}
 use Rattle.std.proofs.lemmas.List.Sorted.{answers_always}
 use Rattle.vm_parts.specs.declared.handles.Held.{Held}
 use Rattle.vm_parts.proofs.Mapped.{absent, searchable, equal_is}
-use Rattle.vm_parts.proofs.handles.place_of.Goals as goal
+use Rattle.vm_parts.proofs.handles.place_by_halving.Goals as goal
 
 pub returns-in-Ok : goal.returns-in-Ok
 returns-in-Ok c =
