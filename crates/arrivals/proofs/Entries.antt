@@ -39,6 +39,11 @@ cleared i [] = []
 cleared zero (e ∷ es) = record e { result = None } ∷ es
 cleared (suc i) (e ∷ es) = e ∷ cleared i es
 
+pub cleared_length : (i : ℕ) (xs : List Entry) → length (cleared i xs) ≡ length xs
+cleared_length i [] = refl
+cleared_length zero (x ∷ xs) = refl
+cleared_length (suc i) (x ∷ xs) = ap suc (cleared_length i xs)
+
 pub cleared_is : (i : ℕ) (xs : List Entry) (d : Entry) → cleared i xs ≡ set xs i (let e : Entry = record (get_or xs i d) { result = None } in e)
 cleared_is i [] d = refl
 cleared_is zero (x ∷ xs) d = refl

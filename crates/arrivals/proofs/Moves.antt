@@ -58,7 +58,7 @@ grown_or_not s xs ys n (Err u) l a ok err = rw err (l, a)
 pub same_came : (v w : Came) → v.queued ≡ w.queued → v.delivered ≡ w.delivered → v ≡ w
 same_came v w q d = λ i. record { queued = q i; delivered = d i }
 
--- what follows where there was memory
+-- what follows if there was memory
 pub where_ok : {T E P Q : Type 0} (answer : Result T E) → (P → Q) → OnOk answer P → OnOk answer Q
 where_ok (Ok v) f p = f p
 where_ok (Err e) f p = tt

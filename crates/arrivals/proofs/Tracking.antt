@@ -1,21 +1,22 @@
 -- Slots that tell where the results of each id lie, while entries come and results are taken.
 use Rattle.std.proofs.Common.{◌≡◌, ◌≢◌, ℕ, ◌<◌, ◌≤◌, Bool, true, false, cond, List, [], ◌∷◌, ◌++◌, length, take, drop, get_or, Option, Some, None, refl, sym, ap, ◌∙◌, arith, append-nil}
 use Rattle.std.proofs.Math.ListN.{set}
-use Rattle.std.proofs.lemmas.List.{get_or-take, get_or-set_same, get_or-set_other, length-set}
+use Rattle.std.proofs.lemmas.List.{get_or-take, get_or-set_same, get_or-set_other, length-set, length_push, get_or_append_left}
+use Rattle.std.proofs.Math.Seq.{get_or-append_seam}
 use Rattle.arrivals.specs.declared.index.Index.{Index}
 use Rattle.journal_values.specs.declared.notification.Notification.{Notification}
 use Rattle.journal_values.specs.declared.notification.NotificationId.{NotificationId}
 use Rattle.journal_values.specs.declared.notification.NotificationResult.{NotificationResult}
 use Rattle.arrivals.specs.declared.log.Entry.{Entry}
-use Rattle.arrivals.specs.Ids.{same_id, slot_of}
+use Rattle.arrivals.specs.Ids.{same_id, slot_of, held_for_ids}
+use Rattle.arrivals.specs.Numbers.{most_for_one}
 use Rattle.std.specs.Option.{is_some}
-use Rattle.std.specs.Prelude.{nat_lt, OnOk, OnErr}
-use Rattle.std.proofs.Common.{Result, Ok, Err}
+use Rattle.std.specs.Prelude.{nat_lt, ◌+◌, IsSome}
 use Rattle.std.proofs.lemmas.Bool.Decides.{nat_tests}
 use Rattle.arrivals.specs.Results.{first, results_of, has_result_among, without_first, without_all}
 use Rattle.arrivals.specs.Entries.{given, places, Tracked, Located}
 use Rattle.arrivals.proofs.Ids.{Test, yes, no, test, same_is}
-use Rattle.arrivals.proofs.Entries.{places_push, cleared, Front, front_at, front_used, none_used, late_used, take_cleared, drop_cleared}
+use Rattle.arrivals.proofs.Entries.{places_push, cleared, cleared_length, Front, front_at, front_used, none_used, late_used, take_cleared, drop_cleared}
 
 same_slot : {a b : ℕ} → Some a ≡ Some b → a ≡ b
 same_slot e = cc
@@ -54,16 +55,65 @@ module _ (log : List Entry) (index : Index) (slots : List (List ℕ)) (k : ℕ) 
       (rw longer l.0, get_or-set_other slots k j (get_or slots k [] ++ length log ∷ []) [] apart ∙ l.1 ∙ sym (append-nil (places id log)) ∙ sym (one_more id e r log s false h))
 
   pub tracked_push : Tracked (log ++ e ∷ []) index grown
-  tracked_push = record { located = λ id. found_in id (slot_of index id) refl (t.located id) (test (same_id e.id id)); apart = t.apart }
+  tracked_push = record {
+    located = λ id. found_in id (slot_of index id) refl (t.located id) (test (same_id e.id id));
+    apart = t.apart;
+    room = record { few_slots = omega (arith, longer, length_push log e, t.room.few_slots); few_held = omega (arith, length_push log e, t.room.few_held) };
+  }
 
--- where a growth may be refused
-pub tracked_growth : {E : Type 0} (log more : List Entry) (index : Index) (slots after : List (List ℕ)) (k : ℕ) (e : Entry) (r : NotificationResult) (t : Tracked log index slots) (at : slot_of index e.id ≡ Some k) (s : e.result ≡ Some r)
-    (answer : Result (Unit {0}) E)
-    → OnOk answer ((more ≡ log ++ e ∷ []) × (after ≡ set slots k (get_or slots k [] ++ length log ∷ [])))
-    → OnErr answer ((more ≡ log) × (after ≡ slots))
-    → Tracked more index after
-tracked_growth log more index slots after k e r t at s (Ok u) ok err = rw (ok.0, ok.1) (tracked_push log index slots k e r t at s)
-tracked_growth log more index slots after k e r t at s (Err u) ok err = rw (err.0, err.1) t
+some_is : {X : Type 0} (o : Option X) → IsSome o → (x : X) × (o ≡ Some x)
+some_is None h = cc
+some_is (Some x) h = (x, refl)
+
+-- one more entry of an id that has a slot
+pub tracked_known : (log : List Entry) (index : Index) (slots : List (List ℕ)) (k place : ℕ) (e : Entry) (more : List ℕ) → Tracked log index slots → slot_of index e.id ≡ Some k → IsSome e.result → length log ≡ place → more ≡ get_or slots k [] ++ place ∷ []
+    → Tracked (log ++ e ∷ []) index (set slots k more)
+tracked_known log index slots k place e more t at s n m =
+    let r = some_is e.result s in
+    let is : more ≡ get_or slots k [] ++ length log ∷ [] = m ∙ ap (λ z. get_or slots k [] ++ z ∷ []) (sym n) in
+    rw is (tracked_push log index slots k e r.0 t at r.1)
+
+-- the first entry of an id
+module _ (log : List Entry) (index after : Index) (slots : List (List ℕ)) (e : Entry) (r : NotificationResult) (t : Tracked log index slots) (none : slot_of index e.id ≡ None) (s : e.result ≡ Some r)
+    (put : (other : NotificationId) → slot_of after other ≡ cond (same_id e.id other) (Some (length slots)) (slot_of index other)) (held : held_for_ids after ≤ held_for_ids index + most_for_one) where
+  abbrev wider : List (List ℕ)
+  wider = slots ++ (length log ∷ []) ∷ []
+
+  wider_length : length wider ≡ length slots + 1
+  wider_length = length_push slots (length log ∷ [])
+
+  slot_in : (id : NotificationId) (o : Option ℕ) → slot_of index id ≡ o → Located slots (places id log) o → Test (same_id e.id id) → Located wider (places id (log ++ e ∷ [])) (slot_of after id)
+  slot_in id (Some k) n l (yes h) =
+      let i : e.id ≡ id = same_is e.id id h in
+      let j : slot_of index e.id ≡ Some k = rw i n in
+      cc
+  slot_in id None n l (yes h) = rw (put id, h) (omega (arith, wider_length), get_or-append_seam slots (length log ∷ []) [] [] ∙ sym (one_more id e r log s true h ∙ rw l refl))
+  slot_in id None n l (no h) = rw (put id, h, n) (one_more id e r log s false h ∙ rw l refl)
+  slot_in id (Some k) n l (no h) = rw (put id, h, n) (omega (arith, wider_length, l.0), get_or_append_left slots ((length log ∷ []) ∷ []) [] k l.0 ∙ l.1 ∙ sym (append-nil (places id log)) ∙ sym (one_more id e r log s false h))
+
+  new_apart : (id : NotificationId) (k : ℕ) → length slots ≡ k → slot_of index id ≡ Some k → ⊥
+  new_apart id k n p = let within = at_slot log index slots id k t p in omega (arith, within.0)
+
+  apart_in : (a b : NotificationId) (k : ℕ) → Test (same_id e.id a) → Test (same_id e.id b) → slot_of after a ≡ Some k → slot_of after b ≡ Some k → same_id a b ≡ true
+  apart_in a b k (yes g) (yes h) p q = let i : e.id ≡ a = same_is e.id a g in rw (← i) h
+  apart_in a b k (yes g) (no h) p q = absurd (new_apart b k (same_slot (rw (put a, g) at p)) (rw (put b, h) at q))
+  apart_in a b k (no g) (yes h) p q = absurd (new_apart a k (same_slot (rw (put b, h) at q)) (rw (put a, g) at p))
+  apart_in a b k (no g) (no h) p q = t.apart a b k (rw (put a, g) at p) (rw (put b, h) at q)
+
+  pub tracked_new : Tracked (log ++ e ∷ []) after wider
+  tracked_new = record {
+    located = λ id. slot_in id (slot_of index id) refl (t.located id) (test (same_id e.id id));
+    apart = λ a b k. apart_in a b k (test (same_id e.id a)) (test (same_id e.id b));
+    room = record { few_slots = omega (arith, wider_length, length_push log e, t.room.few_slots); few_held = omega (arith, held, length_push log e, t.room.few_held) };
+  }
+
+pub tracked_first : (log : List Entry) (index after : Index) (slots more : List (List ℕ)) (place slot : ℕ) (e : Entry) → Tracked log index slots → slot_of index e.id ≡ None → IsSome e.result → length log ≡ place → more ≡ slots ++ (place ∷ []) ∷ []
+    → slot ≡ length slots → ((other : NotificationId) → slot_of after other ≡ cond (same_id e.id other) (Some slot) (slot_of index other)) → held_for_ids after ≤ held_for_ids index + most_for_one
+    → Tracked (log ++ e ∷ []) after more
+tracked_first log index after slots more place slot e t none s n m l put held =
+    let r = some_is e.result s in
+    let is : more ≡ slots ++ (length log ∷ []) ∷ [] = m ∙ ap (λ (z : ℕ). slots ++ (z ∷ []) ∷ []) (sym n) in
+    rw is (tracked_new log index after slots e r.0 t none r.1 (λ other. rw (← l) (put other)) held)
 
 -- ---- the oldest result of an id is taken
 
@@ -108,7 +158,11 @@ module _ (log : List Entry) (index : Index) (slots : List (List ℕ)) (id : Noti
       (rw as_long l.0, get_or-set_other slots k j (drop 1 (get_or slots k [])) [] apart ∙ l.1 ∙ sym (front.1.others other h))
 
   pub tracked_taken : Tracked (cleared p log) index advanced
-  tracked_taken = record { located = λ other. left_in other (slot_of index other) refl (t.located other) (test (same_id id other)); apart = t.apart }
+  tracked_taken = record {
+    located = λ other. left_in other (slot_of index other) refl (t.located other) (test (same_id id other));
+    apart = t.apart;
+    room = record { few_slots = omega (arith, as_long, cleared_length p log, t.room.few_slots); few_held = omega (arith, cleared_length p log, t.room.few_held) };
+  }
 
   -- what leaves, where the first s entries are looked at
   pub record Taken (s : ℕ) : Type 0 where
@@ -204,7 +258,7 @@ pub all_next : (id : NotificationId) (ns : List Notification) → without_all id
 all_next id [] = refl
 all_next id (n ∷ ns) = all_at id n ns (same_id n.id id) refl (all_next id ns)
 
--- a result taken from some, and those behind it
+-- a result taken from some, and those after it
 pub one_taken : (id : NotificationId) (before after : List Notification) (r : NotificationResult) → Some r ≡ first (results_of id before) → after ≡ without_first id before → results_of id before ≡ r ∷ results_of id after
 one_taken id before after r e f = go (results_of id before) refl e ∙ ap (λ z. r ∷ z) (sym (ap (results_of id) f ∙ next id before))
   where

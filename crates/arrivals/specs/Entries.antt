@@ -7,6 +7,7 @@ use Rattle.journal_values.specs.declared.notification.NotificationResult.{Notifi
 use Rattle.arrivals.specs.declared.index.Index.{Index}
 use Rattle.arrivals.specs.declared.log.Entry.{Entry}
 use Rattle.arrivals.specs.Ids.{same_id, slot_of}
+use Rattle.arrivals.specs.Proportion.{InProportion}
 
 -- an entry whose result was taken is left out
 abbrev pub given_by : NotificationId → Option NotificationResult → List Notification
@@ -38,11 +39,12 @@ abbrev pub Located : List (List ℕ) → List ℕ → Option ℕ → Type 0
 Located slots ps None = ps ≡ []
 Located slots ps (Some k) = (k < length slots) × (get_or slots k [] ≡ ps)
 
--- the slots tell where the results of each id lie
+-- the slots tell where the results of each id lie, in proportion to the log
 pub record Tracked (log : List Entry) (index : Index) (slots : List (List ℕ)) : Type 0 where
   pub located : (id : NotificationId) → Located slots (places id log) (slot_of index id)
   pub apart : (a b : NotificationId) (k : ℕ) → slot_of index a ≡ Some k → slot_of index b ≡ Some k
       → same_id a b ≡ true
+  pub room : InProportion (length log) index (length slots)
 
 -- the numbers that are less than this one
 abbrev pub under : ℕ → List ℕ → List ℕ

@@ -38,7 +38,7 @@ impl Arrivals {
         }
     }
 
-    /// Puts a notification behind those that wait.
+    /// Puts a notification after those that wait.
     pub fn enqueue(&mut self, notification: Notification) -> Result<(), AllocError>
         ensures ok { OnOk result (self.new
             ≡ record self.old { queued = self.old.queued ++ notification ∷ [] }) }

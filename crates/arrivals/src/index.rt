@@ -1,6 +1,7 @@
 //! The slot of each notification id.
-ghost use Rattle.std.specs.Prelude.{◌≡◌, Some, None, cond, OnOk, OnErr};
-ghost use Rattle.arrivals.specs.Ids.{same_id, slot_of};
+ghost use Rattle.std.specs.Prelude.{◌≡◌, ◌+◌, ◌≤◌, Some, None, cond, OnOk, OnErr};
+ghost use Rattle.arrivals.specs.Ids.{same_id, slot_of, held_for_ids};
+ghost use Rattle.arrivals.specs.Numbers.{most_for_one};
 
 use crate::numbers::Numbers;
 use journal_values::NotificationId;
@@ -18,7 +19,8 @@ pub struct Index {
 
 impl Index {
     pub fn new(alloc: Global) -> Index
-        ensures { (id : NotificationId) → slot_of result id ≡ None }
+        ensures slots { (id : NotificationId) → slot_of result id ≡ None }
+        ensures held { held_for_ids result ≡ 0 }
     {
         Index {
             completions: Numbers::new(alloc),
@@ -43,6 +45,9 @@ impl Index {
             ≡ cond (same_id id.now other) (Some slot) (slot_of self.old other)) }
         ensures err { OnErr result ((other : NotificationId) → slot_of self.new other
             ≡ slot_of self.old other) }
+        ensures ok_held { OnOk result (held_for_ids self.new
+            ≤ held_for_ids self.old + most_for_one) }
+        ensures err_held { OnErr result (held_for_ids self.new ≡ held_for_ids self.old) }
     {
         match id {
             NotificationId::CompletionId(id) => {

@@ -4,9 +4,11 @@
 pub mod arrivals;
 pub mod eager;
 pub mod index;
+pub mod laws;
 pub mod log;
 pub mod numbers;
 pub mod places;
+pub mod queue;
 
 pub use arrivals::Arrivals;
 pub use eager::EagerResults;

@@ -1,5 +1,5 @@
 //! The notifications that came, each found by its id.
-ghost use Rattle.std.specs.Prelude.{◌≡◌, ◌<◌, List, [], ◌∷◌, ◌++◌, take, drop, length, slice_index_or, slice_set, Some, OnOk, OnErr, IfOk};
+ghost use Rattle.std.specs.Prelude.{◌≡◌, ◌<◌, ℕ, List, [], ◌∷◌, ◌++◌, take, drop, length, Some, IsSome, OnOk, OnErr};
 ghost use Rattle.std.specs.Option.{option_copied};
 ghost use Rattle.arrivals.specs.Ids.{slot_of};
 ghost use Rattle.arrivals.specs.Results.{first, newest, results_of, has_result_among, without_first, without_all};
@@ -40,46 +40,32 @@ impl Model for Log {
     ghost invariant = { λ s. Tracked s.entries.items s.index s.slots.items };
 }
 
-/// The slot of an id, a new one where it has none.
-fn slot_for(
+/// Adds the place of an entry that comes next to the slot of its id, or to a new one. All is as it was if memory is
+/// refused.
+fn add_place(
     index: &mut Index,
     slots: &mut Vec<Places>,
-    id: &NotificationId,
-) -> Result<usize, AllocError>
-    ensures found { IfOk result (λ slot. slot_of index.new id.now ≡ Some slot) }
-    ensures tracked { (log : List Entry) → Tracked log index.old slots.old.items
-        → Tracked log index.new slots.new.items }
+    place: usize,
+    entry: &Entry,
+) -> Result<(), AllocError>
+    requires { (k : ℕ) → slot_of index.old entry.now.id ≡ Some k → k < length slots.old.items }
+    ensures ok { OnOk result ((log : List Entry) → length log ≡ place → IsSome entry.now.result
+        → Tracked log index.old slots.old.items
+        → Tracked (log ++ entry.now ∷ []) index.new slots.new.items) }
+    ensures err { OnErr result ((log : List Entry) → Tracked log index.old slots.old.items
+        → Tracked log index.new slots.new.items) }
 {
-    if let Some(slot) = index.find(id) {
-        return Ok(slot);
+    if let Some(slot) = index.find(&entry.id) {
+        let alloc = *slots.allocator();
+        let at = &mut slots[slot];
+        return at.push(alloc, place);
     }
     let slot = slots.len();
-    slots.push(Places::new(*slots.allocator()))?;
-    index.insert(id, slot)?;
-    Ok(slot)
-}
-
-/// Adds an entry, and its place to the slot of its id.
-fn add_entry(
-    entries: &mut Vec<Entry>,
-    slots: &mut Vec<Places>,
-    slot: usize,
-    entry: Entry,
-) -> Result<(), AllocError>
-    requires { slot < length slots.old.items }
-    ensures ok { OnOk result ((entries.new.items ≡ entries.old.items ++ entry ∷ [])
-        × (slots.new.items ≡ slice_set slots.old.items slot (slice_index_or slots.old.items slot []
-        ++ length entries.old.items ∷ []))) }
-    ensures err { OnErr result ((entries.new.items ≡ entries.old.items)
-        × (slots.new.items ≡ slots.old.items)) }
-{
-    let place = entries.len();
-    entries.push(entry)?;
-    let at = &mut slots[slot];
-    match at.push(place) {
+    slots.push(Places::one(place))?;
+    match index.insert(&entry.id, slot) {
         Ok(()) => Ok(()),
         Err(refused) => {
-            let _ = entries.pop();
+            let _ = slots.pop();
             Err(refused)
         }
     }
@@ -110,23 +96,22 @@ impl Log {
         self.entries.len()
     }
 
-    /// Adds a notification behind the others.
+    /// Adds a notification after the others.
     pub fn push(&mut self, notification: Notification) -> Result<(), AllocError>
         ensures ok { OnOk result (self.new ≡ self.old
             ++ record { id = notification.id; result = Some notification.result } ∷ []) }
         ensures err { OnErr result (self.new ≡ self.old) }
     {
         let Notification { id, result } = notification;
-        let slot = slot_for(&mut self.index, &mut self.slots, &id)?;
-        add_entry(
-            &mut self.entries,
-            &mut self.slots,
-            slot,
-            Entry {
-                id,
-                result: Some(result),
-            },
-        )
+        self.entries.reserve(1)?;
+        let entry = Entry {
+            id,
+            result: Some(result),
+        };
+        let place = self.entries.len();
+        add_place(&mut self.index, &mut self.slots, place, &entry)?;
+        self.entries.push_reserved(entry);
+        Ok(())
     }
 
     /// The place of the oldest result of an id that was not taken.

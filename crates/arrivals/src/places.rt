@@ -1,49 +1,54 @@
 //! The places of one id in the log.
-ghost use Rattle.std.specs.Prelude.{◌≡◌, [], ◌∷◌, ◌++◌, drop, OnOk, OnErr};
+ghost use Rattle.std.specs.Prelude.{◌≡◌, [], ◌∷◌, ◌++◌, drop, IfOk, OnOk, OnErr};
 ghost use Rattle.std.specs.List.Sorted.{IsNonDecreasing};
 ghost use Rattle.arrivals.specs.Entries.{under};
+ghost use Rattle.arrivals.specs.Kept.{places_kept};
 ghost use Rattle.arrivals.specs.Results.{first, newest};
 
+use crate::queue::Queue;
 use std::alloc::{AllocError, Global};
 use std::marker::Model;
 
-/// Places that were not taken yet, oldest first: a list that only grows, and a cursor into it.
+/// How the places of an id are kept. Most ids come once, and need no memory of their own.
+#[derive(Drop)]
+pub enum Kept {
+    Nowhere,
+    One(usize),
+    Many(Box<Queue>),
+}
+
+/// Places that were not taken yet, oldest first.
 #[derive(Drop)]
 pub struct Places {
-    all: Vec<usize>,
-    cursor: usize,
+    kept: Kept,
 }
 
 impl Model for Places {
-    ghost use Rattle.std.specs.Prelude.{List, ℕ, drop, length, ◌≤◌};
+    ghost use Rattle.std.specs.Prelude.{List, ℕ};
 
     ghost Value = { List ℕ };
 
-    ghost view = { λ p. drop p.cursor p.all.items };
+    ghost use Rattle.arrivals.specs.Kept.{places_kept};
 
-    ghost invariant = { λ p. p.cursor ≤ length p.all.items };
+    ghost view = { λ p. places_kept p.kept };
 }
 
-/// The newest of these that lies below a number, found by halving.
-fn newest_under(places: &[usize], seen: usize) -> Option<usize>
-    requires { IsNonDecreasing places.now }
-    ensures { result ≡ newest (under seen places.now) }
+/// Keeps two places.
+fn keep_two(alloc: Global, one: usize, other: usize) -> Result<Kept, AllocError>
+    ensures { IfOk result (λ kept. places_kept kept ≡ one ∷ other ∷ []) }
 {
-    let count = places.partition_point(|place| *place < seen);
-    if count == 0 {
-        None
-    } else {
-        Some(places[count - 1])
-    }
+    let mut queue = Queue::new(alloc);
+    queue.push(one)?;
+    queue.push(other)?;
+    Ok(Kept::Many(Box::new(alloc, queue)?))
 }
 
 impl Places {
-    pub fn new(alloc: Global) -> Places
-        ensures { result ≡ [] }
+    pub fn one(place: usize) -> Places
+        ensures { result ≡ place ∷ [] }
     {
         Places {
-            all: Vec::new(alloc),
-            cursor: 0,
+            kept: Kept::One(place),
         }
     }
 
@@ -51,24 +56,33 @@ impl Places {
     pub fn front(&self) -> Option<usize>
         ensures { result ≡ first self.now }
     {
-        self.all.get(self.cursor).copied()
+        match &self.kept {
+            Kept::Nowhere => None,
+            Kept::One(place) => Some(*place),
+            Kept::Many(queue) => queue.front(),
+        }
     }
 
-    /// Adds a place behind the others.
-    pub fn push(&mut self, place: usize) -> Result<(), AllocError>
+    /// Adds a place after the others.
+    pub fn push(&mut self, alloc: Global, place: usize) -> Result<(), AllocError>
         ensures ok { OnOk result (self.new ≡ self.old ++ place ∷ []) }
         ensures err { OnErr result (self.new ≡ self.old) }
     {
-        self.all.push(place)?;
+        match &mut self.kept {
+            Kept::Nowhere => self.kept = Kept::One(place),
+            Kept::One(first) => self.kept = keep_two(alloc, *first, place)?,
+            Kept::Many(queue) => queue.push(place)?,
+        }
         Ok(())
     }
 
-    /// Moves the cursor past the oldest place.
+    /// Drops the oldest place.
     pub fn advance(&mut self)
         ensures { self.new ≡ drop 1 self.old }
     {
-        if self.cursor < self.all.len() {
-            self.cursor += 1;
+        match &mut self.kept {
+            Kept::Many(queue) => queue.advance(),
+            _ => self.kept = Kept::Nowhere,
         }
     }
 
@@ -77,6 +91,10 @@ impl Places {
         requires { IsNonDecreasing self.now }
         ensures { result ≡ newest (under seen self.now) }
     {
-        newest_under(&self.all[self.cursor..], seen)
+        match &self.kept {
+            Kept::Nowhere => None,
+            Kept::One(place) => (*place < seen).then_some(*place),
+            Kept::Many(queue) => queue.newest_under(seen),
+        }
     }
 }

@@ -3,7 +3,7 @@ use Rattle.std.specs.Prelude.{nat_lt}
 use Rattle.std.proofs.lemmas.List.Sorted.{IsPartitionPoint-from_clause}
 use Rattle.arrivals.specs.Results.{newest}
 use Rattle.arrivals.proofs.Presents.{under_split, newest_take, partitioned}
-use Rattle.arrivals.proofs.places.newest_under.Goals as goal
+use Rattle.arrivals.proofs.queue.newest_under.Goals as goal
 
 pub returns-then-count-eq0 : goal.returns-then-count-eq0
 returns-then-count-eq0 c =
