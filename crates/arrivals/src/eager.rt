@@ -1,4 +1,5 @@
-//! The results that eager reads gave: a log of its own, since they never came with an arrival.
+//! The results that eager reads gave: a log of its own, since they never came with an arrival. Most attempts have none, and nothing is
+//! looked up then.
 ghost use Rattle.std.specs.Prelude.{◌≡◌, [], ◌∷◌, ◌++◌, OnOk, OnErr};
 ghost use Rattle.std.specs.Option.{option_copied};
 ghost use Rattle.arrivals.specs.Results.{first, newest, results_of, has_result_among, without_first, without_all};
@@ -43,7 +44,8 @@ impl EagerResults {
     pub fn has(&self, id: &NotificationId) -> bool
         ensures { result ≡ has_result_among id.now self.now }
     {
-        self.log.has(id, self.log.len())
+        let all = self.log.len();
+        all != 0 && self.log.has(id, all)
     }
 
     /// The oldest result of an id.
@@ -66,6 +68,9 @@ impl EagerResults {
         ensures left { self.new ≡ without_first id.now self.old }
     {
         let all = self.log.len();
+        if all == 0 {
+            return None;
+        }
         self.log.take_first(id, all)
     }
 
@@ -75,6 +80,9 @@ impl EagerResults {
         ensures left { self.new ≡ without_all id.now self.old }
     {
         let all = self.log.len();
+        if all == 0 {
+            return None;
+        }
         self.log.take_newest(id, all)
     }
 }
