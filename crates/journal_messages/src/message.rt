@@ -23,7 +23,7 @@ use journal_state::{
 };
 use journal_values::Notification;
 use std::alloc::{AllocError, Global};
-use wire::{Fault, Wire, set_length, whole};
+use wire::{Fault, Wire, put_head, set_length, whole};
 
 /// What the runtime and the attempt tell each other.
 pub enum Message {
@@ -204,8 +204,7 @@ impl Encoder {
     {
         frame.clear();
         frame.reserve(ROOM)?;
-        message.ty().number().put(frame)?;
-        0u64.put(frame)?;
+        put_head(message.ty().number(), frame)?;
         message.put_body(frame)?;
         set_length(frame);
         Ok(())

@@ -10,7 +10,7 @@ mod text;
 mod wire;
 
 pub use fault::Fault;
-pub use frames::set_length;
+pub use frames::{put_head, set_length};
 pub use items::Items;
 pub use plain::{Exact, Plain, copy_of, is_same};
 pub use text::Text;
