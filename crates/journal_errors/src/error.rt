@@ -5,6 +5,7 @@ ghost use Rattle.journal_errors.specs.Errors.{plain_error, named_error, no_memor
 
 use crate::{ErrorMessage, MessageType, NamedFault, Said};
 use std::alloc::{AllocError, Global};
+use std::fmt;
 use std::time::Duration;
 use wire::{Fault, Text};
 
@@ -50,6 +51,14 @@ impl Drop for Error {
         drop(related_command);
     }
 }
+
+impl fmt::Display for Error {
+    fn fmt<W: fmt::Write>(&self, f: &mut fmt::Formatter<W>) -> fmt::Result {
+        write!(f, "[{}] {}", self.code, self.message.as_str())
+    }
+}
+
+impl std::error::Error for Error {}
 
 impl Error {
     pub fn new(code: u16, message: String) -> Error

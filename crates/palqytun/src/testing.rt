@@ -11,7 +11,7 @@ pub use vm_rounds::{Event, Identity, Report, Round, RoundFault, World, run_round
 use wire::{Items, Text};
 
 fn fail(fault: RoundFault) -> Fail {
-    Fail::new(format_args!("{fault:?}"))
+    Fail::new(format_args!("the rounds stopped: {fault}"))
 }
 
 /// An invocation "test" in version 7 with this input, the options' defaults, and no state.

@@ -4,6 +4,7 @@ use bytes::Bytes;
 use journal_errors::{Error, Version};
 use retries::RetryPolicy;
 use runs::RunExitResult;
+use std::fmt;
 use vm_parts::{Answer, NotificationHandle, VMOptions};
 use wire::{Items, Text};
 
@@ -120,3 +121,21 @@ pub enum RoundFault {
     /// frame of a command or a notification that can be read.
     BadJournal = 8,
 }
+
+impl fmt::Display for RoundFault {
+    fn fmt<W: fmt::Write>(&self, f: &mut fmt::Formatter<W>) -> fmt::Result {
+        f.write_str(match self {
+            RoundFault::NotANotification => "an arrival isn't one whole frame of a notification",
+            RoundFault::NoSuchId => "no stored command has the id of a completion",
+            RoundFault::SecondCompletion => "a completion comes for an id that is completed",
+            RoundFault::WrongKind => "the id of an invocation is completed by something else",
+            RoundFault::RunIsProposed =>
+                "the result of a run arrives, but the attempt that ran it proposes it",
+            RoundFault::Memory => "out of memory",
+            RoundFault::JournalFull => "the journal is full",
+            RoundFault::BadJournal => "an entry of the given journal can't stand there",
+        })
+    }
+}
+
+impl std::error::Error for RoundFault {}
