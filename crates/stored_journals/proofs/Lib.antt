@@ -1,3 +1,4 @@
 pub mod KnownIds
 pub mod Appended
 pub mod Stored
+pub mod Faults

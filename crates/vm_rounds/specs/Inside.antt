@@ -8,7 +8,7 @@ use Rattle.vm_rounds.specs.Rounds.{Now, ReportView}
 abbrev pub the_now : Desk → Record → Now
 the_now d r = record {
   version = d.version;
-  journal = d.journal.items;
+  journal = d.journal;
   waiting = d.waiting.items;
   attempt = r;
   output = d.output.items;

@@ -12,10 +12,9 @@ use journal_streams::Decoder;
 use retries::RetryPolicy;
 use runs::RunExitResult;
 use std::alloc::{AllocError, Global};
+use stored_journals::WholeJournal;
 use vm_attempt::{Attempt, Handler};
 use vm_parts::NotificationHandle;
-use vm_store::arrival_faults::arrival_fault;
-use vm_store::storing::store_from;
 use vm_store::types::{Event, RoundFault};
 
 /// A round on its way, but for its attempt.
@@ -23,7 +22,7 @@ use vm_store::types::{Event, RoundFault};
 pub struct Desk {
     pub alloc: Global,
     pub version: Version,
-    pub journal: Vec<Bytes>,
+    pub journal: WholeJournal,
     pub waiting: BytesMut,
     pub output: Vec<u8>,
     pub unstored: Decoder,
@@ -40,39 +39,18 @@ fn note(error: &mut Option<Error>, next: Option<Error>)
     }
 }
 
-/// An arrival is stored, if it has no fault.
-pub fn arrive_in(alloc: Global, journal: &mut Vec<Bytes>, entry: &Bytes) -> Result<(), RoundFault>
-    ensures ok { OnOk result ((arrival_fault entry.now journal.old.items ≡ None)
-        × (journal.new.items ≡ journal.old.items ++ entry.now ∷ [])) }
-    ensures err { IfErr result (λ f. (f ≡ round_fault.Memory)
-        ⊎ (arrival_fault entry.now journal.old.items ≡ Some f)) }
-{
-    match arrival_fault(alloc, entry, journal.as_slice()) {
-        Err(_) => return Err(RoundFault::Memory),
-        Ok(Some(fault)) => return Err(fault),
-        Ok(None) => {}
-    }
-    let Ok(kept) = entry.clone() else {
-        return Err(RoundFault::Memory);
-    };
-    if journal.push(kept).is_err() {
-        return Err(RoundFault::Memory);
-    }
-    Ok(())
-}
-
 /// A notification is stored and waits.
 fn arrive(desk: &mut Desk, entry: &Bytes) -> Result<(), RoundFault>
-    ensures ok { OnOk result ((arrival_fault entry.now desk.old.journal.items ≡ None)
-        × (desk.new.journal.items ≡ desk.old.journal.items ++ entry.now ∷ [])
+    ensures ok { OnOk result ((arrival_fault entry.now desk.old.journal ≡ None)
+        × (desk.new.journal ≡ desk.old.journal ++ entry.now ∷ [])
         × (desk.new.waiting.items ≡ desk.old.waiting.items ++ entry.now)) }
     ensures same { OnOk result ((desk.new.version ≡ desk.old.version)
         × (desk.new.output ≡ desk.old.output) × (desk.new.unstored ≡ desk.old.unstored)
         × (desk.new.closed ≡ desk.old.closed) × (desk.new.error ≡ desk.old.error)) }
     ensures err { IfErr result (λ f. (f ≡ round_fault.Memory)
-        ⊎ (arrival_fault entry.now desk.old.journal.items ≡ Some f)) }
+        ⊎ (arrival_fault entry.now desk.old.journal ≡ Some f)) }
 {
-    arrive_in(desk.alloc, &mut desk.journal, entry)?;
+    desk.journal.arrive(desk.alloc, entry)?;
     if desk.waiting.extend_from_slice(entry.as_slice()).is_err() {
         return Err(RoundFault::Memory);
     }
@@ -200,10 +178,9 @@ fn store<H: Handler>(attempt: &mut Attempt<&H>, desk: &mut Desk, n: usize) -> Re
     if desk.unstored.push(bytes).is_err() {
         return Err(RoundFault::Memory);
     }
-    store_from(
+    desk.journal.store(
         desk.alloc,
         desk.version,
-        &mut desk.journal,
         &mut desk.waiting,
         &mut desk.unstored,
         n,

@@ -14,12 +14,13 @@ ghost use Rattle.vm_store.specs.Worlds.{IsJournal, start_message};
 ghost use Rattle.vm_store.specs.declared.types.RoundFault.TheVariants as round_fault;
 
 use crate::answers::copy_answers;
-use crate::desk::{Desk, arrive_in, happen};
+use crate::desk::{Desk, happen};
 use bytes::{Bytes, BytesMut};
 use invocation_vm::VMResult;
 use journal_errors::{Error, Version};
 use journal_streams::Decoder;
 use std::alloc::{AllocError, Global};
+use stored_journals::WholeJournal;
 use vm_attempt::{Attempt, ContentType, Handler};
 use vm_store::handed::start_bytes;
 use vm_store::types::{Event, Report, Round, RoundFault, Setting};
@@ -77,20 +78,20 @@ fn happen_all<H: Handler>(
 }
 
 /// One event, where no attempt was made.
-fn arrive_only(alloc: Global, journal: &mut Vec<Bytes>, event: &Event) -> Result<(), RoundFault>
-    ensures ok { OnOk result (ArrivalsDo (event.now ∷ []) journal.old.items journal.new.items) }
-    ensures err { IfErr result (λ f. ArrivalsFault (event.now ∷ []) journal.old.items f) }
+fn arrive_only(alloc: Global, journal: &mut WholeJournal, event: &Event) -> Result<(), RoundFault>
+    ensures ok { OnOk result (ArrivalsDo (event.now ∷ []) journal.old journal.new) }
+    ensures err { IfErr result (λ f. ArrivalsFault (event.now ∷ []) journal.old f) }
 {
     match event {
-        Event::Arrive(entry) => arrive_in(alloc, journal, entry),
+        Event::Arrive(entry) => journal.arrive(alloc, entry),
         _ => Ok(()),
     }
 }
 
 /// All events of a round, where no attempt was made: the arrivals are stored.
-fn arrive_all(alloc: Global, journal: &mut Vec<Bytes>, events: &[Event]) -> Result<(), RoundFault>
-    ensures ok { OnOk result (ArrivalsDo events.now journal.old.items journal.new.items) }
-    ensures err { IfErr result (λ f. ArrivalsFault events.now journal.old.items f) }
+fn arrive_all(alloc: Global, journal: &mut WholeJournal, events: &[Event]) -> Result<(), RoundFault>
+    ensures ok { OnOk result (ArrivalsDo events.now journal.old journal.new) }
+    ensures err { IfErr result (λ f. ArrivalsFault events.now journal.old f) }
 {
     for event in events {
         arrive_only(alloc, journal, event)?;
@@ -103,11 +104,11 @@ fn report<H: Handler>(
     alloc: Global,
     attempt: &mut Attempt<&H>,
     desk: Desk,
-) -> Result<(Vec<Bytes>, Report), AllocError>
-    requires { length desk.journal.items ≤ most_entries }
+) -> Result<(WholeJournal, Report), AllocError>
+    requires { length desk.journal ≤ most_entries }
     ensures report { IfOk result (λ r. report_view r.1
         ≡ report_of (the_now desk attempt.old.record_of)) }
-    ensures journal { IfOk result (λ r. r.0.items ≡ desk.journal.items) }
+    ensures journal { IfOk result (λ r. r.0 ≡ desk.journal) }
     ensures ends { EndsTold (fixed_of (H.meaning attempt.old.handler.now) attempt.old)
         attempt.old.record_of }
 {
@@ -120,7 +121,7 @@ fn report<H: Handler>(
         ..
     } = desk;
     output.extend_from_slice(bytes.as_slice())?;
-    let entries = journal.len() as u32;
+    let entries = journal.as_slice().len() as u32;
     let output = Bytes::from_vec(output)?;
     Ok((
         journal,
@@ -155,18 +156,18 @@ fn new_attempt<'a, H: Handler>(
 fn refused_round(
     alloc: Global,
     setting: &Setting,
-    mut journal: Vec<Bytes>,
+    mut journal: WholeJournal,
     round: &Round,
     error: Error,
-) -> Result<(Vec<Bytes>, Report), RoundFault>
-    requires entries { IsJournal journal.items }
+) -> Result<(WholeJournal, Report), RoundFault>
+    requires entries { IsJournal journal }
     requires refusal { IsRefusal (supported setting.now.version) error }
     ensures ok { IfOk result
-        (λ r. RefusedDoes setting.now round.now journal.items (report_view r.1) r.0.items) }
-    ensures err { IfErr result (λ f. RefusedFaults setting.now round.now journal.items f) }
+        (λ r. RefusedDoes setting.now round.now journal (report_view r.1) r.0) }
+    ensures err { IfErr result (λ f. RefusedFaults setting.now round.now journal f) }
 {
     arrive_all(alloc, &mut journal, round.events.as_slice())?;
-    let entries = journal.len() as u32;
+    let entries = journal.as_slice().len() as u32;
     Ok((
         journal,
         Report {
@@ -183,19 +184,19 @@ fn made_round<H: Handler>(
     alloc: Global,
     version: Version,
     attempt: &mut Attempt<&H>,
-    journal: Vec<Bytes>,
+    journal: WholeJournal,
     waiting: BytesMut,
     events: &[Event],
-) -> Result<(Vec<Bytes>, Report), RoundFault>
+) -> Result<(WholeJournal, Report), RoundFault>
     requires short { StaysShort (H.meaning attempt.old.handler.now) events.now
-        (new_now version journal.items waiting.items attempt.old.record_of) }
+        (new_now version journal waiting.items attempt.old.record_of) }
     ensures ok { IfOk result
         (λ r. Ran (fixed_of (H.meaning attempt.old.handler.now) attempt.old) events.now
-        (new_now version journal.items waiting.items attempt.old.record_of) (report_view r.1)
-        r.0.items) }
+        (new_now version journal waiting.items attempt.old.record_of) (report_view r.1)
+        r.0) }
     ensures err { IfErr result (λ f. (f ≡ round_fault.Memory)
         ⊎ HappenFaults (H.meaning attempt.old.handler.now) events.now
-        (new_now version journal.items waiting.items attempt.old.record_of) f) }
+        (new_now version journal waiting.items attempt.old.record_of) f) }
 {
     let mut desk = Desk {
         alloc,
@@ -222,16 +223,16 @@ pub fn run_round<H: Handler>(
     alloc: Global,
     setting: &Setting,
     handler: &H,
-    journal: Vec<Bytes>,
+    journal: WholeJournal,
     round: &Round,
-) -> Result<(Vec<Bytes>, Report), RoundFault>
-    requires entries { IsJournal journal.items }
+) -> Result<(WholeJournal, Report), RoundFault>
+    requires entries { IsJournal journal }
     ensures ok { IfOk result
-        (λ r. RoundDoes (H.meaning handler.now) setting.now round.now journal.items
-        (report_view r.1) r.0.items) }
-    ensures entries { IfOk result (λ r. IsJournal r.0.items) }
+        (λ r. RoundDoes (H.meaning handler.now) setting.now round.now journal
+        (report_view r.1) r.0) }
+    ensures entries { IfOk result (λ r. IsJournal r.0) }
     ensures err { IfErr result
-        (λ f. RoundFaults (H.meaning handler.now) setting.now round.now journal.items f) }
+        (λ f. RoundFaults (H.meaning handler.now) setting.now round.now journal f) }
 {
     match new_attempt(alloc, setting, handler) {
         Err(error) => refused_round(alloc, setting, journal, round, error),

@@ -11,8 +11,8 @@ use journal_errors::Version;
 use journal_messages::{Encoder, Message};
 use std::alloc::{AllocError, Global};
 use std::marker::Model;
+use stored_journals::WholeJournal;
 use vm_parts::VMOptions;
-use vm_store::given::judge;
 use vm_store::types::{Identity, RoundFault, Setting};
 use wire::{Items, Text};
 
@@ -21,7 +21,7 @@ use wire::{Items, Text};
 pub struct World {
     pub(crate) alloc: Global,
     pub(crate) setting: Setting,
-    pub(crate) journal: Vec<Bytes>,
+    pub(crate) journal: WholeJournal,
 }
 
 impl Model for World {
@@ -29,9 +29,9 @@ impl Model for World {
 
     ghost Value = { WorldView };
 
-    ghost view = { λ a. record { setting = a.setting; journal = a.journal.items } };
+    ghost view = { λ a. record { setting = a.setting; journal = a.journal } };
 
-    ghost invariant = { λ a. IsJournal a.journal.items };
+    ghost invariant = { λ a. IsJournal a.journal };
 }
 
 /// The frame of an Input command.
@@ -57,15 +57,18 @@ fn one_entry(alloc: Global, frame: Bytes) -> Result<Vec<Bytes>, AllocError>
 }
 
 /// The journal of a new world.
-fn first_journal(alloc: Global, input: Bytes) -> Result<Vec<Bytes>, AllocError>
-    ensures bytes { IfOk result (λ j. j.items
+fn first_journal(alloc: Global, input: Bytes) -> Result<WholeJournal, RoundFault>
+    ensures bytes { IfOk result (λ j. j
         ≡ encoding (message.Input (record { headers = []; value = input })) ∷ []) }
     ensures whole { OnOk result (IsWhole (message.Input (record { headers = []; value = input }))) }
 {
-    match input_bytes(alloc, input) {
-        Ok(frame) => one_entry(alloc, frame),
-        Err(error) => Err(error),
-    }
+    let Ok(frame) = input_bytes(alloc, input) else {
+        return Err(RoundFault::Memory);
+    };
+    let Ok(entries) = one_entry(alloc, frame) else {
+        return Err(RoundFault::Memory);
+    };
+    WholeJournal::load(alloc, entries)
 }
 
 /// Keys and values as contracts see them.
@@ -167,10 +170,10 @@ impl World {
             → CanBeReplayed m w → HasRightKinds w.journal) }
         ensures err { IfErr result (λ f. (f ≡ round_fault.Memory) ⊎ GivenFaults entries.items f) }
     {
-        match judge(alloc, entries.as_slice()) {
+        let journal = match WholeJournal::load(alloc, entries) {
             Err(fault) => return Err(fault),
-            Ok(()) => {}
-        }
+            Ok(journal) => journal,
+        };
         let Ok(base) = base_pairs(alloc, state) else {
             return Err(RoundFault::Memory);
         };
@@ -182,7 +185,7 @@ impl World {
                 version,
                 base,
             },
-            journal: entries,
+            journal,
         })
     }
 

@@ -5,6 +5,6 @@ use Rattle.vm_rounds.proofs.round.arrive_all.Given as goal
 
 abbrev pub invariant-loop-event : goal.invariant-loop-event
 invariant-loop-event l = record {
-  goes_on : (final : List (List ℕ)) → ArrivalsDo (drop l.event-index l.events) l.journal.items final → ArrivalsDo l.fn.events l.fn.journal.items final;
-  fails : (f : RoundFault) → ArrivalsFault (drop l.event-index l.events) l.journal.items f → ArrivalsFault l.fn.events l.fn.journal.items f;
+  goes_on : (final : List (List ℕ)) → ArrivalsDo (drop l.event-index l.events) l.journal final → ArrivalsDo l.fn.events l.fn.journal final;
+  fails : (f : RoundFault) → ArrivalsFault (drop l.event-index l.events) l.journal f → ArrivalsFault l.fn.events l.fn.journal f;
 }

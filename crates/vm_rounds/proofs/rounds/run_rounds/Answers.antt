@@ -18,7 +18,7 @@ use Rattle.vm_rounds.proofs.rounds.run_rounds.Goals as goal
 pub returns-in-Err-clause-err : goal.returns-in-Err-clause-err
 returns-in-Err-clause-err g c =
     rw (whole_at c.args.rounds.now c.loop-round.round-index c.round-item.result c.loop-round-test.true c.round-item.is)
-    (rounds_fail (g.H.Handler.meaning c.args.handler.now) c.args.world.setting (take c.loop-round.round-index c.args.rounds.now) c.round-item.result (drop (c.loop-round.round-index + 1) c.args.rounds.now) c.args.world.journal (map report_view c.loop-round.reports.items) c.loop-round.journal.items c.in-Err.fault c.loop-round.invariant.so_far (subst (λ x. RoundFaults (g.H.Handler.meaning c.args.handler.now) x c.round-item.result c.loop-round.journal.items c.in-Err.fault) (ap (λ (w : WorldView). w.setting) c.world.view_is) c.in-Err.ensures.err))
+    (rounds_fail (g.H.Handler.meaning c.args.handler.now) c.args.world.setting (take c.loop-round.round-index c.args.rounds.now) c.round-item.result (drop (c.loop-round.round-index + 1) c.args.rounds.now) c.args.world.journal (map report_view c.loop-round.reports.items) c.loop-round.journal c.in-Err.fault c.loop-round.invariant.so_far (subst (λ x. RoundFaults (g.H.Handler.meaning c.args.handler.now) x c.round-item.result c.loop-round.journal c.in-Err.fault) (ap (λ (w : WorldView). w.setting) c.world.view_is) c.in-Err.ensures.err))
 
 -- where the journal can be replayed, a fault comes from outside
 pub returns-in-Err-clause-outside : goal.returns-in-Err-clause-outside
@@ -28,58 +28,58 @@ pub loop-round-preserved : goal.loop-round-preserved
 loop-round-preserved g c = record {
   entries = c.in-Ok.ensures.entries;
   so_far = rw (c.if-not-keep_report.ensures, split_at c.args.rounds.now c.loop-round.round-index c.round-item.result c.loop-round-test.true c.round-item.is)
-      (rounds_then (g.H.Handler.meaning c.args.handler.now) c.args.world.setting (take c.loop-round.round-index c.args.rounds.now) c.round-item.result c.args.world.journal (map report_view c.loop-round.reports.items) c.loop-round.journal.items (report_view c.in-Ok.report) c.in-Ok.next.items c.loop-round.invariant.so_far (subst (λ x. RoundDoes (g.H.Handler.meaning c.args.handler.now) x c.round-item.result c.loop-round.journal.items (report_view c.in-Ok.report) c.in-Ok.next.items) (ap (λ (w : WorldView). w.setting) c.world.view_is) c.in-Ok.ensures.ok));
+      (rounds_then (g.H.Handler.meaning c.args.handler.now) c.args.world.setting (take c.loop-round.round-index c.args.rounds.now) c.round-item.result c.args.world.journal (map report_view c.loop-round.reports.items) c.loop-round.journal (report_view c.in-Ok.report) c.in-Ok.next c.loop-round.invariant.so_far (subst (λ x. RoundDoes (g.H.Handler.meaning c.args.handler.now) x c.round-item.result c.loop-round.journal (report_view c.in-Ok.report) c.in-Ok.next) (ap (λ (w : WorldView). w.setting) c.world.view_is) c.in-Ok.ensures.ok));
 }
 
 -- all rounds were run
-all : (g : given.Over) (c : goal.After-loop-round g) → RoundsDo (g.H.Handler.meaning c.args.handler.now) c.args.world.setting c.args.rounds.now c.args.world.journal (map report_view c.loop-round.reports.items) c.loop-round.journal.items
+all : (g : given.Over) (c : goal.After-loop-round g) → RoundsDo (g.H.Handler.meaning c.args.handler.now) c.args.world.setting c.args.rounds.now c.args.world.journal (map report_view c.loop-round.reports.items) c.loop-round.journal
 all g c = rw (take_all c.loop-round.round-index c.args.rounds.now (omega (arith, c.loop-round-test.false))) at c.loop-round.invariant.so_far
 
 -- the journal before
 before : (g : given.Over) (c : goal.After-loop-round g) → IsJournal c.args.world.journal
 before g c = subst (λ (w : WorldView). IsJournal w.journal) c.world.view_is c.world.invariant
 
-grows : (g : given.Over) (c : goal.After-loop-round g) → Grows c.args.world.journal c.loop-round.journal.items
-grows g c = rounds_grow (g.H.Handler.meaning c.args.handler.now) c.args.world.setting c.args.rounds.now c.args.world.journal (map report_view c.loop-round.reports.items) c.loop-round.journal.items (before g c) (all g c)
+grows : (g : given.Over) (c : goal.After-loop-round g) → Grows c.args.world.journal c.loop-round.journal
+grows g c = rounds_grow (g.H.Handler.meaning c.args.handler.now) c.args.world.setting c.args.rounds.now c.args.world.journal (map report_view c.loop-round.reports.items) c.loop-round.journal (before g c) (all g c)
 
 pub returns-clause-extends : goal.returns-clause-extends
 returns-clause-extends g c = ((grows g c).added, (grows g c).extends)
 
 -- what rounds guarantee where the journal is sound for the handler, and where one run made it
 pub returns-clause-honest : goal.returns-clause-honest
-returns-clause-honest g c h d = are_honest (g.H.Handler.meaning c.args.handler.now) c.args.world.setting c.args.rounds.now c.args.world.journal (map report_view c.loop-round.reports.items) c.loop-round.journal.items (before g c) d h
+returns-clause-honest g c h d = are_honest (g.H.Handler.meaning c.args.handler.now) c.args.world.setting c.args.rounds.now c.args.world.journal (map report_view c.loop-round.reports.items) c.loop-round.journal (before g c) d h
 
 pub returns-clause-errors : goal.returns-clause-errors
-returns-clause-errors g c h d = rounds_own (g.H.Handler.meaning c.args.handler.now) c.args.world.setting c.args.rounds.now c.args.world.journal (map report_view c.loop-round.reports.items) c.loop-round.journal.items (before g c) h d
+returns-clause-errors g c h d = rounds_own (g.H.Handler.meaning c.args.handler.now) c.args.world.setting c.args.rounds.now c.args.world.journal (map report_view c.loop-round.reports.items) c.loop-round.journal (before g c) h d
 
-stays : (g : given.Over) (c : goal.After-loop-round g) → IsSoundFor (g.H.Handler.meaning c.args.handler.now) c.args.world.setting c.args.world.journal → IsSoundFor (g.H.Handler.meaning c.args.handler.now) c.args.world.setting c.loop-round.journal.items
-stays g c h = stays_sound (g.H.Handler.meaning c.args.handler.now) c.args.world.setting c.args.rounds.now c.args.world.journal (map report_view c.loop-round.reports.items) c.loop-round.journal.items (before g c) (all g c) h
+stays : (g : given.Over) (c : goal.After-loop-round g) → IsSoundFor (g.H.Handler.meaning c.args.handler.now) c.args.world.setting c.args.world.journal → IsSoundFor (g.H.Handler.meaning c.args.handler.now) c.args.world.setting c.loop-round.journal
+stays g c h = stays_sound (g.H.Handler.meaning c.args.handler.now) c.args.world.setting c.args.rounds.now c.args.world.journal (map report_view c.loop-round.reports.items) c.loop-round.journal (before g c) (all g c) h
 
 pub returns-clause-history : goal.returns-clause-history
 returns-clause-history g c h = stays g c h
 
 pub returns-clause-once : goal.returns-clause-once
-returns-clause-once g c h = completes_once _ (g.H.Handler.meaning c.args.handler.now) _ c.loop-round.journal.items (grows g c).journal (stays g c h).history.history
+returns-clause-once g c h = completes_once _ (g.H.Handler.meaning c.args.handler.now) _ c.loop-round.journal (grows g c).journal (stays g c h).history.history
 
 pub returns-clause-kinds : goal.returns-clause-kinds
-returns-clause-kinds g c h = history_kinds _ (g.H.Handler.meaning c.args.handler.now) _ c.loop-round.journal.items (grows g c).journal (stays g c h).history.history
+returns-clause-kinds g c h = history_kinds _ (g.H.Handler.meaning c.args.handler.now) _ c.loop-round.journal (grows g c).journal (stays g c h).history.history
 
 pub returns-clause-agree : goal.returns-clause-agree
-returns-clause-agree g c h = sound_rounds_agree (g.H.Handler.meaning c.args.handler.now) c.args.world.setting c.args.rounds.now c.args.world.journal (map report_view c.loop-round.reports.items) c.loop-round.journal.items h (before g c) (all g c)
+returns-clause-agree g c h = sound_rounds_agree (g.H.Handler.meaning c.args.handler.now) c.args.world.setting c.args.rounds.now c.args.world.journal (map report_view c.loop-round.reports.items) c.loop-round.journal h (before g c) (all g c)
 
 pub returns-clause-one_run : goal.returns-clause-one_run
-returns-clause-one_run g c r h = stays_one_run (g.H.Handler.meaning c.args.handler.now) c.args.world.setting c.args.rounds.now c.args.world.journal (map report_view c.loop-round.reports.items) c.loop-round.journal.items (before g c) (all g c) r h
+returns-clause-one_run g c r h = stays_one_run (g.H.Handler.meaning c.args.handler.now) c.args.world.setting c.args.rounds.now c.args.world.journal (map report_view c.loop-round.reports.items) c.loop-round.journal (before g c) (all g c) r h
 
 pub returns-clause-undisturbed : goal.returns-clause-undisturbed
-returns-clause-undisturbed g c r whole h = stays_undisturbed (g.H.Handler.meaning c.args.handler.now) c.args.world.setting c.args.rounds.now c.args.world.journal (map report_view c.loop-round.reports.items) c.loop-round.journal.items (before g c) (all g c) r whole h
+returns-clause-undisturbed g c r whole h = stays_undisturbed (g.H.Handler.meaning c.args.handler.now) c.args.world.setting c.args.rounds.now c.args.world.journal (map report_view c.loop-round.reports.items) c.loop-round.journal (before g c) (all g c) r whole h
 
 pub returns-clause-fresh : goal.returns-clause-fresh
-returns-clause-fresh g c skips = rounds_fresh (g.H.Handler.meaning c.args.handler.now) c.args.world.setting c.args.rounds.now c.args.world.journal (map report_view c.loop-round.reports.items) c.loop-round.journal.items skips (before g c) (all g c)
+returns-clause-fresh g c skips = rounds_fresh (g.H.Handler.meaning c.args.handler.now) c.args.world.setting c.args.rounds.now c.args.world.journal (map report_view c.loop-round.reports.items) c.loop-round.journal skips (before g c) (all g c)
 
 pub returns-then-not-keep_report-clause-err : goal.returns-then-not-keep_report-clause-err
 returns-then-not-keep_report-clause-err g c =
     rw (whole_at c.args.rounds.now c.loop-round.round-index c.round-item.result c.loop-round-test.true c.round-item.is)
-    (rounds_fail (g.H.Handler.meaning c.args.handler.now) c.args.world.setting (take c.loop-round.round-index c.args.rounds.now) c.round-item.result (drop (c.loop-round.round-index + 1) c.args.rounds.now) c.args.world.journal (map report_view c.loop-round.reports.items) c.loop-round.journal.items _ c.loop-round.invariant.so_far (inl refl))
+    (rounds_fail (g.H.Handler.meaning c.args.handler.now) c.args.world.setting (take c.loop-round.round-index c.args.rounds.now) c.round-item.result (drop (c.loop-round.round-index + 1) c.args.rounds.now) c.args.world.journal (map report_view c.loop-round.reports.items) c.loop-round.journal _ c.loop-round.invariant.so_far (inl refl))
 
 pub returns-then-not-keep_report-clause-outside : goal.returns-then-not-keep_report-clause-outside
 returns-then-not-keep_report-clause-outside g c h = inl refl

@@ -6,6 +6,6 @@ use Rattle.vm_rounds.proofs.rounds.run_rounds.Given as goal
 
 abbrev pub invariant-loop-round : goal.invariant-loop-round
 invariant-loop-round g l = record {
-  entries : IsJournal l.journal.items;
-  so_far : RoundsDo (g.H.Handler.meaning l.handler) l.fn.world.setting (take l.round-index l.rounds) l.fn.world.journal (map report_view l.reports.items) l.journal.items;
+  entries : IsJournal l.journal;
+  so_far : RoundsDo (g.H.Handler.meaning l.handler) l.fn.world.setting (take l.round-index l.rounds) l.fn.world.journal (map report_view l.reports.items) l.journal;
 }

@@ -1,11 +1,11 @@
-use Rattle.std.proofs.Common.{[], subst}
-use Rattle.vm_store.specs.Given.{AreGiven}
+use Rattle.std.proofs.Common.{sym, subst}
+use Rattle.vm_store.specs.Worlds.{IsJournal}
 use Rattle.vm_rounds.proofs.Given.{given_is}
 use Rattle.vm_rounds.proofs.RightKinds.{history_kinds}
 use Rattle.vm_rounds.proofs.world.World.with_journal.Goals as goal
 
 pub invariant_of-result : goal.invariant_of-result
-invariant_of-result c = given_is c.args.entries.items (subst (AreGiven []) c.as_slice.ensures.value c.in-Ok.ensures.ok)
+invariant_of-result c = subst IsJournal (sym c.in-Ok.ensures.journal) (given_is c.args.entries.items c.in-Ok.ensures.given)
 
 pub returns-clause-kinds : goal.returns-clause-kinds
-returns-clause-kinds c = λ m h. history_kinds _ m _ c.args.entries.items (given_is c.args.entries.items (subst (AreGiven []) c.as_slice.ensures.value c.in-Ok.ensures.ok)) h.history.history
+returns-clause-kinds c = λ m h. history_kinds _ m _ c.in-Ok.journal (subst IsJournal (sym c.in-Ok.ensures.journal) (given_is c.args.entries.items c.in-Ok.ensures.given)) h.history.history

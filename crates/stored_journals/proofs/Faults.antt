@@ -1,0 +1,18 @@
+-- The fault of what is stored after the one journal that is known.
+use Rattle.std.proofs.Common.{◌≡◌, ◌⊎◌, inl, inr, ⊎_elim, ℕ, List, ◌++◌, [], take, Result, Ok, Err}
+use Rattle.std.specs.Prelude.{IfErr}
+use Rattle.journal_errors.specs.declared.version.Version.{Version}
+use Rattle.vm_store.specs.declared.types.RoundFault.{RoundFault}
+use Rattle.vm_store.specs.declared.types.RoundFault.TheVariants as round_fault
+use Rattle.vm_store.specs.Storing.{FirstFault, written_from}
+use Rattle.stored_journals.specs.Journals.{Holds, View}
+use Rattle.stored_journals.specs.Stored.{IsStoringFault}
+
+pub fault_here : (version : Version) (n : ℕ) (unstored : List ℕ) (view : View) (entries : List (List ℕ)) (result : Result Unit RoundFault) → Holds view entries → IfErr result (λ f. IsStoringFault version n unstored view entries f)
+    → IfErr result (λ f. (f ≡ round_fault.Memory) ⊎ FirstFault version (take n (written_from unstored)) entries f)
+fault_here version n unstored view entries (Ok u) h e = tt
+fault_here version n unstored view entries (Err f) h e =
+    ⊎_elim
+    (λ (z : f ≡ round_fault.Memory). inl z)
+    (λ (z : (before : List (List ℕ)) → Holds view (before ++ entries) → FirstFault version (take n (written_from unstored)) (before ++ entries) f). inr (z [] h))
+    e

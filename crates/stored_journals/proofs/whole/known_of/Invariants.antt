@@ -1,0 +1,12 @@
+use Rattle.std.proofs.Common.{[], take, drop}
+use Rattle.vm_store.specs.declared.types.RoundFault.{RoundFault}
+use Rattle.vm_store.specs.Given.{AreGiven, FirstGiven}
+use Rattle.stored_journals.specs.Journals.{Holds}
+use Rattle.stored_journals.proofs.whole.known_of.Given as goal
+
+abbrev pub invariant-loop-i : goal.invariant-loop-i
+invariant-loop-i l = record {
+  holds : Holds l.known (take l.i l.entries);
+  goes_on : AreGiven (take l.i l.entries) (drop l.i l.entries) → AreGiven [] l.fn.entries;
+  fails : (f : RoundFault) → FirstGiven (take l.i l.entries) (drop l.i l.entries) f → FirstGiven [] l.fn.entries f;
+}
