@@ -126,6 +126,9 @@ class Recorded:
     def notify(self, word: str) -> None:
         self._make("notify", word)
 
+    def notify_holder(self, invocation: str) -> None:
+        self._make("notify_holder", invocation)
+
 
 def emptied(url: str) -> None:
     if "://" in url:

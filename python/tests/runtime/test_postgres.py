@@ -2,6 +2,7 @@
 
 import asyncio
 import os
+import random
 import socket
 import threading
 import time
@@ -9,7 +10,24 @@ import unittest
 from unittest import mock
 
 import support  # isort: skip
+from palqytun.runtime import App, Context, Service, inbox, journal
 from palqytun.runtime.database import Lost, connect, postgres
+from palqytun.runtime.outcome import Outcome
+from support import Runtime
+
+service = Service("Postgres")
+
+
+@service.handler()
+async def collects(ctx: Context, count: int) -> list[int]:
+    return [await ctx.signal("go", int) for _ in range(count)]
+
+
+async def signalled(db, id, number):
+    """A signal to an invocation, by a connection that is no worker's."""
+    await db.begin()
+    await inbox.deliver(db, Outcome(), id, journal.named_signal("go", journal.value(str(number).encode())))
+    await db.commit()
 
 
 class OnAServer(support.OnADatabase, unittest.TestCase):
@@ -108,7 +126,7 @@ class OnAServer(support.OnADatabase, unittest.TestCase):
     def test_words_are_heard_after_the_commit_and_not_after_a_rollback(self):
         async def test(db):
             other, words = await connect(self.url), []
-            end = await other.listen(words.append)
+            end = await other.listen("other", words.append)
             for word, ends in (("kept", db.commit), ("dropped", db.rollback), ("last", db.commit)):
                 await db.begin()
                 db.notify(word)
@@ -123,6 +141,51 @@ class OnAServer(support.OnADatabase, unittest.TestCase):
             other.close()
 
         self.run_with(test)
+
+
+class TwoWorkers(support.OnADatabase, unittest.TestCase):
+    """They look at the database by themselves only once in 200 seconds, so what isn't heard of fails the test."""
+
+    kind = "postgres"
+
+    def collected(self, idle, count, between):
+        """Runs two workers, one of which has an invocation that collects signals; each is followed by `between`."""
+
+        async def go():
+            options = {"poll": 200, "idle": idle, "lease": 300}
+            async with Runtime(App(service), self.url, **options) as one, Runtime(App(service), self.url, **options) as two:
+                db = await connect(self.url)
+                id = await one.send("Postgres/collects", count)
+                await one.until(id, "running" if idle else "suspended")
+                await asyncio.sleep(0.5)  # whoever was woken has looked
+                holder, other = (one, two) if id in one.engine.live else (two, one)
+                for number in range(count):
+                    await signalled(db, id, number)
+                    await between(holder.engine, other.engine)
+                self.assertEqual(await asyncio.wait_for(holder.result(id), 60), list(range(count)))
+                db.close()
+
+        asyncio.run(go())
+
+    def test_only_the_holder_of_a_lease_is_woken(self):
+        looks = []
+
+        async def between(holder, other):
+            looks.append(other._committer.counts["transactions"])
+            await asyncio.sleep(0.05)
+
+        self.collected(100, 20, between)
+        self.assertEqual(set(looks), {looks[0]})
+
+    def test_signals_in_a_row(self):
+        """They come while the attempt is fed, waits, is suspended and is claimed again, by one worker or the other."""
+
+        async def between(holder, other):
+            await asyncio.sleep(random.random() * 0.02)
+
+        for idle in (0, 0.01, 100):
+            with self.subTest(idle=idle):
+                self.collected(idle, 40, between)
 
 
 class Silent(unittest.TestCase):

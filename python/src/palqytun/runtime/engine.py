@@ -166,7 +166,7 @@ class Engine:
         beats = asyncio.create_task(self._beats(committer, claimer))
         try:
             await committer.submit(claimer.enter)
-            unlisten = await db.listen(self._heard)
+            unlisten = await db.listen(claimer.worker, self._heard)
             self.counts["sessions"] += 1
             self._is_open.set()
             await self._loop(committer, claimer)

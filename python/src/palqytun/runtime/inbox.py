@@ -37,7 +37,7 @@ def complete(db: Database, out: Outcome, invocation: str, completes: int, result
 
 def _tell(db: Database, out: Outcome, invocation: str) -> None:
     out.touched.add(invocation)
-    db.notify(f"to {invocation}")
+    db.notify_holder(invocation)
 
 
 async def peek(db: Database, invocation: str, epoch: int | None = None) -> list[tuple[int, bytes]]:

@@ -39,8 +39,12 @@ class Database(Protocol):
     def notify(self, word: str) -> None:
         """Tells this word to the workers that listen, once the transaction is committed."""
 
-    async def listen(self, heard: Callable[[str], None]) -> Callable[[], None] | None:
-        """Calls `heard` for each word that other workers tell; answers what ends it. None: there are no others."""
+    def notify_holder(self, invocation: str) -> None:
+        """Tells `to INVOCATION` to the worker that has its lease, once the transaction is committed; to all if none has, and to nobody if it has
+        ended. The lease is looked up just before the commit. A worker that takes it in between finds what came when it next looks by itself."""
+
+    async def listen(self, worker: str, heard: Callable[[str], None]) -> Callable[[], None] | None:
+        """Calls `heard` for each word that others tell to all or to this worker; answers what ends it. None: there are no others."""
 
     def close(self) -> None: ...
 

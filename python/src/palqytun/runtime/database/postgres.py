@@ -20,7 +20,13 @@ from .schema import VERSIONS, missing
 log = logging.getLogger("palqytun")
 
 _TYPES = {"serial": "BIGSERIAL PRIMARY KEY", "blob": "BYTEA", "float": "FLOAT8", "plain": ""}
-_CHANNEL = "palqytun"
+_CHANNEL = "palqytun"  # of all workers
+_OWN = 12  # each worker has a channel of its own too, named by so many last characters of its name, which are random
+_NOTIFIED = f"SELECT pg_notify('{_CHANNEL}', word) FROM unnest(?) AS word"
+_TO_HOLDERS = (
+    f"SELECT pg_notify(CASE status WHEN 'running' THEN '{_CHANNEL}_' || right(worker, {_OWN}) ELSE '{_CHANNEL}' END, 'to ' || id)"
+    " FROM invocations WHERE id=ANY(?) AND status<>'done'"
+)
 _MIGRATING = 7_401_953  # the advisory lock of whoever migrates
 _BEGIN, _AT_ONCE = b"BEGIN", 200  # statements that go to the server together, at most
 _PATIENCE = 10.0  # seconds that a connection may take to be made
@@ -105,7 +111,8 @@ class Postgres:
         """`connected` makes one."""
         self._url, self._driver, self._connection = url, driver, connection
         self._cursor = connection.cursor()
-        self._words: set[str] = set()
+        self._words: set[str] = set()  # that this transaction tells
+        self._touched: set[str] = set()  # the invocations whose holders it tells
         self._queue: list[bytes] = []
 
     @staticmethod
@@ -145,11 +152,13 @@ class Postgres:
 
     async def begin(self) -> None:
         self._words.clear()
+        self._touched.clear()
         self._queue = [_BEGIN]
 
     async def commit(self) -> None:
-        if self._words:
-            self._queue.append(self._text("SELECT pg_notify(?, word) FROM unnest(?) AS word", (_CHANNEL, sorted(self._words))))
+        for sql, names in ((_NOTIFIED, self._words), (_TO_HOLDERS, self._touched)):
+            if names:
+                self.put(sql, (sorted(names),))
         await self._send(b"COMMIT")
         if self._cursor.statusmessage != "COMMIT":
             raise Conflict("the transaction was rolled back")
@@ -176,12 +185,15 @@ class Postgres:
     def notify(self, word: str) -> None:
         self._words.add(word)
 
-    async def listen(self, heard: Callable[[str], None]) -> Callable[[], None] | None:
+    def notify_holder(self, invocation: str) -> None:
+        self._touched.add(invocation)
+
+    async def listen(self, worker: str, heard: Callable[[str], None]) -> Callable[[], None] | None:
         connection = await self._driver.connected(self._url)
         try:
             with self._driver.named():
                 cursor = connection.cursor()  # it is kept until the answer is there
-                cursor.execute(f"LISTEN {_CHANNEL}")
+                cursor.execute(f'LISTEN {_CHANNEL}; LISTEN "{_CHANNEL}_{worker[-_OWN:]}"')
                 await self._driver.ready(connection)
         except BaseException:
             connection.close()

@@ -128,7 +128,10 @@ class SQLite:
     def notify(self, word: str) -> None:
         """There is no other worker to tell."""
 
-    async def listen(self, heard: Callable[[str], None]) -> Callable[[], None] | None:
+    def notify_holder(self, invocation: str) -> None:
+        """There is no other worker to tell."""
+
+    async def listen(self, worker: str, heard: Callable[[str], None]) -> Callable[[], None] | None:
         return None
 
     def close(self) -> None:
