@@ -13,6 +13,7 @@ from __future__ import annotations
 
 import argparse
 import asyncio
+import inspect
 import json
 import pathlib
 import subprocess
@@ -25,6 +26,7 @@ from typing import Any
 sys.path.insert(0, str(pathlib.Path(__file__).parent.parent / "src"))
 from palqytun.runtime import App, Context, Service, gather, inbox, invocations, journal  # noqa: E402
 from palqytun.runtime.database import Database, connect  # noqa: E402
+from palqytun.runtime.database.plain import Plain  # noqa: E402
 from palqytun.runtime.database.schema import TABLES  # noqa: E402
 from palqytun.runtime.engine import Engine  # noqa: E402
 from palqytun.runtime.invocations import New  # noqa: E402
@@ -100,20 +102,20 @@ class Recorded:
         self.said.append((name, words))
         return getattr(self._db, name)(*words)
 
-    def begin(self) -> None:
-        self._make("begin")
+    async def begin(self) -> None:
+        await self._make("begin")
 
-    def commit(self) -> None:
-        self._make("commit")
+    async def commit(self) -> None:
+        await self._make("commit")
 
-    def rollback(self) -> None:
-        self._make("rollback")
+    async def rollback(self) -> None:
+        await self._make("rollback")
 
-    def rows(self, sql: str, values: Sequence[object] = ()) -> list[Any]:
-        return self._make("rows", sql, tuple(values))  # type: ignore[no-any-return]
+    async def rows(self, sql: str, values: Sequence[object] = ()) -> list[Any]:
+        return await self._make("rows", sql, tuple(values))  # type: ignore[no-any-return]
 
-    def change(self, sql: str, values: Sequence[object] = ()) -> int:
-        return self._make("change", sql, tuple(values))  # type: ignore[no-any-return]
+    async def change(self, sql: str, values: Sequence[object] = ()) -> int:
+        return await self._make("change", sql, tuple(values))  # type: ignore[no-any-return]
 
     def put(self, sql: str, values: Sequence[object] = ()) -> None:
         self._make("put", sql, tuple(values))
@@ -124,14 +126,14 @@ class Recorded:
     def notify(self, word: str) -> None:
         self._make("notify", word)
 
+    def notify_holder(self, invocation: str) -> None:
+        self._make("notify_holder", invocation)
+
 
 def emptied(url: str) -> None:
     if "://" in url:
-        db = connect(url)
-        db.begin()
-        db.change(f"TRUNCATE {', '.join(TABLES)} RESTART IDENTITY")
-        db.commit()
-        db.close()
+        with Plain(url) as db:
+            db.done(lambda to: to.change(f"TRUNCATE {', '.join(TABLES)} RESTART IDENTITY"))
         return
     for end in ("", "-wal", "-shm", ".lock"):
         pathlib.Path(url.partition("?")[0] + end).unlink(missing_ok=True)
@@ -140,33 +142,40 @@ def emptied(url: str) -> None:
 def floor(url: str) -> None:
     """A loop of one insert a transaction, which is the least that a step by itself can cost."""
     emptied(url)
-    db, count = connect(url), 1000
-    begun = time.perf_counter()
-    for at in range(count):
-        db.begin()
-        db.change("INSERT INTO journal(invocation, at, frame) VALUES ('floor', ?, ?)", (at, b"x" * 60))
-        db.commit()
-    print(f"floor    {count / (time.perf_counter() - begun):9.0f} transactions/s", flush=True)
-    db.close()
+    count = 1000
+
+    async def inserted(db: Database) -> float:
+        begun = time.perf_counter()
+        for at in range(count):
+            await db.begin()
+            await db.change("INSERT INTO journal(invocation, at, frame) VALUES ('floor', ?, ?)", (at, b"x" * 60))
+            await db.commit()
+        return time.perf_counter() - begun
+
+    with Plain(url) as db:
+        print(f"floor    {count / db.wait(inserted(db.db)):9.0f} transactions/s", flush=True)
 
 
 def submitted(url: str, handler: str, count: int, argument: object) -> None:
     """An empty database with workflows that haven't begun."""
     emptied(url)
-    db = connect(url)
-    db.begin()
-    for n in range(count):
-        invocations.create(db, app, Outcome(), New("Bench", handler, argument=json.dumps(argument).encode(), id=f"inv_{n:06d}"))
-    db.commit()
-    db.close()
+    with Plain(url) as db:
+        db.done(lambda to: made(to, [New("Bench", handler, argument=json.dumps(argument).encode(), id=f"inv_{n:06d}") for n in range(count)]))
 
 
-def again(url: str, said: list[tuple[str, tuple[Any, ...]]]) -> float:
+async def made(db: Database, all_of_them: list[New]) -> None:
+    for new in all_of_them:
+        await invocations.create(db, app, Outcome(), new)
+
+
+async def again(url: str, said: list[tuple[str, tuple[Any, ...]]]) -> float:
     """Seconds that the statements take by themselves."""
-    db = connect(url)
+    db = await connect(url)
     begun = time.perf_counter()
     for name, words in said:
-        getattr(db, name)(*words)
+        answer = getattr(db, name)(*words)
+        if inspect.isawaitable(answer):
+            await answer
     took = time.perf_counter() - begun
     db.close()
     return took
@@ -176,11 +185,11 @@ async def timed(url: str, name: str, scale: float, idle: float) -> None:
     """One worker, and then its rows alone."""
     handler, count, argument, invocations_of_one, steps_of_one = RUNS[name]
     count = max(1, int(count * scale))
-    submitted(url, handler, count, argument)
+    await asyncio.to_thread(submitted, url, handler, count, argument)
     recorded: list[Recorded] = []
 
-    def opened(url: str) -> Database:
-        recorded.append(Recorded(connect(url, worker=True)))
+    async def opened(url: str) -> Database:
+        recorded.append(Recorded(await connect(url, worker=True)))
         return recorded[-1]
 
     engine = Engine(app, url, idle=idle, connect=opened)
@@ -192,8 +201,8 @@ async def timed(url: str, name: str, scale: float, idle: float) -> None:
     transactions = sum(name == "commit" for name, _ in recorded[0].said)
     engine.stop()
     await task
-    submitted(url, handler, count, argument)
-    alone = again(url, recorded[0].said)
+    await asyncio.to_thread(submitted, url, handler, count, argument)
+    alone = await again(url, recorded[0].said)
     print(f"{name:<8} {count / took:9.0f} workflows/s {done / took:9.0f} steps/s {done / cpu:9.0f} steps/CPU s  {transactions} transactions  {took:.2f} s;", end=" ")
     print(f"rows alone {done / alone:.0f} steps/s, {took / alone:.2f} times as fast", flush=True)
 
@@ -202,15 +211,15 @@ async def timed_with_others(url: str, name: str, scale: float, idle: float, work
     """Several workers, all of which are there before the workflows are."""
     handler, count, argument, invocations_of_one, steps_of_one = RUNS[name]
     count = max(1, int(count * scale))
-    emptied(url)
+    await asyncio.to_thread(emptied, url)
     engine = Engine(app, url, idle=idle)
     task = asyncio.create_task(engine.run())
     await engine.is_open()
     others = [subprocess.Popen(command(url, idle)) for _ in range(workers - 1)]
     while (await engine.transact(lambda db: db.rows("SELECT COUNT(*) FROM workers")))[0][0] < workers:
         await asyncio.sleep(0.05)
-    made = [New("Bench", handler, argument=json.dumps(argument).encode(), id=f"inv_{n:06d}") for n in range(count)]
-    await engine.transact(lambda db: [invocations.create(db, app, Outcome(), new) for new in made])
+    all_of_them = [New("Bench", handler, argument=json.dumps(argument).encode(), id=f"inv_{n:06d}") for n in range(count)]
+    await engine.transact(lambda db: made(db, all_of_them))
     begun = time.perf_counter()
     await until_done(engine, count * invocations_of_one)
     took, done = time.perf_counter() - begun, count * steps_of_one
@@ -237,21 +246,25 @@ async def measured(url: str, idle: float, work: Callable[[Engine], Awaitable[Non
 async def long(url: str, scale: float) -> None:
     for count in (1000, 3000, 10_000):
         count = int(count * scale)
-        submitted(url, "calls", 1, count)
+        await asyncio.to_thread(submitted, url, "calls", 1, count)
         took = await measured(url, 1.0, lambda engine: until_done(engine, count + 1))
         print(f"long     {count} calls one after the other in {took:.1f} s, {count / took:.0f} calls/s", flush=True)
 
 
 async def suspended(url: str, scale: float) -> None:
     count = int(10_000 * scale)
-    submitted(url, "waits", count, 1)
+    await asyncio.to_thread(submitted, url, "waits", count, 1)
     took = await measured(url, 0.0, lambda engine: until_status(engine, "suspended", count))
 
     async def first(engine: Engine) -> None:
         await engine.result(await engine.submit(New("Bench", "empty", argument=b"1")))
 
+    async def delivered(db: Database) -> None:
+        for n in range(count):
+            await inbox.deliver(db, Outcome(), f"inv_{n:06d}", GO)
+
     async def resolved(engine: Engine) -> None:
-        await engine.transact(lambda db: [inbox.deliver(db, Outcome(), f"inv_{n:06d}", GO) for n in range(count)])
+        await engine.transact(delivered)
         await until_done(engine, count + 1)
 
     answered, ended = await measured(url, 0.0, first), await measured(url, 0.0, resolved)
@@ -285,14 +298,14 @@ async def main() -> None:
         url = options.db or f"{folder}/db"
         for name in options.what:
             if name == "floor":
-                floor(url)
+                await asyncio.to_thread(floor, url)
             elif name in ("long", "suspended"):
                 await (long if name == "long" else suspended)(url, options.scale)
             elif options.workers > 1:
                 await timed_with_others(url, name, options.scale, options.idle, options.workers)
             else:
                 await timed(url, name, options.scale, options.idle)
-        emptied(url)
+        await asyncio.to_thread(emptied, url)
 
 
 if __name__ == "__main__":

@@ -1,9 +1,11 @@
-"""The crash tests for as long as one likes: chaos.py [MINUTES] [--db sqlite|postgresql://..] [--seed N]
+"""The crash tests for as long as one likes: chaos.py [MINUTES] [--db sqlite|postgresql://..] [--seed N] [--kills N]
 
 Round after round, each with another seed, until the time is over or something is wrong: workers are killed while workflows are submitted;
 on SQLite they also die at commits, meet torn writes, clocks that jump, and a full disk; on PostgreSQL three of them run, are stopped for
 longer than their lease, and lose their connections. After each part all that is left is compared with a run without faults. Each round
 prints a line of figures, and the last line is that of all. A round takes about a minute, and the one that has begun is ended.
+
+With --kills there is one long round instead, of so many kills and no other fault.
 """
 
 from __future__ import annotations
@@ -66,16 +68,30 @@ def rounds(url: str, folder: pathlib.Path, seed: int, seconds: float) -> Iterato
         seed += 1
 
 
+def one_of_kills(url: str, folder: pathlib.Path, seed: int, count: int) -> Iterator[Report]:
+    """One round, of kills alone; a workflow is submitted before each."""
+    is_shared, room = url != "sqlite", folder / "kills"
+    reference = scenarios.undisturbed(url if is_shared else str(folder / "reference.db"), folder / "reference", count, seconds=3600)
+    room.mkdir()
+    how = {"each": 1, "workers": 3 if is_shared else 1, "seed": seed, "reference": reference, "seconds": 3600}
+    yield scenarios.kills(url if is_shared else str(room / "db"), room, faults=count, **how)
+
+
 def main() -> int:
     parser = argparse.ArgumentParser("chaos", description="Crash tests of the durable runtime, round after round.")
     parser.add_argument("minutes", nargs="?", type=float, default=10.0)
     parser.add_argument("--db", default="sqlite", help="sqlite, or the URL of a PostgreSQL database, which is emptied")
     parser.add_argument("--seed", type=int, default=1, help="of the first round")
+    parser.add_argument("--kills", type=int, default=0, help="in place of rounds one run with so many kills")
     options = parser.parse_args()
     signal.signal(signal.SIGTERM, lambda *_: sys.exit(1))  # so the workers end with it
     total, count, folder = Report(), 0, pathlib.Path(tempfile.mkdtemp(prefix="palqytun-chaos-"))
     try:
-        for report in rounds(options.db, folder, options.seed, 60 * options.minutes):
+        if options.kills:
+            reports = one_of_kills(options.db, folder, options.seed, options.kills)
+        else:
+            reports = rounds(options.db, folder, options.seed, 60 * options.minutes)
+        for report in reports:
             total, count = total + report, count + 1
     except Wrong as error:
         print(f"WRONG: {error}\nwhat it left is in {folder}", file=sys.stderr)

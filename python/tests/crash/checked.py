@@ -14,6 +14,7 @@ from dataclasses import dataclass
 import crash_app
 from palqytun.runtime import invocations, journal
 from palqytun.runtime.database import Database
+from palqytun.runtime.database.plain import Plain
 from palqytun.runtime.invocations import New
 from palqytun.runtime.journal import frames
 from palqytun.runtime.outcome import Outcome
@@ -26,27 +27,25 @@ class Wrong(Exception):
     """What a run left isn't what it must leave."""
 
 
-def submit(db: Database, first: int, count: int) -> None:
-    db.begin()
+async def _submitted(db: Database, first: int, count: int) -> None:
     for n in range(first, first + count):
         new = New("Load", KINDS[n % len(KINDS)], argument=json.dumps(n).encode(), id=f"inv_{n:06d}")
-        invocations.create(db, crash_app.app, Outcome(), new)
-    db.commit()
+        await invocations.create(db, crash_app.app, Outcome(), new)
 
 
-def rows(db: Database, sql: str) -> list:
-    db.begin()
-    try:
-        return db.rows(sql)
-    finally:
-        db.rollback()
+def submit(db: Plain, first: int, count: int) -> None:
+    db.done(lambda to: _submitted(to, first, count))
 
 
-def left(db: Database) -> int:
+def rows(db: Plain, sql: str) -> list:
+    return db.done(lambda to: to.rows(sql))
+
+
+def left(db: Plain) -> int:
     return rows(db, "SELECT COUNT(*) FROM invocations WHERE status<>'done'")[0][0]
 
 
-def wait(db: Database, seconds: float) -> None:
+def wait(db: Plain, seconds: float) -> None:
     until = time.monotonic() + seconds
     while left(db):
         if time.monotonic() > until:
@@ -84,21 +83,24 @@ class Found:
         return Found(*json.loads(file.read_text()))
 
 
-def found(db: Database, effects: pathlib.Path) -> Found:
-    """What a run left. Loading a journal checks the rules of storing."""
-    db.begin()
+async def _commands(db: Database) -> dict[str, list[str]]:
+    """The commands of each invocation. Loading a journal checks the rules of storing."""
     commands = {}
-    for id, service, handler, entries in db.rows("SELECT id, service, handler, entries FROM invocations"):
-        invocations.load(db, id, entries)
-        stream = b"".join(bytes(row[0]) for row in db.rows("SELECT frame FROM journal WHERE invocation=? ORDER BY at", (id,)))
+    for id, service, handler, entries in await db.rows("SELECT id, service, handler, entries FROM invocations"):
+        await invocations.load(db, id, entries)
+        stream = b"".join(bytes(row[0]) for row in await db.rows("SELECT frame FROM journal WHERE invocation=? ORDER BY at", (id,)))
         kept = [_compared(frame, handler) for _, frame in journal.commands_in(stream)]
         # What a counter reads depends on the order of its calls.
         commands[id] = [] if service == "Counter" else sorted(kept) if handler == "tasks" else kept
-    db.rollback()
-    return Found(commands, dict(collections.Counter(effects.read_text().split())))
+    return commands
 
 
-def check(db: Database, count: int, effects: pathlib.Path, reference: Found | None) -> Found:
+def found(db: Plain, effects: pathlib.Path) -> Found:
+    """What a run left."""
+    return Found(db.done(_commands), dict(collections.Counter(effects.read_text().split())))
+
+
+def check(db: Plain, count: int, effects: pathlib.Path, reference: Found | None) -> Found:
     """Raises `Wrong` for anything that isn't as in a run without faults."""
     for n, (kind, value) in enumerate(_results(db, count)):
         expected = crash_app.KINDS[KINDS[n % len(KINDS)]](n)
@@ -114,7 +116,7 @@ def check(db: Database, count: int, effects: pathlib.Path, reference: Found | No
     return it
 
 
-def _results(db: Database, count: int) -> list[tuple[str, bytes]]:
+def _results(db: Plain, count: int) -> list[tuple[str, bytes]]:
     ended = dict(rows(db, "SELECT id, result FROM invocations"))
     missing = [f"inv_{n:06d}" for n in range(count) if ended.get(f"inv_{n:06d}") is None]
     if missing:
@@ -122,7 +124,7 @@ def _results(db: Database, count: int) -> list[tuple[str, bytes]]:
     return [journal.answer(journal.Result(bytes(ended[f"inv_{n:06d}"]))) for n in range(count)]
 
 
-def _check_states(db: Database, count: int) -> None:
+def _check_states(db: Plain, count: int) -> None:
     expected: collections.Counter[str] = collections.Counter()
     for n in range(0, count, len(KINDS)):
         expected.update({str((n + i) % 7): 1 for i in range(3)})
@@ -131,9 +133,8 @@ def _check_states(db: Database, count: int) -> None:
     if counters != dict(expected):
         raise Wrong(f"the counters are {counters}, and not {dict(expected)}")
     for id, key, entries in rows(db, "SELECT id, key, entries FROM invocations WHERE service='Gate' AND handler='main'"):
-        db.begin()
-        by_commands, stored = invocations.load(db, id, entries).state({}), invocations.state_of(db, "Gate", key)
-        db.rollback()
+        by_commands = db.done(lambda to: invocations.load(to, id, entries)).state({})
+        stored = db.done(lambda to: invocations.state_of(to, "Gate", key))
         if by_commands != stored:
             raise Wrong(f"the state of {key} is {stored}, and its journal's commands leave {by_commands}")
 

@@ -10,8 +10,10 @@ from collections.abc import Callable
 
 import crash_app
 from palqytun.runtime import appending, claiming, committer, effects, inbox, invocations, journal, lease, storing
+from palqytun.runtime.database import Database
 from palqytun.runtime.database.sqlite import SQLite
 from palqytun.runtime.engine import Engine, Unavailable
+from palqytun.runtime.outcome import Outcome
 
 DIED = 9  # the exit status of a worker that died as it was asked to
 STUCK = 8  # and of one that has nothing to do any more, though invocations haven't ended
@@ -25,11 +27,11 @@ class Dying(SQLite):
     dies = 0
     commits = 0
 
-    def commit(self) -> None:
+    async def commit(self) -> None:
         self.commits += 1
         if self.commits == self.dies:
             os._exit(DIED)
-        super().commit()
+        await super().commit()
 
 
 def until_all_ended(
@@ -56,11 +58,11 @@ def until_all_ended(
     if wrong:
         WRONG[wrong]()
 
-    def connect(url: str) -> Dying:
+    async def connect(url: str) -> Dying:
         db = Dying(url, synchronous="OFF", worker=True)
         db.dies = dies
         if not is_checkpointed:
-            db.change("PRAGMA wal_autocheckpoint=0")
+            await db.change("PRAGMA wal_autocheckpoint=0")
         return db
 
     async def run() -> None:
@@ -118,25 +120,25 @@ def jumping(seed: int) -> Callable[[], float]:
 _left = 0  # times until the worker dies between two parts
 
 
-def _between(db: object) -> None:
+async def _between(db: Database) -> None:
     """What was done so far is committed, and the rest isn't yet."""
     global _left
-    db.commit()  # type: ignore[attr-defined]
+    await db.commit()
     _left -= 1
     if _left == 0:
         os._exit(DIED)
-    db.begin()  # type: ignore[attr-defined]
+    await db.begin()
 
 
 def completions_first() -> None:
     """A completion is stored before the command that it completes."""
     write = lease.Growth.write
 
-    def wrong(self: lease.Growth, db: object, **changed: object) -> None:
+    async def wrong(self: lease.Growth, db: Database, **changed: object) -> None:
         places = [it.at for it in self.entries]
         swapped = sorted(self.entries, key=lambda it: it.completes is None)
         self.entries = [lease.Entry(at, it.completes, it.frame) for at, it in zip(places, swapped)]
-        write(self, db, **changed)  # type: ignore[arg-type]
+        await write(self, db, **changed)
 
     def swapped_too(self: appending.Append, now: float) -> object:
         places, swapped = [it.at for it in self.growth.entries], sorted(self.growth.entries, key=lambda it: it.completes is None)
@@ -149,24 +151,24 @@ def completions_first() -> None:
 def timers_first() -> None:
     """A timer is deleted in an earlier transaction than that of its delivery."""
 
-    def wrong(self: claiming.Claimer, db: object, out: object, now: float) -> None:
-        due = db.rows("SELECT seq, invocation, completes FROM timers WHERE due<=?", (now,))  # type: ignore[attr-defined]
+    async def wrong(self: claiming.Claimer, db: Database, out: Outcome, now: float) -> None:
+        due = await db.rows("SELECT seq, invocation, completes FROM timers WHERE due<=?", (now,))
         if due:
-            db.many("DELETE FROM timers WHERE seq=?", [(seq,) for seq, _, _ in due])  # type: ignore[attr-defined]
-            _between(db)
+            db.many("DELETE FROM timers WHERE seq=?", [(seq,) for seq, _, _ in due])
+            await _between(db)
         for _, invocation, completes in due:
-            inbox.complete(db, out, invocation, completes, journal.void())  # type: ignore[arg-type]
+            inbox.complete(db, out, invocation, completes, journal.void())
 
-    claiming.Claimer._fire = wrong  # type: ignore[method-assign, assignment]
+    claiming.Claimer._fire = wrong  # type: ignore[method-assign]
 
 
 def ends_first() -> None:
     """An invocation's end is committed before those that wait for it get its result."""
     end = invocations.end
 
-    def wrong(db: object, *arguments: object) -> None:
-        _between(db)
-        end(db, *arguments)  # type: ignore[arg-type]
+    async def wrong(db: Database, *arguments: object) -> None:
+        await _between(db)
+        await end(db, *arguments)  # type: ignore[arg-type]
 
     invocations.end = wrong  # type: ignore[assignment]
 
@@ -175,9 +177,9 @@ def states_first() -> None:
     """A change of the state is committed before its command."""
     change = effects.Performer._change
 
-    def wrong(self: effects.Performer, it: journal.Change) -> None:
-        change(self, it)
-        _between(self.db)
+    async def wrong(self: effects.Performer, it: journal.Change) -> None:
+        await change(self, it)
+        await _between(self.db)
 
     effects._PERFORMED[journal.Change] = wrong
 
@@ -185,21 +187,21 @@ def states_first() -> None:
 def unfenced() -> None:
     """A store doesn't ask whether the lease is still this worker's."""
 
-    def fence(self: lease.Growth, db: object) -> None:
+    async def fence(self: lease.Growth, db: Database) -> None:
         pass
 
-    def write(self: lease.Growth, db: object, **changed: object) -> None:
+    async def write(self: lease.Growth, db: Database, **changed: object) -> None:
         names = "".join(f", {name}=?" for name in changed)
         values = (self.lease.journal.entries, *changed.values(), self.lease.invocation)
-        db.change(f"UPDATE invocations SET entries=?{names} WHERE id=?", values)  # type: ignore[attr-defined]
+        await db.change(f"UPDATE invocations SET entries=?{names} WHERE id=?", values)
         rows = [(self.lease.invocation, it.at, it.completes, it.frame) for it in self.entries]
         sql = "INSERT INTO journal(invocation, at, completes, frame) VALUES (?,?,?,?) ON CONFLICT DO NOTHING"
-        db.many(sql, rows)  # type: ignore[attr-defined]
+        db.many(sql, rows)
 
-    def append(db: object, appends: list[appending.Append]) -> list[bool]:
+    async def append(db: Database, appends: list[appending.Append]) -> list[bool]:
         for it in appends:
             progress = {"retries": 0, "failing_since": None} if it.growth.has_progress else {}
-            write(it.growth, db, **progress)
+            await write(it.growth, db, **progress)
         return [True] * len(appends)
 
     lease.Growth.fence = fence  # type: ignore[method-assign]

@@ -34,7 +34,7 @@ sys.path[:0] = [str(SOURCES), str(HERE)]
 
 import faulty  # noqa: E402
 from checked import Found, Wrong, check, left, rows, submit, wait  # noqa: E402
-from palqytun.runtime.database import Database, connect  # noqa: E402
+from palqytun.runtime.database.plain import Plain  # noqa: E402
 from palqytun.runtime.database.schema import TABLES  # noqa: E402
 
 _FORK = multiprocessing.get_context("fork")  # this process has no threads, and has imported what workers need
@@ -132,6 +132,7 @@ class Report:
     jumping_clocks: int = 0
     full_disks: int = 0
     open_at_faults: int = 0
+    lost_attempts: int = 0
     fenced: int = 0
     lost: int = 0
     journals: int = 0
@@ -161,10 +162,9 @@ class Room:
 
     def __post_init__(self) -> None:
         self.folder.mkdir(parents=True, exist_ok=True)
-        db = connect(str(self.folder / "begin"))
-        submit(db, 0, self.count)
-        rows_of(db, "PRAGMA wal_checkpoint(TRUNCATE)")
-        db.close()
+        with Plain(str(self.folder / "begin")) as db:
+            submit(db, 0, self.count)
+            db.rows("PRAGMA wal_checkpoint(TRUNCATE)")
         path, effects = self.copy("reference")
         if _worker(path, effects):
             raise Wrong(f"the run without faults failed: {_log(path)}")
@@ -179,22 +179,15 @@ class Room:
         return here / "db", here / "effects"
 
     def checked(self, path: pathlib.Path, effects: pathlib.Path, reference: Found | None) -> Found:
-        db = connect(str(path))
-        try:
+        with Plain(str(path)) as db:
             unended = left(db)
             if unended:
                 errors = rows(db, "SELECT id, status, error FROM invocations WHERE status<>'done' LIMIT 3")
                 raise Wrong(f"{unended} invocations haven't ended: {errors} {_log(path)}")
             return check(db, self.count, effects, reference)
-        finally:
-            db.close()
 
     def remove(self, path: pathlib.Path) -> None:
         shutil.rmtree(path.parent)
-
-
-def rows_of(db: Database, sql: str) -> list[Any]:
-    return db.rows(sql)
 
 
 def _log(path: pathlib.Path) -> str:
@@ -367,17 +360,21 @@ class Workers:
 
 
 def emptied(url: str) -> None:
-    db = connect(url)
-    db.begin()
-    if db.is_shared:
-        db.change(f"TRUNCATE {', '.join(TABLES)}")
-    db.commit()
-    db.close()
+    with Plain(url) as db:
+        if db.db.is_shared:
+            db.done(lambda to: to.change(f"TRUNCATE {', '.join(TABLES)}"))
 
 
-def _disconnect(db: Database) -> None:
+def _disconnect(db: Plain) -> None:
     """The server closes each connection but this one."""
     rows(db, "SELECT pg_terminate_backend(pid) FROM pg_stat_activity WHERE datname=current_database() AND pid<>pg_backend_pid()")
+
+
+def _until_work(db: Plain, since: float, seconds: float = 30) -> None:
+    """Until an attempt has begun since this time, so that the next fault meets a worker at work; or until all have ended."""
+    until = time.monotonic() + seconds
+    while time.monotonic() < until and left(db) and (rows(db, "SELECT MAX(begun) FROM invocations")[0][0] or 0) < since:
+        time.sleep(0.02)
 
 
 def kills(
@@ -399,50 +396,50 @@ def kills(
     folder.mkdir(parents=True, exist_ok=True)
     (folder / "effects").touch()
     emptied(url)
-    chance, report, db = random.Random(seed), Report(), connect(url)
-    running = Workers(url, workers, folder, idle=idle, wrong=wrong)
-    try:
-        for fault in range(faults):
-            submit(db, fault * each, each)
-            time.sleep(chance.uniform(0.15, 0.9) / (1 if workers == 1 else 2))
-            report.open_at_faults += left(db)
-            at, kind = chance.randrange(workers), fault % 10
-            if pauses and kind == 9:
-                running.pause(at, LEASE + 1.5)
-                report.pauses += 1
-            elif disconnects and kind in (4, 7):
-                _disconnect(db)
-                report.disconnects += 1
-            else:
-                running.kill(at)
-                report.kills += 1
-        wait(db, seconds)
-        time.sleep(LEASE / 3 + 0.5)  # after the last beats
-    finally:
-        running.end()
-    log = (folder / "log").read_text()
-    report.fenced, report.lost = log.count("fenced:"), log.count("the database is lost")
-    if "Traceback" in log:
-        raise Wrong(f"a worker raised an error: {folder / 'log'}: {log[log.index('Traceback') :][:2000]}")
-    it = check(db, faults * each, folder / "effects", reference)
-    db.close()
-    return report + Report.of(it)
+    chance, report = random.Random(seed), Report()
+    with Plain(url) as db:
+        running = Workers(url, workers, folder, idle=idle, wrong=wrong)
+        try:
+            for fault in range(faults):
+                begun = time.time()
+                submit(db, fault * each, each)
+                time.sleep(chance.uniform(0.15, 0.9) / (1 if workers == 1 else 2))
+                _until_work(db, begun)
+                report.open_at_faults += left(db)
+                at, kind = chance.randrange(workers), fault % 10
+                if pauses and kind == 9:
+                    running.pause(at, LEASE + 1.5)
+                    report.pauses += 1
+                elif disconnects and kind in (4, 7):
+                    _disconnect(db)
+                    report.disconnects += 1
+                else:
+                    running.kill(at)
+                    report.kills += 1
+            wait(db, seconds)
+            time.sleep(LEASE / 3 + 0.5)  # after the last beats
+        finally:
+            running.end()
+        log = (folder / "log").read_text()
+        report.lost_attempts = rows(db, "SELECT COUNT(*) FROM attempts WHERE how='lost'")[0][0]
+        report.fenced, report.lost = log.count("fenced:"), log.count("the database is lost")
+        if "Traceback" in log:
+            raise Wrong(f"a worker raised an error: {folder / 'log'}: {log[log.index('Traceback') :][:2000]}")
+        return report + Report.of(check(db, faults * each, folder / "effects", reference))
 
 
-def undisturbed(url: str, folder: pathlib.Path, count: int) -> Found:
+def undisturbed(url: str, folder: pathlib.Path, count: int, seconds: float = 240) -> Found:
     """What a run of so many workflows leaves without faults."""
     folder.mkdir(parents=True, exist_ok=True)
     (folder / "effects").touch()
     emptied(url)
-    db = connect(url)
-    submit(db, 0, count)
-    running = Workers(url, 1, folder, idle=0.5)
-    try:
-        wait(db, 240)
-        time.sleep(LEASE / 3 + 0.5)
-    finally:
-        running.end()
-    it = check(db, count, folder / "effects", None)
-    db.close()
-    return it
+    with Plain(url) as db:
+        submit(db, 0, count)
+        running = Workers(url, 1, folder, idle=0.5)
+        try:
+            wait(db, seconds)
+            time.sleep(LEASE / 3 + 0.5)
+        finally:
+            running.end()
+        return check(db, count, folder / "effects", None)
 

@@ -19,7 +19,7 @@ sys.path[:0] = [str(PYTHON / "src"), str(pathlib.Path(__file__).parent)]
 
 import runtime_app  # noqa: E402
 from palqytun.runtime import journal  # noqa: E402
-from palqytun.runtime.database import connect  # noqa: E402
+from palqytun.runtime.database.plain import Plain  # noqa: E402
 from palqytun.runtime.database.schema import TABLES  # noqa: E402
 from palqytun.runtime.engine import Engine  # noqa: E402
 from palqytun.runtime.invocations import New  # noqa: E402
@@ -32,11 +32,8 @@ def emptied(kind, folder):
     if kind == "sqlite":
         return str(folder / "db")
     url = os.environ["PALQYTUN_TEST_POSTGRES"]
-    db = connect(url)
-    db.begin()
-    db.change(f"TRUNCATE {', '.join(TABLES)}")
-    db.commit()
-    db.close()
+    with Plain(url) as db:
+        db.done(lambda to: to.change(f"TRUNCATE {', '.join(TABLES)}"))
     return url
 
 

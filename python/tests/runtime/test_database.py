@@ -11,6 +11,7 @@ import runtime_app
 from palqytun.runtime import App, Context, Service, TerminalError, invocations, journal
 from palqytun.runtime.committer import Committer, Stopped
 from palqytun.runtime.database import Conflict, Lost, connect, schema
+from palqytun.runtime.database.plain import Plain
 from palqytun.runtime.database.sqlite import InUse
 from palqytun.runtime.invocations import CLAIMED, Claimable, New
 from palqytun.runtime.lease import Growth
@@ -19,53 +20,54 @@ from support import Runtime
 
 
 def rows(db, sql):
-    db.begin()
-    found = db.rows(sql)
-    db.rollback()
-    return found
+    return db.done(lambda to: to.rows(sql))
+
+
+def worker(url):
+    return Plain(url, opened=lambda url: connect(url, worker=True))
 
 
 class Files(support.InAFolder, unittest.TestCase):
     def test_a_database_lacks_some_migrations(self):
         url = str(self.folder / "db")
-        connect(url).close()
+        Plain(url).close()
         patch = mock.patch.object(schema, "MIGRATIONS", [*schema.MIGRATIONS, "CREATE TABLE more(at {float});\nCREATE INDEX more_at ON more(at)"])
         patch.start()
         self.addCleanup(mock.patch.stopall)
-        db = connect(url)
+        db = Plain(url)
         assert rows(db, "SELECT version FROM schema_versions ORDER BY version") == [(1,), (2,), (3,)] and rows(db, "SELECT * FROM more") == []
         db.close()
-        connect(url).close()
+        Plain(url).close()
         patch.stop()
         with self.assertRaisesRegex(schema.NewerSchema, "has schema version 3"):
-            connect(url)
+            Plain(url)
 
     def test_a_migration_that_fails_changes_nothing(self):
         url = str(self.folder / "db")
-        connect(url).close()
+        Plain(url).close()
         patch = mock.patch.object(schema, "MIGRATIONS", [*schema.MIGRATIONS, "CREATE TABLE more(at {float});\nNO STATEMENT"])
         patch.start()
         self.addCleanup(mock.patch.stopall)
         with self.assertRaises(Lost):
-            connect(url)
+            Plain(url)
         patch.stop()
-        db = connect(url)
+        db = Plain(url)
         assert rows(db, "SELECT COUNT(*) FROM sqlite_master WHERE name='more'") == [(0,)]
 
     def test_one_worker_a_file(self):
-        first = connect(str(self.folder / "db"), worker=True)
+        first = worker(str(self.folder / "db"))
         with self.assertRaises(InUse):
-            connect(str(self.folder / "db"), worker=True)
-        connect(str(self.folder / "db")).close()
+            worker(str(self.folder / "db"))
+        Plain(str(self.folder / "db")).close()
         first.close()
-        connect(str(self.folder / "db"), worker=True).close()
+        worker(str(self.folder / "db")).close()
 
     def test_a_file_that_is_no_database(self):
         (self.folder / "db").write_bytes(b"no database" * 1000)
         with self.assertRaises(Lost):
-            connect(str(self.folder / "db"))
+            Plain(str(self.folder / "db"))
         with self.assertRaises(ValueError):
-            connect(f"{self.folder / 'other'}?synchronous=SOMETIMES")
+            Plain(f"{self.folder / 'other'}?synchronous=SOMETIMES")
 
 
 @support.on_each_database
@@ -74,19 +76,19 @@ class Databases(support.OnADatabase):
         """One that fails is made alone, and those beside it are committed; one that is in others' way is made again."""
 
         async def go():
-            committer = Committer(connect(self.url))
+            committer = Committer(await connect(self.url))
             tries = []
 
             def insert(name):
                 return lambda db: db.change("INSERT INTO workers VALUES (?, 0)", (name,))
 
-            def fails(db):
-                insert("fails")(db)
+            async def fails(db):
+                await insert("fails")(db)
                 raise TerminalError("no")
 
-            def conflicts(db):
+            async def conflicts(db):
                 tries.append(1)
-                insert("conflicts")(db)
+                await insert("conflicts")(db)
                 if len(tries) < 4:
                     raise Conflict("later")
                 return "done"
@@ -110,12 +112,12 @@ class Databases(support.OnADatabase):
         ids = [f"inv_{n}" for n in range(3)]
         frame = struct.pack(">HQQ3sI", 26, 15, 3, b"run", 1)
 
-        def claimed(db):
+        async def claimed(db):
             for id in ids:
-                invocations.create(db, runtime_app.app, Outcome(), New("S", "echo", id=id))
-            found = [Claimable(*row) for row in db.rows(f"SELECT {CLAIMED} FROM invocations ORDER BY id")]
-            db.change("UPDATE invocations SET retries=3, failing_since=1.5")
-            return invocations.claim(db, "one", found)
+                await invocations.create(db, runtime_app.app, Outcome(), New("S", "echo", id=id))
+            found = [Claimable(*row) for row in await db.rows(f"SELECT {CLAIMED} FROM invocations ORDER BY id")]
+            await db.change("UPDATE invocations SET retries=3, failing_since=1.5")
+            return await invocations.claim(db, "one", found)
 
         def grown(claim):
             growth = Growth(claim.lease)
@@ -123,7 +125,7 @@ class Databases(support.OnADatabase):
             return growth
 
         async def go():
-            committer = Committer(connect(self.url))
+            committer = Committer(await connect(self.url))
             claims = await committer.submit(claimed)
             await committer.submit(lambda db: db.change("UPDATE invocations SET epoch=2 WHERE id=?", (ids[1],)))
             before = committer.counts["transactions"]
@@ -191,8 +193,8 @@ class Servers(support.OnADatabase, unittest.TestCase):
                 id = await runtime.send("S/waits")
                 while not runtime_app.seen:
                     await asyncio.sleep(0.01)
-                other = connect(url)
-                rows(other, "SELECT pg_terminate_backend(pid) FROM pg_stat_activity WHERE datname=current_database() AND pid<>pg_backend_pid()")
+                other = await connect(url)
+                await other.rows("SELECT pg_terminate_backend(pid) FROM pg_stat_activity WHERE datname=current_database() AND pid<>pg_backend_pid()")
                 other.close()
                 while runtime.engine.counts["sessions"] < 2:
                     await asyncio.sleep(0.05)

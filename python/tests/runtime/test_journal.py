@@ -7,7 +7,7 @@ import unittest
 import support  # isort: skip
 from palqytun.runtime import journal
 from palqytun.runtime.invocations import load
-from palqytun.runtime.database.sqlite import SQLite
+from palqytun.runtime.database.plain import Plain
 from palqytun.runtime.journal import Begin, Dishonest, Journal, frames
 from palqytun.runtime.lease import Fenced, Growth, Lease
 
@@ -63,7 +63,7 @@ def broken(rule, method, *arguments):
 
 
 def stored(folder):
-    db = SQLite(str(folder / "db"))
+    db = Plain(str(folder / "db"))
     db.change(
         "INSERT INTO invocations(id, service, handler, key, exclusive, version, seed, status, due, epoch, entries, created)"
         " VALUES ('inv','s','h','',0,7,1,'running',0,1,1,0)"
@@ -73,7 +73,7 @@ def stored(folder):
 
 
 def growth(db, epoch):
-    loaded = load(db, "inv", db.rows("SELECT entries FROM invocations")[0][0])
+    loaded = db.wait(load(db.db, "inv", db.rows("SELECT entries FROM invocations")[0][0]))
     loaded.start(Begin("inv", "", 7))
     return Growth(Lease("inv", epoch, loaded))
 
@@ -172,24 +172,24 @@ class Rules(support.InAFolder, unittest.TestCase):
         first, second = growth(db, 1), growth(db, 1)
         for one in (first, second):
             one.store(sleep(1), 0)
-        first.fence(db)
-        first.write(db)
+        db.wait(first.fence(db.db))
+        db.wait(first.write(db.db))
         for step in (second.fence, second.write):
             with self.assertRaises(Fenced):
-                step(db)
+                db.wait(step(db.db))
         other = growth(db, 1)
         db.change("UPDATE invocations SET epoch=2")
         other.store(sleep(2), 0)
         for step in (other.fence, other.write):
             with self.assertRaises(Fenced):
-                step(db)
+                db.wait(step(db.db))
         assert db.rows("SELECT COUNT(*) FROM journal") == [(2,)]
 
     def test_a_journal_with_a_gap_is_refused(self):
         db = stored(self.folder)
-        broken("WHOLE", load, db, "inv", 2)
+        broken("WHOLE", lambda: db.wait(load(db.db, "inv", 2)))
         db.change("INSERT INTO journal(invocation, at, frame) VALUES ('inv',2,?)", (sleep(1),))
-        broken("WHOLE", load, db, "inv", 2)
+        broken("WHOLE", lambda: db.wait(load(db.db, "inv", 2)))
 
     def test_a_future_of_a_suspension(self):
         won, lost = {(0, 1): True}, {(0, 1): False}

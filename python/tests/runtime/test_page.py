@@ -9,7 +9,7 @@ import unittest
 import support  # isort: skip
 import runtime_app
 from palqytun.runtime import inbox, invocations, journal, storing, timeline
-from palqytun.runtime.database import connect
+from palqytun.runtime.database.plain import Plain
 from palqytun.runtime.engine import Engine
 from palqytun.runtime.http import Request
 from palqytun.runtime.invocations import CLAIMED, New
@@ -55,27 +55,25 @@ class Elements(html.parser.HTMLParser):
         return [attributes for element, attributes in self.found if element == name]
 
 
-def claimed(db, id, worker):
-    [row] = db.rows(f"SELECT {CLAIMED} FROM invocations WHERE id=?", (id,))
-    [claim] = invocations.claim(db, worker, [invocations.Claimable(*row)])
+async def claimed(db, id, worker):
+    [row] = await db.rows(f"SELECT {CLAIMED} FROM invocations WHERE id=?", (id,))
+    [claim] = await invocations.claim(db, worker, [invocations.Claimable(*row)])
     return claim
 
 
-def three_attempts(db):
+async def three_attempts(db):
     """An invocation that slept, was suspended, went on and was lost with its worker, and runs again."""
-    db.begin()
     out = Outcome()
-    id, _ = invocations.create(db, runtime_app.app, out, New("S", "echo", argument=b'"<b>&"'))
-    first = claimed(db, id, "one")
-    storing.store(db, runtime_app.app, first, sleep(1) + SUSPENDED, 0)
+    id, _ = await invocations.create(db, runtime_app.app, out, New("S", "echo", argument=b'"<b>&"'))
+    first = await claimed(db, id, "one")
+    await storing.store(db, runtime_app.app, first, sleep(1) + SUSPENDED, 0)
     first.lease.journal.keep()
     inbox.complete(db, out, id, 1, journal.void())
-    claimed(db, id, "two")
-    third = claimed(db, id, "three")
+    await claimed(db, id, "two")
+    third = await claimed(db, id, "three")
     growth = Growth(third.lease)
     growth.store(sleep(2), 0)
-    growth.write(db)
-    db.commit()
+    await growth.write(db)
     return id
 
 
@@ -83,16 +81,12 @@ def three_attempts(db):
 class Timelines(support.OnADatabase):
     def setUp(self):
         super().setUp()
-        self.db = connect(self.url)
+        self.db = Plain(self.url)
         self.addCleanup(self.db.close)
-        self.id = three_attempts(self.db)
+        self.id = self.db.done(three_attempts)
 
     def found(self):
-        self.db.begin()
-        try:
-            return timeline.timeline(self.db, self.id)
-        finally:
-            self.db.rollback()
+        return self.db.done(lambda db: timeline.timeline(db, self.id))
 
     def test_attempts_and_steps(self):
         it = self.found()
@@ -104,9 +98,7 @@ class Timelines(support.OnADatabase):
         self.assertEqual(timeline.as_json(it)["steps"][1]["entry"], "Sleep id=1 due=1000")
 
     def test_nobody(self):
-        self.db.begin()
-        self.assertIsNone(timeline.timeline(self.db, "inv_none"))
-        self.db.rollback()
+        self.assertIsNone(self.db.done(lambda db: timeline.timeline(db, "inv_none")))
 
     def test_the_picture(self):
         it = self.found()
@@ -179,12 +171,9 @@ class Requests(support.OnADatabase, unittest.TestCase):
 class InABrowser(support.OnADatabase, unittest.TestCase):
     def test_the_picture_is_drawn(self):
         """The browser lays the picture out: its bars have places, and none of them is outside of it."""
-        db = connect(self.url)
-        id = three_attempts(db)
-        db.begin()
-        it = timeline.timeline(db, id)
-        db.rollback()
-        db.close()
+        with Plain(self.url) as db:
+            id = db.done(three_attempts)
+            it = db.done(lambda to: timeline.timeline(to, id))
         file = self.folder / "page.html"
         measured = "<script>document.title=[...document.querySelectorAll('rect')].map(e=>{const a=e.getBoundingClientRect();const b=e.ownerSVGElement.getBoundingClientRect();return a.width>0&&a.left>=b.left&&a.right<=b.right+1&&a.bottom<=b.bottom}).join()</script>"
         file.write_text(drawn(it, it.invocation["created"] + 10) + measured)

@@ -9,7 +9,7 @@ import support  # isort: skip
 from palqytun.runtime import App, Context, Schedule, Service, VirtualObject, Workflow, invocations, journal, operate, schedules
 from palqytun.runtime.claiming import Claimer
 from palqytun.runtime.cron import Cron, Every
-from palqytun.runtime.database import connect
+from palqytun.runtime.database.plain import Plain
 from palqytun.runtime.invocations import New
 from palqytun.runtime.outcome import Outcome
 
@@ -97,14 +97,12 @@ class Times(unittest.TestCase):
 class OnAConnection(support.OnADatabase):
     def setUp(self):
         super().setUp()
-        self.db = connect(self.url)
-        self.addCleanup(self.db.close)
+        self.plain = Plain(self.url)
+        self.db = self.plain.db
+        self.addCleanup(self.plain.close)
 
     def done(self, operation, *arguments):
-        self.db.begin()
-        found = operation(self.db, *arguments)
-        self.db.commit()
-        return found
+        return self.plain.done(lambda db: operation(db, *arguments))
 
     def rows(self, sql, *values):
         return self.done(lambda db: db.rows(sql, values))

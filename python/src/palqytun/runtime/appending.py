@@ -45,31 +45,31 @@ class Append:
         return ((own, it.at, it.completes, it.frame, now) for it in self.growth.entries)
 
 
-def append(db: Database, appends: Sequence[Append]) -> list[bool]:
+async def append(db: Database, appends: Sequence[Append]) -> list[bool]:
     """Makes these stores; answers of each whether it was stored. One that wasn't has lost its lease."""
     if not db.is_remote:
-        return _one_by_one(db, appends)
+        return await _one_by_one(db, appends)
     answers = [False] * len(appends)
     for first in range(0, len(appends), _AT_ONCE):
-        for number in _together(db, appends[first : first + _AT_ONCE]):
+        for number in await _together(db, appends[first : first + _AT_ONCE]):
             answers[first + number] = True
     return answers
 
 
-def _one_by_one(db: Database, appends: Sequence[Append]) -> list[bool]:
+async def _one_by_one(db: Database, appends: Sequence[Append]) -> list[bool]:
     answers, rows, now = list[bool](), list[tuple[object, ...]](), time.time()
     for it in appends:
-        answers.append(it.growth.grow(db))
+        answers.append(await it.growth.grow(db))
         if answers[-1]:
             rows += it.entries(now)
     db.many(INSERTED, rows)
     return answers
 
 
-def _together(db: Database, appends: Sequence[Append]) -> list[int]:
+async def _together(db: Database, appends: Sequence[Append]) -> list[int]:
     """The numbers of the stores that were made."""
     now = time.time()
     asked = [(number, *it.asked()) for number, it in enumerate(appends)]
     entries = [(number, *row) for number, it in enumerate(appends) for row in it.entries(now)]
     sql = _TOGETHER.format(asked=",".join([_ASKED] * len(asked)), entries=",".join([_ENTRY] * len(entries)))
-    return [number for (number,) in db.rows(sql, [part for row in (*asked, *entries) for part in row])]
+    return [number for (number,) in await db.rows(sql, [part for row in (*asked, *entries) for part in row])]

@@ -6,7 +6,7 @@ import asyncio
 import inspect
 import time
 import traceback
-from collections.abc import Callable
+from collections.abc import Awaitable, Callable
 from types import TracebackType
 from typing import Any, Protocol
 
@@ -20,6 +20,7 @@ from .lease import Growth
 from .outcome import Outcome
 from .services import App, Cancelled, TerminalError, plain
 
+
 class Worker(Protocol):
     """What an attempt needs of its worker."""
 
@@ -29,7 +30,7 @@ class Worker(Protocol):
     def patience(self) -> float:
         """For how many seconds an attempt may wait now, before it is suspended."""
 
-    async def write(self, operation: Callable[[Database], Outcome], claim: Claim) -> Outcome:
+    async def write(self, operation: Callable[[Database], Awaitable[Outcome]], claim: Claim) -> Outcome:
         """Commits a transaction on the claim's journal."""
 
     async def append(self, growth: Growth) -> None:
@@ -276,4 +277,3 @@ class Attempt:
             self._vm.notify_input(b"".join(out.feed))
         self._has_ended = out.status != "running"
         return bool(out.feed)
-

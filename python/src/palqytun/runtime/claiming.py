@@ -3,7 +3,7 @@
 from __future__ import annotations
 
 import time
-from collections.abc import Collection, Iterator
+from collections.abc import AsyncIterator, Collection
 from dataclasses import dataclass, field
 from typing import Any
 
@@ -47,65 +47,65 @@ class Claimer:
 
     # ---- leases
 
-    def enter(self, db: Database) -> None:
+    async def enter(self, db: Database) -> None:
         """The worker begins."""
         if not db.is_shared:
-            db.change("DELETE FROM workers")  # this is the only one
-        db.change("DELETE FROM workers WHERE id=?", (self.former,))
-        db.change(f"INSERT INTO workers(id, lease) VALUES (?,{db.clock}+?)", (self.worker, self.lease))
-        db.change(f"DELETE FROM workers WHERE lease < {db.clock}-3600")
-        schedules.enter(db, self.app, self.app.services)
+            await db.change("DELETE FROM workers")  # this is the only one
+        await db.change("DELETE FROM workers WHERE id=?", (self.former,))
+        await db.change(f"INSERT INTO workers(id, lease) VALUES (?,{db.clock}+?)", (self.worker, self.lease))
+        await db.change(f"DELETE FROM workers WHERE lease < {db.clock}-3600")
+        await schedules.enter(db, self.app, self.app.services)
         limited = [(it.path,) for it in self.app.limited()]
         db.many("INSERT INTO limits(path) VALUES (?) ON CONFLICT(path) DO NOTHING", limited)
 
-    def beat(self, db: Database) -> None:
+    async def beat(self, db: Database) -> None:
         """Keeps the worker's leases. What was delivered while its target ended elsewhere is swept."""
-        if not db.change(f"UPDATE workers SET lease={db.clock}+? WHERE id=?", (self.lease, self.worker)):
-            self.enter(db)
-        db.change("DELETE FROM inbox WHERE fresh=1 AND invocation IN (SELECT id FROM invocations WHERE status='done')")
+        if not await db.change(f"UPDATE workers SET lease={db.clock}+? WHERE id=?", (self.lease, self.worker)):
+            await self.enter(db)
+        await db.change("DELETE FROM inbox WHERE fresh=1 AND invocation IN (SELECT id FROM invocations WHERE status='done')")
 
-    def leave(self, db: Database) -> None:
+    async def leave(self, db: Database) -> None:
         """The worker ends; others may go on with what it had at once."""
-        db.change("DELETE FROM workers WHERE id=?", (self.worker,))
+        await db.change("DELETE FROM workers WHERE id=?", (self.worker,))
         db.notify("ready")
 
     # ---- claims
 
-    def claim(self, db: Database, live: Collection[str], room: int) -> Claims:
+    async def claim(self, db: Database, live: Collection[str], room: int) -> Claims:
         """Fires the timers that are due, and claims at most `room` invocations that can go on; `live` are those that have an attempt here."""
         found, now = Claims(), time.time()
-        self._fire(db, found.out, now)
-        schedules.fire(db, self.app, found.out, now)
-        fresh = {row[0] for row in db.rows("SELECT DISTINCT invocation FROM inbox WHERE fresh=1 LIMIT ?", (_FRESH,))}
+        await self._fire(db, found.out, now)
+        await schedules.fire(db, self.app, found.out, now)
+        fresh = {row[0] for row in await db.rows("SELECT DISTINCT invocation FROM inbox WHERE fresh=1 LIMIT ?", (_FRESH,))}
         found.out.touched |= fresh
-        rows = [Claimable(*row) for row in self._rows(db, now, room, bool(fresh))]
+        rows = [Claimable(*row) for row in await self._rows(db, now, room, bool(fresh))]
         free = [it for it in rows if it.id not in live]
         for first in range(0, len(free), _AT_ONCE):
-            found.claims += invocations.claim(db, self.worker, free[first : first + _AT_ONCE])
-        found.next_due = self._next_due(db, now)
+            found.claims += await invocations.claim(db, self.worker, free[first : first + _AT_ONCE])
+        found.next_due = await self._next_due(db, now)
         return found
 
-    def _fire(self, db: Database, out: Outcome, now: float) -> None:
-        due = db.rows(f"SELECT seq, invocation, completes FROM timers WHERE due<=? ORDER BY due LIMIT {_TIMERS}{db.skip}", (now,))
+    async def _fire(self, db: Database, out: Outcome, now: float) -> None:
+        due = await db.rows(f"SELECT seq, invocation, completes FROM timers WHERE due<=? ORDER BY due LIMIT {_TIMERS}{db.skip}", (now,))
         for _, invocation, completes in due:
             inbox.complete(db, out, invocation, completes, journal.void())
         if due:
             db.many("DELETE FROM timers WHERE seq=?", [(seq,) for seq, _, _ in due])
 
-    def _rows(self, db: Database, now: float, room: int, has_fresh: bool) -> list[Any]:
+    async def _rows(self, db: Database, now: float, room: int, has_fresh: bool) -> list[Any]:
         """Invocations that can go on, each with its row kept until the commit."""
         rows: list[Any] = []
-        for share in self._shares(db):
+        async for share in self._shares(db):
             most = min(share.room, room - len(rows))
-            found = self._awake(db, share, most) if has_fresh and most > 0 else []
+            found = await self._awake(db, share, most) if has_fresh and most > 0 else []
             if len(found) < most:
-                found += self._ready(db, share, now, most - len(found))
+                found += await self._ready(db, share, now, most - len(found))
             rows += found
         if len(rows) < room:
-            rows += self._orphaned(db, room - len(rows))
+            rows += await self._orphaned(db, room - len(rows))
         return rows
 
-    def _shares(self, db: Database) -> Iterator[Share]:
+    async def _shares(self, db: Database) -> AsyncIterator[Share]:
         """The handlers without a limit, and then each that has one. The rows of the limits are kept until the commit, so two workers don't count
         at one time."""
         limited, services = self.app.limited(), tuple(self.app.services)
@@ -113,36 +113,37 @@ class Claimer:
         named = tuple(name for it in limited for name in (it.service.name, it.name))
         yield Share(f"service IN ({','.join('?' * len(services))}){is_free}", (*services, *named), 1_000_000)
         for it in limited:
-            db.rows(f"SELECT path FROM limits WHERE path=?{db.lock}", (it.path,))
+            await db.rows(f"SELECT path FROM limits WHERE path=?{db.lock}", (it.path,))
             names = (it.service.name, it.name)
-            [(running,)] = db.rows("SELECT COUNT(*) FROM invocations WHERE status='running' AND service=? AND handler=?", names)
+            [(running,)] = await db.rows("SELECT COUNT(*) FROM invocations WHERE status='running' AND service=? AND handler=?", names)
             yield Share("service=? AND handler=?", names, (it.limit or 0) - running)
 
-    def _awake(self, db: Database, share: Share, most: int) -> list[Any]:
+    async def _awake(self, db: Database, share: Share, most: int) -> list[Any]:
         """Suspended ones whose inbox wakes them."""
         is_fresh = "id IN (SELECT invocation FROM inbox WHERE fresh=1)"
         sql = f"SELECT {CLAIMED}, future FROM invocations WHERE {share.where} AND status='suspended' AND {is_fresh} LIMIT ?{db.skip}"
-        return [tuple(row) for *row, future in db.rows(sql, (*share.values, most)) if inbox.wakes(db, row[0], bytes(future))]
+        return [tuple(row) for *row, future in await db.rows(sql, (*share.values, most)) if await inbox.wakes(db, row[0], bytes(future))]
 
-    def _ready(self, db: Database, share: Share, now: float, most: int) -> list[Any]:
+    async def _ready(self, db: Database, share: Share, now: float, most: int) -> list[Any]:
         is_free = (
             "(exclusive=0 OR NOT EXISTS (SELECT 1 FROM locks"
             " WHERE locks.service=invocations.service AND locks.key=invocations.key AND locks.holder<>invocations.id))"
         )
         sql = f"SELECT {CLAIMED} FROM invocations WHERE {share.where} AND status='ready' AND due<=? AND {is_free} ORDER BY due, seq LIMIT ?{db.skip}"
-        return db.rows(sql, (*share.values, now, most))
+        return await db.rows(sql, (*share.values, now, most))
 
-    def _orphaned(self, db: Database, most: int) -> list[Any]:
+    async def _orphaned(self, db: Database, most: int) -> list[Any]:
         """Running ones whose worker isn't alive. They are counted as running already, so no limit keeps them out."""
         services = tuple(self.app.services)
         is_orphaned = f"status='running' AND worker NOT IN (SELECT id FROM workers WHERE lease>={db.clock})"
         sql = f"SELECT {CLAIMED} FROM invocations WHERE service IN ({','.join('?' * len(services))}) AND {is_orphaned} LIMIT ?{db.skip}"
-        return db.rows(sql, (*services, most))
+        return await db.rows(sql, (*services, most))
 
-    def _next_due(self, db: Database, now: float) -> float | None:
+    async def _next_due(self, db: Database, now: float) -> float | None:
         sql = (
             "SELECT MIN(due) FROM (SELECT MIN(due) AS due FROM timers"
             " UNION ALL SELECT MIN(due) AS due FROM invocations WHERE status='ready' AND due>?) AS next"
         )
-        found, scheduled = db.rows(sql, (now,))[0][0], schedules.next_due(db, self.app)
+        [(found,)] = await db.rows(sql, (now,))
+        scheduled = await schedules.next_due(db, self.app)
         return min((float(it) for it in (found, scheduled) if it is not None), default=None)

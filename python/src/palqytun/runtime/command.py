@@ -4,7 +4,6 @@ from __future__ import annotations
 
 import argparse
 import asyncio
-import contextlib
 import importlib.util
 import logging
 import os
@@ -12,10 +11,12 @@ import pathlib
 import signal
 import sys
 import time
-from collections.abc import Iterator
+from collections.abc import Awaitable, Callable
+from typing import TypeVar
 
 from . import inbox, journal, operate
-from .database import Database, Lost, connect
+from .database import Database, Lost
+from .database.plain import Plain
 from .database.postgres import NoDriver
 from .database.schema import NewerSchema
 from .database.sqlite import InUse
@@ -24,6 +25,9 @@ from .ingress import Ingress
 from .outcome import Outcome
 from .replay import replay_all
 from .services import App
+
+
+T = TypeVar("T")
 
 
 class Refused(Exception):
@@ -69,77 +73,72 @@ def run(options: argparse.Namespace) -> int:
     return 0
 
 
-@contextlib.contextmanager
-def _opened(url: str) -> Iterator[Database]:
-    """The database for one transaction."""
+def _done(url: str, operation: Callable[[Database], Awaitable[T]]) -> T:
+    """What an operation answers, in a transaction of its own."""
     if "://" not in url and not pathlib.Path(url.removeprefix("sqlite:").partition("?")[0]).exists():
         raise Refused(f"there is no database {url}")
-    db = connect(url)
-    try:
-        db.begin()
-        yield db
-        db.commit()
-    finally:
-        db.close()
+    with Plain(url) as db:
+        return db.done(operation)
 
 
 def list_invocations(options: argparse.Namespace) -> int:
-    with _opened(options.db) as db:
-        for it in operate.invocations(db, options.status, options.service, options.most):
-            age = (it["ended"] or time.time()) - it["created"]
-            target = "/".join(filter(None, (it["service"], it["key"], it["handler"])))
-            error = (it["error"] or "").splitlines()[:1] if it["status"] in ("ready", "paused") else []
-            print(f"{it['id']}  {it['status']:<9}  {target:<30}  {age:9.1f} s  {it['entries']:>5} entries  {''.join(error)}".rstrip())
+    for it in _done(options.db, lambda db: operate.invocations(db, options.status, options.service, options.most)):
+        age = (it["ended"] or time.time()) - it["created"]
+        target = "/".join(filter(None, (it["service"], it["key"], it["handler"])))
+        error = (it["error"] or "").splitlines()[:1] if it["status"] in ("ready", "paused") else []
+        print(f"{it['id']}  {it['status']:<9}  {target:<30}  {age:9.1f} s  {it['entries']:>5} entries  {''.join(error)}".rstrip())
     return 0
 
 
+async def _inspected(db: Database, id: str) -> list[str]:
+    """The row of an invocation, and its journal, a line each."""
+    found = await operate.invocation(db, id)
+    if found is None:
+        raise Refused(f"there is no invocation {id}")
+    return [*(f"# {name}: {value}" for name, value in found.items() if value is not None), *await operate.journal_of(db, id)]
+
+
 def inspect(options: argparse.Namespace) -> int:
-    with _opened(options.db) as db:
-        found = operate.invocation(db, options.id)
-        if found is None:
-            raise Refused(f"there is no invocation {options.id}")
-        for name, value in found.items():
-            if value is not None:
-                print(f"# {name}: {value}")
-        print("\n".join(operate.journal_of(db, options.id)))
+    print("\n".join(_done(options.db, lambda db: _inspected(db, options.id))))
     return 0
 
 
 def cancel(options: argparse.Namespace) -> int:
-    with _opened(options.db) as db:
-        if not inbox.deliver(db, Outcome(), options.id, journal.signal(journal.CANCEL, journal.void())):
-            raise Refused(f"there is no invocation {options.id} that hasn't ended")
+    signalled = journal.signal(journal.CANCEL, journal.void())
+    if not _done(options.db, lambda db: inbox.deliver(db, Outcome(), options.id, signalled)):
+        raise Refused(f"there is no invocation {options.id} that hasn't ended")
     return 0
 
 
 def resume(options: argparse.Namespace) -> int:
-    with _opened(options.db) as db:
-        if not operate.resume(db, Outcome(), options.id):
-            raise Refused(f"there is no invocation {options.id} that is paused")
+    if not _done(options.db, lambda db: operate.resume(db, Outcome(), options.id)):
+        raise Refused(f"there is no invocation {options.id} that is paused")
     return 0
 
 
+async def _purged(db: Database, before: float) -> int:
+    count = 0
+    while some := await operate.purge(db, before):
+        count += some
+    return count
+
+
 def purge(options: argparse.Namespace) -> int:
-    before, count = time.time() - options.older, 0
-    with _opened(options.db) as db:
-        while some := operate.purge(db, before):
-            count += some
-    print(f"{count} invocations are purged")
+    before = time.time() - options.older
+    print(f"{_done(options.db, lambda db: _purged(db, before))} invocations are purged")
     return 0
 
 
 def list_schedules(options: argparse.Namespace) -> int:
-    with _opened(options.db) as db:
-        for it in operate.schedules(db):
-            due = time.strftime("%Y-%m-%d %H:%M:%S", time.gmtime(it["due"]))
-            print(f"{it['name']:<20}  {it['service']}/{it['handler']:<20}  {it['rule']:<20}  next {due} UTC")
+    for it in _done(options.db, operate.schedules):
+        due = time.strftime("%Y-%m-%d %H:%M:%S", time.gmtime(it["due"]))
+        print(f"{it['name']:<20}  {it['service']}/{it['handler']:<20}  {it['rule']:<20}  next {due} UTC")
     return 0
 
 
 def replay(options: argparse.Namespace) -> int:
     app = load(options.app)
-    with _opened(options.db) as db:
-        count, different = replay_all(app, db, options.status)
+    count, different = _done(options.db, lambda db: replay_all(app, db, options.status))
     for it in different:
         print(f"{it.invocation}  {it.handler}  command {it.command}: {it.error}")
     print(f"{count} journals are replayed, {len(different)} differ")

@@ -1,18 +1,13 @@
-"""Transactions, committed in groups: all operations that are queued while one transaction is committed are the next one.
-
-SQLite's statements are made in the event loop. So is its commit, if commits are quick here; else, as they wait for the disk, in a thread. With
-PostgreSQL, where each statement waits for the server, the whole transaction is made in the thread. There is one transaction at a time.
+"""Transactions, committed in groups: all operations that are queued while one transaction is committed are the next one. There is one
+transaction at a time, and its operations are made one after the other.
 """
 
 from __future__ import annotations
 
 import asyncio
-import collections
-import concurrent.futures
 import random
-import statistics
 import time
-from collections.abc import Callable
+from collections.abc import Awaitable, Callable
 from typing import Any, TypeVar
 
 from .appending import Append, append
@@ -20,9 +15,8 @@ from .database import Conflict, Database, Lost
 from .lease import Growth
 
 T = TypeVar("T")
-Operation = Callable[[Database], Any] | Append
+Operation = Callable[[Database], Awaitable[Any]] | Append
 _TRIES = 20  # of a transaction that meets conflicts
-_QUICK = 0.001  # seconds; a commit that takes less isn't worth a thread
 _LASTS = 0.25  # seconds that a group is to take, so that beats and short transactions don't wait for long
 _FEWEST = 20  # operations of a group, however slow they are
 
@@ -40,13 +34,11 @@ class Committer:
         self.lost: Exception | None = None
         self._queue: list[tuple[Operation, asyncio.Future[Any]]] = []
         self._has_work = asyncio.Event()
-        self._thread = concurrent.futures.ThreadPoolExecutor(1, thread_name_prefix="palqytun-database")
         self._task = asyncio.create_task(self._run())
         self.is_lost = asyncio.Event()
         self._is_busy = False
-        self._lasted: collections.deque[float] = collections.deque([0.0], maxlen=5)  # how long the last commits took
 
-    def submit(self, operation: Callable[[Database], T], is_urgent: bool = False) -> asyncio.Future[T]:
+    def submit(self, operation: Callable[[Database], Awaitable[T]], is_urgent: bool = False) -> asyncio.Future[T]:
         """Queues an operation, at the front if it is urgent. Its future has what the operation answered, once that is committed."""
         return self._queued(operation, is_urgent)
 
@@ -70,7 +62,6 @@ class Committer:
         self._task.cancel()
         await asyncio.gather(self._task, return_exceptions=True)
         self._abandon(Stopped("the worker has stopped"))
-        self._thread.shutdown(wait=True)
         try:
             self.db.close()
         except Exception:  # it was lost before
@@ -146,46 +137,22 @@ class Committer:
     async def _transaction(self, operations: list[Operation]) -> list[Any]:
         self.counts["transactions"] += 1
         self.counts["operations"] += len(operations)
-        loop = asyncio.get_running_loop()
-        if self.db.is_remote:
-            return await loop.run_in_executor(self._thread, self._whole, operations)
-        answers = self._made(operations)
+        await self.db.begin()
         try:
-            if statistics.median(self._lasted) < _QUICK:
-                self._end()
-            else:
-                await asyncio.shield(loop.run_in_executor(self._thread, self._end))
+            answers = await self._made(operations)
+            await self.db.commit()
         except BaseException:
-            self._rollback()
+            await self._rollback()
             raise
         return answers
 
-    def _end(self) -> None:
-        begun = time.perf_counter()
-        self.db.commit()
-        self._lasted.append(time.perf_counter() - begun)
+    async def _made(self, operations: list[Operation]) -> list[Any]:
+        appends = [it for it in operations if isinstance(it, Append)]
+        stored = iter(await append(self.db, appends) if appends else ())
+        return [next(stored) if isinstance(it, Append) else await it(self.db) for it in operations]
 
-    def _made(self, operations: list[Operation]) -> list[Any]:
-        self.db.begin()
+    async def _rollback(self) -> None:
         try:
-            appends = [it for it in operations if isinstance(it, Append)]
-            stored = iter(append(self.db, appends) if appends else ())
-            return [next(stored) if isinstance(it, Append) else it(self.db) for it in operations]
-        except BaseException:
-            self._rollback()
-            raise
-
-    def _whole(self, operations: list[Operation]) -> list[Any]:
-        answers = self._made(operations)
-        try:
-            self.db.commit()
-        except BaseException:
-            self._rollback()
-            raise
-        return answers
-
-    def _rollback(self) -> None:
-        try:
-            self.db.rollback()
+            await self.db.rollback()
         except Lost:
             pass  # the error that led here is the one to raise

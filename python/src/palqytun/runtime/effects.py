@@ -42,20 +42,20 @@ class Performer:
     def has_effect(it: Command) -> bool:
         return type(it) in _PERFORMED
 
-    def perform(self, it: Command) -> None:
+    async def perform(self, it: Command) -> None:
         method = _PERFORMED.get(type(it))
         if method is not None:
-            method(self, it)
+            await method(self, it)
 
-    def _sleep(self, it: Sleep) -> None:
+    async def _sleep(self, it: Sleep) -> None:
         self.db.put("INSERT INTO timers(due, invocation, completes) VALUES (?,?,?)", (it.due / 1000, self.own, it.id))
         self.out.is_due(it.due / 1000)
 
-    def _call(self, it: Call) -> None:
+    async def _call(self, it: Call) -> None:
         id = child_of(self.own, it.invocation_id)
         new = New(it.service, it.handler, it.key, it.parameter, it.headers, it.idempotency_key, it.at / 1000, id)
         try:
-            id, is_new = invocations.create(self.db, self.app, self.out, new)
+            id, is_new = await invocations.create(self.db, self.app, self.out, new)
         except TerminalError as error:
             self.growth.complete(it.invocation_id, journal.invocation(id))
             if it.id is not None:
@@ -65,9 +65,9 @@ class Performer:
         if it.id is not None and is_new:
             invocations.wait(self.db, self.growth, id, it.id)
         elif it.id is not None:
-            invocations.attach(self.db, self.growth, id, it.id)
+            await invocations.attach(self.db, self.growth, id, it.id)
 
-    def _change(self, it: Change) -> None:
+    async def _change(self, it: Change) -> None:
         place = (self.service, self.key)
         if it.key is None:
             self.db.put("DELETE FROM state WHERE service=? AND key=?", place)
@@ -80,63 +80,63 @@ class Performer:
             )
             self.db.put(sql, (*place, it.key, it.value))
 
-    def _read(self, it: Read) -> None:
-        state = state_of(self.db, self.service, self.key)
+    async def _read(self, it: Read) -> None:
+        state = await state_of(self.db, self.service, self.key)
         if it.key is None:
             self.growth.complete(it.id, journal.keys(sorted(state, key=str.encode)))
         else:
             self.growth.complete(it.id, journal.value(state[it.key]) if it.key in state else journal.void())
 
-    def _complete_awakeable(self, it: CompleteAwakeable) -> None:
+    async def _complete_awakeable(self, it: CompleteAwakeable) -> None:
         try:
             target, number = awakeable_of(it.awakeable)
         except TerminalError:
             return  # it names nobody
         inbox.put(self.db, self.out, target, journal.signal(number, it.result))
 
-    def _send_signal(self, it: SendSignal) -> None:
+    async def _send_signal(self, it: SendSignal) -> None:
         frame = journal.named_signal(it.name, it.result) if it.name is not None else journal.signal(it.index or 0, it.result)
         inbox.put(self.db, self.out, it.target, frame)
 
-    def _promise(self, it: Promise) -> None:
+    async def _promise(self, it: Promise) -> None:
         place = (self.service, self.key, it.key)
         where = "service=? AND key=? AND name=?"
         # The row is made and kept until the commit, so nobody completes it while another begins to wait.
         sql = "INSERT INTO promises(service, key, name) VALUES (?,?,?) ON CONFLICT(service, key, name) DO UPDATE SET name=excluded.name"
         self.db.put(sql, place)
-        found = self.db.rows(f"SELECT result FROM promises WHERE {where}", place)[0][0]
+        [(found,)] = await self.db.rows(f"SELECT result FROM promises WHERE {where}", place)
         result = None if found is None else Result(bytes(found))
         if it.result is not None:
-            self._complete_promise(it.id, it.result, result is not None, place)
+            await self._complete_promise(it.id, it.result, result is not None, place)
         elif result is not None or it.peek:
             self.growth.complete(it.id, journal.void() if result is None else result)
         else:
             sql = "INSERT INTO promise_waiters(service, key, name, waiter, completes) VALUES (?,?,?,?,?)"
             self.db.put(sql, (*place, self.own, it.id))
 
-    def _complete_promise(self, id: int, result: Result, was_completed: bool, place: tuple[str, str, str]) -> None:
+    async def _complete_promise(self, id: int, result: Result, was_completed: bool, place: tuple[str, str, str]) -> None:
         if was_completed:
             self.growth.complete(id, journal.failure(409, "the promise was completed before"))
             return
         where = "service=? AND key=? AND name=?"
         self.db.put(f"UPDATE promises SET result=? WHERE {where}", (result, *place))
-        for waiter, completes in self.db.rows(f"SELECT waiter, completes FROM promise_waiters WHERE {where}", place):
+        for waiter, completes in await self.db.rows(f"SELECT waiter, completes FROM promise_waiters WHERE {where}", place):
             inbox.complete(self.db, self.out, waiter, completes, result)
         self.db.put(f"DELETE FROM promise_waiters WHERE {where}", place)
         self.growth.complete(id, journal.void())
 
-    def _attach(self, it: Attach) -> None:
-        target = it.invocation or self._named(it)
+    async def _attach(self, it: Attach) -> None:
+        target = it.invocation or await self._named(it)
         if not it.peek:
-            invocations.attach(self.db, self.growth, target, it.id)
+            await invocations.attach(self.db, self.growth, target, it.id)
             return
-        found = self.db.rows("SELECT result FROM invocations WHERE id=?", (target,))
+        found = await self.db.rows("SELECT result FROM invocations WHERE id=?", (target,))
         if not found:
             self.growth.complete(it.id, journal.failure(404, "there is no such invocation"))
         else:
             self.growth.complete(it.id, journal.void() if found[0][0] is None else Result(bytes(found[0][0])))
 
-    def _named(self, it: Attach) -> str | None:
+    async def _named(self, it: Attach) -> str | None:
         """The invocation that an idempotency key names, or a workflow's key."""
         handler, idem = it.handler, it.idempotency_key
         if handler is None:
@@ -144,7 +144,7 @@ class Performer:
             handler = next((name for name, one in known.handlers.items() if one.exclusive), "") if known is not None else ""
             idem = ""
         sql = "SELECT id FROM invocations WHERE service=? AND handler=? AND key=? AND idem=?"
-        found = self.db.rows(sql, (it.service, handler, it.key, idem))
+        found = await self.db.rows(sql, (it.service, handler, it.key, idem))
         return str(found[0][0]) if found else None
 
 

@@ -7,7 +7,7 @@ import logging
 import random
 import secrets
 import time
-from collections.abc import Callable
+from collections.abc import Awaitable, Callable
 from typing import Any, TypeVar
 
 from . import inbox, invocations, journal, operate, storing
@@ -53,7 +53,7 @@ class Engine:
         poll: float = 1.0,
         keep: float | None = None,
         grouped: bool = True,
-        connect: Callable[[str], Database] = lambda url: connect(url, worker=True),
+        connect: Callable[[str], Awaitable[Database]] = lambda url: connect(url, worker=True),
     ):
         self.app, self.url = app, url
         self.name, self.limit, self.idle, self.lease, self.poll, self.keep, self.grouped = name, limit, idle, lease, poll, keep, grouped
@@ -72,7 +72,7 @@ class Engine:
 
     # ---- transactions
 
-    async def transact(self, operation: Callable[[Database], T]) -> T:
+    async def transact(self, operation: Callable[[Database], Awaitable[T]]) -> T:
         """Commits an operation, in one transaction with others that are queued. Raises `Unavailable` if there is no database."""
         if self._committer is None:
             raise Unavailable("there is no connection")
@@ -81,7 +81,7 @@ class Engine:
         except Stopped as error:
             raise Unavailable(str(error)) from error
 
-    async def write(self, operation: Callable[[Database], Outcome], claim: Claim) -> Outcome:
+    async def write(self, operation: Callable[[Database], Awaitable[Outcome]], claim: Claim) -> Outcome:
         """Commits a transaction on a claim's journal, and tells those whom it touches."""
         assert self._committer is not None
         out = await self._committer.submit(operation)
@@ -158,7 +158,7 @@ class Engine:
 
     async def _session(self) -> None:
         """As long as the database can be used. Each session is a worker of its own, so what an earlier one left is claimed like any other's."""
-        db = await asyncio.to_thread(self._connect, self.url)
+        db = await self._connect(self.url)
         committer = self._committer = Committer(db, grouped=self.grouped)
         claimer = Claimer(f"{self.name}-{secrets.token_hex(6)}", self.app, self.lease, self._former)
         self._former = claimer.worker
@@ -166,7 +166,7 @@ class Engine:
         beats = asyncio.create_task(self._beats(committer, claimer))
         try:
             await committer.submit(claimer.enter)
-            unlisten = db.listen(self._heard)
+            unlisten = await db.listen(claimer.worker, self._heard)
             self.counts["sessions"] += 1
             self._is_open.set()
             await self._loop(committer, claimer)

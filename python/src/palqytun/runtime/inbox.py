@@ -17,9 +17,9 @@ from .outcome import Outcome
 _SQL = "INSERT INTO inbox(invocation, frame) SELECT ?,? WHERE EXISTS (SELECT 1 FROM invocations WHERE id=? AND status<>'done')"
 
 
-def deliver(db: Database, out: Outcome, invocation: str, notification: bytes) -> bool:
+async def deliver(db: Database, out: Outcome, invocation: str, notification: bytes) -> bool:
     """Puts a notification into an invocation's inbox; answers whether it has one. One that has ended or doesn't exist gets nothing."""
-    if not db.change(_SQL, (invocation, notification, invocation)):
+    if not await db.change(_SQL, (invocation, notification, invocation)):
         return False
     _tell(db, out, invocation)
     return True
@@ -37,14 +37,14 @@ def complete(db: Database, out: Outcome, invocation: str, completes: int, result
 
 def _tell(db: Database, out: Outcome, invocation: str) -> None:
     out.touched.add(invocation)
-    db.notify(f"to {invocation}")
+    db.notify_holder(invocation)
 
 
-def peek(db: Database, invocation: str, epoch: int | None = None) -> list[tuple[int, bytes]]:
+async def peek(db: Database, invocation: str, epoch: int | None = None) -> list[tuple[int, bytes]]:
     """What waits, in the order of its arrival, each with its number. If an epoch is given and the lease is another's, nothing."""
     is_own = "" if epoch is None else " AND EXISTS (SELECT 1 FROM invocations WHERE id=invocation AND epoch=? AND status='running')"
     sql = f"SELECT seq, frame FROM inbox WHERE invocation=?{is_own} ORDER BY seq"
-    return [(seq, bytes(frame)) for seq, frame in db.rows(sql, (invocation,) if epoch is None else (invocation, epoch))]
+    return [(seq, bytes(frame)) for seq, frame in await db.rows(sql, (invocation,) if epoch is None else (invocation, epoch))]
 
 
 def remove(db: Database, rows: Sequence[tuple[Any, ...]]) -> None:
@@ -52,9 +52,9 @@ def remove(db: Database, rows: Sequence[tuple[Any, ...]]) -> None:
         db.many("DELETE FROM inbox WHERE seq=?", [(seq,) for seq, _ in rows])
 
 
-def wakes(db: Database, invocation: str, future: bytes) -> bool:
+async def wakes(db: Database, invocation: str, future: bytes) -> bool:
     """Whether what waits wakes a suspended invocation. What was looked at in vain isn't looked at again, until something else comes."""
-    rows = peek(db, invocation)
+    rows = await peek(db, invocation)
     if journal.is_awake(future, journal.outcome_of(frame for _, frame in rows)):
         return True
     db.many("UPDATE inbox SET fresh=0 WHERE seq=?", [(seq,) for seq, _ in rows])

@@ -39,7 +39,7 @@ def _seed(id: str | None) -> int:
     return int.from_bytes(hashlib.blake2b(id.encode(), digest_size=7).digest(), "big")
 
 
-def create(db: Database, app: App, out: Outcome, new: New) -> tuple[str, bool]:
+async def create(db: Database, app: App, out: Outcome, new: New) -> tuple[str, bool]:
     """Makes an invocation; answers its id and True. If there is one with this idempotency key, or a workflow with this key, its id and False."""
     handler = app.find(new.service, new.handler)
     if bool(new.key) != handler.service.keyed:
@@ -53,8 +53,8 @@ def create(db: Database, app: App, out: Outcome, new: New) -> tuple[str, bool]:
         " VALUES (?,?,?,?,?,?,?,?,'ready',?,1,?) ON CONFLICT DO NOTHING"
     )
     row = (id, new.service, new.handler, new.key, int(handler.exclusive), VERSION, idem, _seed(new.id), new.due or now, now)
-    if not db.change(sql, row):
-        found = db.rows("SELECT id FROM invocations WHERE service=? AND handler=? AND key=? AND idem=?", (new.service, new.handler, new.key, idem))
+    if not await db.change(sql, row):
+        found = await db.rows("SELECT id FROM invocations WHERE service=? AND handler=? AND key=? AND idem=?", (new.service, new.handler, new.key, idem))
         return str(found[0][0]) if found else id, False
     sql = "INSERT INTO journal(invocation, at, frame, stored) VALUES (?,0,?,?)"
     db.put(sql, (id, journal.input_command(new.argument, new.headers), now))
@@ -63,9 +63,9 @@ def create(db: Database, app: App, out: Outcome, new: New) -> tuple[str, bool]:
     return id, True
 
 
-def attach(db: Database, growth: Growth, invocation: str | None, id: int) -> None:
+async def attach(db: Database, growth: Growth, invocation: str | None, id: int) -> None:
     """The completion id is completed by what the other invocation ends with."""
-    found = db.rows(f"SELECT result FROM invocations WHERE id=?{db.lock}", (invocation,))
+    found = await db.rows(f"SELECT result FROM invocations WHERE id=?{db.lock}", (invocation,))
     if not found:
         growth.complete(id, journal.failure(404, "there is no such invocation"))
     elif found[0][0] is not None:
@@ -79,9 +79,9 @@ def wait(db: Database, growth: Growth, invocation: str, id: int) -> None:
     db.put("INSERT INTO waiters(invocation, waiter, completes) VALUES (?,?,?)", (invocation, growth.lease.invocation, id))
 
 
-def end(db: Database, out: Outcome, invocation: str, service: str, key: str, result: Result) -> None:
+async def end(db: Database, out: Outcome, invocation: str, service: str, key: str, result: Result) -> None:
     """What an invocation's end does for others: it gives its result to those that wait, and its key to the next."""
-    for waiter, completes in db.rows("SELECT waiter, completes FROM waiters WHERE invocation=?", (invocation,)):
+    for waiter, completes in await db.rows("SELECT waiter, completes FROM waiters WHERE invocation=?", (invocation,)):
         inbox.complete(db, out, waiter, completes, result)
     for table in ("waiters", "timers", "inbox"):
         db.put(f"DELETE FROM {table} WHERE invocation=?", (invocation,))
@@ -126,14 +126,14 @@ def _loaded(invocation: str, entries: int, rows: Iterable[Any]) -> Journal:
     return loaded
 
 
-def load(db: Database, invocation: str, entries: int) -> Journal:
+async def load(db: Database, invocation: str, entries: int) -> Journal:
     """The stored journal."""
-    return _loaded(invocation, entries, db.rows("SELECT at, frame FROM journal WHERE invocation=? ORDER BY at", (invocation,)))
+    return _loaded(invocation, entries, await db.rows("SELECT at, frame FROM journal WHERE invocation=? ORDER BY at", (invocation,)))
 
 
-def state_of(db: Database, service: str, key: str) -> dict[str, bytes]:
+async def state_of(db: Database, service: str, key: str) -> dict[str, bytes]:
     """The keyed state. It is changed in the transaction that stores the command, so it is as the journals' commands leave it."""
-    return {name: bytes(data) for name, data in db.rows("SELECT name, value FROM state WHERE service=? AND key=? ORDER BY name", (service, key))}
+    return {name: bytes(data) for name, data in await db.rows("SELECT name, value FROM state WHERE service=? AND key=? ORDER BY name", (service, key))}
 
 
 @dataclass(frozen=True)
@@ -161,7 +161,7 @@ def _marks(count: int, mark: str = "?") -> str:
     return ",".join([mark] * count)
 
 
-def _with_keys(db: Database, rows: list[Claimable]) -> list[Claimable]:
+async def _with_keys(db: Database, rows: list[Claimable]) -> list[Claimable]:
     """Takes the keys that nobody has; answers those that have theirs, or need none."""
     keyed = [it for it in rows if it.exclusive]
     if not keyed:
@@ -169,11 +169,11 @@ def _with_keys(db: Database, rows: list[Claimable]) -> list[Claimable]:
     taken = [(it.service, it.key, it.id) for it in keyed]
     db.many("INSERT INTO locks(service, key, holder) VALUES (?,?,?) ON CONFLICT(service, key) DO NOTHING", taken)
     places = [name for it in keyed for name in (it.service, it.key)]
-    holders = {row[0] for row in db.rows(f"SELECT holder FROM locks WHERE (service, key) IN (VALUES {_marks(len(keyed), '(?,?)')})", places)}
+    holders = {row[0] for row in await db.rows(f"SELECT holder FROM locks WHERE (service, key) IN (VALUES {_marks(len(keyed), '(?,?)')})", places)}
     return [it for it in rows if not it.exclusive or it.id in holders]
 
 
-def _lease(db: Database, worker: str, rows: list[Claimable], now: float) -> None:
+async def _lease(db: Database, worker: str, rows: list[Claimable], now: float) -> None:
     """Takes the leases, and writes down the attempts before. One that didn't say how it stopped was lost, with its worker or its lease."""
     kept = (
         "INSERT INTO attempts(invocation, epoch, worker, begun, stopped, how, error)"
@@ -185,50 +185,50 @@ def _lease(db: Database, worker: str, rows: list[Claimable], now: float) -> None
         "UPDATE invocations SET status='running', epoch=epoch+1, worker=?, future=NULL, begun=?, stopped=NULL, how=NULL"
         f" WHERE (id, epoch) IN (VALUES {_marks(len(rows), '(?,?)')})"
     )
-    if db.change(sql, (worker, now, *[part for it in rows for part in (it.id, it.epoch)])) != len(rows):
+    if await db.change(sql, (worker, now, *[part for it in rows for part in (it.id, it.epoch)])) != len(rows):
         raise Fenced(", ".join(it.id for it in rows[:3]))
 
 
-def _by_invocation(db: Database, columns: str, table: str, order: str, ids: list[str]) -> dict[str, list[tuple[Any, ...]]]:
+async def _by_invocation(db: Database, columns: str, table: str, order: str, ids: list[str]) -> dict[str, list[tuple[Any, ...]]]:
     """Rows of a table by their invocations."""
     found: dict[str, list[tuple[Any, ...]]] = {id: [] for id in ids}
     sql = f"SELECT invocation, {columns} FROM {table} WHERE invocation IN ({_marks(len(ids))}) ORDER BY {order}"
-    for id, *row in db.rows(sql, ids):
+    for id, *row in await db.rows(sql, ids):
         found[id].append(tuple(row))
     return found
 
 
-def claim(db: Database, worker: str, rows: list[Claimable]) -> list[Claim]:
+async def claim(db: Database, worker: str, rows: list[Claimable]) -> list[Claim]:
     """Takes the leases of invocations. One whose key another has is left out, and one whose stored journal breaks a rule is paused."""
-    rows = _with_keys(db, rows)
+    rows = await _with_keys(db, rows)
     if not rows:
         return []
     now, ids = time.time(), [it.id for it in rows]
-    _lease(db, worker, rows, now)
-    entries = _by_invocation(db, "at, frame", "journal", "invocation, at", ids)
-    arrived = _by_invocation(db, "seq, frame", "inbox", "seq", ids)
+    await _lease(db, worker, rows, now)
+    entries = await _by_invocation(db, "at, frame", "journal", "invocation, at", ids)
+    arrived = await _by_invocation(db, "seq, frame", "inbox", "seq", ids)
     claims: list[Claim] = []
     for it in rows:
         try:
-            claims.append(_claim(db, it, now, entries[it.id], arrived[it.id]))
+            claims.append(await _claim(db, it, now, entries[it.id], arrived[it.id]))
         except journal.Dishonest as broken:
             sql = "UPDATE invocations SET status='paused', stopped=?, how='paused', error=? WHERE id=?"
             db.put(sql, (now, f"the stored journal is broken: {broken}", it.id))
     return claims
 
 
-def _claim(db: Database, it: Claimable, now: float, entries: list[tuple[Any, ...]], arrived: list[tuple[Any, ...]]) -> Claim:
+async def _claim(db: Database, it: Claimable, now: float, entries: list[tuple[Any, ...]], arrived: list[tuple[Any, ...]]) -> Claim:
     """Moves what came for a leased invocation to its journal, and makes ready what its attempt is fed."""
     growth = Growth(Lease(it.id, it.epoch + 1, _loaded(it.id, it.entries, entries)), is_fenced=True)
     for _, frame in arrived:
         growth.arrive(bytes(frame))
     inbox.remove(db, arrived)
     if arrived:
-        growth.write(db)
+        await growth.write(db)
     growth.lease.journal.keep()  # if the commit fails, the claim is thrown away
     failing = max(0, int((now - it.failing_since) * 1000)) if it.retries and it.failing_since is not None else 0
     # A handler that may write is handed the whole state; one that only reads is handed none, and reads by completions.
-    state = tuple(state_of(db, it.service, it.key).items()) if it.exclusive else ()
+    state = tuple((await state_of(db, it.service, it.key)).items()) if it.exclusive else ()
     begin = Begin(it.id, it.key, it.seed, state, bool(it.key) and not it.exclusive, it.retries, failing, it.idem or None)
     content_type = f"application/vnd.restate.invocation.v{it.version}"
     return Claim(growth.lease, it.service, it.handler, it.key, bool(it.exclusive), content_type, now, growth.lease.journal.start(begin))

@@ -47,10 +47,10 @@ class Growth:
         self.lease.journal.undo()  # an earlier try of this transaction failed
         self.before = self.lease.journal.entries
 
-    def fence(self, db: Database) -> None:
+    async def fence(self, db: Database) -> None:
         """Keeps the invocation's row until the commit. It stands before any effect, so that a lost lease has none."""
         sql = f"SELECT 1 FROM invocations {_FENCED}{db.lock}"
-        if not db.rows(sql, (self.lease.invocation, self.lease.epoch, self.before)):
+        if not await db.rows(sql, (self.lease.invocation, self.lease.epoch, self.before)):
             raise self.lease.lost(self.before)
         self.is_fenced = True
 
@@ -69,21 +69,21 @@ class Growth:
         self.has_progress = bool(stored.entries)
         return stored
 
-    def write(self, db: Database, **changed: object) -> None:
+    async def write(self, db: Database, **changed: object) -> None:
         """Writes the entries, with further changes of the invocation's row. It is called once."""
         names = "".join(f", {name}=?" for name in changed)
         sql = f"UPDATE invocations SET entries=?{names} {_FENCED}"
         values = (self.lease.journal.entries, *changed.values(), self.lease.invocation, self.lease.epoch, self.before)
         if self.is_fenced:
             db.put(sql, values)
-        elif db.change(sql, values) != 1:
+        elif await db.change(sql, values) != 1:
             raise self.lease.lost(self.before)
         if self.entries:
             now = time.time()
             rows = [(self.lease.invocation, it.at, it.completes, it.frame, now) for it in self.entries]
             db.many(INSERTED, rows)
 
-    def grow(self, db: Database) -> bool:
+    async def grow(self, db: Database) -> bool:
         """Writes the new count of entries alone, if the lease isn't lost; answers whether it did."""
         sql = f"UPDATE invocations SET entries=?, {_PROGRESS} {_FENCED}" if self.has_progress else f"UPDATE invocations SET entries=? {_FENCED}"
-        return db.change(sql, (self.lease.journal.entries, self.lease.invocation, self.lease.epoch, self.before)) == 1
+        return await db.change(sql, (self.lease.journal.entries, self.lease.invocation, self.lease.epoch, self.before)) == 1

@@ -16,46 +16,46 @@ def _shown(row: Any) -> dict[str, Any]:
     return dict(zip(_COLUMNS, row))
 
 
-def invocations(db: Database, status: str | None = None, service: str | None = None, most: int = 100) -> list[dict[str, Any]]:
+async def invocations(db: Database, status: str | None = None, service: str | None = None, most: int = 100) -> list[dict[str, Any]]:
     """The newest invocations first."""
     asked = [(name, it) for name, it in (("status", status), ("service", service)) if it is not None]
     where = " AND ".join(f"{name}=?" for name, _ in asked) or "1=1"
     sql = f"SELECT {', '.join(_COLUMNS)} FROM invocations WHERE {where} ORDER BY seq DESC LIMIT ?"
-    return [_shown(row) for row in db.rows(sql, (*[it for _, it in asked], most))]
+    return [_shown(row) for row in await db.rows(sql, (*[it for _, it in asked], most))]
 
 
-def invocation(db: Database, id: str) -> dict[str, Any] | None:
-    rows = db.rows(f"SELECT {', '.join(_COLUMNS)} FROM invocations WHERE id=?", (id,))
+async def invocation(db: Database, id: str) -> dict[str, Any] | None:
+    rows = await db.rows(f"SELECT {', '.join(_COLUMNS)} FROM invocations WHERE id=?", (id,))
     return _shown(rows[0]) if rows else None
 
 
-def journal_of(db: Database, id: str) -> list[str]:
+async def journal_of(db: Database, id: str) -> list[str]:
     """The journal of an invocation, an entry a line."""
-    return [journal.line_of(bytes(row[0])) for row in db.rows("SELECT frame FROM journal WHERE invocation=? ORDER BY at", (id,))]
+    return [journal.line_of(bytes(row[0])) for row in await db.rows("SELECT frame FROM journal WHERE invocation=? ORDER BY at", (id,))]
 
 
-def schedules(db: Database) -> list[dict[str, Any]]:
+async def schedules(db: Database) -> list[dict[str, Any]]:
     """The schedules, each with when it is due next, and which time of it made the last call."""
     names = ("name", "service", "handler", "rule", "due", "last")
-    return [dict(zip(names, row)) for row in db.rows(f"SELECT {', '.join(names)} FROM schedules ORDER BY name")]
+    return [dict(zip(names, row)) for row in await db.rows(f"SELECT {', '.join(names)} FROM schedules ORDER BY name")]
 
 
-def resume(db: Database, out: Outcome, id: str) -> bool:
+async def resume(db: Database, out: Outcome, id: str) -> bool:
     """A paused invocation is tried again, as if it hadn't failed before."""
     now = time.time()
     sql = "UPDATE invocations SET status='ready', due=?, retries=0, failing_since=NULL WHERE id=? AND status='paused'"
-    if not db.change(sql, (now, id)):
+    if not await db.change(sql, (now, id)):
         return False
     out.is_due(now)
     db.notify("ready")
     return True
 
 
-def purge(db: Database, before: float, most: int = 1000) -> int:
+async def purge(db: Database, before: float, most: int = 1000) -> int:
     """Deletes at most so many invocations that ended before a time, with their journals; answers how many. With a workflow's `main` go the
     state and the promises of its key, so that the key can run again."""
     sql = f"SELECT id, service, key, exclusive, idem FROM invocations WHERE status='done' AND ended<? ORDER BY ended LIMIT ?{db.skip}"
-    rows = db.rows(sql, (before, most))
+    rows = await db.rows(sql, (before, most))
     ids = [(row[0],) for row in rows]
     for table, column in (("journal", "invocation"), ("attempts", "invocation"), ("invocations", "id")):
         db.many(f"DELETE FROM {table} WHERE {column}=?", ids)
@@ -65,9 +65,9 @@ def purge(db: Database, before: float, most: int = 1000) -> int:
     return len(rows)
 
 
-def by_status(db: Database) -> dict[str, int]:
+async def by_status(db: Database) -> dict[str, int]:
     """How many invocations have each status."""
-    return dict(db.rows("SELECT status, COUNT(*) FROM invocations GROUP BY status"))
+    return dict(await db.rows("SELECT status, COUNT(*) FROM invocations GROUP BY status"))
 
 
 def metrics(statuses: dict[str, int], live: int, counts: dict[str, int]) -> str:

@@ -6,7 +6,7 @@ The handler's own code between its calls does run, as it does in each attempt.
 
 from __future__ import annotations
 
-from collections.abc import Iterator
+from collections.abc import AsyncIterator
 from dataclasses import dataclass
 from typing import Any
 
@@ -30,14 +30,14 @@ class Difference:
     error: str
 
 
-def replay(app: App, db: Database, it: Claimable) -> Difference | None:
+async def replay(app: App, db: Database, it: Claimable) -> Difference | None:
     """Replays the journal of one invocation."""
     path = f"{it.service}/{it.handler}"
     try:
         app.find(it.service, it.handler)
     except TerminalError as error:
         return Difference(it.id, path, -1, error.message)
-    start = load(db, it.id, it.entries).start(Begin(it.id, it.key, it.seed, idempotency_key=it.idem or None))
+    start = (await load(db, it.id, it.entries)).start(Begin(it.id, it.key, it.seed, idempotency_key=it.idem or None))
     with core.VM(f"application/vnd.restate.invocation.v{it.version}", awaiting="never") as vm:
         vm.notify_input(start)
         vm.notify_input_closed()
@@ -92,13 +92,13 @@ def _drive(app: App, vm: core.VM, context: Context, tasks: Tasks) -> None:
                 leaf.came = vm.take_notification(leaf.handle)
 
 
-def _all(app: App, db: Database, status: str | None) -> Iterator[Difference | None]:
+async def _all(app: App, db: Database, status: str | None) -> AsyncIterator[Difference | None]:
     where, values = ("WHERE status=?", (status,)) if status else ("", ())
-    for row in db.rows(f"SELECT {CLAIMED} FROM invocations {where} ORDER BY seq", values):
-        yield replay(app, db, Claimable(*row))
+    for row in await db.rows(f"SELECT {CLAIMED} FROM invocations {where} ORDER BY seq", values):
+        yield await replay(app, db, Claimable(*row))
 
 
-def replay_all(app: App, db: Database, status: str | None) -> tuple[int, list[Difference]]:
+async def replay_all(app: App, db: Database, status: str | None) -> tuple[int, list[Difference]]:
     """How many journals were replayed, and those that differ."""
-    found = list(_all(app, db, status))
+    found = [it async for it in _all(app, db, status)]
     return len(found), [it for it in found if it is not None]

@@ -36,10 +36,10 @@ class Schedule:
         self.rule = f"every {every}" if every is not None else f"cron {cron}"
 
 
-def enter(db: Database, app: App, services: Collection[str]) -> None:
+async def enter(db: Database, app: App, services: Collection[str]) -> None:
     """A worker begins: its app's schedules are those of these services."""
     now = time.time()
-    stored = {name: (service, handler, rule) for name, service, handler, rule in db.rows("SELECT name, service, handler, rule FROM schedules")}
+    stored = {name: (service, handler, rule) for name, service, handler, rule in await db.rows("SELECT name, service, handler, rule FROM schedules")}
     for it in app.schedules.values():
         row = (it.target.service.name, it.target.name, it.rule)
         if stored.get(it.name) == row:
@@ -48,29 +48,29 @@ def enter(db: Database, app: App, services: Collection[str]) -> None:
             "INSERT INTO schedules(name, service, handler, rule, due) VALUES (?,?,?,?,?) ON CONFLICT(name)"
             " DO UPDATE SET service=excluded.service, handler=excluded.handler, rule=excluded.rule, due=excluded.due"
         )
-        db.change(sql, (it.name, *row, it.times.after(now)))
+        await db.change(sql, (it.name, *row, it.times.after(now)))
     for name, (service, _, _) in stored.items():
         if service in services and name not in app.schedules:
-            db.change("DELETE FROM schedules WHERE name=?", (name,))
+            await db.change("DELETE FROM schedules WHERE name=?", (name,))
 
 
-def fire(db: Database, app: App, out: Outcome, now: float) -> None:
+async def fire(db: Database, app: App, out: Outcome, now: float) -> None:
     """Makes the calls that are due."""
     if not app.schedules:
         return
-    for name, rule, due in db.rows(f"SELECT name, rule, due FROM schedules WHERE due<=?{db.skip}", (now,)):
+    for name, rule, due in await db.rows(f"SELECT name, rule, due FROM schedules WHERE due<=?{db.skip}", (now,)):
         it = app.schedules.get(name)
         if it is None or it.rule != rule:
             continue  # it is that of another app
         new = New(it.target.service.name, it.target.name, it.key, app.codec.encode(it.argument), idempotency_key=f"schedule {name} {due}")
         try:
-            create(db, app, out, new)
+            await create(db, app, out, new)
         except TerminalError:
             pass  # the app has changed so that it can't be called
-        db.change("UPDATE schedules SET due=?, last=? WHERE name=?", (it.times.after(now), due, name))
+        await db.change("UPDATE schedules SET due=?, last=? WHERE name=?", (it.times.after(now), due, name))
 
 
-def next_due(db: Database, app: App) -> float | None:
+async def next_due(db: Database, app: App) -> float | None:
     """When the next of the app's schedules is due."""
-    rows = db.rows("SELECT name, due FROM schedules") if app.schedules else []
+    rows = await db.rows("SELECT name, due FROM schedules") if app.schedules else []
     return min((float(due) for name, due in rows if name in app.schedules), default=None)

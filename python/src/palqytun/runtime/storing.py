@@ -14,25 +14,25 @@ from .outcome import Outcome
 from .services import App
 
 
-def store(db: Database, app: App, claim: Claim, output: bytes, at: int) -> Outcome:
+async def store(db: Database, app: App, claim: Claim, output: bytes, at: int) -> Outcome:
     """Stores what an attempt wrote, after its first `at` bytes. If it has ended, its invocation's status follows."""
     out, growth = Outcome(), Growth(claim.lease)
     stored = growth.store(output, at)
     if isinstance(stored.end, Suspension) or any(map(Performer.has_effect, stored.commands)):
-        growth.fence(db)  # else the first statement that changes something is that of `write`, which fences
+        await growth.fence(db)  # else the first statement that changes something is that of `write`, which fences
     performer = Performer(db, app, out, growth, claim.service, claim.key)
     for command in stored.commands:
-        performer.perform(command)
+        await performer.perform(command)
     if stored.end is None:
         changed = {"retries": 0, "failing_since": None} if growth.has_progress else {}
-        growth.write(db, **changed)
+        await growth.write(db, **changed)
     elif isinstance(stored.end, Suspension):
-        _suspend(db, out, growth, stored.end)
+        await _suspend(db, out, growth, stored.end)
     elif isinstance(stored.end, Failed):
-        _fail(db, app, out, claim, growth, stored.end)
+        await _fail(db, app, out, claim, growth, stored.end)
     else:
         results = [it.result for it in stored.commands if isinstance(it, Output)]
-        _end(db, out, claim, growth, results[0] if results else _stored_output(db, claim.invocation))
+        await _end(db, out, claim, growth, results[0] if results else await _stored_output(db, claim.invocation))
     if stored.end is not None:
         _leave_room(db, app, out, claim)
     out.feed = growth.feed
@@ -46,68 +46,68 @@ def _leave_room(db: Database, app: App, out: Outcome, claim: Claim) -> None:
         db.notify("ready")
 
 
-def _suspend(db: Database, out: Outcome, growth: Growth, suspension: Suspension) -> None:
+async def _suspend(db: Database, out: Outcome, growth: Growth, suspension: Suspension) -> None:
     """The invocation waits; or it doesn't, if what wakes it came just now."""
     now, own = time.time(), growth.lease.invocation
     came = journal.outcome_of(it.frame for it in growth.entries)
-    is_awake = journal.is_awake(suspension.future, came) or inbox.wakes(db, own, suspension.future)
+    is_awake = journal.is_awake(suspension.future, came) or await inbox.wakes(db, own, suspension.future)
     out.status = "ready" if is_awake else "suspended"
     progress = {"retries": 0, "failing_since": None} if growth.has_progress else {}
-    growth.write(db, status=out.status, due=now, future=suspension.future, stopped=now, how="suspended", **progress)
+    await growth.write(db, status=out.status, due=now, future=suspension.future, stopped=now, how="suspended", **progress)
     if is_awake:
         out.is_due(now)
 
 
-def _fail(db: Database, app: App, out: Outcome, claim: Claim, growth: Growth, error: Failed) -> None:
+async def _fail(db: Database, app: App, out: Outcome, claim: Claim, growth: Growth, error: Failed) -> None:
     """The attempt failed: it is tried again, or the invocation is paused, or the error is its result."""
     own, now = claim.invocation, time.time()
     retry = app.retry_of(claim.service, claim.handler)
     before, failing_since = 0, None  # what was stored before has reset them
     if not growth.has_progress:
-        [(before, failing_since)] = db.rows("SELECT retries, failing_since FROM invocations WHERE id=?", (own,))
+        [(before, failing_since)] = await db.rows("SELECT retries, failing_since FROM invocations WHERE id=?", (own,))
     failures, since = before + 1, claim.begun if failing_since is None else failing_since
     is_over = retry.is_over(failures, now - since)
     if error.behaviour == "fail" or (is_over and not retry.pause and error.behaviour != "pause"):
-        _end(db, out, claim, growth, journal.failure(error.code, error.message))
+        await _end(db, out, claim, growth, journal.failure(error.code, error.message))
         return
     out.status = "paused" if is_over or error.behaviour == "pause" else "ready"
     delay = retry.delay(failures) if error.delay is None else error.delay / 1000
     text = f"{error.code} {error.message}\n{error.stacktrace}".rstrip()
     how = "paused" if out.status == "paused" else "failed"
-    growth.write(db, status=out.status, due=now + delay, retries=failures, failing_since=since, error=text, stopped=now, how=how)
+    await growth.write(db, status=out.status, due=now + delay, retries=failures, failing_since=since, error=text, stopped=now, how=how)
     out.is_due(now + delay)
 
 
-def _stored_output(db: Database, invocation: str) -> Result:
+async def _stored_output(db: Database, invocation: str) -> Result:
     """The Output that an earlier attempt stored."""
-    stream = b"".join(bytes(row[0]) for row in db.rows("SELECT frame FROM journal WHERE invocation=? ORDER BY at", (invocation,)))
+    stream = b"".join(bytes(row[0]) for row in await db.rows("SELECT frame FROM journal WHERE invocation=? ORDER BY at", (invocation,)))
     return next(it.result for it, _ in journal.commands_in(stream) if isinstance(it, Output))
 
 
-def _end(db: Database, out: Outcome, claim: Claim, growth: Growth, result: Result) -> None:
+async def _end(db: Database, out: Outcome, claim: Claim, growth: Growth, result: Result) -> None:
     out.status, now = "done", time.time()
-    growth.write(db, status="done", ended=now, stopped=now, how="ended", result=result)
-    invocations.end(db, out, claim.invocation, claim.service, claim.key if claim.exclusive else "", result)
+    await growth.write(db, status="done", ended=now, stopped=now, how="ended", result=result)
+    await invocations.end(db, out, claim.invocation, claim.service, claim.key if claim.exclusive else "", result)
 
 
-def pull(db: Database, claim: Claim) -> Outcome:
+async def pull(db: Database, claim: Claim) -> Outcome:
     """Moves what came for a running invocation to its journal."""
     out, growth = Outcome(), Growth(claim.lease)
     # What came for another's attempt would seem dishonest to this one. So it is read only if the lease isn't lost, and `write` fences.
-    rows = inbox.peek(db, claim.invocation, claim.lease.epoch)
+    rows = await inbox.peek(db, claim.invocation, claim.lease.epoch)
     if rows:
         for _, frame in rows:
             growth.arrive(frame)
-        growth.write(db)
+        await growth.write(db)
         inbox.remove(db, rows)
     out.feed = growth.feed
     return out
 
 
-def pause(db: Database, app: App, claim: Claim, why: str) -> Outcome:
+async def pause(db: Database, app: App, claim: Claim, why: str) -> Outcome:
     """The attempt stopped without an end: its invocation is paused, if it is still this worker's. What it wrote last isn't stored."""
     sql = "UPDATE invocations SET status='paused', stopped=?, how='paused', error=? WHERE id=? AND epoch=? AND status='running'"
-    db.change(sql, (time.time(), why, claim.invocation, claim.lease.epoch))
+    await db.change(sql, (time.time(), why, claim.invocation, claim.lease.epoch))
     out = Outcome(status="paused")
     _leave_room(db, app, out, claim)
     return out

@@ -67,19 +67,19 @@ def _steps(rows: Iterable[Any]) -> list[Step]:
     return steps
 
 
-def _attempts(db: Database, id: str) -> list[Attempt]:
+async def _attempts(db: Database, id: str) -> list[Attempt]:
     last = "SELECT epoch, worker, begun, stopped, how, CASE WHEN how IN ('failed', 'paused') THEN error END FROM invocations WHERE id=? AND epoch>0"
     earlier = "SELECT epoch, worker, begun, stopped, how, error FROM attempts WHERE invocation=? ORDER BY epoch"
-    return [Attempt(*row) for sql in (earlier, last) for row in db.rows(sql, (id,))]
+    return [Attempt(*row) for sql in (earlier, last) for row in await db.rows(sql, (id,))]
 
 
-def timeline(db: Database, id: str) -> Timeline | None:
+async def timeline(db: Database, id: str) -> Timeline | None:
     """None if there is no such invocation."""
-    invocation = operate.invocation(db, id)
+    invocation = await operate.invocation(db, id)
     if invocation is None:
         return None
-    rows = db.rows("SELECT at, frame, stored FROM journal WHERE invocation=? ORDER BY at", (id,))
-    return Timeline(invocation, _attempts(db, id), _steps(rows))
+    rows = await db.rows("SELECT at, frame, stored FROM journal WHERE invocation=? ORDER BY at", (id,))
+    return Timeline(invocation, await _attempts(db, id), _steps(rows))
 
 
 def as_json(it: Timeline) -> dict[str, Any]:

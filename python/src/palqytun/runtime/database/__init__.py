@@ -16,19 +16,20 @@ class Lost(Exception):
 
 
 class Database(Protocol):
-    """A connection. Each statement belongs to the transaction that `begin` began; any of them may raise `Conflict` or `Lost`."""
+    """A connection, which belongs to an event loop. Each statement belongs to the transaction that `begin` began; any of them may raise
+    `Conflict` or `Lost`."""
 
     is_shared: bool  # several workers may use it at once
-    is_remote: bool  # each statement waits for a server, so it isn't made in the event loop
+    is_remote: bool  # each answer waits for a server, so few statements are better than many
     skip: str  # after a SELECT that takes rows which no other worker is taking
     lock: str  # after a SELECT that keeps its rows until the commit
     clock: str  # the database's time in seconds
 
-    def begin(self) -> None: ...
-    def commit(self) -> None: ...
-    def rollback(self) -> None: ...
-    def rows(self, sql: str, values: Sequence[object] = ()) -> list[Any]: ...
-    def change(self, sql: str, values: Sequence[object] = ()) -> int: ...
+    async def begin(self) -> None: ...
+    async def commit(self) -> None: ...
+    async def rollback(self) -> None: ...
+    async def rows(self, sql: str, values: Sequence[object] = ()) -> list[Any]: ...
+    async def change(self, sql: str, values: Sequence[object] = ()) -> int: ...
     def put(self, sql: str, values: Sequence[object] = ()) -> None:
         """A change whose count isn't asked for. It is made before each statement that follows; an error in it may be raised by one of these."""
 
@@ -38,19 +39,23 @@ class Database(Protocol):
     def notify(self, word: str) -> None:
         """Tells this word to the workers that listen, once the transaction is committed."""
 
-    def listen(self, heard: Callable[[str], None]) -> Callable[[], None] | None:
-        """Calls `heard` in the running event loop for each word that other workers tell; answers what ends it. None: there are no others."""
+    def notify_holder(self, invocation: str) -> None:
+        """Tells `to INVOCATION` to the worker that has its lease, once the transaction is committed; to all if none has, and to nobody if it has
+        ended. The lease is looked up just before the commit. A worker that takes it in between finds what came when it next looks by itself."""
+
+    async def listen(self, worker: str, heard: Callable[[str], None]) -> Callable[[], None] | None:
+        """Calls `heard` for each word that others tell to all or to this worker; answers what ends it. None: there are no others."""
 
     def close(self) -> None: ...
 
 
-def connect(url: str, *, worker: bool = False) -> Database:
+async def connect(url: str, *, worker: bool = False) -> Database:
     """`postgresql://..`, or the path of a SQLite file, which may be followed by `?synchronous=NORMAL`. `worker` says that this connection is
     that of a worker; a SQLite file has one at a time."""
     if url.startswith(("postgres://", "postgresql://")):
         from .postgres import Postgres
 
-        return Postgres(url)
+        return await Postgres.connected(url)
     from .sqlite import SQLite
 
     path, _, option = url.removeprefix("sqlite:").partition("?synchronous=")

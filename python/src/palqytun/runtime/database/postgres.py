@@ -1,4 +1,5 @@
-"""PostgreSQL, by psycopg2: workers on many machines.
+"""PostgreSQL, by psycopg2 in its asynchronous mode: workers on many machines. No thread waits for the server; the event loop does. Only a
+host's name is looked up at once, as libpq does, so for that time the loop stands still.
 
 What costs time is the round trip to the server. So statements that answer nothing are queued, and go with the next that answers something;
 a transaction's begin goes with its first statement, and its commit with the last.
@@ -10,7 +11,6 @@ import asyncio
 import contextlib
 import importlib
 import logging
-import threading
 from collections.abc import Callable, Iterable, Iterator, Sequence
 from typing import Any
 
@@ -20,10 +20,17 @@ from .schema import VERSIONS, missing
 log = logging.getLogger("palqytun")
 
 _TYPES = {"serial": "BIGSERIAL PRIMARY KEY", "blob": "BYTEA", "float": "FLOAT8", "plain": ""}
-_CHANNEL = "palqytun"
+_CHANNEL = "palqytun"  # of all workers
+_OWN = 12  # each worker has a channel of its own too, named by so many last characters of its name, which are random
+_NOTIFIED = f"SELECT pg_notify('{_CHANNEL}', word) FROM unnest(?) AS word"
+_TO_HOLDERS = (
+    f"SELECT pg_notify(CASE status WHEN 'running' THEN '{_CHANNEL}_' || right(worker, {_OWN}) ELSE '{_CHANNEL}' END, 'to ' || id)"
+    " FROM invocations WHERE id=ANY(?) AND status<>'done'"
+)
 _MIGRATING = 7_401_953  # the advisory lock of whoever migrates
-_BEGIN, _MOST_QUEUED = b"BEGIN", 200
-_KEEPALIVE = {"keepalives": 1, "keepalives_idle": 5, "keepalives_interval": 2, "keepalives_count": 3, "connect_timeout": 5, "tcp_user_timeout": 15000}
+_BEGIN, _AT_ONCE = b"BEGIN", 200  # statements that go to the server together, at most
+_PATIENCE = 10.0  # seconds that a connection may take to be made
+_OPTIONS = {"keepalives": 1, "keepalives_idle": 5, "keepalives_interval": 2, "keepalives_count": 3, "tcp_user_timeout": 15000, "client_encoding": "UTF8"}
 
 
 class NoDriver(ImportError):
@@ -33,40 +40,22 @@ class NoDriver(ImportError):
         super().__init__("PostgreSQL needs the package psycopg2: `pip install psycopg2`, or of Debian python3-psycopg2")
 
 
-class Postgres:
-    is_shared, is_remote, skip, lock = True, True, " FOR UPDATE SKIP LOCKED", " FOR UPDATE"
-    clock = "extract(epoch from clock_timestamp())::float8"
+class _Driver:
+    """psycopg2, which has no types."""
 
-    def __init__(self, url: str):
+    def __init__(self) -> None:
         try:
-            psycopg2: Any = importlib.import_module("psycopg2")  # it has no types
+            self.psycopg2: Any = importlib.import_module("psycopg2")
         except ImportError as error:
             raise NoDriver() from error
-        importlib.import_module("psycopg2.errors")
-        self._errors = psycopg2.Error
-        self._conflicts = (psycopg2.errors.DeadlockDetected, psycopg2.errors.SerializationFailure, psycopg2.errors.LockNotAvailable)
-        self._statement = (psycopg2.IntegrityError, psycopg2.ProgrammingError, psycopg2.DataError)
-        self._connect: Callable[[], Any] = lambda: psycopg2.connect(url, **_KEEPALIVE)
-        self._words: set[str] = set()
-        self._queue: list[bytes] = []
-        with self._named():
-            self._connection = self._connect()
-            self._cursor = self._connection.cursor()
-            self._migrate()
-            self._connection.autocommit = True  # begin and commit are statements of their own
-
-    def _migrate(self) -> None:
-        self._cursor.execute("SELECT pg_advisory_xact_lock(%s), to_regclass('schema_versions')", (_MIGRATING,))
-        if self._cursor.fetchone()[1] is None:
-            self._cursor.execute(VERSIONS)
-        self._cursor.execute("SELECT COALESCE(MAX(version), 0) FROM schema_versions")
-        for version, statements in missing(self._cursor.fetchone()[0]):
-            self._cursor.execute(statements.format(**_TYPES))
-            self._cursor.execute("INSERT INTO schema_versions VALUES (%s)", (version,))
-        self._connection.commit()
+        errors, extensions = importlib.import_module("psycopg2.errors"), importlib.import_module("psycopg2.extensions")
+        self.error = self.psycopg2.Error
+        self._conflicts = (errors.DeadlockDetected, errors.SerializationFailure, errors.LockNotAvailable)
+        self._statement = (self.psycopg2.IntegrityError, self.psycopg2.ProgrammingError, self.psycopg2.DataError)
+        self._ok, self._reads = extensions.POLL_OK, extensions.POLL_READ
 
     @contextlib.contextmanager
-    def _named(self) -> Iterator[None]:
+    def named(self) -> Iterator[None]:
         """Errors of the driver as those of `Database`."""
         try:
             yield
@@ -74,70 +63,148 @@ class Postgres:
             raise Conflict(str(error)) from error
         except self._statement:
             raise
-        except self._errors as error:
+        except self.error as error:
             raise Lost(str(error).strip() or type(error).__name__) from error
 
-    def _send(self, statement: bytes) -> None:
-        """Makes what is queued, and then this statement, in one round trip; the cursor has its answer."""
-        whole, self._queue = b";".join([*self._queue, statement]), []
-        with self._named():
-            self._cursor.execute(whole)
+    async def connected(self, url: str) -> Any:
+        """A new connection."""
+        with self.named():
+            connection = self.psycopg2.connect(url, async_=1, **_OPTIONS)
+            try:
+                await asyncio.wait_for(self.ready(connection), _PATIENCE)
+            except asyncio.TimeoutError:
+                connection.close()
+                raise Lost(f"the server hasn't answered for {_PATIENCE} seconds") from None
+            except BaseException:
+                connection.close()
+                raise
+        return connection
 
-    def _queued(self, statement: bytes) -> None:
-        self._queue.append(statement)
-        if len(self._queue) > _MOST_QUEUED:
-            self._send(b"")
+    async def ready(self, connection: Any) -> None:
+        """Waits until a connection has done what was asked last, and raises what is wrong with it."""
+        while (state := connection.poll()) != self._ok:
+            await _moved(connection.fileno(), state == self._reads)
+
+
+async def _moved(number: int, reads: bool) -> None:
+    """Waits until a socket can be read, or else written."""
+    loop = asyncio.get_running_loop()
+    moved: asyncio.Future[None] = loop.create_future()
+
+    def tell() -> None:
+        if not moved.done():
+            moved.set_result(None)
+
+    watch, leave = (loop.add_reader, loop.remove_reader) if reads else (loop.add_writer, loop.remove_writer)
+    watch(number, tell)
+    try:
+        await moved
+    finally:
+        leave(number)
+
+
+class Postgres:
+    is_shared, is_remote, skip, lock = True, True, " FOR UPDATE SKIP LOCKED", " FOR UPDATE"
+    clock = "extract(epoch from clock_timestamp())::float8"
+
+    def __init__(self, url: str, driver: _Driver, connection: Any):
+        """`connected` makes one."""
+        self._url, self._driver, self._connection = url, driver, connection
+        self._cursor = connection.cursor()
+        self._words: set[str] = set()  # that this transaction tells
+        self._touched: set[str] = set()  # the invocations whose holders it tells
+        self._queue: list[bytes] = []
+
+    @staticmethod
+    async def connected(url: str) -> Postgres:
+        """A connection to a database of the newest version."""
+        driver = _Driver()
+        found = Postgres(url, driver, await driver.connected(url))
+        try:
+            await found._migrate()
+        except BaseException:
+            found.close()
+            raise
+        return found
+
+    async def _migrate(self) -> None:
+        await self.begin()
+        [(_, versions)] = await self.rows("SELECT pg_advisory_xact_lock(?), to_regclass('schema_versions')", (_MIGRATING,))
+        if versions is None:
+            self.put(VERSIONS)
+        [(found,)] = await self.rows("SELECT COALESCE(MAX(version), 0) FROM schema_versions")
+        for version, statements in missing(found):
+            self._queue.append(statements.format(**_TYPES).encode())
+            self.put("INSERT INTO schema_versions VALUES (?)", (version,))
+        await self.commit()
+
+    async def _send(self, statement: bytes) -> None:
+        """Makes what is queued, and then this statement, in one round trip unless they are many; the cursor has this one's answer."""
+        statements, self._queue = [*self._queue, statement], []
+        with self._driver.named():
+            for first in range(0, len(statements), _AT_ONCE):
+                self._cursor.execute(b";".join(statements[first : first + _AT_ONCE]))
+                await self._driver.ready(self._connection)
 
     def _text(self, sql: str, values: Sequence[object]) -> bytes:
-        with self._named():
+        with self._driver.named():
             return self._cursor.mogrify(sql.replace("?", "%s"), tuple(values))  # type: ignore[no-any-return]
 
-    def begin(self) -> None:
+    async def begin(self) -> None:
         self._words.clear()
+        self._touched.clear()
         self._queue = [_BEGIN]
 
-    def commit(self) -> None:
-        if self._words:
-            self._queue.append(self._text("SELECT pg_notify(?, word) FROM unnest(?) AS word", (_CHANNEL, sorted(self._words))))
-        self._send(b"COMMIT")
+    async def commit(self) -> None:
+        for sql, names in ((_NOTIFIED, self._words), (_TO_HOLDERS, self._touched)):
+            if names:
+                self.put(sql, (sorted(names),))
+        await self._send(b"COMMIT")
         if self._cursor.statusmessage != "COMMIT":
             raise Conflict("the transaction was rolled back")
 
-    def rollback(self) -> None:
+    async def rollback(self) -> None:
         has_begun, self._queue = self._queue[:1] != [_BEGIN], []
         if has_begun:
-            self._send(b"ROLLBACK")
+            await self._send(b"ROLLBACK")
 
-    def rows(self, sql: str, values: Sequence[object] = ()) -> list[Any]:
-        self._send(self._text(sql, values))
+    async def rows(self, sql: str, values: Sequence[object] = ()) -> list[Any]:
+        await self._send(self._text(sql, values))
         return self._cursor.fetchall()  # type: ignore[no-any-return]
 
-    def change(self, sql: str, values: Sequence[object] = ()) -> int:
-        self._send(self._text(sql, values))
+    async def change(self, sql: str, values: Sequence[object] = ()) -> int:
+        await self._send(self._text(sql, values))
         return self._cursor.rowcount  # type: ignore[no-any-return]
 
     def put(self, sql: str, values: Sequence[object] = ()) -> None:
-        self._queued(self._text(sql, values))
+        self._queue.append(self._text(sql, values))
 
     def many(self, sql: str, values: Iterable[Sequence[object]]) -> None:
-        for row in values:
-            self._queued(self._text(sql, row))
+        self._queue += [self._text(sql, row) for row in values]
 
     def notify(self, word: str) -> None:
         self._words.add(word)
 
-    def listen(self, heard: Callable[[str], None]) -> Callable[[], None] | None:
-        with self._named():
-            connection = self._connect()
-            connection.autocommit = True
-            connection.cursor().execute(f"LISTEN {_CHANNEL}")
+    def notify_holder(self, invocation: str) -> None:
+        self._touched.add(invocation)
+
+    async def listen(self, worker: str, heard: Callable[[str], None]) -> Callable[[], None] | None:
+        connection = await self._driver.connected(self._url)
+        try:
+            with self._driver.named():
+                cursor = connection.cursor()  # it is kept until the answer is there
+                cursor.execute(f'LISTEN {_CHANNEL}; LISTEN "{_CHANNEL}_{worker[-_OWN:]}"')
+                await self._driver.ready(connection)
+        except BaseException:
+            connection.close()
+            raise
         loop, number, own = asyncio.get_running_loop(), connection.fileno(), self._connection.info.backend_pid
-        has_ended = threading.Event()
+        has_ended = False
 
         def readable() -> None:
             try:
                 connection.poll()
-            except self._errors as error:
+            except self._driver.error as error:
                 log.warning("notifications have ended, and the worker polls: %s", str(error).strip())
                 end()
                 return
@@ -147,8 +214,9 @@ class Postgres:
                     heard(it.payload)
 
         def end() -> None:
-            if not has_ended.is_set():
-                has_ended.set()
+            nonlocal has_ended
+            if not has_ended:
+                has_ended = True
                 loop.remove_reader(number)
                 connection.close()
 

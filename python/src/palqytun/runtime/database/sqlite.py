@@ -2,8 +2,13 @@
 
 from __future__ import annotations
 
+import asyncio
+import collections
+import concurrent.futures
 import fcntl
 import sqlite3
+import statistics
+import time
 from collections.abc import Callable, Iterable, Sequence
 from types import TracebackType
 from typing import Any
@@ -11,6 +16,7 @@ from typing import Any
 from . import Conflict, Lost
 from .schema import VERSIONS, missing
 
+_QUICK = 0.001  # seconds; a commit that takes less isn't worth a thread
 _TYPES = {"serial": "INTEGER PRIMARY KEY AUTOINCREMENT", "blob": "BLOB", "float": "REAL", "plain": " WITHOUT ROWID"}
 
 
@@ -45,6 +51,8 @@ class SQLite:
     def __init__(self, path: str, *, synchronous: str = "FULL", worker: bool = False):
         if synchronous not in ("FULL", "NORMAL", "OFF"):
             raise ValueError(f"synchronous is FULL, NORMAL or OFF, and not {synchronous}")
+        self._thread = concurrent.futures.ThreadPoolExecutor(1, thread_name_prefix="palqytun-database")
+        self._lasted: collections.deque[float] = collections.deque([0.0], maxlen=5)  # how long the last commits took
         self._lock = None
         if worker:
             self._lock = open(f"{path}.lock", "w")
@@ -75,32 +83,43 @@ class SQLite:
                 self._connection.execute("INSERT INTO schema_versions VALUES (?)", (version,))
             self._connection.execute("COMMIT")
         except BaseException:
-            self.rollback()
+            if self._connection.in_transaction:
+                self._connection.execute("ROLLBACK")
             raise
 
-    def begin(self) -> None:
+    async def begin(self) -> None:
         with _named:
             self._connection.execute("BEGIN IMMEDIATE")
 
-    def commit(self) -> None:
+    async def commit(self) -> None:
+        """In the event loop, if commits are quick here; else, as they wait for the disk, in a thread."""
+        if statistics.median(self._lasted) < _QUICK:
+            self._commit()
+        else:
+            await asyncio.shield(asyncio.get_running_loop().run_in_executor(self._thread, self._commit))
+
+    def _commit(self) -> None:
+        begun = time.perf_counter()
         with _named:
             self._connection.execute("COMMIT")
+        self._lasted.append(time.perf_counter() - begun)
 
-    def rollback(self) -> None:
+    async def rollback(self) -> None:
         with _named:
             if self._connection.in_transaction:
                 self._connection.execute("ROLLBACK")
 
-    def rows(self, sql: str, values: Sequence[object] = ()) -> list[Any]:
+    async def rows(self, sql: str, values: Sequence[object] = ()) -> list[Any]:
         with _named:
             return self._connection.execute(sql, tuple(values)).fetchall()
 
-    def change(self, sql: str, values: Sequence[object] = ()) -> int:
+    async def change(self, sql: str, values: Sequence[object] = ()) -> int:
         with _named:
             return self._connection.execute(sql, tuple(values)).rowcount
 
     def put(self, sql: str, values: Sequence[object] = ()) -> None:
-        self.change(sql, values)
+        with _named:
+            self._connection.execute(sql, tuple(values))
 
     def many(self, sql: str, values: Iterable[Sequence[object]]) -> None:
         with _named:
@@ -109,10 +128,14 @@ class SQLite:
     def notify(self, word: str) -> None:
         """There is no other worker to tell."""
 
-    def listen(self, heard: Callable[[str], None]) -> Callable[[], None] | None:
+    def notify_holder(self, invocation: str) -> None:
+        """There is no other worker to tell."""
+
+    async def listen(self, worker: str, heard: Callable[[str], None]) -> Callable[[], None] | None:
         return None
 
     def close(self) -> None:
+        self._thread.shutdown(wait=True)
         self._connection.close()
         if self._lock is not None:
             self._lock.close()
