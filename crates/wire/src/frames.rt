@@ -1,4 +1,4 @@
-//! A frame's head: the number of its type in two bytes and the length of its body in eight. The body stands behind it.
+//! A frame's head: the number of its type in two bytes and the length of its body in eight. The body follows.
 ghost use Rattle.std.specs.Prelude.{◌≡◌, ◌≤◌, ◌-◌, ◌++◌, take, drop, length, OnOk};
 ghost use Rattle.wire.specs.Format.{u16s, u64s};
 
@@ -13,7 +13,7 @@ pub fn put_head(number: u16, frame: &mut Vec<u8>) -> Result<(), AllocError>
     frame.extend_from_slice(&[number[0], number[1], 0, 0, 0, 0, 0, 0, 0, 0])
 }
 
-/// Writes the length of a frame's body to its place, behind the type's number.
+/// Writes the length of a frame's body to its place, after the type's number.
 #[tactic(auto, unfolding(crate::specs::Format::u64s))]
 pub fn set_length(frame: &mut Vec<u8>)
     requires { 10 ≤ length frame.old.items }
