@@ -51,6 +51,8 @@ pub enum Event {
     Close,
     /// The attempt makes a step.
     Step,
+    /// It makes this many steps, one after another. Those that would change nothing aren't made.
+    Steps(u64),
     /// What executing the run of this handle came to is told to the attempt.
     RunResult(NotificationHandle, RunExitResult, RetryPolicy),
     /// A notification, as one frame, is stored and waits.
