@@ -65,11 +65,7 @@ impl Plan {
 
     /// The handler makes this number of steps.
     pub fn step(self, times: usize) -> Result<Plan, AllocError> {
-        let mut plan = self;
-        for _ in 0..times {
-            plan = plan.then(Event::Step)?;
-        }
-        Ok(plan)
+        self.then(Event::Steps(times as u64))
     }
 
     /// A result arrives: it is stored, and waits to be fed.

@@ -69,9 +69,22 @@ piece_row word others fault e blames = record { nothing = λ bad happens is. go 
     go bad (event.Piece n) is = blames.nothing bad n is.1
     go bad event.Close is = apart 0 word (codes "piece") (codes "close") (omega arith) e is.0
     go bad event.Step is = is
+    go bad (event.Steps n) is = apart 0 word (codes "piece") (codes "step") (omega arith) e is.0
     go bad (event.Arrive bytes) is = apart 0 word (codes "piece") (codes "arrive") (omega arith) e is.0
     go bad (event.Store n) is = apart 0 word (codes "piece") (codes "store") (omega arith) e is.0
     go bad (event.RunResult handle result policy) is = apart 0 word (codes "piece") (codes "run_result") (omega arith) e is.0
+
+pub step_row : (word : List ℕ) (others : List (Bor (List ℕ))) (fault : Fault) → word ≡ codes "step" → Blames (AreSteps others) fault → Blames (SaysEvent word others) fault
+step_row word others fault e blames = record { nothing = λ bad happens is. go bad happens is }
+  where
+    go : fault ≡ Malformed → (happens : Event) → SaysEvent word others happens → ⊥
+    go bad (event.Piece n) is = apart 0 word (codes "step") (codes "piece") (omega arith) e is.0
+    go bad event.Close is = apart 0 word (codes "step") (codes "close") (omega arith) e is.0
+    go bad event.Step is = is
+    go bad (event.Steps n) is = blames.nothing bad n is.1
+    go bad (event.Arrive bytes) is = apart 0 word (codes "step") (codes "arrive") (omega arith) e is.0
+    go bad (event.Store n) is = apart 2 word (codes "step") (codes "store") (omega arith) e is.0
+    go bad (event.RunResult handle result policy) is = apart 0 word (codes "step") (codes "run_result") (omega arith) e is.0
 
 pub store_row : (word : List ℕ) (others : List (Bor (List ℕ))) (fault : Fault) → word ≡ codes "store" → Blames (IsOneCount others) fault → Blames (SaysEvent word others) fault
 store_row word others fault e blames = record { nothing = λ bad happens is. go bad happens is }
@@ -80,6 +93,7 @@ store_row word others fault e blames = record { nothing = λ bad happens is. go 
     go bad (event.Piece n) is = apart 0 word (codes "store") (codes "piece") (omega arith) e is.0
     go bad event.Close is = apart 0 word (codes "store") (codes "close") (omega arith) e is.0
     go bad event.Step is = is
+    go bad (event.Steps n) is = apart 2 word (codes "store") (codes "step") (omega arith) e is.0
     go bad (event.Arrive bytes) is = apart 0 word (codes "store") (codes "arrive") (omega arith) e is.0
     go bad (event.Store n) is = blames.nothing bad n is.1
     go bad (event.RunResult handle result policy) is = apart 0 word (codes "store") (codes "run_result") (omega arith) e is.0
@@ -91,6 +105,7 @@ arrive_row word others fault e blames other = record { nothing = λ bad happens 
     go bad (event.Piece n) is = apart 0 word (codes "arrive") (codes "piece") (omega arith) e is.0
     go bad event.Close is = apart 0 word (codes "arrive") (codes "close") (omega arith) e is.0
     go bad event.Step is = is
+    go bad (event.Steps n) is = apart 0 word (codes "arrive") (codes "step") (omega arith) e is.0
     go bad (event.Arrive bytes) is = (blames (subst (λ w. is_frame w others ≡ false) e other)).nothing bad bytes is.1
     go bad (event.Store n) is = apart 0 word (codes "arrive") (codes "store") (omega arith) e is.0
     go bad (event.RunResult handle result policy) is = apart 0 word (codes "arrive") (codes "run_result") (omega arith) e is.0
@@ -109,6 +124,7 @@ close_blamed words fault some = record { nothing = λ bad happens is. go bad hap
     go bad (event.Piece n) is = apart 0 (codes "close") (codes "close") (codes "piece") (omega arith) refl is.0
     go bad event.Close is = some (ap length is.1)
     go bad event.Step is = is
+    go bad (event.Steps n) is = apart 0 (codes "close") (codes "close") (codes "step") (omega arith) refl is.0
     go bad (event.Arrive bytes) is = apart 0 (codes "close") (codes "close") (codes "arrive") (omega arith) refl is.0
     go bad (event.Store n) is = apart 0 (codes "close") (codes "close") (codes "store") (omega arith) refl is.0
     go bad (event.RunResult handle result policy) is = apart 0 (codes "close") (codes "close") (codes "run_result") (omega arith) refl is.0
@@ -120,27 +136,29 @@ proposal_blamed words fault blames = record { nothing = λ bad happens is. go ba
     go bad (event.Piece n) is = apart 0 (codes "run_result") (codes "run_result") (codes "piece") (omega arith) refl is.0
     go bad event.Close is = apart 0 (codes "run_result") (codes "run_result") (codes "close") (omega arith) refl is.0
     go bad event.Step is = is
+    go bad (event.Steps n) is = apart 0 (codes "run_result") (codes "run_result") (codes "step") (omega arith) refl is.0
     go bad (event.Arrive bytes) is = apart 0 (codes "run_result") (codes "run_result") (codes "arrive") (omega arith) refl is.0
     go bad (event.Store n) is = apart 0 (codes "run_result") (codes "run_result") (codes "store") (omega arith) refl is.0
     go bad (event.RunResult handle result policy) is = blames.nothing bad (record { handle = handle; result = result; policy = policy }) is.1
 
 -- a word that names no event
-pub no_row : (word : List ℕ) (others : List (Bor (List ℕ))) (fault : Fault) → word ≢ codes "piece" → word ≢ codes "close" → word ≢ codes "arrive" → word ≢ codes "store" → word ≢ codes "run_result" → Blames (SaysEvent word others) fault
-no_row word others fault piece close arrive store told = record { nothing = λ bad happens is. go happens is }
+pub no_row : (word : List ℕ) (others : List (Bor (List ℕ))) (fault : Fault) → word ≢ codes "piece" → word ≢ codes "close" → word ≢ codes "step" → word ≢ codes "arrive" → word ≢ codes "store" → word ≢ codes "run_result" → Blames (SaysEvent word others) fault
+no_row word others fault piece close step arrive store told = record { nothing = λ bad happens is. go happens is }
   where
     go : (happens : Event) → SaysEvent word others happens → ⊥
     go (event.Piece n) is = piece is.0
     go event.Close is = close is.0
     go event.Step is = is
+    go (event.Steps n) is = step is.0
     go (event.Arrive bytes) is = arrive is.0
     go (event.Store n) is = store is.0
     go (event.RunResult handle result policy) is = told is.0
 
 -- ---- rows
 
-pub event_row : (word : List ℕ) (others : List (Bor (List ℕ))) (fault : Fault) → word ≢ codes "world" → word ≢ codes "entry" → word ≢ codes "round" → word ≢ codes "step" → (is_frame word others ≡ false → Blames (SaysEvent word others) fault) → is_frame word others ≡ false
+pub event_row : (word : List ℕ) (others : List (Bor (List ℕ))) (fault : Fault) → word ≢ codes "world" → word ≢ codes "entry" → word ≢ codes "round" → (is_frame word others ≡ false → Blames (SaysEvent word others) fault) → is_frame word others ≡ false
     → Blames (SaysBehind word others) fault
-event_row word others fault world entry round step blames other = record { nothing = λ bad said is. go bad said is }
+event_row word others fault world entry round blames other = record { nothing = λ bad said is. go bad said is }
   where
     go : fault ≡ Malformed → (said : ScriptLine) → SaysBehind word others said → ⊥
     go bad line.Nothing is = is
@@ -148,7 +166,6 @@ event_row word others fault world entry round step blames other = record { nothi
     go bad (line.Entry bytes) is = entry is.0
     go bad (line.Round opened) is = round is.0
     go bad (line.Event happens) is = (blames other).nothing bad happens is
-    go bad (line.Steps n) is = step is.0
 
 pub world_row : (word : List ℕ) (others : List (Bor (List ℕ))) (fault : Fault) → word ≡ codes "world" → Blames (SaysWorld others) fault → Blames (SaysBehind word others) fault
 world_row word others fault e blames = record { nothing = λ bad said is. go bad said is }
@@ -158,8 +175,7 @@ world_row word others fault e blames = record { nothing = λ bad said is. go bad
     go bad (line.World given) is = blames.nothing bad given is.1
     go bad (line.Entry bytes) is = apart 0 word (codes "world") (codes "entry") (omega arith) e is.0
     go bad (line.Round opened) is = apart 0 word (codes "world") (codes "round") (omega arith) e is.0
-    go bad (line.Event happens) is = (no_row word others Malformed (apart 0 word (codes "world") (codes "piece") (omega arith) e) (apart 0 word (codes "world") (codes "close") (omega arith) e) (apart 0 word (codes "world") (codes "arrive") (omega arith) e) (apart 0 word (codes "world") (codes "store") (omega arith) e) (apart 0 word (codes "world") (codes "run_result") (omega arith) e)).nothing refl happens is
-    go bad (line.Steps n) is = apart 0 word (codes "world") (codes "step") (omega arith) e is.0
+    go bad (line.Event happens) is = (no_row word others Malformed (apart 0 word (codes "world") (codes "piece") (omega arith) e) (apart 0 word (codes "world") (codes "close") (omega arith) e) (apart 0 word (codes "world") (codes "step") (omega arith) e) (apart 0 word (codes "world") (codes "arrive") (omega arith) e) (apart 0 word (codes "world") (codes "store") (omega arith) e) (apart 0 word (codes "world") (codes "run_result") (omega arith) e)).nothing refl happens is
 
 pub entry_row : (word : List ℕ) (others : List (Bor (List ℕ))) (fault : Fault) → word ≡ codes "entry" → (are_frame others ≡ false → Blames (ShowsBytes others) fault) → is_frame word others ≡ false → Blames (SaysBehind word others) fault
 entry_row word others fault e blames other = record { nothing = λ bad said is. go bad said is }
@@ -169,8 +185,7 @@ entry_row word others fault e blames other = record { nothing = λ bad said is. 
     go bad (line.World given) is = apart 0 word (codes "entry") (codes "world") (omega arith) e is.0
     go bad (line.Entry bytes) is = (blames (subst (λ w. is_frame w others ≡ false) e other)).nothing bad bytes is.1
     go bad (line.Round opened) is = apart 0 word (codes "entry") (codes "round") (omega arith) e is.0
-    go bad (line.Event happens) is = (no_row word others Malformed (apart 0 word (codes "entry") (codes "piece") (omega arith) e) (apart 0 word (codes "entry") (codes "close") (omega arith) e) (apart 0 word (codes "entry") (codes "arrive") (omega arith) e) (apart 0 word (codes "entry") (codes "store") (omega arith) e) (apart 0 word (codes "entry") (codes "run_result") (omega arith) e)).nothing refl happens is
-    go bad (line.Steps n) is = apart 0 word (codes "entry") (codes "step") (omega arith) e is.0
+    go bad (line.Event happens) is = (no_row word others Malformed (apart 0 word (codes "entry") (codes "piece") (omega arith) e) (apart 0 word (codes "entry") (codes "close") (omega arith) e) (apart 0 word (codes "entry") (codes "step") (omega arith) e) (apart 0 word (codes "entry") (codes "arrive") (omega arith) e) (apart 0 word (codes "entry") (codes "store") (omega arith) e) (apart 0 word (codes "entry") (codes "run_result") (omega arith) e)).nothing refl happens is
 
 pub round_row : (word : List ℕ) (others : List (Bor (List ℕ))) (fault : Fault) → word ≡ codes "round" → Blames (SaysRound others) fault → Blames (SaysBehind word others) fault
 round_row word others fault e blames = record { nothing = λ bad said is. go bad said is }
@@ -180,19 +195,7 @@ round_row word others fault e blames = record { nothing = λ bad said is. go bad
     go bad (line.World given) is = apart 0 word (codes "round") (codes "world") (omega arith) e is.0
     go bad (line.Entry bytes) is = apart 0 word (codes "round") (codes "entry") (omega arith) e is.0
     go bad (line.Round opened) is = blames.nothing bad opened is.1
-    go bad (line.Event happens) is = (no_row word others Malformed (apart 0 word (codes "round") (codes "piece") (omega arith) e) (apart 0 word (codes "round") (codes "close") (omega arith) e) (apart 0 word (codes "round") (codes "arrive") (omega arith) e) (apart 0 word (codes "round") (codes "store") (omega arith) e) (apart 1 word (codes "round") (codes "run_result") (omega arith) e)).nothing refl happens is
-    go bad (line.Steps n) is = apart 0 word (codes "round") (codes "step") (omega arith) e is.0
-
-pub step_row : (word : List ℕ) (others : List (Bor (List ℕ))) (fault : Fault) → word ≡ codes "step" → Blames (AreSteps others) fault → Blames (SaysBehind word others) fault
-step_row word others fault e blames = record { nothing = λ bad said is. go bad said is }
-  where
-    go : fault ≡ Malformed → (said : ScriptLine) → SaysBehind word others said → ⊥
-    go bad line.Nothing is = is
-    go bad (line.World given) is = apart 0 word (codes "step") (codes "world") (omega arith) e is.0
-    go bad (line.Entry bytes) is = apart 0 word (codes "step") (codes "entry") (omega arith) e is.0
-    go bad (line.Round opened) is = apart 0 word (codes "step") (codes "round") (omega arith) e is.0
-    go bad (line.Event happens) is = (no_row word others Malformed (apart 0 word (codes "step") (codes "piece") (omega arith) e) (apart 0 word (codes "step") (codes "close") (omega arith) e) (apart 0 word (codes "step") (codes "arrive") (omega arith) e) (apart 2 word (codes "step") (codes "store") (omega arith) e) (apart 0 word (codes "step") (codes "run_result") (omega arith) e)).nothing refl happens is
-    go bad (line.Steps n) is = blames.nothing bad n is.1
+    go bad (line.Event happens) is = (no_row word others Malformed (apart 0 word (codes "round") (codes "piece") (omega arith) e) (apart 0 word (codes "round") (codes "close") (omega arith) e) (apart 0 word (codes "round") (codes "step") (omega arith) e) (apart 0 word (codes "round") (codes "arrive") (omega arith) e) (apart 0 word (codes "round") (codes "store") (omega arith) e) (apart 1 word (codes "round") (codes "run_result") (omega arith) e)).nothing refl happens is
 
 -- ---- lines
 
@@ -208,8 +211,7 @@ no_words [] h = record { nothing = λ other said is. go said is }
     go (line.World given) is = differs (codes "world") (omega arith) is.0
     go (line.Entry bytes) is = differs (codes "entry") (omega arith) is.0
     go (line.Round opened) is = differs (codes "round") (omega arith) is.0
-    go (line.Event happens) is = (no_row [] [] Malformed (differs (codes "piece") (omega arith)) (differs (codes "close") (omega arith)) (differs (codes "arrive") (omega arith)) (differs (codes "store") (omega arith)) (differs (codes "run_result") (omega arith))).nothing refl happens is
-    go (line.Steps n) is = differs (codes "step") (omega arith) is.0
+    go (line.Event happens) is = (no_row [] [] Malformed (differs (codes "piece") (omega arith)) (differs (codes "close") (omega arith)) (differs (codes "step") (omega arith)) (differs (codes "arrive") (omega arith)) (differs (codes "store") (omega arith)) (differs (codes "run_result") (omega arith))).nothing refl happens is
 no_words (w ∷ words) h = absurd (omega arith)
 
 pub words_say_nothing : (words others : List (Bor (List ℕ))) (d : Bor (List ℕ)) (fault : Fault) → 0 < length words → others ≡ behind words → (is_frame (get_or words 0 d).now others ≡ false → Blames (SaysBehind (get_or words 0 d).now others) fault) → fault ≡ Malformed

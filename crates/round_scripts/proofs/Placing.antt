@@ -1,25 +1,21 @@
 -- What has no place behind what was said before, and the lines in front of it.
-use Rattle.std.proofs.Common.{◌≡◌, ◌≢◌, ◌+◌, inl, inr, ℕ, List, [], ◌∷◌, ◌++◌, None, length, replicate, ap, refl, sym, subst, ◌∙◌, arith, length-append}
+use Rattle.std.proofs.Common.{◌≡◌, ◌≢◌, ◌+◌, inl, inr, ℕ, List, [], ◌∷◌, ◌++◌, None, length, ap, refl, sym, subst, ◌∙◌, arith, length-append}
 use Rattle.scripts.specs.Transcripts.{AreFirstLines, IsFirstLine}
 use Rattle.vm_store.specs.declared.types.Event.{Event}
-use Rattle.vm_store.specs.declared.types.Event.TheVariants as event
 use Rattle.round_scripts.specs.declared.given.Given.{Given}
 use Rattle.round_scripts.specs.declared.script_line.ScriptLine.{ScriptLine}
 use Rattle.round_scripts.specs.declared.script_line.ScriptLine.TheVariants as line
 use Rattle.round_scripts.specs.Said.{IsUnread, SaysLine}
-use Rattle.round_scripts.specs.Scripts.{AddsLine, AddsNothing, AreAdded, AddsEvents, HappensIn, HasNoPlace, Parts, StopsAt}
+use Rattle.round_scripts.specs.Scripts.{AddsLine, AddsNothing, AreAdded, AddsEvent, HappensIn, HasNoPlace, Parts, StopsAt}
 
 -- ---- places
 
-nothing_happens : (events : List Event) (before after : Parts) → before.last ≡ None → AddsEvents events before after → ⊥
-nothing_happens events before after none happens = subst (λ l. HappensIn l events after.last) none happens.last
+nothing_happens : (e : Event) (before after : Parts) → before.last ≡ None → AddsEvent e before after → ⊥
+nothing_happens e before after none happens = subst (λ l. HappensIn l e after.last) none happens.last
 
 -- no round has begun
 pub no_round : (e : Event) (before : Parts) → before.last ≡ None → HasNoPlace (line.Event e) before
-no_round e before none = record { nothing = λ after adds. nothing_happens (e ∷ []) before after none adds }
-
-pub no_round_to_step : (n : ℕ) (before : Parts) → before.last ≡ None → HasNoPlace (line.Steps n) before
-no_round_to_step n before none = record { nothing = λ after adds. nothing_happens (replicate n event.Step) before after none adds }
+no_round e before none = record { nothing = λ after adds. nothing_happens e before after none adds }
 
 -- a round has begun
 pub round_begun : (bytes : List ℕ) (before : Parts) → before.last ≢ None → HasNoPlace (line.Entry bytes) before

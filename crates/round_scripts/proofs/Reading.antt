@@ -1,7 +1,6 @@
 -- A text that is read line by line.
-use Rattle.std.proofs.Common.{◌≡◌, ◌≢◌, ◌++◌, ℕ, zero, suc, ◌+◌, List, [], ◌∷◌, length, replicate, refl, ap, subst, arith}
+use Rattle.std.proofs.Common.{◌≡◌, ◌≢◌, ℕ, List, [], ◌∷◌, length, refl, arith}
 use Rattle.scripts.specs.Transcripts.{IsFirstLine}
-use Rattle.vm_store.specs.declared.types.Event.{Event}
 use Rattle.round_scripts.specs.Scripts.{AddsLine, AreLinesAdded, Parts}
 
 -- What the rest adds to what was said so far, the whole text adds.
@@ -21,13 +20,3 @@ read_more text rest line behind before now next so_far some first adds after add
 pub read_all : (text rest : List ℕ) (before now : Parts) → ReadsOn text rest before now → length rest ≡ 0 → AreLinesAdded text before now
 read_all text [] before now so_far none = so_far now (record { lines = []; are_lines = refl; are_added = refl })
 read_all text (b ∷ rest) before now so_far none = absurd (omega arith)
-
--- one more of the same
-same : (n : ℕ) (e : Event) → replicate (suc n) e ≡ replicate n e ++ e ∷ []
-same zero e = refl
-same (suc n) e = ap (λ es. e ∷ es) (same n e)
-
-pub replicate_more : (n : ℕ) (e : Event) → replicate (n + 1) e ≡ replicate n e ++ e ∷ []
-replicate_more n e =
-    let k : suc n ≡ n + 1 = omega arith in
-    subst (λ m. replicate m e ≡ replicate n e ++ e ∷ []) k (same n e)

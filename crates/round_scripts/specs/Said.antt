@@ -50,6 +50,7 @@ abbrev pub SaysEvent : List ℕ → List (Bor (List ℕ)) → Event → Type 0
 SaysEvent word others (event.Piece n) = (word ≡ codes "piece") × IsOneCount others n
 SaysEvent word others event.Close = (word ≡ codes "close") × (others ≡ [])
 SaysEvent word others event.Step = ⊥
+SaysEvent word others (event.Steps n) = (word ≡ codes "step") × AreSteps others n
 SaysEvent word others (event.Arrive bytes) = (word ≡ codes "arrive") × ShowsBytes others bytes
 SaysEvent word others (event.Store n) = (word ≡ codes "store") × IsOneCount others n
 SaysEvent word others (event.RunResult handle result policy) = (word ≡ codes "run_result")
@@ -62,7 +63,6 @@ SaysBehind word others (line.World given) = (word ≡ codes "world") × SaysWorl
 SaysBehind word others (line.Entry bytes) = (word ≡ codes "entry") × ShowsBytes others bytes
 SaysBehind word others (line.Round round) = (word ≡ codes "round") × SaysRound others round
 SaysBehind word others (line.Event e) = SaysEvent word others e
-SaysBehind word others (line.Steps n) = (word ≡ codes "step") × AreSteps others n
 
 -- the words of a line say this
 abbrev pub SaysWords : List (Bor (List ℕ)) → ScriptLine → Type 0

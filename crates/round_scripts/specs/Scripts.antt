@@ -1,8 +1,7 @@
 -- What a whole script says: its lines, read one after another, make a world and rounds.
-use Rattle.std.specs.Prelude.{◌≡◌, ◌⊎◌, ◌+◌, ℕ, List, [], ◌∷◌, ◌++◌, Option, Some, None, length, replicate}
+use Rattle.std.specs.Prelude.{◌≡◌, ◌⊎◌, ◌+◌, ℕ, List, [], ◌∷◌, ◌++◌, Option, Some, None, length}
 use Rattle.scripts.specs.Transcripts.{AreFirstLines, IsFirstLine}
 use Rattle.vm_store.specs.declared.types.Event.{Event}
-use Rattle.vm_store.specs.declared.types.Event.TheVariants as event
 use Rattle.vm_store.specs.declared.types.Round.{Round}
 use Rattle.round_scripts.specs.declared.given.Given.{Given}
 use Rattle.round_scripts.specs.declared.script.Script.{Script}
@@ -40,27 +39,27 @@ abbrev pub with_last : List Round → Option Round → List Round
 with_last rounds None = rounds
 with_last rounds (Some round) = rounds ++ round ∷ []
 
--- these events happen next in a round
-abbrev pub then_happen : List Event → Round → Round
-then_happen events round = record {
+-- this happens next in a round
+abbrev pub then_happens : Event → Round → Round
+then_happens e round = record {
   partial = round.partial;
   keys = round.keys;
   retry_count = round.retry_count;
   duration = round.duration;
-  events = round.events ++ events;
+  events = round.events ++ e ∷ [];
 }
 
--- these events happen next in the last round, if there is one
-abbrev pub HappensIn : Option Round → List Event → Option Round → Type 0
-HappensIn None events after = ⊥
-HappensIn (Some round) events after = after ≡ Some (then_happen events round)
+-- this happens next in the last round, if there is one
+abbrev pub HappensIn : Option Round → Event → Option Round → Type 0
+HappensIn None e after = ⊥
+HappensIn (Some round) e after = after ≡ Some (then_happens e round)
 
--- there is a last round, and these events happen next in it
-pub record AddsEvents (events : List Event) (before after : Parts) : Type 0 where
+-- there is a last round, and this happens next in it
+pub record AddsEvent (e : Event) (before after : Parts) : Type 0 where
   pub given : after.given ≡ before.given
   pub entries : after.entries ≡ before.entries
   pub rounds : after.rounds ≡ before.rounds
-  pub last : HappensIn before.last events after.last
+  pub last : HappensIn before.last e after.last
 
 -- A line more. The world stands before the entries and the rounds, once, and each entry before the
 -- rounds.
@@ -83,8 +82,7 @@ Adds (line.Round round) before after = after
       rounds = with_last before.rounds before.last;
       last = Some round;
     }
-Adds (line.Event e) before after = AddsEvents (e ∷ []) before after
-Adds (line.Steps n) before after = AddsEvents (replicate n event.Step) before after
+Adds (line.Event e) before after = AddsEvent e before after
 
 -- what a line says more
 abbrev pub AddsLine : List ℕ → Parts → Parts → Type 0

@@ -120,7 +120,7 @@ fn close_of(words: &[&[u8]]) -> Result<Event, Fault>
 }
 
 /// What happens, as a word of a line and those behind it say.
-#[tactic(auto, using(crate::proofs::Nothing::piece_row, crate::proofs::Nothing::close_row, crate::proofs::Nothing::arrive_row, crate::proofs::Nothing::store_row, crate::proofs::Nothing::run_result_row, crate::proofs::Nothing::no_row))]
+#[tactic(auto, using(crate::proofs::Nothing::piece_row, crate::proofs::Nothing::close_row, crate::proofs::Nothing::step_row, crate::proofs::Nothing::arrive_row, crate::proofs::Nothing::store_row, crate::proofs::Nothing::run_result_row, crate::proofs::Nothing::no_row))]
 fn event_behind(alloc: Global, word: &[u8], others: &[&[u8]]) -> Result<Event, Fault>
     ensures value { IfOk result (SaysEvent word.now others.now) }
     ensures none { IfErr result (λ fault. is_frame word.now others.now ≡ false
@@ -133,6 +133,10 @@ fn event_behind(alloc: Global, word: &[u8], others: &[&[u8]]) -> Result<Event, F
     if word == b"close".as_slice() {
         let event = close_of(others)?;
         return Ok(event);
+    }
+    if word == b"step".as_slice() {
+        let steps = steps_of(others)?;
+        return Ok(Event::Steps(steps));
     }
     if word == b"arrive".as_slice() {
         let bytes = shown_by(alloc, others)?;
@@ -150,7 +154,7 @@ fn event_behind(alloc: Global, word: &[u8], others: &[&[u8]]) -> Result<Event, F
 }
 
 /// What a word of a line and those behind it say.
-#[tactic(auto, using(crate::proofs::Nothing::world_row, crate::proofs::Nothing::entry_row, crate::proofs::Nothing::round_row, crate::proofs::Nothing::step_row, crate::proofs::Nothing::event_row))]
+#[tactic(auto, using(crate::proofs::Nothing::world_row, crate::proofs::Nothing::entry_row, crate::proofs::Nothing::round_row, crate::proofs::Nothing::event_row))]
 fn said_behind(alloc: Global, word: &[u8], others: &[&[u8]]) -> Result<ScriptLine, Fault>
     ensures value { IfOk result (SaysBehind word.now others.now) }
     ensures none { IfErr result (λ fault. is_frame word.now others.now ≡ false
@@ -167,10 +171,6 @@ fn said_behind(alloc: Global, word: &[u8], others: &[&[u8]]) -> Result<ScriptLin
     if word == b"round".as_slice() {
         let round = round_of(alloc, others)?;
         return Ok(ScriptLine::Round(round));
-    }
-    if word == b"step".as_slice() {
-        let steps = steps_of(others)?;
-        return Ok(ScriptLine::Steps(steps));
     }
     let event = event_behind(alloc, word, others)?;
     Ok(ScriptLine::Event(event))

@@ -1,8 +1,7 @@
 //! A whole script: the world that it makes, and its rounds with what happens in them.
-ghost use Rattle.std.specs.Prelude.{◌≡◌, [], ◌∷◌, IfErr, IfOk, OnOk, None, Some, replicate};
+ghost use Rattle.std.specs.Prelude.{◌≡◌, IfErr, IfOk, OnOk, None, Some};
 ghost use Rattle.wire.specs.declared.fault.Fault.TheVariants.{Malformed};
-ghost use Rattle.vm_store.specs.declared.types.Event.TheVariants as event;
-ghost use Rattle.round_scripts.specs.Scripts.{Adds, AddsLine, AddsNothing, AreLinesAdded, AddsEvents, Has, HasNoPlace, IsScriptRead, IsUnreadFor, no_parts, said_parts, then_happen, with_last};
+ghost use Rattle.round_scripts.specs.Scripts.{Adds, AddsLine, AddsNothing, AreLinesAdded, AddsEvent, Has, HasNoPlace, IsScriptRead, IsUnreadFor, no_parts, said_parts, with_last};
 ghost use Rattle.round_scripts.specs.declared.script_line.ScriptLine.TheVariants as line;
 
 use crate::given::{Given, default_given};
@@ -45,7 +44,7 @@ pub struct SoFar {
 #[tactic(auto, using(crate::proofs::Placing::no_round))]
 fn add_event(so_far: &mut SoFar, event: Event) -> Result<(), Fault>
     ensures value { OnOk result
-        (AddsEvents (event ∷ []) (said_parts so_far.old) (said_parts so_far.new)) }
+        (AddsEvent event (said_parts so_far.old) (said_parts so_far.new)) }
     ensures none { IfErr result (λ fault. fault ≡ Malformed
         → HasNoPlace (line.Event event) (said_parts so_far.old)) }
 {
@@ -58,34 +57,6 @@ fn add_event(so_far: &mut SoFar, event: Event) -> Result<(), Fault>
             drop(event);
             Err(Fault::Malformed)
         }
-    }
-}
-
-/// So many steps happen next in a round.
-#[tactic(auto, using(crate::proofs::Reading::replicate_more))]
-fn push_steps(round: &mut Round, steps: u64) -> Result<(), AllocError>
-    ensures { OnOk result (round.new ≡ then_happen (replicate steps event.Step) round.old) }
-{
-    for _ in 0..steps {
-        round.events.push(Event::Step)?;
-    }
-    Ok(())
-}
-
-/// So many steps happen next in the last round; `Malformed` where there is none.
-#[tactic(auto, using(crate::proofs::Placing::no_round_to_step))]
-fn add_steps(so_far: &mut SoFar, steps: u64) -> Result<(), Fault>
-    ensures value { OnOk result
-        (AddsEvents (replicate steps event.Step) (said_parts so_far.old) (said_parts so_far.new)) }
-    ensures none { IfErr result (λ fault. fault ≡ Malformed
-        → HasNoPlace (line.Steps steps) (said_parts so_far.old)) }
-{
-    match &mut so_far.round {
-        Some(round) => {
-            push_steps(round, steps)?;
-            Ok(())
-        }
-        None => Err(Fault::Malformed),
     }
 }
 
@@ -162,7 +133,6 @@ fn add(so_far: &mut SoFar, said: ScriptLine) -> Result<(), Fault>
         ScriptLine::Entry(bytes) => add_entry(so_far, bytes),
         ScriptLine::Round(round) => add_round(so_far, round),
         ScriptLine::Event(event) => add_event(so_far, event),
-        ScriptLine::Steps(steps) => add_steps(so_far, steps),
     }
 }
 

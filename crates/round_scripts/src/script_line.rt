@@ -16,6 +16,4 @@ pub enum ScriptLine {
     Round(Round),
     /// What happens next in the round.
     Event(Event),
-    /// So many steps happen next in the round.
-    Steps(u64),
 }

@@ -29,12 +29,13 @@ use Rattle.vm_store.specs.declared.types.Event.{Event}
 use Rattle.vm_store.specs.declared.types.Event.TheVariants as event
 use Rattle.vm_rounds.specs.Courses.{brought_by, course_of, delivered, new_in}
 use Rattle.vm_store.specs.Entries.{journal_entries, journal_frames, notes_in}
-use Rattle.vm_rounds.specs.Rounds.{Happen, Happens, Now, Pieces}
+use Rattle.vm_rounds.specs.Rounds.{Happen, Happens, Now, Pieces, StepHappens, StepsHappen}
 use Rattle.vm_store.specs.Worlds.{IsJournal}
 use Rattle.vm_store.proofs.Framing.{AreFrames, entries_append, join, journal_acknowledges, journal_framed, notes_are}
 use Rattle.vm_rounds.proofs.Going.{IsOpen, Stepped, Takes, closes, fed, finishes, prefix_then, same_prefix, stepped}
 use Rattle.vm_rounds.proofs.Keeping.{Going, event_keeps, one_note}
 use Rattle.vm_rounds.proofs.Once.{is_new}
+use Rattle.vm_rounds.proofs.Repeating.{steps_keep}
 use Rattle.vm_rounds.proofs.Settled.{brings_still}
 use Rattle.vm_rounds.proofs.Writing.{bytes_grow, close_wrote, feed_wrote, finish_wrote, step_wrote}
 
@@ -114,10 +115,42 @@ taken_same r =
     let out = concat r.vm.machine.output in
     append-nil (concat (r.taken ++ out ∷ [])) ∙ concat-append r.taken (out ∷ []) ∙ ap (λ l. concat r.taken ++ l) (append-nil out)
 
+-- what steps add: no entry, and nothing that was fed
+record StepsAdd (now mid : Now) : Type 0 where
+  stored : mid.journal ≡ now.journal
+  wrote : IsPrefix (bytes_written now.attempt) (bytes_written mid.attempt)
+  fed : bytes_in mid.attempt.fed ≡ bytes_in now.attempt.fed
+  proposed : IsPrefix now.attempt.proposed mid.attempt.proposed
+
+no_steps_add : (now : Now) → StepsAdd now now
+no_steps_add now = record {
+  stored = refl;
+  wrote = same_prefix (bytes_written now.attempt) (bytes_written now.attempt) refl;
+  fed = refl;
+  proposed = same_prefix now.attempt.proposed now.attempt.proposed refl;
+}
+
+step_adds : (m : Meaning) (now mid next : Now) → StepHappens m mid next → StepsAdd now mid → StepsAdd now next
+step_adds m now mid next (result, r, d, is) a =
+    let s = stepped m mid.attempt result r d in
+    record {
+      stored = ap (λ x. x.journal) is ∙ a.stored;
+      wrote = subst (λ (x : Now). IsPrefix (bytes_written now.attempt) (bytes_written x.attempt)) (sym is)
+          (prefix_then (bytes_written now.attempt) (bytes_written mid.attempt) (bytes_written r) a.wrote (bytes_grow mid.attempt r (step_wrote m mid.attempt result r d)));
+      fed = ap (λ x. bytes_in x.attempt.fed) is ∙ ap bytes_in s.fed ∙ a.fed;
+      proposed = subst (λ (x : Now). IsPrefix now.attempt.proposed x.attempt.proposed) (sym is) (prefix_then now.attempt.proposed mid.attempt.proposed r.proposed a.proposed s.proposed);
+    }
+
+steps_add : (m : Meaning) (n : ℕ) (now mid : Now) → StepsHappen m n now mid → Adds now mid
+steps_add m n now mid d =
+    let a = steps_keep m (StepsAdd now) (step_adds m now) n now mid d (no_steps_add now) in
+    by_attempt now mid mid.attempt a.stored refl a.wrote (same_prefix (bytes_in now.attempt.fed) (bytes_in mid.attempt.fed) a.fed) a.proposed
+
 event_adds : (m : Meaning) (e : Event) (now mid : Now) → Happens m e now mid → Adds now mid
 event_adds m (event.Piece n) now mid d = pieces_add now.closed n now mid d
 event_adds m event.Close now mid (result, r, d, is) = by_stepped now mid r (ap (λ x. x.journal) is) (ap (λ x. x.attempt) is) (bytes_grow now.attempt r (close_wrote now.attempt result r d)) (closes now.attempt result r d)
 event_adds m event.Step now mid (result, r, d, is) = by_stepped now mid r (ap (λ x. x.journal) is) (ap (λ x. x.attempt) is) (bytes_grow now.attempt r (step_wrote m now.attempt result r d)) (stepped m now.attempt result r d)
+event_adds m (event.Steps n) now mid d = steps_add m n now mid d
 event_adds m (event.RunResult handle exit policy) now mid (result, r, d, is) =
     by_stepped now mid r (ap (λ x. x.journal) is) (ap (λ x. x.attempt) is) (bytes_grow now.attempt r (finish_wrote handle exit policy now.attempt result r d)) (finishes handle exit policy now.attempt result r d)
 event_adds m (event.Arrive x) now mid (none, is) =

@@ -52,7 +52,7 @@ use Rattle.vm_store.specs.Worlds.{IsJournal, fixed_in, setup_of, start_for}
 use Rattle.vm_store.proofs.Framing.{AreFrames, frames_append, front_grows, in_front, notes_append, notes_are}
 use Rattle.vm_store.proofs.Scanned.{written_append}
 use Rattle.vm_rounds.specs.Courses.{delivered, start_handed}
-use Rattle.vm_rounds.specs.Rounds.{ArrivalHas, ArrivalsFault, ArrivesAmong, AttemptFaults, ComesFromOutside, Fault, HappenFaults, Happens, Now, Pieces, RefusedFaults, ReplaysAndQueues, ReportView, RoundDoes, RoundFaults, RoundsFault, begin}
+use Rattle.vm_rounds.specs.Rounds.{ArrivalHas, ArrivalsFault, ArrivesAmong, AttemptFaults, ComesFromOutside, Fault, HappenFaults, Happens, Now, Pieces, RefusedFaults, ReplaysAndQueues, ReportView, RoundDoes, RoundFaults, RoundsFault, StepHappens, StepsHappen, begin}
 use Rattle.vm_rounds.specs.Sound.{IsSoundFor}
 use Rattle.vm_rounds.proofs.Completing.{input_carries_none}
 use Rattle.vm_rounds.proofs.Keeping.{Going, event_keeps, one_note}
@@ -60,6 +60,7 @@ use Rattle.vm_rounds.proofs.Known.{unknown_open}
 use Rattle.vm_rounds.proofs.Once.{is_new}
 use Rattle.vm_rounds.proofs.Pending.{ArePending, ProposeWell, ids_join, propose_behind, proposed_ids}
 use Rattle.vm_rounds.proofs.Proposing.{Knows, KnowsLive, Proposes, all_sent, close_proposes, feed_proposes, finish_proposes, items, next_of, step_proposes, take_proposes}
+use Rattle.vm_rounds.proofs.Repeating.{steps_keep}
 use Rattle.vm_rounds.proofs.Rising.{Rises, rises_front, told_rises}
 use Rattle.vm_rounds.proofs.Rounding.{begun, round_grows, start_framed, start_reads, stays_sound}
 use Rattle.vm_rounds.proofs.Running.{event_runs, there}
@@ -290,30 +291,52 @@ module _ (m : Meaning) (w : Setting) (begin_bytes : List ℕ) (raw : RawMessage)
     proposes : Proposes ns past.rest now.attempt
     stored : Stored now
 
-  event_proposes : (e : Event) (now mid : Now) → Happens m e now mid → Going w.version begin_bytes old now → Kept now → Proposes ns past.rest now.attempt → Proposes ns past.rest mid.attempt
-  event_proposes (event.Piece n) now mid d g kept p = by_closed now.closed d
+  step_proposed : (now mid : Now) → StepHappens m now mid → IsWell now → Proposes ns past.rest mid.attempt
+  step_proposed now mid (result, a, d, is) well = subst (λ (z : Now). Proposes ns past.rest z.attempt) (sym is) (step_proposes ns past.rest m now.attempt result a well.proposes (knows_live now well.going well.kept) d)
+
+  step_stored : (now mid : Now) → StepHappens m now mid → IsWell now → Stored mid
+  step_stored now mid (result, a, d, is) well = subst Stored (sym is) (acts_stored now _ refl refl refl well.stored)
+
+  step_well : (now mid : Now) → StepHappens m now mid → IsWell now → IsWell mid
+  step_well now mid d well =
+      let goes = event_runs m w begin_bytes raw st old j framed found known s same_setup base past r event.Step now mid d well.going (well.kept, well.came_so) in
+      record {
+        going = event_keeps m w.version begin_bytes old event.Step now mid d well.going;
+        kept = goes.0;
+        came_so = goes.1;
+        proposes = step_proposed now mid d well;
+        stored = step_stored now mid d well;
+      }
+
+  steps_well : (n : ℕ) (now mid : Now) → StepsHappen m n now mid → IsWell now → IsWell mid
+  steps_well n now mid d well = steps_keep m IsWell step_well n now mid d well
+
+  event_proposes : (e : Event) (now mid : Now) → Happens m e now mid → IsWell now → Proposes ns past.rest mid.attempt
+  event_proposes (event.Piece n) now mid d well = by_closed now.closed d
     where
       by_closed : (closed : Bool) → Pieces closed n now mid → Proposes ns past.rest mid.attempt
-      by_closed true is = subst (λ (z : Now). Proposes ns past.rest z.attempt) (sym is) p
-      by_closed false (result, a, fed, is) = subst (λ (z : Now). Proposes ns past.rest z.attempt) (sym is) (feed_proposes ns past.rest (take n now.waiting) now.attempt result a p fed)
-  event_proposes event.Close now mid (result, a, d, is) g kept p = subst (λ (z : Now). Proposes ns past.rest z.attempt) (sym is) (close_proposes ns past.rest now.attempt result a p d)
-  event_proposes event.Step now mid (result, a, d, is) g kept p = subst (λ (z : Now). Proposes ns past.rest z.attempt) (sym is) (step_proposes ns past.rest m now.attempt result a p (knows_live now g kept) d)
-  event_proposes (event.RunResult handle exit policy) now mid (result, a, d, is) g kept p = subst (λ (z : Now). Proposes ns past.rest z.attempt) (sym is) (finish_proposes ns past.rest handle exit policy now.attempt p result a d)
-  event_proposes (event.Arrive x) now mid (none, is) g kept p = subst (λ (z : Now). Proposes ns past.rest z.attempt) (sym is) p
-  event_proposes (event.Store n) now mid (journal, waiting, unstored, stores, is, whole, proposed) g kept p = subst (λ (z : Now). Proposes ns past.rest z.attempt) (sym is) (take_proposes ns past.rest now.attempt p whole)
+      by_closed true is = subst (λ (z : Now). Proposes ns past.rest z.attempt) (sym is) well.proposes
+      by_closed false (result, a, fed, is) = subst (λ (z : Now). Proposes ns past.rest z.attempt) (sym is) (feed_proposes ns past.rest (take n now.waiting) now.attempt result a well.proposes fed)
+  event_proposes event.Close now mid (result, a, d, is) well = subst (λ (z : Now). Proposes ns past.rest z.attempt) (sym is) (close_proposes ns past.rest now.attempt result a well.proposes d)
+  event_proposes event.Step now mid d well = step_proposed now mid d well
+  event_proposes (event.Steps n) now mid d well = (steps_well n now mid d well).proposes
+  event_proposes (event.RunResult handle exit policy) now mid (result, a, d, is) well = subst (λ (z : Now). Proposes ns past.rest z.attempt) (sym is) (finish_proposes ns past.rest handle exit policy now.attempt well.proposes result a d)
+  event_proposes (event.Arrive x) now mid (none, is) well = subst (λ (z : Now). Proposes ns past.rest z.attempt) (sym is) well.proposes
+  event_proposes (event.Store n) now mid (journal, waiting, unstored, stores, is, whole, proposed) well = subst (λ (z : Now). Proposes ns past.rest z.attempt) (sym is) (take_proposes ns past.rest now.attempt well.proposes whole)
 
-  event_stored : (e : Event) (now mid : Now) → Happens m e now mid → Going w.version begin_bytes old now → Kept now → Proposes ns past.rest now.attempt → Stored now → Stored mid
-  event_stored (event.Piece n) now mid d g kept p k = by_closed now.closed d
+  event_stored : (e : Event) (now mid : Now) → Happens m e now mid → IsWell now → Stored mid
+  event_stored (event.Piece n) now mid d well = by_closed now.closed d
     where
       by_closed : (closed : Bool) → Pieces closed n now mid → Stored mid
-      by_closed true is = subst Stored (sym is) k
-      by_closed false (result, a, fed, is) = subst Stored (sym is) (acts_stored now _ refl refl refl k)
-  event_stored event.Close now mid (result, a, d, is) g kept p k = subst Stored (sym is) (acts_stored now _ refl refl refl k)
-  event_stored event.Step now mid (result, a, d, is) g kept p k = subst Stored (sym is) (acts_stored now _ refl refl refl k)
-  event_stored (event.RunResult handle exit policy) now mid (result, a, d, is) g kept p k = subst Stored (sym is) (acts_stored now _ refl refl refl k)
-  event_stored (event.Arrive x) now mid (none, is) g kept p k = subst Stored (sym is) (arrives_stored now x none g kept k)
-  event_stored (event.Store n) now mid (journal, waiting, unstored, stores, is, whole, proposed) g kept p k =
-      subst Stored (sym is) (stores_stored n now journal waiting unstored g kept k p whole (subst (λ v. Stores v n (now.unstored ++ concat now.attempt.vm.machine.output) now.journal now.waiting journal waiting unstored) g.made_for stores))
+      by_closed true is = subst Stored (sym is) well.stored
+      by_closed false (result, a, fed, is) = subst Stored (sym is) (acts_stored now _ refl refl refl well.stored)
+  event_stored event.Close now mid (result, a, d, is) well = subst Stored (sym is) (acts_stored now _ refl refl refl well.stored)
+  event_stored event.Step now mid d well = step_stored now mid d well
+  event_stored (event.Steps n) now mid d well = (steps_well n now mid d well).stored
+  event_stored (event.RunResult handle exit policy) now mid (result, a, d, is) well = subst Stored (sym is) (acts_stored now _ refl refl refl well.stored)
+  event_stored (event.Arrive x) now mid (none, is) well = subst Stored (sym is) (arrives_stored now x none well.going well.kept well.stored)
+  event_stored (event.Store n) now mid (journal, waiting, unstored, stores, is, whole, proposed) well =
+      subst Stored (sym is) (stores_stored n now journal waiting unstored well.going well.kept well.stored well.proposes whole (subst (λ v. Stores v n (now.unstored ++ concat now.attempt.vm.machine.output) now.journal now.waiting journal waiting unstored) well.going.made_for stores))
 
   event_well : (e : Event) (now mid : Now) → Happens m e now mid → IsWell now → IsWell mid
   event_well e now mid d x =
@@ -322,8 +345,8 @@ module _ (m : Meaning) (w : Setting) (begin_bytes : List ℕ) (raw : RawMessage)
         going = event_keeps m w.version begin_bytes old e now mid d x.going;
         kept = goes.0;
         came_so = goes.1;
-        proposes = event_proposes e now mid d x.going x.kept x.proposes;
-        stored = event_stored e now mid d x.going x.kept x.proposes x.stored;
+        proposes = event_proposes e now mid d x;
+        stored = event_stored e now mid d x;
       }
 
   -- a fault is want of memory, or that of a full journal, or of an arrival among these events, on a journal that begins with the old one
@@ -334,6 +357,7 @@ module _ (m : Meaning) (w : Setting) (begin_bytes : List ℕ) (raw : RawMessage)
   fault_blames (event.Piece n) es now f x h = absurd h
   fault_blames event.Close es now f x h = absurd h
   fault_blames event.Step es now f x h = absurd h
+  fault_blames (event.Steps n) es now f x h = absurd h
   fault_blames (event.RunResult handle exit policy) es now f x h = absurd h
   fault_blames (event.Arrive entry) es now f x h = inr (inr (entry, inl refl, now.journal, (x.going.added, x.going.extends), h))
   fault_blames (event.Store n) es now f x h =
@@ -344,6 +368,7 @@ module _ (m : Meaning) (w : Setting) (begin_bytes : List ℕ) (raw : RawMessage)
   later_among (event.Piece n) es entry h = h
   later_among event.Close es entry h = h
   later_among event.Step es entry h = h
+  later_among (event.Steps n) es entry h = h
   later_among (event.RunResult handle exit policy) es entry h = h
   later_among (event.Arrive x) es entry h = inr h
   later_among (event.Store n) es entry h = h
@@ -415,6 +440,7 @@ arrivals_blame old [] journal f front h = absurd h
 arrivals_blame old (event.Piece n ∷ es) journal f front h = arrivals_blame old es journal f front h
 arrivals_blame old (event.Close ∷ es) journal f front h = arrivals_blame old es journal f front h
 arrivals_blame old (event.Step ∷ es) journal f front h = arrivals_blame old es journal f front h
+arrivals_blame old (event.Steps n ∷ es) journal f front h = arrivals_blame old es journal f front h
 arrivals_blame old (event.RunResult handle exit policy ∷ es) journal f front h = arrivals_blame old es journal f front h
 arrivals_blame old (event.Store n ∷ es) journal f front h = arrivals_blame old es journal f front h
 arrivals_blame old (event.Arrive x ∷ es) journal f front h =

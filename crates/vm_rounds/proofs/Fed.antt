@@ -20,7 +20,7 @@ use Rattle.vm_parts.specs.declared.run_state.KeptProposal.{KeptProposal}
 use Rattle.vm_machine.specs.declared.phase.Phase.{Phase}
 use Rattle.vm_machine.specs.declared.phase.Phase.TheVariants.{WaitingStart, WaitingReplayEntries, Replaying, Processing, Closed}
 use Rattle.vm_machine.specs.Inputs.{coverage_of, entries_in}
-use Rattle.vm_model.specs.Calls.{Meaning, Setup}
+use Rattle.vm_model.specs.Calls.{Setup}
 use Rattle.vm_model.specs.Carried.{AreOfTheirKind}
 use Rattle.vm_model.specs.Deliveries.{HasNoTwo}
 use Rattle.vm_model.specs.Histories.{Handed, History, Made, behind}

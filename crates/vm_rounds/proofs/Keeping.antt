@@ -24,12 +24,13 @@ use Rattle.vm_store.specs.declared.types.Event.{Event}
 use Rattle.vm_store.specs.declared.types.Event.TheVariants as event
 use Rattle.vm_store.specs.Arrivals.{arrival_fault}
 use Rattle.vm_store.specs.Entries.{AreEntries, frame_in, framed_by, journal_frames, may_stand, note_in, note_of, notes_in, read_from}
-use Rattle.vm_rounds.specs.Rounds.{ArrivalsDo, Happen, Happens, Now, Pieces}
+use Rattle.vm_rounds.specs.Rounds.{ArrivalsDo, Happen, Happens, Now, Pieces, StepHappens}
 use Rattle.vm_store.specs.Storing.{Stores, stored_as, waits_behind, written_among}
 use Rattle.vm_store.specs.Worlds.{IsJournal}
 use Rattle.vm_store.proofs.Framing.{AreFrames, entry_framed, frames_append, front_grows, in_front, join, note_no_command, notes_append}
 use Rattle.vm_rounds.proofs.Going.{Hears, IsOpen, Stepped, Takes, TakesAll, all_fed, closes, fed, finishes, keeps_all, prefix_then, stepped}
 use Rattle.vm_rounds.proofs.Once.{has_room, is_new}
+use Rattle.vm_rounds.proofs.Repeating.{steps_keep}
 use Rattle.vm_rounds.proofs.Settled.{Brings, IsTaken, answers, answers_taken, are_items, brings_answers, brings_note, commands_are, completion, items_enter, items_keep, note_keeps, proposal_in_item, proposals_answered, proposals_are, taken_append, waits_framed}
 
 -- ---- one entry more
@@ -257,10 +258,14 @@ module _ (m : Meaning) (version : Version) (start : List ℕ) (first : List (Lis
         journal = subst IsJournal (sym s.stored) (items_keep version W now.journal items s.faultless g.journal);
       }
 
+  step_keeps : (now new : Now) → StepHappens m now new → Going version start first now → Going version start first new
+  step_keeps now new (result, r, d, is) g = subst (Going version start first) (sym is) (acts now r now.closed _ (stepped m now.attempt result r d) g)
+
   pub event_keeps : (e : Event) (now new : Now) → Happens m e now new → Going version start first now → Going version start first new
   event_keeps (event.Piece n) now new d g = pieces now.closed n now new d g
   event_keeps event.Close now new (result, r, d, is) g = subst (Going version start first) (sym is) (acts now r true _ (closes now.attempt result r d) g)
-  event_keeps event.Step now new (result, r, d, is) g = subst (Going version start first) (sym is) (acts now r now.closed _ (stepped m now.attempt result r d) g)
+  event_keeps event.Step now new d g = step_keeps now new d g
+  event_keeps (event.Steps n) now new d g = steps_keep m (Going version start first) step_keeps n now new d g
   event_keeps (event.RunResult handle exit policy) now new (result, r, d, is) g = subst (Going version start first) (sym is) (acts now r now.closed _ (finishes handle exit policy now.attempt result r d) g)
   event_keeps (event.Arrive x) now new (none, is) g = subst (Going version start first) (sym is) (arrives now x none g)
   event_keeps (event.Store n) now new (journal, waiting, unstored, s, is, whole, proposed) g =
@@ -293,5 +298,6 @@ arrivals_keep (event.Arrive x ∷ es) old new j d =
 arrivals_keep (event.Piece n ∷ es) old new j d = arrivals_keep es old new j d
 arrivals_keep (event.Close ∷ es) old new j d = arrivals_keep es old new j d
 arrivals_keep (event.Step ∷ es) old new j d = arrivals_keep es old new j d
+arrivals_keep (event.Steps n ∷ es) old new j d = arrivals_keep es old new j d
 arrivals_keep (event.RunResult handle exit policy ∷ es) old new j d = arrivals_keep es old new j d
 arrivals_keep (event.Store n ∷ es) old new j d = arrivals_keep es old new j d

@@ -1,4 +1,5 @@
 pub mod Once
+pub mod Repeating
 pub mod Settled
 pub mod Going
 pub mod Keeping

@@ -28,8 +28,8 @@ use Rattle.vm_attempt.proofs.Finishing.{finish_blame, finish_blames, finish_late
 use Rattle.vm_attempt.proofs.Late.{close_late, feed_late, step_blame, step_late, take_late}
 use Rattle.vm_attempt.proofs.Replayed.{honest_fails}
 use Rattle.vm_steps.specs.declared.progress.Progress.{Progress}
-use Rattle.vm_steps.specs.Record.{all_heard, all_said}
-use Rattle.vm_steps.specs.Stepping.{fresh_record}
+use Rattle.vm_steps.specs.Record.{Record, all_heard, all_said}
+use Rattle.vm_steps.specs.Stepping.{StepDoes, fresh_record}
 use Rattle.vm_store.specs.declared.types.Event.{Event}
 use Rattle.vm_store.specs.declared.types.Event.TheVariants as event
 use Rattle.vm_store.specs.declared.types.Round.{Round}
@@ -38,11 +38,13 @@ use Rattle.vm_store.specs.Entries.{journal_entries}
 use Rattle.vm_store.specs.States.{HaveTextKeys, base_of}
 use Rattle.vm_store.specs.Worlds.{IsJournal, fixed_in, setup_of, start_for}
 use Rattle.vm_store.proofs.Framing.{AreFrames}
+use Rattle.vm_rounds.specs.Inside.{may_go_on}
 use Rattle.vm_rounds.specs.Owning.{AreOwn, IsOwnIn, OwnOf}
-use Rattle.vm_rounds.specs.Rounds.{AttemptDoes, Happen, Happens, IsRefusal, Now, Pieces, ReplaysAndQueues, ReportView, RoundDoes, RoundsDo, begin, error_of, first_error, memory_of}
+use Rattle.vm_rounds.specs.Rounds.{AttemptDoes, Happen, Happens, IsRefusal, Now, Pieces, ReplaysAndQueues, ReportView, RoundDoes, RoundsDo, StepHappens, StepsHappen, begin, error_of, first_error, memory_of}
 use Rattle.vm_rounds.specs.Sound.{IsSoundFor}
 use Rattle.vm_rounds.proofs.Honestly.{honest_now}
 use Rattle.vm_rounds.proofs.Keeping.{Going, event_keeps}
+use Rattle.vm_rounds.proofs.Repeating.{step_still, steps_keep}
 use Rattle.vm_rounds.proofs.Rounding.{begun, hands_honest, round_grows, round_lasts, sound_lasts, start_framed, start_reads}
 use Rattle.vm_rounds.proofs.Running.{Goes, event_runs}
 
@@ -114,6 +116,52 @@ module _ (m : Meaning) (w : Setting) (begin_bytes : List ℕ) (raw : RawMessage)
     λ e h. ⊎_elim (λ (y : now.error ≡ Some e). inl y) (λ (y : (now.error ≡ None) × (memory_of result ≡ Some e)). inr (by_memory result mid e y.1)) (error_by now.error (memory_of result) mid.error e (ap (λ (z : Now). z.error) is) h),
   )
 
+  step_stands : (now mid : Now) → StepHappens m now mid → Stands now → Stands mid
+  step_stands now mid (result, a, d, is) x = stands_by event.Step now mid (result, a, d, is) x
+      (subst (λ (z : Now). IsBlamed (fixed_in m w) z.attempt) (sym is) (step_blames (fixed_in m w) now.attempt result a x.goes.1 (λ _. x.goes.0) x.blamed d))
+      (subst (λ (z : Now). IsLate (fixed_in m w) z.attempt) (sym is) (step_late (fixed_in m w) now.attempt result a x.goes.1 x.late d))
+
+  -- an error that comes by a step
+  step_owns : (now mid : Now) (result : Result Progress Error) (a : Record) → StepDoes m now.attempt result a → mid ≡ record now { attempt = a; error = first_error now.error (error_of result) } → Stands now → (e : Error) → error_of result ≡ Some e → Owns mid e
+  step_owns now mid result a d is x e h =
+      let blame = subst (λ (z : Now). IfError result (λ e. Blame (fixed_in m w) (all_heard w.version z.attempt) (all_said z.attempt) z.attempt.answers e)) (sym is) (step_blame (fixed_in m w) now.attempt result a x.goes.1 (λ _. x.goes.0) x.blamed x.late d) in
+      by_step result mid e (step_stands now mid (result, a, d, is) x) blame h
+
+  -- after steps an error is the one that was there, or the attempt's own, which has made its last step
+  abbrev EndsOwning : Now → Now → Error → Type 0
+  EndsOwning first now e = (first.error ≡ Some e) ⊎ (Owns now e × ((result : Result Progress Error) (a : Record) → StepDoes m now.attempt result a → a ≡ now.attempt))
+
+  abbrev StepsGo : Now → Now → Type 0
+  StepsGo first now = Stands now × ((e : Error) → now.error ≡ Some e → EndsOwning first now e)
+
+  failed_goes_not : (result : Result Progress Error) (e : Error) → error_of result ≡ Some e → may_go_on result ≡ false
+  failed_goes_not (Ok p) e h = absurd (cc)
+  failed_goes_not (Err f) e h = refl
+
+  step_goes : (first now mid : Now) → StepHappens m now mid → StepsGo first now → StepsGo first mid
+  step_goes first now mid (result, a, d, is) (x, owns) = (step_stands now mid (result, a, d, is) x, λ e h. ⊎_elim (before e) (comes e) (error_by now.error (error_of result) mid.error e (ap (λ (z : Now). z.error) is) h))
+    where
+      is_a : mid.attempt ≡ a
+      is_a = ap (λ (z : Now). z.attempt) is
+
+      before : (e : Error) → now.error ≡ Some e → EndsOwning first mid e
+      before e h = ⊎_elim
+          (λ (y : first.error ≡ Some e). inl y)
+          (λ (y : Owns now e × ((result : Result Progress Error) (b : Record) → StepDoes m now.attempt result b → b ≡ now.attempt)).
+          inr (subst (λ (b : Record). IsOwnError (fixed_in m w) (all_heard w.version b) (all_said b) b.answers e × ((result : Result Progress Error) (c : Record) → StepDoes m b result c → c ≡ b)) (sym (is_a ∙ y.1 result a d)) y))
+          (owns e h)
+
+      comes : (e : Error) → (now.error ≡ None) × (error_of result ≡ Some e) → EndsOwning first mid e
+      comes e y = inr (
+        step_owns now mid result a d is x e y.1,
+        subst (λ (b : Record). (result : Result Progress Error) (c : Record) → StepDoes m b result c → c ≡ b) (sym is_a) (step_still m now.attempt result a d (failed_goes_not result e y.1)),
+      )
+
+  steps_go : (n : ℕ) (now mid : Now) → StepsHappen m n now mid → Stands now → Goes_on now mid
+  steps_go n now mid d x =
+      let on = steps_keep m (StepsGo now) (step_goes now) n now mid d (x, λ e h. inl h) in
+      (on.0, λ e h. ⊎_elim (λ (y : now.error ≡ Some e). inl y) (λ (y : Owns mid e × ((result : Result Progress Error) (a : Record) → StepDoes m mid.attempt result a → a ≡ mid.attempt)). inr y.0) (on.1 e h))
+
   event_goes : (e : Event) (now mid : Now) → Happens m e now mid → Stands now → Goes_on now mid
   event_goes (event.Piece n) now mid d x = let p = pieces_go n now.closed now mid d x in (stands_by (event.Piece n) now mid d x p.0 p.1, p.2)
   event_goes event.Close now mid (result, a, d, is) x = (
@@ -123,13 +171,9 @@ module _ (m : Meaning) (w : Setting) (begin_bytes : List ℕ) (raw : RawMessage)
     λ e h. ⊎_elim (λ (y : now.error ≡ Some e). inl y) (λ (y : (now.error ≡ None) × (memory_of result ≡ Some e)). inr (by_memory result mid e y.1)) (error_by now.error (memory_of result) mid.error e (ap (λ (z : Now). z.error) is) h),
   )
   event_goes event.Step now mid (result, a, d, is) x =
-      let on = stands_by event.Step now mid (result, a, d, is) x
-      (subst (λ (z : Now). IsBlamed (fixed_in m w) z.attempt) (sym is) (step_blames (fixed_in m w) now.attempt result a x.goes.1 (λ _. x.goes.0) x.blamed d))
-      (subst (λ (z : Now). IsLate (fixed_in m w) z.attempt) (sym is) (step_late (fixed_in m w) now.attempt result a x.goes.1 x.late d)) in
-      let blame = subst (λ (z : Now). IfError result (λ e. Blame (fixed_in m w) (all_heard w.version z.attempt) (all_said z.attempt) z.attempt.answers e)) (sym is) (step_blame (fixed_in m w) now.attempt result a x.goes.1 (λ _. x.goes.0) x.blamed x.late d) in (
-        on,
-        λ e h. ⊎_elim (λ (y : now.error ≡ Some e). inl y) (λ (y : (now.error ≡ None) × (error_of result ≡ Some e)). inr (by_step result mid e on blame y.1)) (error_by now.error (error_of result) mid.error e (ap (λ (z : Now). z.error) is) h),
-      )
+      let on = step_stands now mid (result, a, d, is) x in
+      (on, λ e h. ⊎_elim (λ (y : now.error ≡ Some e). inl y) (λ (y : (now.error ≡ None) × (error_of result ≡ Some e)). inr (step_owns now mid result a d is x e y.1)) (error_by now.error (error_of result) mid.error e (ap (λ (z : Now). z.error) is) h))
+  event_goes (event.Steps n) now mid d x = steps_go n now mid d x
   event_goes (event.RunResult handle exit policy) now mid (result, a, d, is) x =
       let b = finish_blames (fixed_in m w) handle exit policy now.attempt result a x.goes.1 d x.blamed in
       let l = finish_late (fixed_in m w) handle exit policy now.attempt result a x.goes.1 d x.late in

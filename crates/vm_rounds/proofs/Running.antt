@@ -42,7 +42,7 @@ use Rattle.vm_store.specs.declared.types.Event.TheVariants as event
 use Rattle.vm_store.specs.declared.types.Setting.{Setting}
 use Rattle.vm_rounds.specs.Courses.{delivered, start_handed}
 use Rattle.vm_store.specs.Entries.{journal_entries, journal_frames, notes_in}
-use Rattle.vm_rounds.specs.Rounds.{Happen, Happens, Now, Pieces, ReplaysAndQueues}
+use Rattle.vm_rounds.specs.Rounds.{Happen, Happens, Now, Pieces, ReplaysAndQueues, StepHappens, StepsHappen}
 use Rattle.vm_store.specs.Worlds.{IsJournal, fixed_in}
 use Rattle.vm_rounds.proofs.Completing.{carried_behind}
 use Rattle.vm_rounds.proofs.Coursing.{delivered_arrived, fed_frames, new_behind}
@@ -50,6 +50,7 @@ use Rattle.vm_store.proofs.Framing.{AreFrames, frames_append, journal_acknowledg
 use Rattle.vm_rounds.proofs.Handing.{entries_found}
 use Rattle.vm_rounds.proofs.Keeping.{Going, event_keeps}
 use Rattle.vm_rounds.proofs.Once.{come_once}
+use Rattle.vm_rounds.proofs.Repeating.{steps_keep}
 
 -- ---- a beginning of notifications
 
@@ -199,16 +200,27 @@ module _ (m : Meaning) (w : Setting) (begin_bytes : List ℕ) (raw : RawMessage)
     feed_comes (fixed_in m w) (take n now.waiting) now.attempt result a came d,
   )
 
+  step_runs : (now mid : Now) → StepHappens m now mid → Going w.version begin_bytes old now → Goes now → Goes mid
+  step_runs now mid (result, a, d, is) g (kept, came) = subst Goes (sym is) (
+    step_keeps (fixed_in m w) now.attempt result a (record { replays = r.replays; queues = r.queues; once = none_two now g kept }) kept d,
+    step_comes (fixed_in m w) now.attempt result a came d,
+  )
+
+  steps_run : (n : ℕ) (now mid : Now) → StepsHappen m n now mid → Going w.version begin_bytes old now → Goes now → Goes mid
+  steps_run n now mid d g goes =
+      let each = steps_keep m (λ (x : Now). Going w.version begin_bytes old x × Goes x)
+      (λ here next one both. (event_keeps m w.version begin_bytes old event.Step here next one both.0, step_runs here next one both.0 both.1))
+      n now mid d (g, goes) in
+      each.1
+
   pub event_runs : (e : Event) (now mid : Now) → Happens m e now mid → Going w.version begin_bytes old now → Goes now → Goes mid
   event_runs (event.Piece n) now mid d g goes = pieces_run now.closed n now mid d goes
   event_runs event.Close now mid (result, a, d, is) g (kept, came) = subst Goes (sym is) (
     close_keeps (HandlerRuns (fixed_in m w)) (runs_last (fixed_in m w)) (fixed_in m w) now.attempt result a kept d,
     close_comes (fixed_in m w) now.attempt result a came d,
   )
-  event_runs event.Step now mid (result, a, d, is) g (kept, came) = subst Goes (sym is) (
-    step_keeps (fixed_in m w) now.attempt result a (record { replays = r.replays; queues = r.queues; once = none_two now g kept }) kept d,
-    step_comes (fixed_in m w) now.attempt result a came d,
-  )
+  event_runs event.Step now mid d g goes = step_runs now mid d g goes
+  event_runs (event.Steps n) now mid d g goes = steps_run n now mid d g goes
   event_runs (event.RunResult handle exit policy) now mid (result, a, d, is) g (kept, came) = subst Goes (sym is) (
     finish_keeps (fixed_in m w) handle exit policy now.attempt result a came d kept,
     finish_comes (fixed_in m w) handle exit policy now.attempt result a came d,

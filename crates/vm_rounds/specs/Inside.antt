@@ -1,4 +1,8 @@
--- What the fields of a round on its way say.
+-- What the fields of a round on its way say, and which answers of a step are followed by another.
+use Rattle.std.specs.Prelude.{Bool, true, false, Result, Ok, Err}
+use Rattle.journal_errors.specs.declared.error.Error.{Error}
+use Rattle.vm_steps.specs.declared.progress.Progress.{Progress}
+use Rattle.vm_steps.specs.declared.progress.Progress.TheVariants as progress
 use Rattle.vm_steps.specs.Record.{Record}
 use Rattle.vm_rounds.specs.declared.desk.Desk.{Desk}
 use Rattle.vm_store.specs.declared.types.Report.{Report}
@@ -21,3 +25,14 @@ the_now d r = record {
 abbrev pub report_view : Report → ReportView
 report_view r =
     record { answers = r.answers.items; output = r.output; error = r.error; entries = r.entries }
+
+-- after this answer a step may do something: the handler was answered, or its await waits and is
+-- asked again
+abbrev pub may_go_on : Result Progress Error → Bool
+may_go_on (Ok progress.Stepped) = true
+may_go_on (Ok (progress.ExecuteRun run)) = true
+may_go_on (Ok (progress.Waiting input run)) = true
+may_go_on (Ok progress.NotReady) = false
+may_go_on (Ok progress.Suspended) = false
+may_go_on (Ok progress.Ended) = false
+may_go_on (Err e) = false

@@ -1,5 +1,5 @@
 -- What rounds do, event by event.
-use Rattle.std.specs.Prelude.{◌≡◌, ◌⊎◌, ℕ, ◌≤◌, Bool, true, false, List, [], ◌∷◌, ◌++◌, length, take, drop, Option, Some, None, Result, Ok, Err}
+use Rattle.std.specs.Prelude.{◌≡◌, ◌⊎◌, ℕ, zero, suc, ◌≤◌, Bool, true, false, List, [], ◌∷◌, ◌++◌, length, take, drop, Option, Some, None, Result, Ok, Err}
 use Rattle.std.proofs.Common.{Global}
 use Rattle.std.specs.List.{AllByRecursion, concat}
 use Rattle.std.specs.declared.alloc.AllocError.{AllocError}
@@ -83,6 +83,17 @@ Pieces false n old new =
       error = first_error old.error (memory_of result);
     })
 
+-- a step of the attempt, whose error is noted
+abbrev pub StepHappens : Meaning → Now → Now → Type 0
+StepHappens m old new =
+    (result : Result Progress Error) × (r : Record) × StepDoes m old.attempt result r
+    × (new ≡ record old { attempt = r; error = first_error old.error (error_of result) })
+
+-- n steps, one after another
+abbrev pub StepsHappen : Meaning → ℕ → Now → Now → Type 0
+StepsHappen m zero old new = new ≡ old
+StepsHappen m (suc n) old new = (mid : Now) × StepHappens m old mid × StepsHappen m n mid new
+
 -- what an event does
 abbrev pub Happens : Meaning → Event → Now → Now → Type 0
 Happens m (event.Piece n) old new = Pieces old.closed n old new
@@ -94,9 +105,8 @@ Happens m event.Close old new =
       closed = true;
       error = first_error old.error (memory_of result);
     })
-Happens m event.Step old new =
-    (result : Result Progress Error) × (r : Record) × StepDoes m old.attempt result r
-    × (new ≡ record old { attempt = r; error = first_error old.error (error_of result) })
+Happens m event.Step old new = StepHappens m old new
+Happens m (event.Steps n) old new = StepsHappen m n old new
 Happens m (event.RunResult handle exit policy) old new =
     (result : Result Unit Error) × (r : Record)
     × FinishDoes old.attempt.starved handle exit policy old.attempt result r
@@ -125,6 +135,7 @@ abbrev pub Fault : Event → Now → RoundFault → Type 0
 Fault (event.Piece n) now f = ⊥
 Fault event.Close now f = ⊥
 Fault event.Step now f = ⊥
+Fault (event.Steps n) now f = ⊥
 Fault (event.RunResult handle exit policy) now f = ⊥
 Fault (event.Arrive x) now f = arrival_fault x now.journal ≡ Some f
 Fault (event.Store n) now f =

@@ -1,19 +1,20 @@
 //! A round on its way, and its events one by one.
-ghost use Rattle.std.specs.Prelude.{◌≡◌, ◌⊎◌, [], ◌∷◌, ◌++◌, drop, take, Some, None, IfOk, IfErr, OnOk};
+ghost use Rattle.std.specs.Prelude.{◌≡◌, ◌⊎◌, false, [], ◌∷◌, ◌++◌, drop, take, Some, None, IfOk, IfErr, OnOk};
 ghost use Rattle.vm_store.specs.Arrivals.{arrival_fault};
 ghost use Rattle.vm_rounds.specs.Rounds.{first_error, memory_of, Happens, EventOutcome};
 ghost use Rattle.vm_store.specs.declared.types.Event.TheVariants as event;
 ghost use Rattle.vm_store.specs.declared.types.RoundFault.TheVariants as round_fault;
-ghost use Rattle.vm_rounds.specs.Inside.{the_now};
+ghost use Rattle.vm_rounds.specs.Inside.{may_go_on, the_now};
 
 use bytes::{Bytes, BytesMut};
+use invocation_vm::VMResult;
 use journal_errors::{Error, NamedFault, Version};
 use journal_streams::Decoder;
 use retries::RetryPolicy;
 use runs::RunExitResult;
 use std::alloc::{AllocError, Global};
 use stored_journals::WholeJournal;
-use vm_attempt::{Attempt, Handler};
+use vm_attempt::{Attempt, Handler, Progress};
 use vm_parts::NotificationHandle;
 use vm_store::types::{Event, RoundFault};
 
@@ -112,16 +113,48 @@ fn close<H: Handler>(attempt: &mut Attempt<&H>, desk: &mut Desk)
     note(&mut desk.error, memory_error(closed));
 }
 
-/// The attempt's step; its error is kept.
-fn step<H: Handler>(attempt: &mut Attempt<&H>, desk: &mut Desk)
+/// Whether a step after one that answered this may do something.
+fn may_go_on(made: &VMResult<Progress>) -> bool
+    ensures { result ≡ may_go_on made.now }
+{
+    match made {
+        Ok(Progress::Stepped | Progress::ExecuteRun(_) | Progress::Waiting { .. }) => true,
+        _ => false,
+    }
+}
+
+/// The attempt's step; its error is kept. `false` if each step after it changes nothing.
+fn step<H: Handler>(attempt: &mut Attempt<&H>, desk: &mut Desk) -> bool
     ensures does { Happens (H.meaning attempt.old.handler.now) event.Step
+        (the_now desk.old attempt.old.record_of) (the_now desk.new attempt.new.record_of) }
+    ensures again { result ≡ false → Happens (H.meaning attempt.old.handler.now) event.Step
+        (the_now desk.new attempt.new.record_of) (the_now desk.new attempt.new.record_of) }
+    ensures handler { attempt.new.handler.now ≡ attempt.old.handler.now }
+    ensures made_for { (attempt.new.version ≡ attempt.old.version)
+        × (attempt.new.options ≡ attempt.old.options) }
+{
+    let made = attempt.step();
+    let more = may_go_on(&made);
+    note(&mut desk.error, made.err());
+    more
+}
+
+/// This many steps, one after another. Those that would change nothing aren't made.
+#[tactic(auto, using(crate::proofs::Repeating::steps_end))]
+fn steps<H: Handler>(attempt: &mut Attempt<&H>, desk: &mut Desk, count: u64)
+    ensures does { Happens (H.meaning attempt.old.handler.now) (event.Steps count)
         (the_now desk.old attempt.old.record_of) (the_now desk.new attempt.new.record_of) }
     ensures handler { attempt.new.handler.now ≡ attempt.old.handler.now }
     ensures made_for { (attempt.new.version ≡ attempt.old.version)
         × (attempt.new.options ≡ attempt.old.options) }
 {
-    let error = attempt.step().err();
-    note(&mut desk.error, error);
+    let mut left = count;
+    while left > 0 {
+        if !step(attempt, desk) {
+            return;
+        }
+        left -= 1;
+    }
 }
 
 /// Copies of a run's result and of its policy.
@@ -206,7 +239,11 @@ pub fn happen<H: Handler>(
             Ok(())
         }
         Event::Step => {
-            step(attempt, desk);
+            let _ = step(attempt, desk);
+            Ok(())
+        }
+        Event::Steps(count) => {
+            steps(attempt, desk, *count);
             Ok(())
         }
         Event::RunResult(handle, exit, policy) => {

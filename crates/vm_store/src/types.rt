@@ -52,6 +52,8 @@ pub enum Event {
     Close,
     /// The attempt makes a step.
     Step,
+    /// The attempt makes this many steps, one after another. Those that would change nothing aren't made.
+    Steps(u64),
     /// The attempt gets the result of executing the run of this handle.
     RunResult(NotificationHandle, RunExitResult, RetryPolicy),
     /// A notification, as one frame, is stored and waits.
