@@ -21,7 +21,7 @@ abbrev pub or_try : Option (List ℕ) → Code (List ℕ) → Code (List ℕ)
 or_try (Some receipt) next = Give receipt
 or_try None next = next
 
--- so many tries are left, the next of them at this second
+-- the code with this number of tries left, the next of them at this second
 abbrev pub tries : List ℕ → ℕ → ℕ → Code (List ℕ)
 tries order zero second = Give (codes "given up")
 tries order (suc left) second = turn order second >>= λ receipt. or_try receipt (tries order left (second + 1))

@@ -99,7 +99,7 @@ output_of_value value.Void = non_empty.Success []
 output_of_value (value.StateKeys keys) = non_empty.Success []
 output_of_value (value.InvocationId id) = non_empty.Success []
 
--- the output that hands on what was taken; an empty success where nothing was
+-- the output: what was taken; an empty success if nothing was
 abbrev pub output_of : Option Answer → NonEmptyValue
 output_of (Some (answer.Taken (Some taken))) = output_of_value taken
 output_of (Some (answer.Taken None)) = non_empty.Success []

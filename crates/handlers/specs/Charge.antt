@@ -7,7 +7,7 @@ use Rattle.vm_types.specs.declared.steps.Step.TheVariants as step
 use Rattle.await_trees.specs.declared.tree.UnresolvedFuture.TheVariants.{Single}
 use Rattle.handlers.specs.Answers.{answered_handle, says_cancelled, cancelled_output, output_of, stable}
 
--- the step after so many answers
+-- the next step, once these answers were given
 abbrev pub charge_step : List Answer → Step
 charge_step answers =
     if length answers == 1 then step.Run (codes "charge")

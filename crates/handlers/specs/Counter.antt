@@ -28,7 +28,7 @@ count_of_value (value.Failure failure) = 0
 count_of_value (value.StateKeys keys) = 0
 count_of_value (value.InvocationId id) = 0
 
--- the count that was taken; 0 where nothing was
+-- the count that was taken; 0 if nothing was
 abbrev pub count_of : Option Answer → ℕ
 count_of (Some (answer.Taken (Some taken))) = count_of_value taken
 count_of (Some (answer.Taken None)) = 0
@@ -44,11 +44,11 @@ count_of (Some answer.Cancelled) = 0
 count_of (Some (answer.Completed is)) = 0
 count_of None = 0
 
--- the number behind the count, in decimal
+-- the count and one, in decimal
 abbrev pub next_count : List Answer → List ℕ
 next_count answers = decimal (count_of (slice_get answers 3) + 1)
 
--- the step after so many answers
+-- the next step, once these answers were given
 abbrev pub counter_step : List Answer → Step
 counter_step answers =
     if length answers == 1 then step.StateGet (codes "count") None stable

@@ -25,7 +25,7 @@ deadline_output answers =
     if says_completed (slice_get answers 3) then output_of (slice_get answers 4)
     else Success (codes "timeout")
 
--- the step after so many answers
+-- the next step, once these answers were given
 abbrev pub deadline_step : List Answer → Step
 deadline_step answers =
     if length answers == 1 then call_until (codes "Greeter") (codes "greet")

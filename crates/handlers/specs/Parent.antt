@@ -10,7 +10,7 @@ use Rattle.vm_types.specs.declared.values.NonEmptyValue.TheVariants.{Success}
 use Rattle.handlers.specs.Answers.{call_handle_of, cancelled_output, says_cancelled, stable}
 use Rattle.handlers.specs.Calls.{two_awaited, plain_call}
 
--- the step after so many answers
+-- the next step, once these answers were given
 abbrev pub parent_step : List Answer → Step
 parent_step answers =
     if length answers == 1 then plain_call (codes "Child") (codes "a") []

@@ -24,7 +24,7 @@ race_output answers =
     if says_completed (slice_get answers 4) then output_of (slice_get answers 5)
     else Success (codes "timeout")
 
--- the step after so many answers
+-- the next step, once these answers were given
 abbrev pub race_step : List Answer → Step
 race_step answers =
     if length answers == 1 then step.Sleep [] (record { secs = 1; nanos = 0 }) None

@@ -8,7 +8,7 @@ use Rattle.await_trees.specs.declared.tree.UnresolvedFuture.TheVariants.{Single}
 use Rattle.vm_types.specs.declared.values.NonEmptyValue.TheVariants.{Success}
 use Rattle.handlers.specs.Answers.{answered_handle, says_cancelled, cancelled_output, stable}
 
--- the step after so many answers
+-- the next step, once these answers were given
 abbrev pub sleeper_step : List Answer → Step
 sleeper_step answers =
     if length answers == 1 then step.Sleep [] (record { secs = 1; nanos = 0 }) None

@@ -61,7 +61,7 @@ fn count_at(answers: &[Answer], place: usize) -> u64
     }
 }
 
-/// The number behind the count, in decimal.
+/// The count and one, in decimal.
 fn next_count(alloc: Global, answers: &[Answer]) -> Result<Bytes, AllocError>
     ensures { IfOk result (λ bytes. bytes ≡ next_count answers.now) }
 {

@@ -50,21 +50,21 @@ abbrev pub result_by : {A B : Type 0} → (A → B) → Result A Error → Resul
 result_by f (Ok a) = Ok (f a)
 result_by f (Err e) = Err e
 
--- One of several commands of a call, with these behind it: what it wrote can be read back, and all
+-- One of several commands of a call, with these after it: what it wrote can be read back, and all
 -- handles from its first on fit.
 abbrev pub CallsBefore : Command → List Command → Result NotificationHandle Error → View → View
     → Type 0
 CallsBefore c cs r old new = Calls (commanded_before c cs) r old new
     × OnOk r (CanBeRead c.message old.machine) × IfOk r (AllFit c cs)
 
--- A call that has a command and these behind it, each made by a call of its own: it is answered by
+-- A call that has a command and these after it, each made by a call of its own: it is answered by
 -- its first handle, and its handles fit.
 abbrev pub CallsAll : Command → List Command → Result NotificationHandle Error → View → View
     → Type 0
 CallsAll c cs r old new =
     MakesAll c cs r old.machine new.machine × (new.undecoded ≡ old.undecoded) × IfOk r (AllFit c cs)
 
--- A call that has a command and these behind it, answered by this of its first handle.
+-- A call that has a command and these after it, answered by this of its first handle.
 abbrev pub CallsAllFor : {A : Type 0} → (NotificationHandle → A) → Command → List Command
     → Result A Error → View → View → Type 0
 CallsAllFor f c cs r old new = (given : Result NotificationHandle Error)
@@ -85,7 +85,7 @@ abbrev pub CallsRun : List ℕ → Result RunHandle Error → View → View → 
 CallsRun name r old new =
     CallsFor (run_handle (knows_next old.machine)) (run_command name) r old new
 
--- What executing a run came to is told.
+-- The VM gets the result of executing a run.
 abbrev pub CallsProposal : NotificationHandle → RunExitResult → RetryPolicy → Result Unit Error
     → View → View → Type 0
 CallsProposal handle exit policy r old new = CallsBy (Proposes handle exit policy) r old new
@@ -117,7 +117,7 @@ abbrev pub AnswersReady : Result AwaitResponse Error → View → View → Type 
 AnswersReady r old new = (id : ℕ) × (may_answer id old.machine ≡ true)
     × (r ≡ Ok (EphemeralNotificationReady (record { 0 = id }))) × (new ≡ old)
 
--- An await of a future, where no ephemeral read's value is there.
+-- An await of a future, while no ephemeral read has its value.
 abbrev pub CallsAnyAwait : UnresolvedFuture → Result AwaitResponse Error → View → View → Type 0
 CallsAnyAwait future r old new = (answered : Result (Result AwaitResponse Error) Error)
     × CallsAwait future answered old new × (r ≡ flattened answered)

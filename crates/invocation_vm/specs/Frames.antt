@@ -3,24 +3,24 @@ use Rattle.std.specs.Prelude.{ℕ, zero, suc, List, [], ◌∷◌, ◌++◌, len
 use Rattle.journal_messages.specs.declared.message.RawMessage.{RawMessage}
 use Rattle.journal_streams.specs.Frames.{NextFrame, Whole, Partial, Malformed, next_of}
 
--- what comes behind the last whole frame: the beginning of one, or bytes that no frame begins with
+-- what follows the last whole frame: the beginning of one, or bytes that no frame begins with
 pub data Tail : Type 0 where
   Rest : List ℕ → Tail
   Garbage : Tail
 
--- a first frame and those behind it
+-- a first frame and those after it
 abbrev pub frames_from : NextFrame → (List ℕ → List RawMessage × Tail) → List ℕ → List RawMessage
     × Tail
 frames_from (Whole raw rest) others bytes = (raw ∷ (others rest).0, (others rest).1)
 frames_from Partial others bytes = ([], Rest bytes)
 frames_from Malformed others bytes = ([], Garbage)
 
--- at most n frames, and what comes behind them
+-- at most n frames, and what follows them
 abbrev pub frames_by : ℕ → List ℕ → List RawMessage × Tail
 frames_by zero bytes = ([], Rest bytes)
 frames_by (suc n) bytes = frames_from (next_of bytes) (λ rest. frames_by n rest) bytes
 
--- the whole frames, and what comes behind them
+-- the whole frames, and what follows them
 unfoldable pub frames_of : List ℕ → List RawMessage × Tail
 frames_of bytes = frames_by (length bytes) bytes
 

@@ -84,7 +84,7 @@ pub record StarvesAmong (raws : List RawMessage) (old new : Machine) : Type 0 wh
   pub quiet : reached.output ≡ old.output
   pub starved : IsStarved reached no_memory new
 
--- a call that answers nothing but want of memory, which brings these messages
+-- a call that brings these messages, and answers nothing or out of memory
 pub record Leaves (raws : List RawMessage) (after : View) (r : Result Unit AllocError) (old new : View) : Type 0 where
   pub ok : OnOk r (new ≡ after)
   pub err : OnErr r (StarvesAmong raws old.machine new.machine)
@@ -121,6 +121,6 @@ pub record TakesOutput (r : Result (List ℕ) AllocError) (old new : View) : Typ
   pub ok : OnOk r (new ≡ record old { machine = record old.machine { output = [] } })
   pub err : OnErr r (new ≡ old)
 
--- a failed VM's answer: its first error, or want of memory for it; it stays as it is
+-- a failed VM's answer: its first error, or out of memory for it; it stays as it is
 abbrev pub AnswersFirst : {A : Type 0} → Error → Result A Error → View → View → Type 0
 AnswersFirst e r old new = ((r ≡ Err e) ⊎ (r ≡ Err no_memory)) × (new ≡ old)

@@ -32,8 +32,8 @@ use vm_parts::{
 /// One attempt of an invocation: the bytes of its journal come in, the handler's calls are answered, and the bytes
 /// of its commands go out.
 ///
-/// A call that is refused fails the VM, which then answers that first error to each later call; want of memory is
-/// answered only where a growth was refused.
+/// A call that is refused fails the VM, which then answers that first error to each later call. Out of memory is
+/// answered only if a growth was refused.
 pub trait VM: Sized {
     ghost view: { Self → View };
 
@@ -93,7 +93,7 @@ pub trait VM: Sized {
     fn take_notification(&mut self, handle: NotificationHandle) -> VMResult<Option<Value>>
         ensures { Calls (take_step handle.0) result (view self.old) (view self.new) };
 
-    /// What the handler was called with; its first call. Where the options disable replay, the recorded commands behind the input
+    /// What the handler was called with; its first call. If the options disable replay, the recorded commands after the input
     /// are dropped: each has to be readable, they are counted, and the completion ids of later calls are past all that they carry.
     fn sys_input(&mut self) -> VMResult<Input>
         ensures does { Calls input_step result (view self.old) (view self.new) }
@@ -154,8 +154,8 @@ pub trait VM: Sized {
             (call_command target input (name_or_empty name) options (view self.old).machine.version)
             result (view self.old) (view self.new) };
 
-    /// As `sys_call`, and behind it a sleep to a time since the Unix epoch, in whole ms, rounded down, without a name: its handle is the
-    /// third. What both commands need is looked for before the first is made. A time that no `u64` holds is refused. Where the second
+    /// As `sys_call`, and after it a sleep to a time since the Unix epoch, in whole ms, rounded down, without a name: its handle is the
+    /// third. What both commands need is checked before the first is made. A time that no `u64` holds is refused. If the second
     /// is refused, or no memory is found for it, the first was made.
     fn sys_call_with_deadline(
         &mut self,
@@ -185,8 +185,8 @@ pub trait VM: Sized {
             (name_or_empty name) options (view self.old).machine.version) result (view self.old)
             (view self.new) };
 
-    /// Reads the value of a state key. Where the VM knows the key, the answer's result is ready at once; in replay where the recorded
-    /// command has it, whatever the VM knows. The options change nothing: a recorded result is taken as it is.
+    /// Reads the value of a state key. If the VM knows the key, the answer's result is ready at once. In replay the recorded
+    /// command alone decides that. The options change nothing: a recorded result is taken as it is.
     fn sys_state_get(
         &mut self,
         key: String,
@@ -280,7 +280,7 @@ pub trait VM: Sized {
     fn sys_run(&mut self, name: String) -> VMResult<RunHandle>
         ensures { CallsRun (string_bytes name) result (view self.old) (view self.new) };
 
-    /// What executing the run of this handle came to. A result and a terminal failure are proposed; of another failure the policy
+    /// The result of executing the run of this handle. A value and a terminal failure are proposed; of another failure the policy
     /// says whether it is proposed too, or fails the VM so that it is retried after a delay or paused. From V7 on a proposed result
     /// is kept, and comes as the run's completion once it is acknowledged. Metadata needs V6, a policy that may pause V7; a handle
     /// without a pending run is refused. Outside Processing nothing is done.

@@ -63,7 +63,7 @@ impl Plan {
         self.then(Event::Piece(usize::MAX))
     }
 
-    /// The handler makes so many steps.
+    /// The handler makes this number of steps.
     pub fn step(self, times: usize) -> Result<Plan, AllocError> {
         let mut plan = self;
         for _ in 0..times {

@@ -146,8 +146,8 @@ awaited_tree s future d =
     else if ends_awaits s.options.implicit_cancellation then or_cancelled (tree_of future)
     else tree_of future
 
--- This is left of a tree: of each node the children that have no outcome yet; whatever the leaves
--- come to later, the two are awake alike.
+-- This is left of a tree: of each node the children that have no outcome yet. For all later
+-- outcomes of the leaves, the one is awake if the other is.
 pub record IsLeftOf (s : Setup) (t : Tree) (d : Derived) (left : Tree) : Type 0 where
   pub residual : Residual (leaf_in s d) t left
   pub alike : AwakeAlike (leaf_in s d) t left
@@ -186,7 +186,7 @@ pub record IsSuspended (s : Setup) (m : Meaning) (given : StateMap) (p : Point) 
       ++ encoding (message.Suspension (suspended_on left at.derived)) ∷ []
   pub closed : w.phase ≡ Closed
 
--- the handler ends where no recorded command is left: one End is written
+-- the handler ends once no recorded command is left: one End is written
 pub record HasEnded (m : Meaning) (p : Point) (v w : Machine) : Type 0 where
   pub step : m p.answers ≡ step.End
   pub no_command : p.left ≡ []
@@ -194,7 +194,7 @@ pub record HasEnded (m : Meaning) (p : Point) (v w : Machine) : Type 0 where
   pub closed : w.phase ≡ Closed
 
 -- A call was refused: the run comes to a point from which no move leads on, and one Error is
--- written, behind the commands that were made up to there: none, or no recorded one is left. The
+-- written, after the commands that were made up to there: none, or no recorded one is left. The
 -- error is that of the reason, by the error rule.
 pub record CallRefused (s : Setup) (m : Meaning) (given : StateMap) (p : Point) (v : Machine) (e : Error) (w : Machine) : Type 0 where
   pub at : Point

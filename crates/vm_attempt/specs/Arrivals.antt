@@ -31,7 +31,7 @@ abbrev pub unacknowledged : List KeptProposal → Option ProposeRunCompletionAck
 unacknowledged kept None = kept
 unacknowledged kept (Some ack) = without_first (is_for ack.id) kept
 
--- what is kept behind a frame: each proposal is acknowledged once
+-- what is kept after a frame: each proposal is acknowledged once
 abbrev pub kept_behind : List KeptProposal → RawMessage → List KeptProposal
 kept_behind kept raw =
     if is_acknowledgement raw then unacknowledged kept (acknowledgement_in raw.body) else kept
@@ -42,7 +42,7 @@ arriving kept [] = []
 arriving kept (raw ∷ raws) = notified_by (arrival_of kept raw)
     (arriving (kept_behind kept raw) raws)
 
--- what is kept behind them
+-- what is kept after them
 abbrev pub kept_after : List KeptProposal → List RawMessage → List KeptProposal
 kept_after kept [] = kept
 kept_after kept (raw ∷ raws) = kept_after (kept_behind kept raw) raws

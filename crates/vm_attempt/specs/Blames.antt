@@ -153,7 +153,7 @@ pub record FailsAt (raws : List RawMessage) (v m : Machine) : Type 0 where
       ≡ Some why
   pub failure : m.failure ≡ Some (ruled v (named_error why None))
 
--- a Start came, and so many frames behind it
+-- a Start came, and a number of frames after it
 pub record Began (frames : List RawMessage) (count : ℕ → ℕ → Type 0) : Type 0 where
   pub first : RawMessage
   pub others : List RawMessage
@@ -162,8 +162,8 @@ pub record Began (frames : List RawMessage) (count : ℕ → ℕ → Type 0) : T
   pub reads : start_in first.body ≡ Some start
   pub counts : count (length others) start.known_entries
 
--- In which phase a frame comes behind these, while so many known entries are missing: Start comes
--- first, the known entries then, and others behind them.
+-- In which phase a frame comes after these, while this number of known entries is missing: Start
+-- comes first, then the known entries, then others.
 abbrev pub Place : Phase → ℕ → List RawMessage → Type 0
 Place WaitingStart k frames = frames ≡ []
 Place WaitingReplayEntries k frames = Began frames (λ n known. (n + k ≡ known) × (0 < k))
@@ -221,13 +221,13 @@ pub record LacksInput (fixed : Fixed) (frames : List RawMessage) (e : Error) : T
   pub error : e ≡ ruled_for fixed
       (named_error (no_input_fault (commands_among entries)) (Some the_input))
 
--- why so many commands behind the input can't be skipped, by the completion id that is next past
--- all that they carry, if they can be read
+-- why this number of commands after the input can't be skipped, by the completion id that is next
+-- past all that they carry, if they can be read
 abbrev pub skip_fault : ℕ → Option ℕ → Option NamedFault
 skip_fault dropped None = Some fault.BadMessage
 skip_fault dropped (Some id) = result_err (counters_past dropped id fresh_counters)
 
--- Recorded commands are skipped, and one of those behind the input can't be read, or a kind of
+-- Recorded commands are skipped, and one of those after the input can't be read, or a kind of
 -- number runs out past them.
 pub record CannotSkip (fixed : Fixed) (frames : List RawMessage) (e : Error) : Type 0 where
   pub skips : fixed.options.journal_replay ≡ Disabled
@@ -275,7 +275,7 @@ pub record RefusedResult (fixed : Fixed) (failed_by : Option NotificationHandle)
 
 -- ---- why an attempt failed
 
--- Memory was lacking; a frame was refused, or bytes were no frame; the input was closed while known
+-- Out of memory; a frame was refused, or bytes were no frame; the input was closed while known
 -- entries were missing; the journal has no input, or its commands can't be skipped; the handler's
 -- call was refused, or an await found no memory for one of its commands; or a run's result failed
 -- the VM.
@@ -302,7 +302,7 @@ pub record BlamedAt (fixed : Fixed) (over : Option Progress) (fed : Heard) (said
 abbrev pub IsBlamed : Fixed → Record → Type 0
 IsBlamed fixed r = BlamedAt fixed r.over (heard fixed.version r) (all_said r) r.answers r.vm.machine
 
--- Once the attempt is over its VM is closed, behind the known entries, or has failed for such a
+-- Once the attempt is over its VM is closed, after the known entries, or has failed for such a
 -- reason.
 pub record BehindEnd (fixed : Fixed) (all : Heard) (said : Said) (answers : List Answer) (vm : View) : Type 0 where
   pub phase : vm.machine.failure ≡ None → vm.machine.phase ≡ Closed
@@ -312,7 +312,7 @@ pub record BehindEnd (fixed : Fixed) (all : Heard) (said : Said) (answers : List
   pub tail : vm.machine.failure ≡ None → (frames_of (bytes_fed all)).1 ≡ Rest vm.undecoded
   pub blame : (e : Error) → vm.machine.failure ≡ Some e → Blame fixed all said answers e
 
--- no piece comes behind the end before it is there
+-- before the end no piece comes late
 abbrev pub LateBy : Option Progress → Fixed → Record → Type 0
 LateBy None fixed r = r.late ≡ []
 LateBy (Some made) fixed r = BehindEnd fixed (all_heard fixed.version r) (all_said r) r.answers r.vm

@@ -9,7 +9,7 @@ use Rattle.vm_steps.specs.declared.progress.Progress.{Progress}
 use Rattle.vm_steps.specs.Record.{Record}
 use Rattle.vm_steps.specs.Stepping.{CloseDoes, FeedDoes, FinishDoes, Meaning, StepDoes, Takes}
 
--- One call of an attempt did this to its record, whichever call it was and whatever it answered.
+-- One call of an attempt did this to its record: any call, with any answer.
 pub data OneCall (m : Meaning) (old new : Record) : Type 0 where
   Feeding : (piece : List ℕ) (result : Result Unit AllocError)
       → FeedDoes old.starved piece old result new → OneCall m old new
@@ -21,7 +21,7 @@ pub data OneCall (m : Meaning) (old new : Record) : Type 0 where
       → OneCall m old new
   Taking : (result : Result (List ℕ) AllocError) → Takes old result new → OneCall m old new
 
--- So many calls of an attempt, one after another, lead from one record to another.
+-- This number of calls of an attempt, one after another, leads from one record to another.
 abbrev pub Leads : Meaning → ℕ → Record → Record → Type 0
 Leads m zero old new = new ≡ old
 Leads m (suc n) old new = (mid : Record) × OneCall m old mid × Leads m n mid new

@@ -1,4 +1,4 @@
--- What is fixed for an attempt, whatever comes.
+-- What is fixed for an attempt from its beginning.
 use Rattle.journal_errors.specs.declared.version.Version.{Version}
 use Rattle.vm_types.specs.declared.options.VMOptions.{VMOptions}
 use Rattle.vm_model.specs.Calls.{Meaning}

@@ -38,7 +38,7 @@ abbrev pub entry_frame : Entry → RawMessage
 entry_frame (Recorded raw) = raw
 entry_frame (Notified n) = notification_frame n
 
--- what comes behind the journal: a notification, or the acknowledgement of a result that was
+-- what comes after the journal: a notification, or the acknowledgement of a result that was
 -- proposed
 pub data Further : Type 0 where
   Notifies : Notification → Further
@@ -57,16 +57,16 @@ further_frame f = stored_form (further_message f)
 abbrev pub frame_bytes : RawMessage → List ℕ
 frame_bytes raw = frame raw.ty raw.body
 
--- Start, the journal, and what comes behind it, as frames
+-- Start, the journal, and what comes after it, as frames
 abbrev pub honest_frames : Start → List Entry → List Further → List RawMessage
 honest_frames start journal more =
     stored_form (message.Start start) ∷ (map entry_frame journal ++ map further_frame more)
 
 -- What was fed is a beginning of Start, which tells the length of the journal; of the whole
 -- journal, which is a history of the handler; and of notifications and acknowledgements that come
--- behind it, each of a result that the attempt has proposed, and once. Each of these can be fed.
+-- after it, each of a result that the attempt has proposed, and once. Each of these can be fed.
 -- Recorded commands are replayed, signals queue, and with all these arrivals no completion has two
--- results at a point that the handler's run comes to, and each result of an invocation's id is one.
+-- results at a point of the handler's run, and each result of an invocation's id is one.
 pub record FeedsHonestly (fixed : Fixed) (fed : Heard) : Type 0 where
   pub start : Start
   pub journal : List Entry

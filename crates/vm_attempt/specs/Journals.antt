@@ -58,7 +58,7 @@ abbrev pub notified_by : Option Notification → List Notification → List Noti
 notified_by None ns = ns
 notified_by (Some n) ns = n ∷ ns
 
--- the notifications among some frames; a body that spells none brings none
+-- the notifications among some frames; a body that encodes none brings none
 abbrev pub notifications_among : List RawMessage → List Notification
 notifications_among [] = []
 notifications_among (raw
@@ -75,14 +75,14 @@ abbrev pub told_by : Option Notification → List Entry → List Entry
 told_by None es = es
 told_by (Some n) es = Notified n ∷ es
 
--- frames as the entries of a journal; a notification's body that spells none is no entry
+-- frames as the entries of a journal; a notification's body that encodes none is no entry
 abbrev pub as_entries : List RawMessage → List Entry
 as_entries [] = []
 as_entries (raw ∷ raws) = recorded_by (is_command_frame raw) raw
     (cond (is_notification raw) (told_by (notification_in raw.body) (as_entries raws))
     (as_entries raws))
 
--- Before the handler has read its input: the commands and notifications that came behind Start, and
+-- Before the handler has read its input: the commands and notifications that came after Start, and
 -- nothing else.
 abbrev pub machine_fed : Setup → StateMap → Aside → List RawMessage → List Notification → Phase
     → Machine
@@ -109,8 +109,8 @@ machine_fed s given aside cs ns phase = record {
   output_ended = false;
 }
 
--- Where the first command is an input, the handler is told it, the machine agrees with the first
--- point, nothing is written, and nothing was proposed; else the call is refused.
+-- If the first command is an input, the handler gets it, the machine agrees with the first point,
+-- nothing is written, and nothing was proposed; else the call is refused.
 abbrev pub BeginsOrFails : Setup → StateMap → Aside → List RawMessage → List Notification
     → Option InputCommand → Outcome Input → Type 0
 BeginsOrFails s given aside rest ns (Some c) (Done i w) = (i ≡ told_input s.identity c)
@@ -121,16 +121,16 @@ BeginsOrFails s given aside rest ns None (Done i w) = ⊥
 
 -- ---- the machine as its journal comes
 
--- what stands aside while so many entries are missing
+-- what stands aside while this number of entries is missing
 abbrev pub with_missing : ℕ → Aside → Aside
 with_missing k aside = record aside { entries_missing = k }
 
--- the phase while so many are missing
+-- the phase while this number of entries is missing
 abbrev pub phase_missing : ℕ → Phase
 phase_missing zero = Replaying
 phase_missing (suc k) = WaitingReplayEntries
 
--- a machine to which so many entries are missing
+-- a machine that waits for this number of entries
 abbrev pub waiting_machine : Setup → StateMap → Aside → ℕ → List RawMessage → List Notification
     → Machine
 waiting_machine s given aside k cs ns =

@@ -93,7 +93,7 @@ pub record Wrote (taken waits : List (List ℕ)) (written : List RawMessage) : T
 abbrev pub written_by : Record → List RawMessage
 written_by r = commands_among (frames_of (bytes_written r)).0
 
--- The journal of an attempt: behind Start as many frames as it tells are the known entries:
+-- The journal of an attempt. After Start come the known entries, as many frames as it says:
 -- commands and notifications, the first command among them the input.
 pub record Journal (fed : Heard) : Type 0 where
   pub first_frame : RawMessage
@@ -112,12 +112,12 @@ pub record Journal (fed : Heard) : Type 0 where
   pub input : InputCommand
   pub reads_input : input_read_from first ≡ Some input
 
--- all arrivals that came, in order, among the known entries and behind them: a notification as it
+-- all arrivals that came, in order, among the known entries and after them: a notification as it
 -- is, and an acknowledgement as the completion of its run with the result that was proposed
 abbrev pub arrivals : {fed : Heard} → Journal fed → List Notification
 arrivals {fed} j = arriving fed.proposed (j.entries ++ j.others)
 
--- the same, read from what was fed: the arrivals behind the first frame
+-- the same, read from what was fed: the arrivals after the first frame
 abbrev pub arrivals_of : Heard → List Notification
 arrivals_of fed = arriving fed.proposed (behind (frames_fed fed))
 
@@ -126,11 +126,12 @@ abbrev pub start_state : {fed : Heard} → Journal fed → StateMap
 start_state j = record { entries = j.state; coverage = coverage_of j.start.partial }
 
 -- What an attempt begins with: the point after the input, with all arrivals, and the recorded
--- commands behind the input.
+-- commands after the input.
 abbrev pub begun : {fed : Heard} → Fixed → Journal fed → Point
 begun fixed j = start (setup_for fixed j.start) j.input (arrivals j) j.rest
 
--- So many moves of the handler's run lead from there to this point, and made these commands.
+-- This number of moves of the handler's run leads from there to this point, and made these
+-- commands.
 abbrev pub MovesTo : {fed : Heard} → Fixed → Journal fed → ℕ → List RawMessage → Point → Type 0
 MovesTo fixed j moves made p = Made (setup_for fixed j.start) fixed.handler (Handed (start_state j))
     moves (begun fixed j) made p
@@ -155,8 +156,8 @@ NumbersFreshly fixed r = fixed.options.journal_replay ≡ Disabled → (written_
 
 -- ---- what is asked of the options and of the runtime
 
--- No completion has two results at a point that the handler's run comes to, by what was fed, where
--- each further command is its own.
+-- No completion has two results at a point of the handler's run over what was fed, if each further
+-- command is its own.
 abbrev pub NoneHasTwo : Fixed → Heard → Type 0
 NoneHasTwo fixed fed =
     (j : Journal fed) (n : ℕ) (made : List RawMessage) (p : Point) → MovesTo fixed j n made p
@@ -191,15 +192,15 @@ AreRightlyKinded fixed fed =
 
 -- ---- the answers
 
--- A point is told by an attempt's journal followed by what it wrote, with the arrivals that it was
--- fed.
+-- A point of the handler's run over an attempt's journal followed by what it wrote, with the
+-- arrivals that it was fed.
 abbrev pub IsToldPoint : {fed : Heard} → Fixed → Journal fed → List RawMessage → Point → Type 0
 IsToldPoint fixed j written p =
     Told (setup_for fixed j.start) fixed.handler j.input (arrivals j) (j.rest ++ written) p
 
--- The answers of an attempt are those of a point that is told; what it wrote are just the commands
--- that the calls up to there define, where none is recorded; and while recorded commands are left,
--- it has written none.
+-- The answers of an attempt are those of such a point; what it wrote are just the commands that the
+-- calls up to there define and that weren't recorded; and while recorded commands are left, it has
+-- written none.
 pub record ToldBy (fixed : Fixed) (fed : Heard) (answers_so_far : List Answer) (written : List RawMessage) : Type 0 where
   pub journal : Journal fed
   pub at : Point
@@ -273,7 +274,7 @@ pub record StarvesReplay (fixed : Fixed) (fed : Heard) (answers_so_far : List An
   pub failure : new.failure ≡ Some e
 
 -- While recorded commands are left, the handler's call is answered, and nothing is written, or no
--- recorded command is left any more; or it is refused; or memory is lacking.
+-- recorded command is left any more; or it is refused; or out of memory.
 abbrev pub AnswersInReplay : Fixed → Record → Result Progress Error → Record → Type 0
 AnswersInReplay fixed old (Ok progress.Stepped) new = (new.vm.machine.output
     ≡ old.vm.machine.output)
@@ -309,7 +310,7 @@ abbrev pub StillAwaits : Meaning → Point → Option UnresolvedFuture → Type 
 StillAwaits m p None = Unit {0}
 StillAwaits m p (Some future) = m p.answers ≡ step.Await future
 
--- The handler runs: so many moves lead from the point after the input to one with the attempt's
+-- The handler runs: a number of moves leads from the point after the input to one with the attempt's
 -- answers, and made what was written; and as long as the VM can make calls it agrees with that
 -- point.
 pub record HandlerRuns (fixed : Fixed) (fed : Heard) (answers_so_far : List Answer) (waiting : Option UnresolvedFuture) (taken : List (List ℕ)) (vm : View) : Type 0 where
@@ -389,7 +390,7 @@ pub record BeforeInput (fixed : Fixed) (fed : Heard) (answers_so_far : List Answ
   pub comes : vm.machine.failure ≡ None → Comes fixed fed vm.machine
   pub tail : vm.machine.failure ≡ None → (frames_of (bytes_fed fed)).1 ≡ Rest vm.undecoded
 
--- what came and what was written, whatever the options are and whatever comes
+-- what came and what was written, under all options and for all input
 abbrev pub HasCome : Fixed → Record → Type 0
 HasCome fixed r = BeforeInput fixed (heard fixed.version r) r.answers r.waiting r.taken r.vm
     ⊎ JournalCame fixed (heard fixed.version r) r.answers r.taken r.vm

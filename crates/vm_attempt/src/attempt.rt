@@ -1,4 +1,4 @@
-//! One attempt of a handler: bytes in, steps, bytes out. Its answers are told by its journal at all times.
+//! One attempt of a handler: bytes in, steps, bytes out. Its answers are at all times those of the handler's run over its journal.
 ghost use Rattle.std.specs.Prelude.{codes};
 
 use bytes::Bytes;
@@ -10,9 +10,9 @@ use std::marker::Model;
 use vm_parts::Answer;
 use vm_steps::{Handler, Inner, Progress};
 
-/// An attempt of a handler over the VM. It keeps a record: each piece of input until the VM failed or closed, those that
-/// came to a closed VM behind them, whether the input was closed, the run whose result failed the VM, the answers, and all output, from
-/// which what was proposed is read.
+/// An attempt of a handler over the VM. It keeps a record: each piece of input until the VM failed or closed, the pieces that
+/// came to a closed VM after them, whether the input was closed, the run whose result failed the VM, the answers, and all output, from
+/// which the proposals are read.
 pub struct Attempt<H: Handler> {
     version: Version,
     options: VMOptions,
@@ -82,7 +82,7 @@ impl<H: Handler> Attempt<H> {
         }
     }
 
-    /// The next bytes of the attempt, cut anywhere. After the attempt's own want of memory it does nothing.
+    /// The next bytes of the attempt, cut anywhere. Once the attempt is out of memory it does nothing.
     pub fn feed(&mut self, piece: Bytes) -> Result<(), AllocError>
         ensures does { FeedDoes self.old.record_of.starved piece
             self.old.record_of result self.new.record_of }
@@ -96,7 +96,7 @@ impl<H: Handler> Attempt<H> {
         fed
     }
 
-    /// No more bytes come. After the attempt's own want of memory it does nothing.
+    /// No more bytes come. Once the attempt is out of memory it does nothing.
     pub fn close(&mut self) -> Result<(), AllocError>
         ensures does { CloseDoes self.old.record_of.starved
             self.old.record_of result self.new.record_of }
@@ -114,7 +114,7 @@ impl<H: Handler> Attempt<H> {
     pub fn step(&mut self) -> VMResult<Progress>
         ensures does { StepDoes (H.meaning self.old.handler)
             self.old.record_of result self.new.record_of }
-        // Under the premises it waits or is suspended only where no number of the arrivals wakes the handler's await.
+        // Under the premises it waits or is suspended only if no number of the arrivals wakes the handler's await.
         ensures waits { IsWellFed
             (fixed_of (H.meaning self.old.handler) self.old) self.old.record_of
             → IfWaits result (WaitsRightly
@@ -125,12 +125,12 @@ impl<H: Handler> Attempt<H> {
             → IsWellFedInReplay (fixed_of (H.meaning self.old.handler) self.old) self.old.record_of
             → StepReplays (fixed_of (H.meaning self.old.handler) self.old)
             self.old.record_of result self.new.record_of }
-        // An error is want of memory, a frame or bytes that were refused, input closed too early, a journal without input, a call that was
+        // An error is out of memory, a frame or bytes that were refused, input closed too early, a journal without input, a call that was
         // refused, or a run's result that failed the VM.
         ensures blamed { IfError result (HasCause
             (fixed_of (H.meaning self.old.handler) self.old) self.new.record_of) }
-        // Where the bytes are an honest attempt's over a history of the handler, an error is only want of memory, input that was closed
-        // too early, a call's own refusal, where no recorded command is left, or that of a run's result that failed the VM.
+        // If the bytes are an honest attempt's over a history of the handler, an error is only out of memory, input that was closed
+        // too early, a call's own refusal once no recorded command is left, or that of a run's result that failed the VM.
         ensures honest { IsHonestlyFed
             (fixed_of (H.meaning self.old.handler) self.old) self.new.record_of
             → IfError result (IsItsOwn
@@ -149,8 +149,8 @@ impl<H: Handler> Attempt<H> {
         progress
     }
 
-    /// What executing the run of this handle came to, outside the attempt. The VM proposes it, or fails, so that the run is tried again
-    /// or the invocation paused; outside the handler's own calls it is ignored. After the attempt's own want of memory, that.
+    /// The result of executing the run of this handle, outside the attempt. The VM proposes it, or fails, so that the run is tried again
+    /// or the invocation paused; outside the handler's own calls it is ignored. Once the attempt is out of memory it stays so.
     pub fn run_result(
         &mut self,
         handle: NotificationHandle,
@@ -159,7 +159,7 @@ impl<H: Handler> Attempt<H> {
     ) -> VMResult<()>
         ensures does { FinishDoes self.old.record_of.starved handle exit policy
             self.old.record_of result self.new.record_of }
-        // An error is want of memory, the VM's first error, or that of this result, which is refused, or by which the run is tried again or
+        // An error is out of memory, the VM's first error, or that of this result, which is refused, or by which the run is tried again or
         // the invocation paused.
         ensures blamed { IfErr result (HasCause
             (fixed_of (H.meaning self.old.handler) self.old) self.new.record_of) }
@@ -177,7 +177,7 @@ impl<H: Handler> Attempt<H> {
         told
     }
 
-    /// Takes all bytes that wait to be sent, whole frames in order; where there is no memory nothing is changed.
+    /// Takes all bytes that wait to be sent, whole frames in order. Out of memory changes nothing.
     pub fn take_output(&mut self) -> Result<Bytes, AllocError>
         ensures does { Takes self.old.record_of result self.new.record_of }
         ensures handler { self.new.handler ≡ self.old.handler }
@@ -203,7 +203,7 @@ impl<H: Handler> Attempt<H> {
             (fixed_of (H.meaning self.now.handler) self.now) self.now.record_of
             → (self.now.record_of.answers ≡ []) ⊎ AnswersAsTold
             (fixed_of (H.meaning self.now.handler) self.now) self.now.record_of }
-        // The same while recorded commands are left, whatever comes once none is left.
+        // The same while recorded commands are left, without a premise of what comes later.
         ensures replayed { IsReplaying self.now.record_of
             → IsWellFedInReplay (fixed_of (H.meaning self.now.handler) self.now) self.now.record_of
             → AnswersAsTold (fixed_of (H.meaning self.now.handler) self.now) self.now.record_of }

@@ -49,10 +49,11 @@ ghost use Rattle.await_trees.specs.declared.tree.UnresolvedFuture.{UnresolvedFut
 
 /// In a machine that agrees with a point of the handler's run, the handler's call does what the moves from there lead to:
 /// it is answered as they are, writes the commands that they make and no others, and agrees with the point where they lead;
-/// or an await waits, where no arrival and no recorded command is left, and asks for one more arrival; or the handler
-/// ends, where no recorded command is left; or the call is refused, where no move leads on. A cancelled await or a call with several
-/// commands that is refused, or finds no memory, has made a beginning of its commands, each whole. Of an await this is said where signals
-/// queue and no completion has two results, and of a call with several commands where none of them is made. (That a command which was written can be read back is in the contract of each call.)
+/// or an await waits, once no arrival and no recorded command is left, and asks for one more arrival; or the handler
+/// ends, once no recorded command is left; or the call is refused, if no move leads on. A cancelled await or a call with several
+/// commands that is refused, or finds no memory, has made a beginning of its commands, each whole. Of an await this is said if signals
+/// queue and no completion has two results, and of a call with several commands before the first of them is made. (That a command
+/// which was written can be read back is in the contract of each call.)
 pub fn calls_follow()
     ensures { (s : Setup) (m : Meaning) (given : StateMap) (written : List RawMessage) (v : Machine)
         (p : Point) (o : Outcome Reply)
@@ -63,7 +64,7 @@ pub fn calls_follow()
 {}
 
 /// Frames that come to a machine that agrees with a point are arrivals: a notification as it is, and an acknowledgement as the completion
-/// of its run, with the result that was proposed, once. The machine then agrees with that point and these arrivals behind its own, and keeps
+/// of its run, with the result that was proposed, once. The machine then agrees with that point and these arrivals after its own, and keeps
 /// the proposals that weren't acknowledged; or it has failed, by the first frame that is refused in the phase in which it comes.
 pub fn frames_arrive()
     ensures { (s : Setup) (given : StateMap) (written : List RawMessage) (v : Machine) (p : Point)
@@ -73,7 +74,7 @@ pub fn frames_arrive()
         ⊎ FailsAt raws v (all_received raws v) }
 {}
 
-/// A machine that has the whole journal, whose commands are replayed, reads its input: where the first command is one, the handler is told
+/// A machine that has the whole journal, whose commands are replayed, reads its input: if the first command is one, the handler gets
 /// it, and the machine agrees with the first point of the handler's run; else the call is refused.
 pub fn attempts_begin()
     ensures { (s : Setup) (given : StateMap) (aside : Aside) (first : RawMessage)
@@ -95,7 +96,7 @@ pub fn journals_come()
         (all_received (first ∷ raws) (fresh alloc version options)) }
 {}
 
-/// What each call of an attempt keeps, whatever the options are and whatever comes: before the input nothing was answered and no
+/// What each call of an attempt keeps, under all options and for all input: before the handler's input nothing was answered and no
 /// command written; then each command that was written can be read back.
 pub fn attempts_write()
     ensures made { (alloc : Global) (fixed : Fixed)
@@ -116,7 +117,7 @@ pub fn attempts_write()
 {}
 
 /// What each call of an attempt keeps under the premises: recorded commands are replayed, signals queue, and no completion has two
-/// results. So many moves of the handler's run lead to its answers and made what was written, and the machine
+/// results. Some number of moves of the handler's run lead to its answers and made what was written, and the machine
 /// agrees with that point as long as it can make calls.
 pub fn attempts_keep()
     ensures made { (fixed : Fixed) (alloc : Global)
@@ -153,8 +154,8 @@ pub fn answers_are_told()
         → Premises fixed (heard fixed.version r) → (r.answers ≡ []) ⊎ AnswersAreTold fixed r }
 {}
 
-/// Where the known entries are a history of the handler and each frame has its place, an error is only: want of memory; input that
-/// was closed while known entries were missing; or, where no recorded command is left, a call's own refusal, for an argument or
+/// If the known entries are a history of the handler and each frame has its place, an error is only: out of memory; input that
+/// was closed while known entries were missing; or, once no recorded command is left, a call's own refusal, for an argument or
 /// version check, a kind of number that ran out, or a state key that is no text; or that of a run's result that failed the VM.
 pub fn honest_attempts_fail_by_themselves()
     ensures { (fixed : Fixed) (fed : Heard) (said : Said) (answers : List Answer) (e : Error)
@@ -162,13 +163,13 @@ pub fn honest_attempts_fail_by_themselves()
         → IsOwnError fixed fed said answers e }
 {}
 
-/// Bytes that are a beginning of Start, of the whole journal, which is a history of the handler, and of notifications behind it are
+/// Bytes that are a beginning of Start, of the whole journal, which is a history of the handler, and of notifications after it are
 /// an honest attempt's: each of its frames has its place.
 pub fn honest_bytes_are_honest()
     ensures { (fixed : Fixed) (fed : Heard) → FeedsHonestly fixed fed → IsHonest fixed fed }
 {}
 
-/// A run is handed out to be executed once at most: whatever calls are made of an attempt, from its first on, and whatever they answer, no
+/// A run is handed out to be executed once at most: of all calls of an attempt, from its first on, with all answers, no
 /// two of its steps answer `ExecuteRun` with the same handle.
 pub fn runs_are_executed_once()
     ensures { (fixed : Fixed) (alloc : Global) (handle : NotificationHandle) (before between : ℕ)

@@ -1,4 +1,4 @@
--- The course of a round's attempt: what was delivered to it behind its journal and what it wrote,
+-- The course of a round's attempt: what was delivered to it after its journal and what it wrote,
 -- in the order in which this happened.
 use Rattle.std.specs.Prelude.{ℕ, List, [], ◌∷◌, ◌++◌, length, map, drop}
 use Rattle.std.proofs.Common.{inl, inr}
@@ -21,7 +21,7 @@ use Rattle.vm_store.specs.Entries.{journal_entries, notes_in}
 use Rattle.vm_rounds.specs.Rounds.{Happen, Now, ReportView, RoundDoes, RoundsDo, begin}
 use Rattle.vm_store.specs.Worlds.{setup_of, start_for}
 
--- The notifications that an attempt was fed behind those of its journal; an acknowledgement stands
+-- The notifications that an attempt was fed after those of its journal; an acknowledgement counts
 -- as the completion of its run.
 abbrev pub delivered : Version → List (List ℕ) → Record → List Notification
 delivered version journal r = drop (length (notes_in journal)) (arrivals_of (heard version r))
@@ -70,8 +70,8 @@ attempts_of m w [] old reports new d = []
 attempts_of m w (r ∷ rs) old reports new (mid, report, more, is, does, others) = attempt_of m w r
     old report mid does ∷ attempts_of m w rs mid more new others
 
--- The rounds are honest ones: those of their attempts, each told by its journal and handed so much
--- of the state.
+-- The rounds are honest: each attempt makes a run of the handler over its journal, with as much of
+-- the state as it was handed.
 abbrev pub AreHonest : Knowledge
     → (m : Meaning) (w : Setting) (rounds : List Round) (old : List (List ℕ))
     (reports : List ReportView) (new : List (List ℕ)) → RoundsDo m w rounds old reports new → Type 0

@@ -23,8 +23,8 @@ pub record IsFresh (before added : List (List ℕ)) (output : List ℕ) : Type 0
   pub written : AreGreater (ids_in before) (ids_written output)
   pub stored : AreGreater (ids_in before) (ids_in added)
 
--- the same of each of these rounds, of which the first began when the last journal had so many of
--- its entries
+-- the same of each of these rounds, of which the first began when the last journal had its first n
+-- entries
 abbrev pub AreFresh : ℕ → List (List ℕ) → List ReportView → Type 0
 AreFresh n journal [] = Unit {0}
 AreFresh n journal (r ∷ rs) = IsFresh (take n journal) (drop n (take r.entries journal)) r.output

@@ -80,8 +80,8 @@ RoundsAreHonest c rounds old reports new =
     (d : RoundsDo c.handler c.setting rounds old reports new)
     → AreHonest (Honest (base_of c.setting)) c.handler c.setting rounds old reports new d
 
--- Each report's error, if it has one, is its attempt's own: want of memory, input that was closed
--- too early, a call's own refusal behind the recorded commands, or that of a run's result; or, if
+-- Each report's error, if it has one, is its attempt's own: out of memory, input that was closed
+-- too early, a call's own refusal after the recorded commands, or that of a run's result; or, if
 -- no attempt was made, why. No mismatch is among them.
 abbrev pub ErrorsAreTheirOwn : Case → List Round → List (List ℕ) → List ReportView → List (List ℕ)
     → Type 0
@@ -89,7 +89,7 @@ ErrorsAreTheirOwn c rounds old reports new =
     (d : RoundsDo c.handler c.setting rounds old reports new)
     → AreOwn c.handler c.setting rounds old reports new d
 
--- A fault is want of memory, a full journal, or that of an arrival, on a journal that begins with
+-- A fault is out of memory, a full journal, or that of an arrival, on a journal that begins with
 -- the old one: what an attempt wrote can always be stored.
 abbrev pub FaultsComeFromOutside : List Round → List (List ℕ) → RoundFault → Type 0
 FaultsComeFromOutside rounds old f = ComesFromOutside rounds old f

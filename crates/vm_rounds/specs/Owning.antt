@@ -13,8 +13,8 @@ use Rattle.vm_store.specs.declared.types.Setting.{Setting}
 use Rattle.vm_store.specs.Worlds.{fixed_in}
 use Rattle.vm_rounds.specs.Rounds.{Happen, IsRefusal, Now, ReportView, RoundDoes, RoundsDo, begin}
 
--- At a moment of a round, behind the first of its events, its attempt has this error as its own:
--- want of memory, input that was closed too early, a call's own refusal behind the recorded
+-- At a moment of a round, after the first of its events, its attempt has this error as its own:
+-- out of memory, input that was closed too early, a call's own refusal after the recorded
 -- commands, or that of a run's result.
 pub record IsOwnIn (m : Meaning) (w : Setting) (events : List Event) (begun : Now) (e : Error) : Type 0 where
   pub before : List Event

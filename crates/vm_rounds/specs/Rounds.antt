@@ -119,8 +119,8 @@ Happens m (event.Store n) old new =
     × WholeFrames old.attempt.vm.machine.output
     × (old.attempt.proposed ≡ proposals_in (bytes_written old.attempt))
 
--- an event's fault, but for want of memory; of what is stored, where whole frames wait, that of the
--- first item that has one
+-- an event's fault, out of memory aside; if whole frames wait to be stored, that of the first item
+-- that has one
 abbrev pub Fault : Event → Now → RoundFault → Type 0
 Fault (event.Piece n) now f = ⊥
 Fault event.Close now f = ⊥
@@ -169,7 +169,7 @@ ArrivalsFault (event.Arrive x ∷ es) journal f =
     ⊎ ((arrival_fault x journal ≡ None) × ArrivalsFault es (journal ++ x ∷ []) f)
 ArrivalsFault (e ∷ es) journal f = ArrivalsFault es journal f
 
--- why no attempt was made: its version isn't supported, or want of memory
+-- why no attempt was made: its version isn't supported, or out of memory
 abbrev pub IsRefusal : Result Version Error → Error → Type 0
 IsRefusal (Ok version) e = e ≡ no_memory
 IsRefusal (Err refusal) e = e ≡ refusal
@@ -183,7 +183,7 @@ pub record ReportView : Type 0 where
   pub error : Option Error
   pub entries : ℕ
 
--- what is told of a round with its attempt
+-- the report of a round with its attempt
 abbrev pub report_of : Now → ReportView
 report_of now = record {
   answers = now.attempt.answers;
@@ -193,7 +193,7 @@ report_of now = record {
   entries = length now.journal;
 }
 
--- what is told of a round whose attempt was refused
+-- the report of a round whose attempt was refused
 abbrev pub refused_report : Error → List (List ℕ) → ReportView
 refused_report e journal =
     record { answers = []; output = []; error = Some e; entries = length journal }
@@ -283,7 +283,7 @@ pub record RefusedFaults (w : Setting) (round : Round) (old : List (List ℕ)) (
   pub refusal : IsRefusal (supported w.version) error
   pub faults : ArrivalsFault round.events old f
 
--- a round's fault: want of memory, or that of the first event that has one
+-- a round's fault: out of memory, or that of the first event that has one
 abbrev pub RoundFaults : Meaning → Setting → Round → List (List ℕ) → RoundFault → Type 0
 RoundFaults m w round old f =
     (f ≡ round_fault.Memory) ⊎ (AttemptFaults m w round old f ⊎ RefusedFaults w round old f)
@@ -317,7 +317,7 @@ pub record ArrivalHas (rounds : List Round) (old : List (List ℕ)) (f : RoundFa
   pub extends : IsPrefix old journal
   pub fault : arrival_fault entry journal ≡ Some f
 
--- want of memory, a full journal, or the fault of an arrival
+-- out of memory, a full journal, or the fault of an arrival
 abbrev pub ComesFromOutside : List Round → List (List ℕ) → RoundFault → Type 0
 ComesFromOutside rounds old f =
     (f ≡ round_fault.Memory) ⊎ ((f ≡ round_fault.JournalFull) ⊎ ArrivalHas rounds old f)
@@ -333,7 +333,7 @@ pub record ReplaysAndQueues (options : VMOptions) : Type 0 where
 abbrev pub AreWhole : List Round → Type 0
 AreWhole rounds = AllByRecursion (λ r. r.partial ≡ false) rounds
 
--- What a journal told, and the answers of these reports: one begins the other.
+-- The answers of the handler's run over a journal, and those of these reports: one begins the other.
 abbrev pub TellsAlong : Setup → Meaning → List Entry → List ReportView → Type 0
 TellsAlong s m journal reports =
     (first : RawMessage) (input : InputCommand) (rest : List RawMessage) (p : Point)
@@ -341,8 +341,8 @@ TellsAlong s m journal reports =
     → Told s m input (notifications_in journal) rest p
     → AllByRecursion (λ r. OneBegins p.answers r.answers) reports
 
--- what the last journal told when each report was made, as far as its entries count, and the
--- answers of all later reports
+-- the same of each report and all later ones, by as many entries of the last journal as there were
+-- when it was made
 abbrev pub Agree : Setup → Meaning → List (List ℕ) → List ReportView → Type 0
 Agree s m journal [] = Unit {0}
 Agree s m journal (r ∷ rs) = TellsAlong s m (journal_entries (take r.entries journal)) rs

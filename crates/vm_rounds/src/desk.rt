@@ -79,7 +79,7 @@ fn arrive(desk: &mut Desk, entry: &Bytes) -> Result<(), RoundFault>
     Ok(())
 }
 
-/// The error of a call that answers nothing but want of memory.
+/// The error of a call whose one error is out of memory.
 fn memory_error(answer: Result<(), AllocError>) -> Option<Error>
     ensures { result ≡ memory_of answer }
 {
@@ -89,7 +89,7 @@ fn memory_error(answer: Result<(), AllocError>) -> Option<Error>
     }
 }
 
-/// The next bytes, or all where there are fewer.
+/// The next bytes, or all if there are fewer.
 #[tactic(auto, using(std::proofs::lemmas::List::take_all, std::proofs::lemmas::List::drop_all))]
 fn front(waiting: &mut BytesMut, n: usize) -> Result<Bytes, AllocError>
     ensures front { IfOk result (λ b. b ≡ take n waiting.old.items) }
@@ -146,7 +146,7 @@ fn step<H: Handler>(attempt: &mut Attempt<&H>, desk: &mut Desk)
     note(&mut desk.error, error);
 }
 
-/// Copies of what a run came to, and of its policy.
+/// Copies of a run's result and of its policy.
 fn copy_result(
     exit: &RunExitResult,
     policy: &RetryPolicy,
@@ -158,7 +158,7 @@ fn copy_result(
     Ok((exit, policy))
 }
 
-/// What executing a run came to is told to the attempt; an error of that is kept.
+/// Hands the result of executing a run to the attempt; an error of that is kept.
 fn run_result<H: Handler>(
     attempt: &mut Attempt<&H>,
     desk: &mut Desk,

@@ -76,7 +76,7 @@ fn happen_all<H: Handler>(
     Ok(())
 }
 
-/// One event, where no attempt was made.
+/// One event, if no attempt was made.
 fn arrive_only(alloc: Global, journal: &mut Vec<Bytes>, event: &Event) -> Result<(), RoundFault>
     ensures ok { OnOk result (ArrivalsDo (event.now ∷ []) journal.old.items journal.new.items) }
     ensures err { IfErr result (λ f. ArrivalsFault (event.now ∷ []) journal.old.items f) }
@@ -87,7 +87,7 @@ fn arrive_only(alloc: Global, journal: &mut Vec<Bytes>, event: &Event) -> Result
     }
 }
 
-/// All events of a round, where no attempt was made: the arrivals are stored.
+/// All events of a round, if no attempt was made: the arrivals are stored.
 fn arrive_all(alloc: Global, journal: &mut Vec<Bytes>, events: &[Event]) -> Result<(), RoundFault>
     ensures ok { OnOk result (ArrivalsDo events.now journal.old.items journal.new.items) }
     ensures err { IfErr result (λ f. ArrivalsFault events.now journal.old.items f) }

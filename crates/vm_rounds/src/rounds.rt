@@ -36,7 +36,7 @@ pub fn run_rounds<H: Handler>(
     // memory.
     ensures err { IfErr result (λ f.
         RoundsFault (H.meaning handler.now) world.setting rounds.now world.journal f) }
-    // If the journal can be replayed, it is want of memory, a full journal, or the fault of an
+    // If the journal can be replayed, it is out of memory, a full journal, or the fault of an
     // arrival: what an attempt wrote can always be stored.
     ensures outside { IfErr result (λ f. CanBeReplayed (H.meaning handler.now) world
         → FaultsComeFromOutside rounds.now world.journal f) }
@@ -71,8 +71,7 @@ pub fn run_rounds<H: Handler>(
     ensures undisturbed { IfOk result (λ r. ReplaysAndQueues world.setting.options
         → AreWhole rounds.now
         → Lasts (IsUninterrupted (case_of (H.meaning handler.now) world)) world r.0) }
-    // If the options disable replay, new commands carry new completion ids, whatever made the
-    // journal.
+    // If the options disable replay, new commands carry new completion ids, over any journal.
     ensures fresh { IfOk result (λ r. Skips world.setting.options
         → IdsAreNew world (told r.1.items) r.0) }
 {

@@ -114,7 +114,7 @@ impl World {
         ensures journal { IfOk result (λ w. w.journal
             ≡ encoding (message.Input (record { headers = []; value = input })) ∷ []) }
         ensures err { IfErr result (λ f. f ≡ round_fault.Memory) }
-        // For every handler one run made the journal, whatever its calls know of the state.
+        // For every handler one run made the journal, even if its calls know nothing of the state.
         ensures one_run { IfOk result (λ w. (m : Meaning)
             → IsOneRun (setup_of w.setting) m (Honest (base_of w.setting))
             (journal_entries w.journal)) }

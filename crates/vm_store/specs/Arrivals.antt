@@ -103,8 +103,8 @@ abbrev pub read_fault : Option Notification → List (List ℕ) → Option Round
 read_fault None journal = Some round_fault.NotANotification
 read_fault (Some n) journal = note_fault n.id n.result journal
 
--- The first fault that an arrival has on a journal, but for want of memory: it is no notification,
--- no stored command carries its id, the id was completed, an invocation's id is completed by
+-- The first fault of an arrival on a journal, out of memory aside: it is no notification, no
+-- stored command carries its id, the id was completed, an invocation's id is completed by
 -- something else, the result is a run's, the journal is full.
 abbrev pub arrival_fault : List ℕ → List (List ℕ) → Option RoundFault
 arrival_fault bytes journal = read_fault (note_in bytes) journal
@@ -120,8 +120,8 @@ proposed_fault (Some completes.InvocationId) false room = Some round_fault.Wrong
 proposed_fault (Some completes.Proposal) false room = room
 proposed_fault (Some completes.AnyResult) false room = room
 
--- The first fault of a proposal for the run of this id, which is stored as a completion, but for
--- want of memory: no stored command carries its id, the id was completed, an invocation's id is
+-- The first fault of a proposal for the run of this id, which is stored as a completion, out of
+-- memory aside: no stored command carries its id, the id was completed, an invocation's id is
 -- expected, the journal is full.
 abbrev pub stored_proposal_fault : ℕ → List (List ℕ) → Option RoundFault
 stored_proposal_fault id journal = proposed_fault (completes_among id (said_in journal) None)

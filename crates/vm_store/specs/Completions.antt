@@ -34,7 +34,7 @@ IsOfKind (Some completes.InvocationId) result = is_invocation_id result ≡ true
 IsOfKind (Some completes.Proposal) result = Unit {0}
 IsOfKind (Some completes.AnyResult) result = Unit {0}
 
--- a completion behind these entries is of the kind of its id, by the last of their commands that
+-- a completion after these entries is of the kind of its id, by the last of their commands that
 -- carries it
 abbrev pub IsOfItsKind : NotificationId → NotificationResult → List (List ℕ) → Type 0
 IsOfItsKind (CompletionId id) result before = IsOfKind (completes_among id (said_in before) None)
@@ -47,7 +47,7 @@ abbrev pub NoteIsOfItsKind : Option Notification → List (List ℕ) → Type 0
 NoteIsOfItsKind None before = Unit {0}
 NoteIsOfItsKind (Some n) before = IsOfItsKind n.id n.result before
 
--- each completion among some entries behind these was of the kind of its id where it was stored
+-- each completion among some entries after these was of the kind of its id when it was stored
 abbrev pub EachOfItsKind : List (List ℕ) → List (List ℕ) → Type 0
 EachOfItsKind before [] = Unit {0}
 EachOfItsKind before (x ∷ xs) = NoteIsOfItsKind (note_in x) before

@@ -16,7 +16,7 @@ frame_of raw = frame raw.ty raw.body
 
 -- ---- one entry
 
--- one whole frame and nothing behind it
+-- one whole frame and nothing after it
 abbrev pub only_frame : NextFrame → Option RawMessage
 only_frame (Whole raw []) = Some raw
 only_frame (Whole raw (b ∷ bytes)) = None

@@ -1,5 +1,4 @@
--- A journal that is given, entry by entry: why an entry can't stand behind those before it, or is
--- no fault.
+-- A journal that is given, entry by entry: why an entry can't follow those before it.
 use Rattle.std.specs.Prelude.{◌≡◌, ◌⊎◌, ℕ, ◌==◌, ◌||◌, Bool, true, false, List, [], ◌∷◌, ◌++◌, length, Option, Some, None, is_some}
 use Rattle.std.specs.Option.{option_or}
 use Rattle.journal_messages.specs.declared.message.RawMessage.{RawMessage}
@@ -59,15 +58,15 @@ abbrev pub framed_fault : Option RawMessage → List (List ℕ) → Option Round
 framed_fault None journal = option_or (room_fault journal) (Some round_fault.BadJournal)
 framed_fault (Some raw) journal = frame_fault raw journal
 
--- The first fault that an entry has behind these, but for want of memory: a completion of no id
--- that a command carries, of one that was completed, or of an invocation's id by something else;
--- the journal is full; or it isn't one whole frame that may stand there.
+-- The first fault of an entry after these, out of memory aside: a completion of no id that a
+-- command carries, of one that was completed, or of an invocation's id by something else; the
+-- journal is full; or it isn't one whole frame that may stand there.
 abbrev pub given_fault : List ℕ → List (List ℕ) → Option RoundFault
 given_fault bytes journal = framed_fault (frame_in bytes) journal
 
 -- ---- all entries
 
--- none of these entries has a fault, behind the entries before it
+-- none of these entries has a fault after the entries before it
 abbrev pub AreGiven : List (List ℕ) → List (List ℕ) → Type 0
 AreGiven journal [] = Unit {0}
 AreGiven journal (x ∷ xs) = (given_fault x journal ≡ None) × AreGiven (journal ++ x ∷ []) xs
@@ -78,7 +77,7 @@ FirstGiven journal [] f = ⊥
 FirstGiven journal (x ∷ xs) f = (given_fault x journal ≡ Some f)
     ⊎ ((given_fault x journal ≡ None) × FirstGiven (journal ++ x ∷ []) xs f)
 
--- the fault of a journal that is given, but for want of memory: it has no entry, or the first entry
+-- the fault of a journal that is given, out of memory aside: it has no entry, or the first entry
 -- that has a fault has this one
 abbrev pub GivenFaults : List (List ℕ) → RoundFault → Type 0
 GivenFaults entries f = ((entries ≡ []) × (f ≡ round_fault.BadJournal)) ⊎ FirstGiven [] entries f

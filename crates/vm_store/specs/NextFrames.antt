@@ -34,8 +34,7 @@ StoresRaw version raw false journal waiting journal' waiting' =
 StoresRaw version raw true journal waiting journal' waiting' = (w : Written)
     × (written_as raw ≡ Some w) × StoresItem version w journal waiting journal' waiting'
 
--- the next frame was looked at, and stored where there is something to be stored of it; or none is
--- whole
+-- the next frame was taken, and stored if it is a command's or a proposal's; or none is whole
 abbrev pub StoresOne : Version → List (List ℕ) → List ℕ → List ℕ → Option Bool → List (List ℕ)
     → List ℕ → List ℕ → Type 0
 StoresOne version journal waiting unstored None journal' waiting' unstored' =

@@ -31,7 +31,7 @@ kept_of p = record { completion_id = p.id; result = p.result }
 abbrev pub proposal_of : RawMessage → Option KeptProposal
 proposal_of raw = cond (is_proposal raw) (option_map kept_of (proposal_in raw.body)) None
 
--- what is stored of a frame: a command, or what a run came to
+-- what is stored of a frame: a command, or a run's result
 abbrev pub written_as : RawMessage → Option Written
 written_as raw =
     cond (is_command_frame raw) (Some (Command raw)) (option_map Proposal (proposal_of raw))
@@ -70,12 +70,12 @@ abbrev pub answer_to : Version → KeptProposal → List ℕ
 answer_to version p = if is_from_v7 version then encoding (acknowledgement p.completion_id)
     else encoding (completion_message p)
 
--- what waits once it is stored: nothing behind a command, behind a proposal what answers it
+-- what waits once it is stored: nothing after a command, after a proposal what answers it
 abbrev pub waits_behind : Version → Written → List ℕ
 waits_behind version (Command raw) = []
 waits_behind version (Proposal p) = answer_to version p
 
--- the fault of storing it, but for want of memory
+-- the fault of storing it, out of memory aside
 abbrev pub storing_fault : Written → List (List ℕ) → Option RoundFault
 storing_fault (Command raw) journal = room_fault journal
 storing_fault (Proposal p) journal = stored_proposal_fault p.completion_id journal

@@ -64,7 +64,7 @@ start_message w round journal = message.Start (start_for w round journal)
 abbrev pub fixed_in : Meaning → Setting → Fixed
 fixed_in handler w = fixed_by handler w.version w.options
 
--- what all attempts of a world are made with, as a run is told it
+-- the setup of all attempts of a world, by which the handler's run goes
 abbrev pub setup_of : Setting → Setup
 setup_of w = setup_with w.version w.options
     (start_of w.identity []

@@ -12,7 +12,7 @@ use std::alloc::{AllocError, Global};
 /// What completes an id that a command carries.
 #[derive(Clone, Copy)]
 pub enum Completes {
-    /// The result of a call, whatever it is.
+    /// The result of a call, of any kind.
     AnyResult,
     /// The id of the invocation that a call has made.
     InvocationId,

@@ -1,4 +1,4 @@
-//! Journals that are given: whether their entries may stand one behind another.
+//! Journals that are given: whether their entries may follow one another.
 ghost use Rattle.std.specs.Prelude.{◌≡◌, ◌≢◌, ◌⊎◌, [], IfOk, IfErr, OnOk};
 ghost use Rattle.vm_store.specs.Given.{AreGiven, GivenFaults, as_given, frame_fault, given_fault, given_note_fault, may_be_given, noted_fault};
 ghost use Rattle.vm_store.specs.Entries.{note_of};
@@ -102,7 +102,7 @@ fn frame_fault(
     }
 }
 
-/// The first fault that an entry of a journal that is given has behind these.
+/// The first fault of an entry of a given journal, after these entries.
 pub fn given_fault(
     alloc: Global,
     entry: &Bytes,

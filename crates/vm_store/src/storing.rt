@@ -30,7 +30,7 @@ use wire::Fault;
 pub enum Written {
     /// A command, as it was written.
     Command(RawMessage),
-    /// What a run came to, as the run's completion.
+    /// A run's result, as its completion.
     Proposal(KeptProposal),
 }
 
@@ -239,7 +239,7 @@ fn store_raw(
     }
 }
 
-/// The next frame is looked at, and stored where it is one of a command or of a proposal; `None` where none is whole.
+/// Takes the next frame, and stores it if it is a command's or a proposal's; `None` if no whole frame waits.
 fn store_one(
     alloc: Global,
     version: Version,
@@ -263,7 +263,7 @@ fn store_one(
     }
 }
 
-/// The next commands and proposals are stored, or all where there are fewer.
+/// Stores this number of commands and proposals, or all if fewer wait.
 pub fn store_from(
     alloc: Global,
     version: Version,

@@ -45,17 +45,17 @@ impl Drop for Setting {
 /// What happens in a round.
 #[derive(Drop)]
 pub enum Event {
-    /// The next bytes that wait are fed, or all where there are fewer; none once the input was closed.
+    /// This number of bytes that wait is fed, or all if there are fewer; none once the input was closed.
     Piece(usize),
     /// The input is closed.
     Close,
     /// The attempt makes a step.
     Step,
-    /// What executing the run of this handle came to is told to the attempt.
+    /// The attempt gets the result of executing the run of this handle.
     RunResult(NotificationHandle, RunExitResult, RetryPolicy),
     /// A notification, as one frame, is stored and waits.
     Arrive(Bytes),
-    /// The next commands and proposals that were written are stored, or all where there are fewer. A proposal is stored as its run's
+    /// This number of written commands and proposals is stored, or all if there are fewer. A proposal is stored as its run's
     /// completion, and its acknowledgement waits; before version 7 that completion waits.
     Store(usize),
 }
