@@ -12,12 +12,12 @@ use Rattle.vm_awaits.specs.Cancels.{Cancels, SendsCancel, cancel_taken}
 use Rattle.invocation_vm.specs.Calls.{CallsCommand}
 use Rattle.invocation_vm.specs.Views.{View}
 
--- The calls before those that are left are behind: whatever comes of the ones left comes of all.
+-- The calls before those that are left are done: what the ones left lead to, all lead to.
 pub record Sending (calls left : List TrackedCall) (first now : View) : Type 0 where
   pub on : (r : Result (Result AwaitResponse Error) Error) (new : Machine) → Cancels (invocation_ids left) r now.machine new → Cancels (invocation_ids calls) r first.machine new
   pub same : now.undecoded ≡ first.undecoded
 
--- no call is behind yet
+-- no call is done yet
 pub sending_all : (calls : List TrackedCall) (first : View) → Sending calls calls first first
 sending_all calls first = record { on = λ r new h. h; same = refl }
 
@@ -45,7 +45,7 @@ module _ (calls left rest : List TrackedCall) (t : TrackedCall) (first now : Vie
   pub sending_fails : (id : List ℕ) (e : Error) (mid : View) → t.invocation_id ≡ Some id → CallsCommand (cancel_invocation_command id) (Err e) now mid → Cancels (invocation_ids calls) (Err e) first.machine mid.machine
   sending_fails id e mid known sent = next (Some id) known (Err e) mid.machine (Err e, mid.machine, sends id (Err e) now mid sent, (refl, refl))
 
--- all are behind
+-- all are done
 pub sending_done : (calls left : List TrackedCall) (first now : View) → Sending calls left first now → length left ≡ 0 → Cancels (invocation_ids calls) (Ok (Ok CancelSignalReceived)) first.machine (cancel_taken now.machine)
 sending_done calls [] first now s none = s.on (Ok (Ok CancelSignalReceived)) (cancel_taken now.machine) (refl, refl)
 sending_done calls (t ∷ ts) first now s none = absurd (omega arith)

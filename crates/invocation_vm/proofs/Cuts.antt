@@ -11,7 +11,7 @@ use Rattle.vm_machine.specs.Inputs.{malformed_step}
 use Rattle.invocation_vm.specs.Frames.{Tail, Rest, Garbage, frames_by, frames_from, frames_of, joined}
 use Rattle.invocation_vm.specs.Views.{View, received, spoiled, all_received, left_over, consumed, after_input, left_by}
 
--- ---- frames, whatever the fuel
+-- ---- frames, with any fuel
 
 no_bytes : (a : List ℕ) → length a ≤ 0 → a ≡ []
 no_bytes [] h = refl
@@ -101,7 +101,7 @@ pub spoiled_fails : (m : Machine) → is_some (spoiled m).failure ≡ true
 unfolding spoiled called
 spoiled_fails m = spoiled_at m.failure m refl
 
--- a failed machine takes whatever frames there are without a change
+-- a failed machine takes any frames without a change
 left_by_failed : (e : Error) (t : Tail) (m : Machine) → m.failure ≡ Some e → left_over t m ≡ record { undecoded = []; machine = m }
 left_by_failed e (Rest bytes) m h = rw h refl
 left_by_failed e Garbage m h = rw (spoiled_stays e m h) refl

@@ -47,7 +47,7 @@ first_fed raws after (Err x) e old new is l = absurd (let z : Some e ≡ None = 
 pub first_answered : {A : Type 0} (step : Machine → Outcome A) (r : Result A Error) (e : Error) (old new : View) → old.machine.failure ≡ Some e → Calls step r old new → AnswersFirst e r old new
 first_answered step r e old new f c = first_at (called (step old.machine) old.machine) r e old new f (answers_first (step old.machine) e old.machine f) c.0 c.1
 
--- what a failed machine comes to
+-- the outcome of a call on a failed machine
 awaited_at : {A : Type 0} (f : Option Error) (R : Outcome A → Type 0) (e : Error) (v : Machine) (o : Outcome A) → f ≡ Some e → CalledAt f R v o → o ≡ Failed e v
 awaited_at None R e v o is h = absurd (let z : None ≡ Some e = is in cc)
 awaited_at (Some d) R e v o is h = h ∙ ap (λ x. Failed x v) (let z : Some d ≡ Some e = is in cc)
@@ -65,7 +65,7 @@ first_proposed handle exit policy r e old new is c =
     let R = Proposes handle exit policy old.machine in
     first_by (CalledBy R old.machine) r e old new is (λ o. awaited_at old.machine.failure R e old.machine o is) c.0 c.1
 
--- where no ephemeral read is answered
+-- if no ephemeral read is answered
 any_awaited : (future : UnresolvedFuture) (r : Result AwaitResponse Error) (e : Error) (old new : View) → old.machine.failure ≡ Some e → CallsAnyAwait future r old new → AnswersFirst e r old new
 any_awaited future r e old new is (answered, (whole, u), flat) =
     let R = Awaits (tree_of future) old.machine in

@@ -91,7 +91,7 @@ received_is : (given : Result Unit Fault) (raw : RawMessage) (m mid new : Machin
 unfolding received
 received_is given raw m mid new l g s = left_called (message_step raw m) given m mid new l g s
 
--- a first frame, before those behind it
+-- a first frame, before those after it
 first_of_them : (bytes rest : List ℕ) (raw : RawMessage) → next_of bytes ≡ Whole raw rest → (frames_of bytes).0 ≡ raw ∷ (frames_of rest).0
 first_of_them bytes rest raw h = rw (frames_of-next bytes, h) refl
 

@@ -1,4 +1,4 @@
--- The completion ids behind an input that was read, where recorded commands are skipped.
+-- The completion ids after an input that was read, if recorded commands are skipped.
 use Rattle.std.proofs.Common.{◌≡◌, true, Option, Some, None, Result, Ok, Err, refl, sym, ap, ◌∙◌}
 use Rattle.std.specs.Prelude.{OnOk}
 use Rattle.journal_errors.specs.declared.error.Error.{Error}

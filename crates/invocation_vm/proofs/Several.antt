@@ -25,7 +25,7 @@ fits_so : (c : Command) (cs : List Command) (handle : NotificationHandle) (given
 fits_so c cs handle (Ok a) h = h
 fits_so c cs handle (Err e) h = tt
 
--- the second is made behind the first
+-- the second is made after the first
 pub makes_both : (c b : Command) (handle : NotificationHandle) (given : Result NotificationHandle Error) (old mid new : View) → CallsBefore c (b ∷ []) (Ok handle) old mid → CallsCommand b given mid new → CallsAll c (b ∷ []) (answered_so handle given) old new
 makes_both c b handle given old mid new first second =
     ((Ok handle, mid.machine, (first.0.0, first.1), (given, (second.0.0, second.1), refl)), second.0.1 ∙ first.0.1, fits_so c (b ∷ []) handle given first.2)

@@ -18,11 +18,11 @@ use Rattle.vm_store.specs.Entries.{AreEntries, only_frame, journal_entries, fram
 
 -- ---- frames of bytes
 
--- these are the frames of some bytes, and nothing comes behind them
+-- these are the frames of some bytes, and nothing follows them
 abbrev pub AreFrames : List ℕ → List RawMessage → Type 0
 AreFrames bytes raws = frames_of bytes ≡ (raws, Rest [])
 
--- frames behind frames
+-- frames after frames
 pub join : (a b : List ℕ) (ra rb : List RawMessage) → AreFrames a ra → AreFrames b rb → AreFrames (a ++ b) (ra ++ rb)
 join a b ra rb ea eb = frames_of-append a b ∙ ap (λ (p : List RawMessage × Tail). joined p b) ea ∙ ap (λ (p : List RawMessage × Tail). (ra ++ p.0, p.1)) eb
 

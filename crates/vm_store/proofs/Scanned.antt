@@ -35,7 +35,7 @@ pub all_append : {A : Type 0} (P : A → Type 0) (xs ys : List A) → AllByRecur
 all_append P [] ys a b = b
 all_append P (x ∷ xs) ys a b = (a.0, all_append P xs ys a.1 b)
 
--- the journal behind one item and others
+-- the journal after one item and others
 behind_one : (j : List (List ℕ)) (x : Written) (xs : List Written) → (j ++ stored_as x ∷ []) ++ map stored_as xs ≡ j ++ map stored_as (x ∷ xs)
 behind_one j x xs = append_assoc j (stored_as x ∷ []) (map stored_as xs)
 
@@ -44,14 +44,14 @@ faultless_more : (ws : List Written) (w : Written) (j : List (List ℕ)) → Non
 faultless_more [] w j h e = (ap (storing_fault w) (sym (append-nil j)) ∙ e, tt)
 faultless_more (x ∷ xs) w j h e = (h.0, faultless_more xs w (j ++ stored_as x ∷ []) h.1 (ap (storing_fault w) (behind_one j x xs) ∙ e))
 
--- the first fault is that of an item behind others that have none
+-- the first fault is that of an item after others that have none
 first_fault : (version : Version) (ws : List Written) (w : Written) (more : List Written) (j : List (List ℕ)) (f : RoundFault) → NoneFaults ws j → AllByRecursion (StoredCanBeRead version) ws → storing_fault w (j ++ map stored_as ws) ≡ Some f → FirstFault version (ws ++ w ∷ more) j f
 first_fault version [] w more j f h k e = inl (ap (storing_fault w) (sym (append-nil j)) ∙ e)
 first_fault version (x ∷ xs) w more j f h k e = inr (h.0, k.0, first_fault version xs w more (j ++ stored_as x ∷ []) f h.1 k.1 (ap (storing_fault w) (behind_one j x xs) ∙ e))
 
 -- ---- what was stored so far
 
--- So many items are left to be stored, once some frames were seen.
+-- Some frames were seen, and `left` items of `n` are still to be stored.
 pub record Stands (version : Version) (n : ℕ) (u : List ℕ) (j : List (List ℕ)) (w : List ℕ) (left : ℕ) (j' : List (List ℕ)) (w' u' : List ℕ) : Type 0 where
   pub seen : List RawMessage
   pub frames : frames_of u ≡ (seen ++ (frames_of u').0, (frames_of u').1)
