@@ -110,7 +110,7 @@ abbrev pub present_for : SignalDelivery → Option NotificationId → Ready → 
 present_for delivery None r = None
 present_for delivery (Some id) r = present delivery id r
 
--- what a take leaves, where there was a result
+-- what a take leaves, if there was a result
 abbrev pub taken_by : SignalDelivery → ℕ → Option NotificationId → Option NotificationResult
     → Arrived → Arrived
 taken_by delivery handle (Some id) (Some result) v = taken_from delivery handle id v

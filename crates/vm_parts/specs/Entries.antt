@@ -18,7 +18,7 @@ by_bytes = slice_cmp nat_cmp
 abbrev pub IsInOrder : List (List ℕ × Option (List ℕ)) → Type 0
 IsInOrder entries = IsStrictlySortedBy by_bytes (keys_of entries)
 
--- a key's entry, where there is one
+-- a key's entry, if it has one
 abbrev pub entry_of : List ℕ → List (List ℕ × Option (List ℕ)) → Option (Option (List ℕ))
 entry_of key entries = lookup (is_at (by_bytes key)) entries
 

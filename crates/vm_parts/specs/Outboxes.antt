@@ -21,7 +21,7 @@ pub record WholeStream (bytes : List ℕ) : Type 0 where
 abbrev pub len_of : List (List ℕ) → ℕ
 len_of pieces = min (length (concat pieces)) (2 ^ 64 - 1)
 
--- the first n frames of some bytes, or all where there are fewer
+-- the first n frames of some bytes, or all if there are fewer
 abbrev pub first_frames : ℕ → List ℕ → List (List ℕ)
 first_frames zero bytes = []
 first_frames (suc n) [] = []

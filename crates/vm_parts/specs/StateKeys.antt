@@ -1,8 +1,8 @@
 -- Keys of the state, and the number that stands beside each.
 use Rattle.std.specs.Prelude.{◌≡◌, ℕ, zero, suc, ◌+◌, ◌*◌, ◌<◌, List, slice_index}
 
--- the first n bytes of a text as a number, the first of them the greatest; zeros stand behind a
--- shorter text
+-- the first n bytes of a text as a number, the most significant first; a shorter text is filled with
+-- zeros
 abbrev pub front : ℕ → List ℕ → ℕ
 front zero text = 0
 front (suc n) text = front n text * 256 + slice_index text n

@@ -121,7 +121,7 @@ abbrev pub IsAt : ℕ → List TrackedCall → ℕ → Type 0
 IsAt handle ts place =
     (place < length ts) × ((d : TrackedCall) → (slice_index_or ts place d).handle ≡ handle)
 
--- no call has the handle, and one would stand here: behind those that are less, and before those
+-- no call has the handle, and one would stand here: after those that are less, and before those
 -- that are greater
 abbrev pub IsBetween : ℕ → List TrackedCall → ℕ → Type 0
 IsBetween handle ts place = (place ≤ length ts)

@@ -28,7 +28,7 @@ pub struct AsyncResults {
     handles: Handles,
 }
 
-/// Written out, so that who lets results go calls this: a derived drop is taken apart at each way out of a function.
+/// Written out, so that a function that drops results calls this: a derived drop is expanded at each way out of a function.
 impl Drop for AsyncResults {
     fn drop(self) {
         let Self {
@@ -141,7 +141,7 @@ impl AsyncResults {
         })
     }
 
-    /// Puts a notification behind those that wait.
+    /// Appends a notification to those that wait.
     pub fn enqueue(&mut self, notification: Notification) -> Result<(), AllocError>
         ensures ok { OnOk result (self.new
             ≡ record self.old { queued = self.old.queued ++ notification ∷ [] }) }

@@ -1,4 +1,4 @@
-//! What an attempt knows of itself: its counters, its last command, what Start told it, and the state.
+//! What an attempt knows of itself: its counters, its last command, what Start said, and the state.
 ghost use Rattle.std.specs.Prelude.{◌≡◌, ◌≢◌, List, [], ◌∷◌, ◌++◌, ℕ, ◌<◌, ◌+◌, ◌^◌, IfNone, IfSome, IfOk, OnOk, OnErr};
 ghost use Rattle.std.specs.List.Sorted.{IsStrictlySortedBy};
 ghost use Rattle.vm_parts.specs.declared.context.StateCoverage.{StateCoverage as Coverage};
@@ -33,7 +33,7 @@ pub struct LastCommand {
     pub name: Text,
 }
 
-/// What the Start message told of the invocation; the seed and the last three as the version has them.
+/// What the Start message says of the invocation; the seed and the last three only in versions that have them.
 #[derive(Drop)]
 pub struct StartInfo {
     pub id: Bytes,

@@ -34,7 +34,7 @@ impl Entries {
         }
     }
 
-    /// The key's entry; none where no entry speaks of it.
+    /// The key's entry, if it has one.
     pub fn get(&self, key: &StateKey) -> Option<&Option<Bytes>>
         ensures { option_copied result ≡ entry_of key.now self.now }
     {

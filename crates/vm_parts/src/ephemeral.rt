@@ -53,7 +53,7 @@ impl EphemeralCommands {
         Ok(())
     }
 
-    /// The result of a read comes. A value that is there gives way to it; where no such read is held, nothing is done.
+    /// The result of a read comes. It replaces a value that is there; if no such read is held, nothing is done.
     pub fn complete(&mut self, id: u32, value: Option<Bytes>) -> Result<(), AllocError>
         ensures ok { OnOk result (self.new ≡ completed id value self.old) }
         ensures err { OnErr result (self.new ≡ self.old) }

@@ -15,7 +15,7 @@ use std::marker::Model;
 pub struct Outbox {
     /// The bytes of all frames.
     stream: Vec<u8>,
-    /// Where a frame is made before it is put behind the others.
+    /// Where a frame is made before it is appended to the others.
     frame: Vec<u8>,
 }
 
@@ -41,7 +41,7 @@ impl Outbox {
         }
     }
 
-    /// Puts the frame of a message behind the others.
+    /// Appends the frame of a message to the others.
     pub fn write(&mut self, alloc: Global, message: &Message) -> Result<(), AllocError>
         ensures ok { OnOk result (self.new ≡ self.old ++ encoding message.now ∷ []) }
         ensures whole { OnOk result (IsWhole message.now) }

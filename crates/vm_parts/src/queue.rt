@@ -34,7 +34,7 @@ impl<T> Queue<T> {
         self.items.is_empty()
     }
 
-    /// Puts an item behind the others.
+    /// Appends an item.
     pub fn push(&mut self, item: T) -> Result<(), AllocError>
     where
         T: Drop,

@@ -4,7 +4,7 @@
 use journal_values::ValueOrFailure;
 use wire::Text;
 
-/// Whether the handler's runner was told to execute a run.
+/// Whether a run was handed to the handler's runner to be executed.
 #[derive(Clone, Copy, PartialEq, Eq)]
 pub enum RunExecution {
     Waiting,

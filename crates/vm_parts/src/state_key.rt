@@ -10,8 +10,8 @@ use std::cmp::Ordering;
 use std::marker::Model;
 use wire::Text;
 
-/// A key of the state, which contracts see as its bytes. Its first eight bytes stand beside it as a number, so that two
-/// keys are mostly told apart by one comparison.
+/// A key of the state, which contracts see as its bytes. Its first eight bytes stand beside it as a number, so that one
+/// comparison mostly decides which of two keys is less.
 #[derive(Drop)]
 pub struct StateKey {
     front: u64,
@@ -29,7 +29,7 @@ impl Model for StateKey {
     ghost invariant = { λ key. IsFront key.front key.text };
 }
 
-/// The first eight bytes as a number, the first of them the greatest; zeros stand behind a shorter text.
+/// The first eight bytes as a number, the most significant first; a shorter text is filled with zeros.
 fn front_of(bytes: &[u8]) -> u64
     ensures { IsFront result bytes.now }
 {

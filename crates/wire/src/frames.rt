@@ -1,8 +1,8 @@
-//! A frame's head: the number of its type in two bytes and the length of its body in eight. The body stands behind it.
+//! A frame's head: the number of its type in two bytes and the length of its body in eight. The body follows.
 ghost use Rattle.std.specs.Prelude.{◌≡◌, ◌≤◌, ◌-◌, ◌++◌, take, drop, length};
 ghost use Rattle.wire.specs.Format.{u64s};
 
-/// Writes the length of a frame's body to its place, behind the type's number.
+/// Writes the length of a frame's body to its place, after the type's number.
 #[tactic(auto, unfolding(crate::specs::Format::u64s))]
 pub fn set_length(frame: &mut Vec<u8>)
     requires { 10 ≤ length frame.old.items }

@@ -84,7 +84,7 @@ pub fn is_same<T: Exact>(a: &T, b: &T) -> bool
     *a == *b
 }
 
-/// An equal value, where there is memory for it.
+/// An equal value, or out of memory.
 pub fn copy_of<T: Plain>(a: &T) -> Result<T, AllocError>
     ensures { IfOk result (λ c. c ≡ a.now) }
 {
