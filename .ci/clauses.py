@@ -164,7 +164,7 @@ def bound_in_groups(found: list[Token]) -> Iterator[str]:
 def names_until(found: list[Token], at: int, last: set[str]) -> Iterator[str]:
     """Yields the names from an index up to one of these words in the same brackets, but for types after a colon."""
     depth, typed = 0, -1
-    for token in found[at:]:
+    for token, after in zip(found[at:], [*found[at + 1 :], None]):
         if token.kind == "mark" and token.text in CLOSING:
             depth += 1
         elif token.kind == "mark" and token.text in CLOSING.values():
@@ -174,7 +174,7 @@ def names_until(found: list[Token], at: int, last: set[str]) -> Iterator[str]:
             return
         if token.text == ":" and typed < 0:
             typed = depth
-        if token.kind == "name" and typed < 0:
+        if token.kind == "name" and typed < 0 and not (after and after.kind == "member"):
             yield token.text
 
 
@@ -194,13 +194,13 @@ def bound(found: list[Token]) -> set[str]:
 def case_names(found: list[Token], at: int) -> list[str]:
     """Returns the names of the pattern of a case, `p ↦ e`; none if there is no case."""
     depth, names = 0, []
-    for token in found[at:]:
+    for token, after in zip(found[at:], [*found[at + 1 :], None]):
         if token.text == "↦":
             return names
         depth += (token.kind == "mark" and token.text in CLOSING) - (token.kind == "mark" and token.text in CLOSING.values())
         if depth < 0 or token.text in {"=", "|", "λ"}:
             return []
-        if token.kind == "name":
+        if token.kind == "name" and not (after and after.kind == "member"):
             names.append(token.text)
     return []
 

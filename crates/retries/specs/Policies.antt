@@ -22,12 +22,12 @@ in_nanos (next.Retry delay) = retried (option_map as_nanos delay)
 in_nanos next.FailAsTerminal = failed
 in_nanos next.Pause = paused
 
--- a bound is reached where there is one and it isn't above what was spent
+-- a bound is reached if there is one and it isn't above what was spent
 abbrev pub is_reached : Option ℕ → ℕ → Bool
 is_reached None spent = false
 is_reached (Some most) spent = nat_le most spent
 
--- the bound on attempts is reached by so many, or that on the duration by so many nanoseconds
+-- the bound on attempts or that on the duration, in nanoseconds, is reached
 abbrev pub is_exhausted : Option ℕ → Option Duration → ℕ → ℕ → Bool
 is_exhausted attempts duration count nanos =
     is_reached attempts count || is_reached (option_map as_nanos duration) nanos
@@ -47,8 +47,8 @@ pauses_on_max policy.None = false
 pauses_on_max (policy.FixedDelay interval attempts duration on) = is_pause on
 pauses_on_max (policy.Exponential initial factor most attempts duration on) = is_pause on
 
--- what a policy says of an entry that failed so often, in so many nanoseconds: its bounds decide
--- first
+-- what a policy says of an entry, by how often it failed and the nanoseconds that this took: its
+-- bounds decide first
 abbrev pub next_retry : RetryPolicy → ℕ → ℕ → Verdict
 next_retry policy.Infinite count nanos = retried None
 next_retry policy.None count nanos = failed

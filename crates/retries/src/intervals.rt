@@ -6,11 +6,11 @@ ghost use Rattle.retries.specs.Intervals.{delay, multiplied};
 use crate::fraction::Fraction;
 use std::time::Duration;
 
-/// So many failures change a delay; after more it stays. So it takes no more multiplications than these, which is less than a
-/// millisecond.
+/// A delay changes with this number of failures and stays after them. So it takes no more multiplications than these, which is less
+/// than a millisecond.
 const MOST_COUNTED: u32 = 10_000;
 
-/// The delay behind this many failures.
+/// The delay after this many failures.
 pub fn delay(
     initial_interval: Duration,
     factor: Fraction,
@@ -24,7 +24,7 @@ pub fn delay(
     Duration::from_nanos_u128(bounded(initial_interval.as_nanos(), factor, most, steps))
 }
 
-/// A number multiplied so many times by the fraction, or the maximum where that is less.
+/// A number multiplied by the fraction in this many steps, or the maximum if that is less.
 fn bounded(initial: u128, factor: Fraction, most: u128, steps: u32) -> u128
     requires initial { initial ≤ max_nanos }
     requires most { most ≤ max_nanos }

@@ -17,13 +17,13 @@ pub fn delays_go_one_way()
         → delay initial f most later ≤ delay initial f most count }
 {}
 
-/// No delay is above the maximum, whatever the fraction.
+/// No delay is above the maximum, for any fraction.
 pub fn delays_stay_within_the_maximum()
     ensures { (initial most : Duration) (f : Fraction) (count : ℕ)
         → delay initial f (Some most) count ≤ as_nanos most }
 {}
 
-/// After so many failures a delay stays.
+/// After the failures that are counted a delay stays.
 pub fn delays_settle()
     ensures { (initial : Duration) (f : Fraction) (most : Option Duration) (count : ℕ)
         → most_counted ≤ count

@@ -69,7 +69,7 @@ impl Default for RetryPolicy {
 /// What becomes of an entry that failed.
 #[derive(Clone, Copy, Debug, PartialEq, Eq)]
 pub enum NextRetry {
-    /// It is retried after this delay; where there is none, the runtime chooses it.
+    /// It is retried after this delay; if there is none, the runtime chooses it.
     Retry(Option<Duration>),
     FailAsTerminal,
     Pause,

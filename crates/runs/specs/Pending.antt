@@ -39,7 +39,7 @@ abbrev pub executes : RunExecution → Bool
 executes Waiting = false
 executes Executing = true
 
--- the handler's runner was told to execute it
+-- it was handed to the handler's runner to be executed
 abbrev pub is_executing : PendingRun → Bool
 is_executing run = executes run.execution
 
@@ -54,7 +54,7 @@ may_execute any run = waits run.execution && is_one_of any run.handle
 abbrev pub started : PendingRun → PendingRun
 started run = record run { execution = Executing }
 
--- the less of two handles, where there is another
+-- the less of two handles, if there is another
 abbrev pub lesser : Option ℕ → ℕ → ℕ
 lesser None handle = handle
 lesser (Some other) handle = min other handle

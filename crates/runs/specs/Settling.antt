@@ -1,4 +1,4 @@
--- What becomes of what a run came to.
+-- What becomes of a run's result.
 use Rattle.std.specs.Prelude.{ℕ, ◌≡◌, ◌+◌, ◌*◌, ◌^◌, ◌-◌, ◌==◌, min, Bool, true, false, not, ◌||◌, if◌then◌else◌, List, [], ◌∷◌, Option, Some}
 use Rattle.std.specs.Option.{option_map}
 use Rattle.std.specs.Duration.{as_nanos, max_nanos}
@@ -31,8 +31,8 @@ has_metadata (exit.RetryableFailure duration e) = false
 
 -- ---- how often, and for how long
 
--- how often the run failed in earlier attempts. Start tells it of the first command behind the
--- recorded ones, so it counts only where none was written
+-- how often the run failed in earlier attempts. Start says it of the first command after the
+-- recorded ones, so it counts only if none was written
 abbrev pub earlier_count : StartInfo → Bool → ℕ
 earlier_count start wrote = if wrote then 0 else start.retry_count
 

@@ -123,7 +123,7 @@ impl KeptProposals {
         }
     }
 
-    /// The result of this id, which isn't kept any more; none where none was.
+    /// The result of this id, which isn't kept any more; none if none was.
     pub fn acknowledge(&mut self, completion_id: u32) -> Option<ValueOrFailure>
         ensures found { result ≡ option_map result_of (find (is_for completion_id) self.old) }
         ensures rest { self.new ≡ without_first (is_for completion_id) self.old }

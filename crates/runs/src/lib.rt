@@ -1,4 +1,4 @@
-//! Runs: those that wait for a result, what executing one came to, what becomes of that, and proposals that are kept.
+//! Runs: those that wait for a result, the results of executing them, what becomes of a result, and proposals that are kept.
 #![tactic(auto)]
 
 pub mod kept;

@@ -214,7 +214,7 @@ impl RunState {
         self.ordered.any_executing() || self.late.any_executing()
     }
 
-    /// The run's result is proposed, so it isn't pending any more; none where no run has the handle.
+    /// The run's result is proposed, so it isn't pending any more; none if no run has the handle.
     pub fn notify_execution_completed(&mut self, executed: NotificationHandle) -> Option<PendingRun>
         ensures run { result ≡ find (has_handle executed) self.old }
         ensures rest { self.new ≡ without_first (has_handle executed) self.old }

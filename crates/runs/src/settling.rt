@@ -1,4 +1,4 @@
-//! What becomes of what a run came to: a result that is proposed, or an error that ends the attempt.
+//! What becomes of a run's result: it is proposed, or an error ends the attempt.
 ghost use Rattle.std.specs.Prelude.{◌≡◌, ◌∷◌, IfOk, Some};
 ghost use Rattle.std.specs.Duration.{as_nanos};
 ghost use Rattle.journal_errors.specs.declared.error.ErrorBehavior.TheVariants as behavior;
@@ -15,7 +15,7 @@ use vm_parts::{PendingRun, StartInfo};
 use vm_types::values::write_failure;
 use wire::{Items, Text};
 
-/// What becomes of what a run came to.
+/// What becomes of a run's result.
 #[derive(Drop)]
 pub enum Settlement {
     /// It is proposed as the run's result.
@@ -68,8 +68,8 @@ fn terminal(alloc: Global, error: &Error) -> Result<Failure, AllocError>
     })
 }
 
-/// How often and for how long the run has been tried, with an attempt that failed after so long. What Start tells counts only
-/// where no command was written behind the recorded ones.
+/// How often and for how long the run has been tried, with an attempt that failed after this duration. What Start says counts only
+/// if no command was written after the recorded ones.
 fn tried(start: &StartInfo, wrote_command: bool, attempt_duration: Duration) -> EntryRetryInfo
     ensures count { result.retry_count ≡ count_with start.now wrote_command }
     ensures nanos { as_nanos result.retry_loop_duration
@@ -107,8 +107,8 @@ fn settle_failure(
     }
 }
 
-/// What becomes of what a run came to: a policy says it of a failure that may be retried, by all the run's failures. It takes memory
-/// only where such a failure becomes the run's result.
+/// What becomes of a run's result. A failure that may be retried is decided by the policy, by all the run's failures. It takes memory
+/// only if such a failure becomes the run's result.
 pub fn settle(
     alloc: Global,
     run: PendingRun,

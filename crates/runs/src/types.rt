@@ -1,4 +1,4 @@
-//! The handle of a run, and what executing it came to.
+//! The handle of a run, and the result of executing it.
 ghost use Rattle.std.specs.Prelude.{◌≡◌};
 ghost use Rattle.runs.specs.Settling.{has_metadata};
 
@@ -15,7 +15,7 @@ pub struct RunHandle {
     pub handle: NotificationHandle,
 }
 
-/// What executing a run came to.
+/// The result of executing a run.
 #[derive(Clone, Debug, Drop)]
 pub enum RunExitResult {
     Success(Bytes),

@@ -105,13 +105,13 @@ unfoldable pub carried_out : Message → Bool → Machine → Outcome Unit
 carried_out m ignore v =
     if is_processing v.phase then Done tt (written m v) else replayed m ignore v
 
--- so many handles, from this one on, each for a completion id, from this one on
+-- n handles, from this one on, each for a completion id, from this one on
 abbrev pub mapped_from : ℕ → ℕ → ℕ → List Mapping
 mapped_from zero handle id = []
 mapped_from (suc n) handle id = record { handle = handle; id = CompletionId id }
     ∷ mapped_from n (handle + 1) (id + 1)
 
--- so many completion ids are given, with a handle for each
+-- this number of completion ids is given, with a handle for each
 abbrev pub given_on : ℕ → Counters → Counters
 given_on n c = record c { completion = c.completion + n; handle = c.handle + n }
 

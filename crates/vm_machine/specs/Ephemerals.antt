@@ -110,7 +110,7 @@ abbrev pub found_of : VoidOrValue → Option (List ℕ)
 found_of stored.Void = None
 found_of (stored.Value bytes) = Some bytes
 
--- a read's result comes; there has to be one, whatever the id
+-- a read's result comes; there has to be one, for any id
 abbrev pub result_comes : ℕ → Option VoidOrValue → Machine → Outcome Unit
 result_comes id None v = refused fault.EmptyGetStateEphemeralNotification v
 result_comes id (Some found) v = Done tt

@@ -112,7 +112,7 @@ entry_step raw _ v = refused fault.UnexpectedEntryMessage v
 
 -- ---- notifications
 
--- a notification waits behind the others
+-- a notification waits after the others
 abbrev pub enqueued : Notification → Machine → Machine
 enqueued n v = record v { results = record v.results { queued = v.results.queued ++ n ∷ [] } }
 

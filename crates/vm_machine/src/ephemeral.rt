@@ -116,7 +116,7 @@ impl Machine {
         }
     }
 
-    /// The result of a read comes; there has to be one, also where no such read waits for it.
+    /// The result of a read comes; there has to be one, even if no such read waits for it.
     pub fn complete_ephemeral(&mut self, id: u32, found: Option<VoidOrValue>) -> Result<(), Fault>
         ensures step { Gives (result_comes id found self.old) result self.old self.new }
         ensures quiet { self.new.output ≡ self.old.output }

@@ -20,7 +20,7 @@ use std::alloc::AllocError;
 use vm_parts::{Input, StartInfo};
 use wire::{Text, copy_of};
 
-/// A copy of a text, where there is one.
+/// A copy of a text, if there is one.
 fn copy_text(text: &Option<Text>) -> Result<Option<Text>, AllocError>
     ensures { IfOk result (λ copy. copy ≡ text.now) }
 {
@@ -86,7 +86,7 @@ impl Machine {
         self.pop_input()
     }
 
-    /// Reads the input and drops the recorded commands behind it.
+    /// Reads the input and drops the recorded commands after it.
     fn skip_input(&mut self) -> Result<Input, Fault>
         ensures { Gives (input_past
             (past_all self.old.counters.completion (drop 1 self.old.commands)) self.old) result

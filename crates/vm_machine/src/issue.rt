@@ -71,7 +71,7 @@ impl Machine {
         Ok(Error::named(fault, Some(self.last_related()?)))
     }
 
-    /// Pops the next recorded command, if one is left; behind the last the machine is in Processing.
+    /// Pops the next recorded command, if one is left; after the last the machine is in Processing.
     pub fn pop_next(&mut self) -> Option<RawMessage>
         ensures none { IfNone result ((self.old.commands ≡ []) × (self.new ≡ self.old)) }
         ensures some { IfSome result (λ raw. (self.old.commands ≡ raw ∷ self.new.commands)
@@ -144,7 +144,7 @@ impl Machine {
         self.replay(message, ignore_payloads)
     }
 
-    /// Gives so many next handles the next completion ids.
+    /// Gives this number of next handles the next completion ids.
     pub fn hand_out(&mut self, ids: u32) -> Result<(), AllocError>
         requires ids { self.old.counters.completion + ids < 2 ^ 32 }
         requires handles { self.old.counters.handle + ids < 2 ^ 32 }

@@ -1,4 +1,4 @@
-//! What executing a run came to: its result is proposed, or the attempt fails.
+//! The result of executing a run: it is proposed, or the attempt fails.
 ghost use Rattle.std.specs.Prelude.{◌≡◌, ◌++◌, ◌∷◌, [], Some, IfNone, IfOk, IfSome, OnOk, OnErr};
 ghost use Rattle.journal_messages.specs.Message.{IsWhole, encoding};
 ghost use Rattle.journal_messages.specs.declared.message.Message.TheVariants as message;
@@ -17,7 +17,7 @@ use runs::{RunExitResult, Settlement, settle};
 use std::alloc::AllocError;
 use vm_parts::{NotificationHandle, PendingRun};
 
-/// Why the version can't take what a run came to, if it can't.
+/// Why the version can't take a run's result, if it can't.
 fn proposal_fault(
     exit: &RunExitResult,
     policy: &RetryPolicy,
@@ -83,7 +83,7 @@ impl Machine {
         }
     }
 
-    /// What the run of a handle came to.
+    /// Settles the run of a handle by its result.
     #[tactic(auto, using(crate::proofs::Running::settled_none, crate::proofs::Running::settled_some))]
     fn settle_run(
         &mut self,
@@ -109,7 +109,7 @@ impl Machine {
         self.settle_as(id, settlement)
     }
 
-    /// The handler's runner tells what executing a run came to.
+    /// The handler's runner hands in the result of executing a run.
     pub fn finish_run(
         &mut self,
         handle: NotificationHandle,

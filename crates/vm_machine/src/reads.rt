@@ -86,7 +86,7 @@ impl Machine {
         self.replay_read(read, handle, id)
     }
 
-    /// The handler reads its state. In replay the recorded form decides, whatever is known of the state.
+    /// The handler reads its state. In replay the recorded form decides, and not what is known of the state.
     #[tactic(auto, unfolding(crate::specs::Reads::read_step))]
     pub fn read(&mut self, read: &StateRead) -> Result<NotificationHandle, Fault>
         ensures { Reads read.now result self.old self.new }

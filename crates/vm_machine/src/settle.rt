@@ -88,7 +88,7 @@ impl Machine {
         Ok(())
     }
 
-    /// Fails for want of memory, with the counters that the call began with.
+    /// Fails by out of memory, with the counters that the call began with.
     pub fn starve(&mut self, before: Counters) -> Error
         ensures state { self.new ≡ starved before self.old }
         ensures error { result ≡ no_memory }
@@ -127,7 +127,7 @@ impl Machine {
         }
     }
 
-    /// As `settle`, of a call that answers nothing but want of memory.
+    /// As `settle`, of a call whose one error is out of memory.
     pub fn settle_quietly(
         &mut self,
         before: Counters,

@@ -1,4 +1,4 @@
-//! Recorded commands that are skipped: those behind the input are dropped, and new commands get indexes and completion ids past theirs.
+//! Recorded commands that are skipped: those after the input are dropped, and new commands get indexes and completion ids past theirs.
 ghost use Rattle.std.specs.Prelude.{◌≡◌, drop, length, IfOk};
 ghost use Rattle.vm_asks.specs.Carried.{past_all, read_past};
 ghost use Rattle.journal_messages.specs.Reading.{message_in};
@@ -35,7 +35,7 @@ fn read_past(alloc: Global, next: u64, raw: &RawMessage) -> Result<Option<u64>, 
     }
 }
 
-/// The counters once the input is read and so many commands behind it are dropped, where this completion id is next; or the
+/// The counters once the input is read and this number of commands after it is dropped, if this completion id is next; or the
 /// kind of number that runs out by that.
 pub fn counters_past(dropped: usize, id: u64, counters: &Counters) -> Result<Counters, NamedFault>
     ensures { result ≡ counters_past dropped id counters.now }
@@ -60,7 +60,7 @@ pub fn counters_past(dropped: usize, id: u64, counters: &Counters) -> Result<Cou
 }
 
 impl Machine {
-    /// The completion id that is next past those that the recorded commands behind the first carry; none where one of them can't
+    /// The completion id that is next past those that the recorded commands after the first carry; none if one of them can't
     /// be read.
     pub fn next_past(&self) -> Result<Option<u64>, AllocError>
         ensures { IfOk result (λ id. id
@@ -78,7 +78,7 @@ impl Machine {
         Ok(Some(next))
     }
 
-    /// How many recorded commands stand behind the first.
+    /// How many recorded commands stand after the first.
     pub fn dropped(&self) -> usize
         ensures { result ≡ length (drop 1 self.now.commands) }
     {

@@ -24,7 +24,7 @@ use Rattle.vm_store.specs.Worlds.{IsJournal, setup_of}
 use Rattle.vm_rounds.specs.Sound.{IsSoundFor}
 use Rattle.vm_rounds.proofs.Rounding.{HandsOut, Lasts, entries_grow, hands_honest, round_gives, round_grows, round_honest, round_lasts, rounds_grow, sound_lasts}
 
--- an attempt over a journal that has grown, and what the journal told before
+-- an attempt over a journal that has grown, and the answers over the journal before
 attempt_along : (s : Setup) (m : Meaning) (before more now : List Entry) (a : Attempted) → now ≡ before ++ more → (t : IsToldOn s m now a)
     → (first : RawMessage) (input : InputCommand) (rest : List RawMessage) (p : Point) → commands_in before ≡ first ∷ rest → input_read_from first ≡ Some input → Told s m input (notifications_in before) rest p → OneBegins p.answers a.answers
 attempt_along s m before more now a grown t first input rest p begins reads told =

@@ -39,7 +39,7 @@ input_carries_none raw input reads = by_read (message_in raw.ty raw.body) refl
     by_read None is = refl
     by_read (Some m) is = input_carries m (type_read raw.ty raw.body m is ∙ typed raw.ty type.InputCommand (input_type raw input reads))
 
--- behind the input the commands carry the same ids
+-- after the input the commands carry the same ids
 pub carried_behind : (ns : List Notification) (raw : RawMessage) (input : InputCommand) (rest : List RawMessage) → input_read_from raw ≡ Some input → AreCarried ns (raw ∷ rest) → AreCarried ns rest
 carried_behind ns raw input rest reads h id none = h id (ap (λ b. b || is_carried id rest) (stored_input raw input reads id) ∙ none)
 

@@ -1,4 +1,4 @@
--- The course of a round's attempt is what was delivered to it and what it wrote; each stored command stands behind what was delivered
+-- The course of a round's attempt is what was delivered to it and what it wrote; each stored command stands after what was delivered
 -- before it was written.
 use Rattle.std.proofs.Common.{◌≡◌, ◌<◌, ◌≤◌, ◌+◌, ◌⊎◌, inl, inr, ⊎_elim, ℕ, zero, suc, Bool, true, false, List, [], ◌∷◌, ◌++◌, length, take, drop, map, refl, sym, ap, ◌∙◌, subst, arith, append_assoc, append-nil, length-append}
 use Rattle.std.specs.List.{concat}
@@ -181,7 +181,7 @@ notes_brought (n ∷ ns) cs = let h = notes_brought ns cs in (h.0, ap (λ l. n �
 
 -- ---- the order of commands among what was delivered
 
--- each command of these entries stands behind all that was delivered before it was written
+-- each command of these entries stands after all that was delivered before it was written
 abbrev pub Ordered : List Entry → List Entry → Type 0
 Ordered course es = (n : ℕ) → n < length (commands_in es) → IsPrefix (ahead_of n course) (ahead_of n es)
 
@@ -237,7 +237,7 @@ stored_among version start first now g =
           ∙ commands_append g.scanned ((frames_of now.unstored).0 ++ more.0),
     )
 
--- the entries that came behind the first journal
+-- the entries that came after the first journal
 abbrev pub behind_first : {version : Version} {start : List ℕ} {first : List (List ℕ)} {now : Now} → Going version start first now → List Entry
 behind_first g = journal_entries g.added
 
@@ -279,7 +279,7 @@ module _ (m : Meaning) (version : Version) (start : List ℕ) (raw : RawMessage)
       let more = more_frames (frames_of F) unfed in
       (more.0, sym (ap (λ (p : List RawMessage × Tail). p.0) (all_frames now g)) ∙ ap (λ b. (frames_of b).0) bytes ∙ ap (λ (p : List RawMessage × Tail). p.0) (frames_of-append F unfed) ∙ more.1)
 
-  -- what has come behind Start is a beginning of the journal and of what came behind it
+  -- what has come after Start is a beginning of the journal and of what came after it
   fed_behind : (now : Now) (g : Going version start first now) → IsPrefix (behind (frames_fed (heard version now.attempt))) (journal_frames first ++ g.came)
   fed_behind now g = behind_grows (frames_fed (heard version now.attempt)) (raw ∷ (journal_frames first ++ g.came)) (fed_frames now g)
 
@@ -306,7 +306,7 @@ module _ (m : Meaning) (version : Version) (start : List ℕ) (raw : RawMessage)
       let p = fed_behind now g in
       found_front (proposed_to now) (behind (frames_fed (heard version now.attempt))) p.0 (subst (AllFound (proposed_to now)) p.1 (all_brought now g).0)
 
-  -- what was delivered behind the first journal begins what came behind it
+  -- what was delivered after the first journal begins what came after it
   pub delivered_arrived : (now : Now) (g : Going version start first now) → IsPrefix (delivered version first now.attempt) (notifications_in (behind_first g))
   delivered_arrived now g =
       let k = length (notes_in first) in

@@ -1,4 +1,4 @@
--- Storing what an attempt wrote has no fault but for want of memory or a full journal: event by event, and round by round.
+-- Storing what an attempt wrote has no fault but out of memory or a full journal: event by event, and round by round.
 use Rattle.std.proofs.Common.{◌≡◌, ◌⊎◌, inl, inr, ⊎_elim, ℕ, ◌≤◌, Bool, true, false, List, [], ◌∷◌, ◌++◌, length, map, take, Some, None, refl, sym, ap, ◌∙◌, subst, append_assoc, append-nil, arith}
 use Rattle.std.specs.Prelude.{◌||◌}
 use Rattle.std.specs.List.{AllByRecursion, concat, flat_map}
@@ -349,7 +349,7 @@ module _ (m : Meaning) (w : Setting) (begin_bytes : List ℕ) (raw : RawMessage)
         stored = event_stored e now mid d x;
       }
 
-  -- a fault is want of memory, or that of a full journal, or of an arrival among these events, on a journal that begins with the old one
+  -- a fault is out of memory, or that of a full journal, or of an arrival among these events, on a journal that begins with the old one
   abbrev Blames : List Event → RoundFault → Type 0
   Blames es f = (f ≡ round_fault.Memory) ⊎ ((f ≡ round_fault.JournalFull) ⊎ ((entry : List ℕ) × ArrivesAmong entry es × (journal : List (List ℕ)) × IsPrefix old journal × (arrival_fault entry journal ≡ Some f)))
 

@@ -1,5 +1,5 @@
--- What is fed as Start, a history, and readable notifications and acknowledgements behind it is an honest attempt's, in whatever form its
--- frames spell what they say.
+-- What is fed as Start, a history, and readable notifications and acknowledgements after it is an honest attempt's, in any form in which its
+-- frames encode what they say.
 use Rattle.std.proofs.Common.{◌≡◌, ◌≢◌, ◌⊎◌, ⊎_elim, inl, inr, ℕ, ◌+◌, ◌<◌, ◌≤◌, Bool, true, false, cond, length, List, [], ◌∷◌, ◌++◌, Some, None, Option, refl, sym, ap, ◌∙◌, subst, append_assoc, arith}
 use Rattle.std.specs.Prelude.{◌==◌, ◌||◌, if◌then◌else◌, is_some, IsSome}
 use Rattle.std.specs.List.{AllByRecursion, find}
@@ -121,7 +121,7 @@ found_fault kept (Some ack) readable found = by_kept (find (is_for ack.id) kept)
     by_kept None h = absurd (cc)
     by_kept (Some k) h = refl
 
--- an acknowledgement among the frames behind can be read
+-- an acknowledgement among the later frames can be read
 abbrev IsReadable : RawMessage → Type 0
 IsReadable raw = is_acknowledgement raw ≡ true → IsSome (acknowledgement_in raw.body)
 
@@ -152,7 +152,7 @@ all_entries : (raws : List RawMessage) → AllByRecursion IsEntryFrame raws → 
 all_entries [] all = tt
 all_entries (raw ∷ raws) all = (entry_taken raw all.0, all_entries raws all.1)
 
--- a frame that comes behind the journal, and acknowledges nothing, is taken in these phases
+-- a frame that comes after the journal, and acknowledges nothing, is taken in these phases
 taken_replaying : (raw : RawMessage) → IsTaken raw → is_acknowledgement raw ≡ false → phase_fault Replaying raw ≡ None
 taken_replaying raw t other =
     ⊎_elim
@@ -180,8 +180,8 @@ fewer n l j known k a b c d = omega (arith, a, b, c, d)
 
 -- ---- what is fed
 
--- What was fed is a beginning of Start, of a history that has as many frames as Start tells, and of readable notifications and
--- acknowledgements behind it, each of a result that was proposed, and once.
+-- What was fed is a beginning of Start, of a history that has as many frames as Start says, and of readable notifications and
+-- acknowledgements after it, each of a result that was proposed, and once.
 pub record FedFrames (fixed : Fixed) (fed : Heard) (st : Start) (J N : List RawMessage) (s : Setup) : Type 0 where
   pub same_setup : setup_for fixed st ≡ s
   pub first : RawMessage
@@ -219,7 +219,7 @@ module _ (fixed : Fixed) (fed : Heard) (st : Start) (J N : List RawMessage) (s :
   counts_known : (others : List RawMessage) (first : RawMessage) (behind_it : List RawMessage) (x : Start) → S ∷ others ≡ first ∷ behind_it → start_in first.body ≡ Some x → x.known_entries ≡ length J
   counts_known others first behind_it x is reads = ap (λ (z : Start). z.known_entries) (same_start first x (sym (head_same S first others behind_it is)) reads) ∙ h.known
 
-  -- the frame behind these, where Start is the first
+  -- the frame after these, if Start is the first
   behind_start : (others : List RawMessage) (raw : RawMessage) (rest : List RawMessage) → J ++ N ≡ others ++ raw ∷ rest → (phase : Phase) (k : ℕ) → Place phase k (S ∷ others) → is_acknowledgement raw ≡ false → phase_fault phase raw ≡ None
   behind_start others raw rest is WaitingStart k p other = absurd (cc)
   behind_start others raw rest is WaitingReplayEntries k p other =
@@ -256,7 +256,7 @@ module _ (fixed : Fixed) (fed : Heard) (st : Start) (J N : List RawMessage) (s :
       let tail = tail_same S b (J ++ N) (before ++ raw ∷ rest) is in
       found_fault (kept_after fed.proposed before) (acknowledgement_in raw.body) (readable before raw rest tail acknowledges) (found_at fed.proposed before raw rest (subst (AllFound fed.proposed) tail all_found) acknowledges)
 
-  -- so many frames behind Start are the history
+  -- this number of frames after Start is the history
   entries_are : (first : RawMessage) (entries others : List RawMessage) (x : Start) → frames_fed fed ≡ first ∷ (entries ++ others) → start_in first.body ≡ Some x → length entries ≡ x.known_entries → (x ≡ st) × (entries ≡ J) × (others ++ h.others ≡ N)
   entries_are first entries others x is reads count =
       let all : first ∷ (entries ++ (others ++ h.others)) ≡ S ∷ (J ++ N) = sym (ap (λ l. first ∷ l) (append_assoc entries others h.others)) ∙ ap (λ l. l ++ h.others) (sym is) ∙ h.all in

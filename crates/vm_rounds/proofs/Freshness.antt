@@ -1,4 +1,4 @@
--- New commands carry new completion ids, where recorded commands are skipped: over each round, whatever the rounds before it did.
+-- New commands carry new completion ids, if recorded commands are skipped: over each round, after any rounds before it.
 use Rattle.std.proofs.Common.{◌≡◌, ◌⊎◌, inl, inr, ⊎_elim, ℕ, List, [], ◌∷◌, ◌++◌, length, take, drop, Some, refl, sym, ap, ◌∙◌, subst, append_assoc}
 use Rattle.std.specs.List.{concat}
 use Rattle.std.proofs.lemmas.Option.{same_Some}

@@ -229,7 +229,7 @@ closes r result new h = by_test r.starved refl result h
       opens = λ o. absurd (failed_shut new (ap (λ x. is_some x.vm.machine.failure) d.2 ∙ among_failed _ r.vm.machine d.0.machine d.1) o);
     }
 
--- ---- what a run came to is told
+-- ---- the attempt gets a run's result
 
 noted_late : (o : Option Error) (handle : NotificationHandle) (r : Record) → (noted_at o handle r).late ≡ r.late
 noted_late (Some e) handle r = refl

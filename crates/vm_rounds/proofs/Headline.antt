@@ -67,7 +67,7 @@ module _ (m : Meaning) (w : Setting) (begin_bytes : List ℕ) (raw : RawMessage)
   abbrev from : List Notification → Point
   from ns = first_point s past.input (notifications_in E ++ ns) past.rest
 
-  -- the journal tells it by so many moves
+  -- the point that this number of moves of the run over the journal leads to
   told_by_moves : (moves : ℕ) (at : Point) → Made s m (Handed (start_handed st)) moves (from (delivered w.version old now.attempt)) (written_by now.attempt) at → (now.attempt.answers ≡ []) ⊎ (now.attempt.answers ≡ at.answers) → IsHonest s m E attempted (journal_entries now.journal)
   told_by_moves moves at made answered =
       record {

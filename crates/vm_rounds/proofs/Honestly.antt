@@ -155,7 +155,7 @@ module _ (m : Meaning) (w : Setting) (begin_bytes : List ℕ) (raw : RawMessage)
 
   -- ---- kinds
 
-  -- what a run makes behind the recorded commands carries ids that rise
+  -- what a run makes after the recorded commands carries ids that rise
   made_rises : (now : Now) (n : ℕ) (made : List RawMessage) (p : Point) → Made s m (Handed given) n (from_all now) made p → Rises 1 (all_carried (past.first ∷ (past.rest ++ made)))
   made_rises now n made p run =
       let t = attempt_is_told s m given past.input n (notes_in now.journal) past.rest made p run in

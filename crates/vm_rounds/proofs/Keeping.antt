@@ -83,8 +83,8 @@ arrival_keeps journal x e j =
 
 -- ---- a round on its way
 
--- What was delivered and what waits are Start, the journal from before, and what came behind it. Some frames of the output were looked
--- at, and the journal has grown by what is stored of them and by what arrived: what came behind the first journal brings its
+-- What was delivered and what waits are Start, the journal from before, and what came after it. Some frames of the output were looked
+-- at, and the journal has grown by what is stored of them and by what arrived: what came after the first journal brings its
 -- notifications.
 pub record Going (version : Version) (start : List ℕ) (first : List (List ℕ)) (now : Now) : Type 0 where
   pub made_for : now.version ≡ version
@@ -189,7 +189,7 @@ module _ (m : Meaning) (version : Version) (start : List ℕ) (first : List (Lis
       let k = keeps_all (take n now.waiting) now.attempt result r g.none_late d in
       subst (Going version start first) (sym is) (takes now (take n now.waiting) (drop n now.waiting) r _ (sym (take-append-drop n now.waiting)) t.0 k.0 k.1 t.1 t.2 g)
 
-  -- more bytes wait behind all that came
+  -- more bytes wait after all that came
   more_waits : (now : Now) (x : List ℕ) (g : Going version start first now) → g.delivered ++ (now.waiting ++ x) ≡ start ++ (concat first ++ (g.bytes ++ x))
   more_waits now x g = sym (append_assoc g.delivered now.waiting x) ∙ ap (λ l. l ++ x) g.all ∙ append_assoc start (concat first ++ g.bytes) x ∙ ap (λ l. start ++ l) (append_assoc (concat first) g.bytes x)
 

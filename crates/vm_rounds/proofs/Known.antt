@@ -62,7 +62,7 @@ untaken_by i id apart = by_test (same_id id (CompletionId i)) refl
     by_test true e = absurd (apart (same_is id (CompletionId i) e))
     by_test false e = refl
 
--- ---- one move, where no handle stands for the id
+-- ---- one move, if no handle stands for the id
 
 -- no handle stands for this completion id
 abbrev NoHandle : ℕ → Derived → Type 0

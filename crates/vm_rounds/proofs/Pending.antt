@@ -65,14 +65,14 @@ proposed_ids ws = map kept_id (flat_map proposal_in_item ws)
 pub ids_join : (us ws : List Written) → proposed_ids (us ++ ws) ≡ proposed_ids us ++ proposed_ids ws
 ids_join us ws = ap (map kept_id) (flat_map-append proposal_in_item us ws) ∙ map-append kept_id (flat_map proposal_in_item us) (flat_map proposal_in_item ws)
 
--- A result may be proposed for the run of this id, behind these commands and proposals: a run's command carries it, none of these notifications
+-- A result may be proposed for the run of this id, after these commands and proposals: a run's command carries it, none of these notifications
 -- completes it, and no proposal was for it.
 pub record MayPropose (ns : List Notification) (cs : List RawMessage) (ps : List ℕ) (id : ℕ) : Type 0 where
   pub run : has_run id cs ≡ true
   pub free : completes_id id ns ≡ false
   pub new : is_among id ps ≡ false
 
--- each proposal among these items may be made, behind those before it
+-- each proposal among these items may be made after those before it
 abbrev pub ProposeWell : List Notification → List RawMessage → List ℕ → List Written → Type 0
 ProposeWell ns cs ps [] = Unit {0}
 ProposeWell ns cs ps (Command raw ∷ ws) = ProposeWell ns (cs ++ raw ∷ []) ps ws

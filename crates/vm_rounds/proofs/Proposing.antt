@@ -111,7 +111,7 @@ same_ids us ws none = ap (map kept_id) (flat_map-append proposal_in_item us ws �
 abbrev pub next_of : Machine → ℕ
 next_of v = v.counters.completion
 
--- The proposals among what was written may be made, behind these commands of the journal. As long as the machine is alive each pending run's id
+-- The proposals among what was written may be made after these commands of the journal. As long as the machine is alive each pending run's id
 -- may be proposed, the ids that were proposed were given, and before the input is read there are none.
 pub record Sound (ns : List Notification) (cs : List RawMessage) (ws : List Written) (answers : List Answer) (v : Machine) : Type 0 where
   pub well : ProposeWell ns cs [] ws
@@ -584,7 +584,7 @@ module _ (ns : List Notification) (cs : List RawMessage) (m : Meaning) (old : Re
       by_test true d = same_proposes d.1
       by_test false d = step_unless_proposes old.vm.machine.failure old.over refl d
 
--- ---- what a run came to is told
+-- ---- the attempt gets a run's result
 
 -- what is proposed
 abbrev proposal : ℕ → ValueOrFailure → Message

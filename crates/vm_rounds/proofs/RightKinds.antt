@@ -164,7 +164,7 @@ module _ (low id : ℕ) (all : List RawMessage) (rises : Rises low (all_carried 
 
 -- ---- of a history
 
--- the commands behind an input carry ids that rise, and so do they with it
+-- the commands after an input carry ids that rise, and so do they with it
 pub with_input : (raw : RawMessage) (input : InputCommand) (cs : List RawMessage) → input_read_from raw ≡ Some input → Rises 1 (all_carried cs) → Rises 1 (all_carried (raw ∷ cs))
 with_input raw input cs reads h = subst (λ l. Rises 1 (l ++ all_carried cs)) (sym (input_carries_none raw input reads)) h
 

@@ -90,7 +90,7 @@ not_again x id ids same h = by_test (is_among id ids) refl
     by_test false e = refl
     by_test true e = let l = among_from (x + 1) id ids h e in let is = eqb-true x id same in absurd (omega (arith, l, is))
 
--- what is among the first of them isn't among those behind
+-- what is among the first of them isn't among the later ones
 pub only_once : (low id : ℕ) (xs ys : List ℕ) → Rises low (xs ++ ys) → is_among id xs ≡ true → is_among id ys ≡ false
 only_once low id [] ys h among = absurd (cc)
 only_once low id (x ∷ xs) ys h among = by_test (x == id) refl among (only_once (x + 1) id xs ys h.1)

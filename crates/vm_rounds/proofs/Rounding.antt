@@ -183,7 +183,7 @@ rounds_grow m w (r ∷ rs) old reports new j (mid, report, more, is, one, others
 pub entries_grow : (old new added : List (List ℕ)) → new ≡ old ++ added → journal_entries new ≡ journal_entries old ++ journal_entries added
 entries_grow old new added e = ap journal_entries e ∙ entries_append old added
 
--- each of the rounds hands out so much, over whatever journal
+-- each of the rounds hands out this much, over any journal
 abbrev pub HandsOut : Knowledge → Setting → List Round → Type 0
 HandsOut K w rounds = AllByRecursion (λ r. (journal : List (List ℕ)) → Begins (journal_entries journal) → K (start_handed (start_for w r journal)) (messages_in (behind (commands_in (journal_entries journal))))) rounds
 
@@ -197,7 +197,7 @@ pub record Lasts (K : Knowledge) (P : List Entry → Type 0) (m : Meaning) (w : 
 pub round_handed : (K : Knowledge) (m : Meaning) (w : Setting) (q : Round) (qs : List Round) (old : List (List ℕ)) (report : ReportView) (mid : List (List ℕ)) → HandsOut K w (q ∷ qs) → History (setup_of w) m (base_of w) (journal_entries old) → (d : RoundDoes m w q old report mid) → IsHanded K (journal_entries old) (attempt_of m w q old report mid d)
 round_handed K m w q qs old report mid hands past d = subst (λ x. K x (messages_in (behind (commands_in (journal_entries old))))) (sym (round_gives m w q old report mid d).0) (hands.0 old (history_begins (setup_of w) m (base_of w) (journal_entries old) past))
 
--- it is so of the journal behind a round too
+-- it is so of the journal after a round too
 pub round_lasts : (K : Knowledge) (P : List Entry → Type 0) (m : Meaning) (w : Setting) (q : Round) (qs : List Round) (old : List (List ℕ)) (report : ReportView) (mid : List (List ℕ)) → ReplaysAndQueues w.options → Lasts K P m w → HandsOut K w (q ∷ qs) → IsJournal old → P (journal_entries old) → RoundDoes m w q old report mid → P (journal_entries mid)
 round_lasts K P m w q qs old report mid r l hands j h d =
     let past = l.history (journal_entries old) h in
@@ -229,7 +229,7 @@ whole_lasts m w = record {
 
 -- ---- what is handed out
 
--- what a journal's commands say changes the base as those behind the input
+-- what a journal's commands say changes the base as those after the input
 said_behind : (w : Setting) (journal : List (List ℕ)) → Begins (journal_entries journal) → state_after w journal ≡ changed_by (messages_in (behind (commands_in (journal_entries journal)))) (base_of w)
 said_behind w journal b = ap (λ l. changed_by l (base_of w)) (said_are journal ∙ ap messages_in (sym (commands_same (journal_frames journal)))) ∙ input_says (journal_entries journal) b (base_of w)
 

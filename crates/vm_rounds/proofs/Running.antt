@@ -143,7 +143,7 @@ module _ (m : Meaning) (w : Setting) (begin_bytes : List ℕ) (raw : RawMessage)
   came_once : (now : Now) (g : Going w.version begin_bytes old now) → ComeOnce (came now)
   came_once now g = let x = notes_split now g in once_front (came now) x.0 (subst ComeOnce x.1 (come_once (notes_in now.journal) g.journal.once))
 
-  -- the commands behind the input are those of the journal and the stored ones
+  -- the commands after the input are those of the journal and the stored ones
   stored_carry : (now : Now) (g : Going w.version begin_bytes old now) → AreCarried (came now) (past.rest ++ commands_among g.scanned)
   stored_carry now g =
       let x = notes_split now g in

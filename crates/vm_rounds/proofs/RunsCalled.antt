@@ -155,7 +155,7 @@ module _ (v : Machine) (handle : NotificationHandle) (m : Message) (ignore : Boo
       by_test true e = (refl, refl, inl (ap is_processing (sym phase) ∙ e, ap (λ l. l ++ encoding m ∷ []) output))
       by_test false e = replays
 
--- the pending runs behind a call of this message
+-- the pending runs after a call of this message
 abbrev runs_behind : Message → Machine → List PendingRun
 runs_behind m v = runs_after m (record { 0 = v.counters.handle }) v.counters.completion (next_index v.counters.command) (knows_next v) v.runs
 

@@ -92,7 +92,7 @@ proposals_are (raw ∷ raws) = proposals_by (is_command_frame raw) (is_proposal 
 
 -- ---- an item, as an entry
 
--- a command, or what a run came to, that can be read back
+-- a command, or a run's result, that can be read back
 abbrev pub IsItem : Version → Written → Type 0
 IsItem version (Command raw) = (is_command_frame raw ≡ true) × (length raw.body < 2 ^ 64)
 IsItem version (Proposal p) = StoredCanBeRead version (Proposal p)
@@ -288,7 +288,7 @@ answers_framed version (p ∷ ps) all = join (answer_to version p) (flat_map (an
 pub waits_framed : (version : Version) (ws : List Written) → AllByRecursion (StoredCanBeRead version) ws → AreFrames (flat_map (waits_behind version) ws) (answers version (flat_map proposal_in_item ws))
 waits_framed version ws all = subst (λ b. AreFrames b (answers version (flat_map proposal_in_item ws))) (sym (waits_answer version ws)) (answers_framed version (flat_map proposal_in_item ws) (proposals_answered version ws all))
 
--- a frame that comes behind a journal: a notification or an acknowledgement, which can be read
+-- a frame that comes after a journal: a notification or an acknowledgement, which can be read
 abbrev pub IsTaken : RawMessage → Type 0
 IsTaken raw = ((is_notification raw ≡ true) × IsSome (notification_in raw.body)) ⊎ ((is_acknowledgement raw ≡ true) × IsSome (acknowledgement_in raw.body))
 
@@ -327,7 +327,7 @@ brings_still version stored more raws notes b =
       ap (λ l. arriving l raws) (acknowledged_more version stored more) ∙ arriving_more kept also raws b.found ∙ b.arrive,
     )
 
--- frames behind frames, where further proposals were stored
+-- frames after frames, with further proposals stored
 brings_then : (version : Version) (stored more : List KeptProposal) (raws others : List RawMessage) (notes ns : List Notification) → Brings version stored raws notes → Brings version more others ns → Brings version (stored ++ more) (raws ++ others) (notes ++ ns)
 brings_then version stored more raws others notes ns a b =
     let kept = acknowledged_from version stored in

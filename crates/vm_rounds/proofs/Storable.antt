@@ -170,7 +170,7 @@ explained_note ns cs ps qs notes n more new all id e = by_test (completes_id id 
 
 -- ---- a journal on which items are stored
 
--- The journal's commands are these behind its first; its completions are explained; the ids of its commands and of those that come rise; and the
+-- The journal's commands are these after its first; its completions are explained; the ids of its commands and of those that come rise; and the
 -- proposals that come may be made.
 pub record Stands (ns : List Notification) (first : RawMessage) (journal : List (List ℕ)) (cs : List RawMessage) (ps : List ℕ) (ws : List Written) : Type 0 where
   pub commands : commands_among (journal_frames journal) ≡ first ∷ cs

@@ -1,4 +1,4 @@
--- What an attempt wrote stays: each of its calls writes behind it.
+-- What an attempt wrote stays: each of its calls writes after it.
 use Rattle.std.proofs.Common.{◌≡◌, inl, inr, ℕ, Bool, true, false, List, [], ◌∷◌, ◌++◌, map, Option, Some, None, Result, Ok, Err, refl, sym, ap, ◌∙◌, subst, append_assoc, append-nil}
 use Rattle.std.specs.Prelude.{if◌then◌else◌}
 use Rattle.std.specs.List.{concat}
@@ -53,17 +53,17 @@ new_awakeable_writes : (b : Bool) (v : Machine) → EventWrites v (called (if b 
 new_awakeable_writes true v = called_writes v (refused {A = AwakeableHandle} fault.UnsupportedFeature v) (λ live. same v)
 new_awakeable_writes false v = awakeable_writes v
 
--- an await writes behind the output
+-- an await writes after the output
 await_event : (future : UnresolvedFuture) (v : Machine) (o : Outcome Reply) → Awaited future v o → EventWrites v o
 await_event future v (Done given w) (answered, whole, replied) = whole_writes (tree_of future) (Ok answered) v w whole
 await_event future v (Failed e w) whole = whole_writes (tree_of future) (Err e) v w whole
 
--- several commands write behind the output
+-- several commands write after the output
 several_event : (kind : AnswerKind) (c : Command) (cs : List Command) (v : Machine) (o : Outcome Reply) → AllCarried kind c cs v o → EventWrites v o
 several_event kind c cs v (Done given w) (handle, made, replied) = all_writes c cs (Ok handle) v w made
 several_event kind c cs v (Failed e w) made = all_writes c cs (Err e) v w made
 
--- what is asked for writes behind the output
+-- what is asked for writes after the output
 asked_writes : (a : Ask) (v : Machine) (o : Outcome Reply) → PerformsBy a v o → EventWrites v o
 asked_writes (ask.Command c) v o does = subst (EventWrites v) (sym does) (mapped_writes _ v (called (commanded c v) v) (called_writes v (commanded c v) (commanded_event c v (ends_nothing c))))
 asked_writes (ask.Commands kind first second) v o does = several_event kind first (second ∷ []) v o does
@@ -87,7 +87,7 @@ does_extend o (Ok a) v w h d = let x : Writes v w = subst (EventWrites v) d h in
 does_extend o (Err e) v w h (inl d) = let x : Writes v w = subst (EventWrites v) d h in (map encoding x.messages, x.output)
 does_extend o (Err e) v w h (inr d) = extends_same v w d.output
 
--- the call of a step writes behind the output
+-- the call of a step writes after the output
 step_extends : (st : Step) (v : Machine) (x : Result Reply Error) (w : Machine) → DoesBy (Performs st v) x v w → Extends v w
 step_extends st v x w = by_reply x (asked_writes (ask_of v.version st) v)
   where
