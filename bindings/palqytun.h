@@ -388,6 +388,100 @@ palqytun_replied palqytun_propose_retryable(
 palqytun_replied palqytun_write_output(palqytun_vm *vm, const palqytun_value *value, bool unstable);
 palqytun_replied palqytun_end(palqytun_vm *vm);
 
+/* ---- A stored journal
+
+   What the only writer of an invocation's journal has to know of it, without its entries: how many there are, and which completion ids
+   they carry and complete. It says which bytes are to be appended, and refuses what may not be. A transaction calls it, writes the rows, and
+   then calls palqytun_journal_keep once it is committed, or palqytun_journal_undo if it isn't. Each call takes time that grows with the
+   logarithm of the journal's length, beside the bytes that it is given.
+
+   For pointers, memory and threads a palqytun_journal is as a palqytun_vm. Where a status says a fault, or PALQYTUN_NO_MEMORY, all that
+   came since the last palqytun_journal_keep is taken back, as by palqytun_journal_undo, but where a call says else. */
+
+/* A journal. `palqytun_journal journal = {0};` has none: then each call but palqytun_journal_new and palqytun_journal_free answers
+   PALQYTUN_NO_JOURNAL. */
+typedef struct {
+    void *at;
+} palqytun_journal;
+
+/* How a call of a journal ended, beside PALQYTUN_DONE, PALQYTUN_NO_MEMORY and PALQYTUN_NO_ROOM. */
+enum {
+    /* The palqytun_journal has none: palqytun_journal_new didn't make one, or it was freed. */
+    PALQYTUN_NO_JOURNAL = 2,
+    /* The number names no version. Nothing was done. */
+    PALQYTUN_BAD_VERSION = 8,
+    /* The last store has no such row. */
+    PALQYTUN_NO_ROW = 9,
+    /* The output isn't whole frames. */
+    PALQYTUN_BAD_OUTPUT = 10,
+    /* The faults. What arrives isn't one whole frame of a notification. */
+    PALQYTUN_NOT_A_NOTIFICATION = 11,
+    /* No stored command carries the completion id. */
+    PALQYTUN_NO_SUCH_ID = 12,
+    /* The id was completed before. */
+    PALQYTUN_SECOND_COMPLETION = 13,
+    /* The id of an invocation is completed by something else. */
+    PALQYTUN_WRONG_KIND = 14,
+    /* The result of a run arrives: it is proposed by the attempt that ran it. */
+    PALQYTUN_RUN_IS_PROPOSED = 15,
+    /* The journal has 4294967295 entries. */
+    PALQYTUN_JOURNAL_FULL = 16,
+    /* What is loaded can't stand there: the first entry is one whole frame of an input, each other one of a command or a notification. */
+    PALQYTUN_BAD_JOURNAL = 17
+};
+
+/* An entry: the type of its message (docs/WIRE.md), the completion id that it completes, if it is a completion, and its length in bytes.
+   All but the status is 0 if it isn't PALQYTUN_DONE. */
+typedef struct {
+    uint32_t status;
+    uint32_t type;
+    bool is_completion;
+    uint32_t completes;
+    size_t len;
+} palqytun_row;
+
+/* How a store ended, how many rows are to be appended, and how many bytes are to be fed. */
+typedef struct {
+    uint32_t status;
+    size_t rows;
+    size_t feed;
+} palqytun_stored;
+
+/* Makes a journal without entries. It is the caller's, who frees it by palqytun_journal_free. One that was there is freed first.
+   PALQYTUN_NO_MEMORY: there is none. */
+uint32_t palqytun_journal_new(palqytun_journal *journal);
+
+/* Frees the journal, with all its memory. Nothing is done if there is none. */
+void palqytun_journal_free(palqytun_journal *journal);
+
+/* How many entries it has, as the length that is told. */
+palqytun_told palqytun_journal_entries(palqytun_journal *journal);
+
+/* The next entry of a journal that is loaded. */
+palqytun_row palqytun_journal_entry(palqytun_journal *journal, const uint8_t *entry, size_t entry_len);
+
+/* A notification that arrives. It is the next entry: its bytes are to be appended as they are, and fed after the commit. */
+palqytun_row palqytun_journal_arrive(palqytun_journal *journal, const uint8_t *entry, size_t entry_len);
+
+/* Stores what an attempt wrote since the last store: whole frames, as palqytun_take_output gives them. The version is that of the VM, 5 to
+   8. The rows are the commands, and a completion for each proposal; they stay until the next store, undo or fault. What answers the
+   proposals is to be fed after the commit. */
+palqytun_stored palqytun_journal_store(palqytun_journal *journal, uint32_t version, const uint8_t *output, size_t output_len);
+
+/* A row of the last store, and its bytes, which are written to the front of out. PALQYTUN_NO_ROOM: len is the length that they need.
+   PALQYTUN_NO_MEMORY takes nothing back. */
+palqytun_row palqytun_journal_row(palqytun_journal *journal, size_t at);
+palqytun_told palqytun_journal_frame(palqytun_journal *journal, size_t at, uint8_t *out, size_t out_len);
+
+/* What is to be fed of the last store, at the front of out: whole frames. PALQYTUN_NO_ROOM: len is the length that they need. */
+palqytun_told palqytun_journal_answer(palqytun_journal *journal, uint8_t *out, size_t out_len);
+
+/* What came since the last of these calls is committed. PALQYTUN_NO_MEMORY: the journal is freed, and has to be loaded again. */
+uint32_t palqytun_journal_keep(palqytun_journal *journal);
+
+/* What came since the last commit isn't committed: the journal is again as it was then. */
+uint32_t palqytun_journal_undo(palqytun_journal *journal);
+
 #ifdef __cplusplus
 }
 #endif

@@ -5,18 +5,24 @@ import pathlib
 import unittest
 
 from attempt import begun
-from palqytun import _answers, _arguments, _library, _words, core, errors, futures, retries, values
+from palqytun import Journal, _answers, _arguments, _library, _words, core, errors, futures, journals, retries, values
 
 import palqytun
 
-MODULES = [palqytun, core, errors, futures, retries, values, _answers, _arguments, _library, _words]
+MODULES = [palqytun, core, errors, futures, journals, retries, values, _answers, _arguments, _library, _words]
 README = pathlib.Path(__file__).resolve().parents[1] / "README.md"
 
 
+INPUT = bytes.fromhex("000a00000000000000140000000000000000000000000000000454696c6c")
+SLEPT = bytes.fromhex("001e0000000000000006000000000100")
+
+
 def with_vm(test: doctest.DocTest) -> None:
-    """Gives an example of a method the VM that it goes on from."""
+    """Gives an example of a method the VM, or the journal, that it goes on from."""
     if test.name.startswith("palqytun.core.VM."):
         test.globs["vm"] = begun()
+    if test.name.startswith("palqytun.journals.Journal."):
+        test.globs.update(journal=Journal([INPUT]), slept=SLEPT)
 
 
 def load_tests(loader: unittest.TestLoader, tests: unittest.TestSuite, pattern: str | None) -> unittest.TestSuite:

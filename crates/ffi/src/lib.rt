@@ -1,6 +1,8 @@
-//! A VM for callers of C: the functions that C calls. What each does stands in `sessions`.
+//! A VM, and a stored journal, for callers of C: the functions that C calls. What each does stands in `sessions`, `typed_calls` and
+//! `held_journals`.
 #![tactic(auto)]
 
+mod journals;
 mod typed;
 
 ghost use Rattle.std.specs.Prelude.{◌≡◌, ◌≤◌, None};

@@ -12,6 +12,8 @@ from typing import Any, cast
 DONE, NO_MEMORY, NO_SESSION, NO_VM, NO_ROOM, REFUSED = range(6)
 """How a call ended."""
 BAD_TEXT, NO_PART = 6, 9
+NO_JOURNAL, BAD_VERSION, NO_ROW, BAD_OUTPUT = 2, 8, 9, 10
+"""How a call of a journal ended; from 11 on the faults."""
 
 (
     NOTHING,
@@ -167,6 +169,33 @@ class Replied(ctypes.Structure):
     len: int
 
 
+class Handle(ctypes.Structure):
+    """A stored journal, or none."""
+
+    _fields_ = [("at", ctypes.c_void_p)]
+    at: int | None
+
+
+class Row(ctypes.Structure):
+    """An entry of a journal, without its bytes."""
+
+    _fields_ = [("status", _U32), ("type", _U32), ("is_completion", _BOOL), ("completes", _U32), ("len", _SIZE)]
+    status: int
+    type: int
+    is_completion: bool
+    completes: int
+    len: int
+
+
+class Stored(ctypes.Structure):
+    """How a store ended, how many rows are to be appended, and how many bytes are to be fed."""
+
+    _fields_ = [("status", _U32), ("rows", _SIZE), ("feed", _SIZE)]
+    status: int
+    rows: int
+    feed: int
+
+
 Buffer = ctypes.Array[ctypes.c_char]
 
 
@@ -228,9 +257,41 @@ _FUNCTIONS: dict[str, tuple[list[Any], Any]] = {
     "end": ([], Replied),
 }
 
+# What each function of a journal is given beside the journal, and what it returns.
+_JOURNAL_FUNCTIONS: dict[str, tuple[list[Any], Any]] = {
+    "new": ([], _U32),
+    "free": ([], None),
+    "entries": ([], Told),
+    "entry": ([_TEXT, _SIZE], Row),
+    "arrive": ([_TEXT, _SIZE], Row),
+    "store": ([_U32, _TEXT, _SIZE], Stored),
+    "row": ([_SIZE], Row),
+    "frame": ([_SIZE, _TEXT, _SIZE], Told),
+    "answer": ([_TEXT, _SIZE], Told),
+    "keep": ([], _U32),
+    "undo": ([], _U32),
+}
+
+
+class Journals:
+    """The functions of a stored journal."""
+
+    new: Callable[[Handle], int]
+    free: Callable[[Handle], None]
+    entries: Callable[[Handle], Told]
+    entry: Callable[[Handle, bytes, int], Row]
+    arrive: Callable[[Handle, bytes, int], Row]
+    store: Callable[[Handle, int, bytes, int], Stored]
+    row: Callable[[Handle, int], Row]
+    frame: Callable[[Handle, int, Buffer, int], Told]
+    answer: Callable[[Handle, Buffer, int], Told]
+    keep: Callable[[Handle], int]
+    undo: Callable[[Handle], int]
+
 
 class Library:
-    """The functions. None of them blocks, so they keep the interpreter's lock. A typed call is under its name in `calls`."""
+    """The functions. None of them blocks, so they keep the interpreter's lock. A typed call is under its name in `calls`, and a function of
+    a stored journal under its own in `journals`."""
 
     new: Callable[[Session], int]
     line: Callable[[Session, bytes, int], Told]
@@ -244,12 +305,17 @@ class Library:
         try:
             library = ctypes.PyDLL(path)
             functions = {name: getattr(library, f"palqytun_{name}") for name in _FUNCTIONS}
+            of_journals = {name: getattr(library, f"palqytun_journal_{name}") for name in _JOURNAL_FUNCTIONS}
         except (OSError, AttributeError) as error:
             raise ImportError(f"{error}: ./bindings/build makes it, at the top of the repository, or PALQYTUN_LIBRARY names it") from error
         for name, (arguments, result) in _FUNCTIONS.items():
             functions[name].argtypes, functions[name].restype = [_SESSION, *arguments], result
             if result is not Replied:
                 setattr(self, name, functions[name])
+        self.journals = Journals()
+        for name, (arguments, result) in _JOURNAL_FUNCTIONS.items():
+            of_journals[name].argtypes, of_journals[name].restype = [ctypes.POINTER(Handle), *arguments], result
+            setattr(self.journals, name, of_journals[name])
         self.calls: dict[str, Callable[..., Replied]] = {name: it for name, it in functions.items() if it.restype is Replied}
 
 

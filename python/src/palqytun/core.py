@@ -1,4 +1,4 @@
-"""The invocation VM: `VM` has a method for each call, under the call's own name.
+"""The invocation VM: `VM` has a method for each call, under the call's own name. Beside it `Journal` is a stored journal, for its writer.
 
 A call that the VM refuses raises `VMError`, with the error's code and text; out of memory raises `MemoryError`. An argument of the wrong
 type is a `TypeError`, and one that the VM can't read a `BadLine`; both name it, and nothing was done. Payloads are `bytes`, names and keys
@@ -60,7 +60,7 @@ from palqytun._arguments import (
 from palqytun._library import Replied
 from palqytun._replies import Parts, awaited_of, input_of, result_of
 from palqytun._words import HANDLE, encoded, integer, octets, truth
-from palqytun.errors import BadLine, Cancelled, Closed, Code, JournalMismatch, Suspended, VMError, error_of
+from palqytun.errors import BadLine, Cancelled, Closed, Code, Fault, JournalFault, JournalMismatch, Suspended, VMError, error_of
 from palqytun.futures import (
     Future,
     all_completed,
@@ -70,6 +70,7 @@ from palqytun.futures import (
     handle_of,
     unknown,
 )
+from palqytun.journals import Journal, Row, Stored
 from palqytun.retries import RetryPolicy, retry_exponential, retry_fixed, retry_forever, retry_never
 from palqytun.values import (
     VOID,
@@ -105,17 +106,22 @@ __all__ = [
     "EphemeralReady",
     "ExecuteRun",
     "Failure",
+    "Fault",
     "Future",
     "IdempotencyId",
     "Input",
     "InvocationId",
+    "Journal",
+    "JournalFault",
     "JournalMismatch",
     "ResponseHead",
     "Result",
     "Retryable",
     "RetryPolicy",
+    "Row",
     "Run",
     "State",
+    "Stored",
     "Suspended",
     "Target",
     "VMError",

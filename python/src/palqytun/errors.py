@@ -4,7 +4,7 @@ from __future__ import annotations
 
 import enum
 
-__all__ = ["BadLine", "Cancelled", "Closed", "Code", "JournalMismatch", "Suspended", "VMError", "error_of"]
+__all__ = ["BadLine", "Cancelled", "Closed", "Code", "Fault", "JournalFault", "JournalMismatch", "Suspended", "VMError", "error_of"]
 
 
 class Code(enum.IntEnum):
@@ -68,6 +68,51 @@ class Cancelled(Exception):
 class BadLine(ValueError):
     """An argument, or a line, that the VM can't read: a text that is no UTF-8, a number that is too large, a word that isn't known.
     Nothing was done."""
+
+
+class Fault(enum.IntEnum):
+    """Why an entry can't stand in a journal."""
+
+    BAD_OUTPUT = 10
+    """What an attempt wrote isn't whole frames."""
+    NOT_A_NOTIFICATION = 11
+    """What arrives isn't one whole frame of a notification."""
+    NO_SUCH_ID = 12
+    """No stored command carries the completion id."""
+    SECOND_COMPLETION = 13
+    """The id was completed before."""
+    WRONG_KIND = 14
+    """The id of an invocation is completed by something else."""
+    RUN_IS_PROPOSED = 15
+    """The result of a run arrives: it is proposed by the attempt that ran it."""
+    JOURNAL_FULL = 16
+    """The journal has 4,294,967,295 entries."""
+    BAD_JOURNAL = 17
+    """What is loaded can't stand there: the first entry is an Input, each other one a command or a notification."""
+
+
+_FAULTS = {
+    Fault.BAD_OUTPUT: "the output isn't whole frames",
+    Fault.NOT_A_NOTIFICATION: "it isn't one whole frame of a notification",
+    Fault.NO_SUCH_ID: "no stored command carries the completion id",
+    Fault.SECOND_COMPLETION: "the completion id was completed before",
+    Fault.WRONG_KIND: "the id of an invocation is completed by something else",
+    Fault.RUN_IS_PROPOSED: "the result of a run is proposed by the attempt that ran it",
+    Fault.JOURNAL_FULL: "the journal is full",
+    Fault.BAD_JOURNAL: "it isn't one whole frame of a command or a notification, or the first one isn't an Input",
+}
+
+
+class JournalFault(ValueError):
+    """An entry can't stand in a journal: `fault` is why. What came since the last `keep` is taken back.
+
+    >>> JournalFault(Fault.NO_SUCH_ID)
+    JournalFault('NO_SUCH_ID: no stored command carries the completion id')
+    """
+
+    def __init__(self, fault: Fault) -> None:
+        super().__init__(f"{fault.name}: {_FAULTS[fault]}")
+        self.fault = fault
 
 
 _CLASSES: dict[int, type[VMError]] = {

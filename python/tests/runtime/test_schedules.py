@@ -184,7 +184,7 @@ class Broken(OnAConnection):
         self.done(lambda db: db.change("INSERT INTO inbox(invocation, frame) VALUES ('b',?)", (nobodys,)))
         self.assertEqual([it.invocation for it in self.done(claimer.claim, (), 100).claims], ["c"])
         self.assertEqual(self.rows("SELECT id, status FROM invocations ORDER BY id"), [("a", "paused"), ("b", "paused"), ("c", "running")])
-        self.assertIn("no stored command carries completion 1", self.rows("SELECT error FROM invocations WHERE id='a'")[0][0])
+        self.assertIn("no stored command carries the completion id", self.rows("SELECT error FROM invocations WHERE id='a'")[0][0])
 
 
 @support.on_each_database

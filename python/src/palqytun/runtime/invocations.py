@@ -123,6 +123,7 @@ def _loaded(invocation: str, entries: int, rows: Iterable[Any]) -> Journal:
         loaded.entry(bytes(frame))
     if loaded.entries != entries:
         raise journal.Dishonest("WHOLE", f"{invocation} has {loaded.entries} of {entries} entries")
+    loaded.keep()
     return loaded
 
 

@@ -3,8 +3,7 @@
 `Journal` holds what the only writer of a stored journal has to know, and keeps the rules of honest storing. `frames` are its entries as
 typed values. The rest of the runtime names nothing of these two modules but what this file lists, and knows no layout of bytes.
 
-Both modules are tested and not proved. They stand in for the journal object that the core will have (its storing is proved, but can't be
-called from C yet): that object takes their place with this interface, and no other file changes.
+`frames` is tested and not proved; `rules` stands on the core's `palqytun.Journal`, which is proved.
 
     entry(frame)             the next entry, at load
     start(begin)             the bytes that a new attempt is fed: its Start, and the whole journal

@@ -9,14 +9,13 @@ from __future__ import annotations
 import struct
 from collections.abc import Callable, Iterable, Iterator, Mapping
 from dataclasses import dataclass
-from enum import Enum
 from typing import Any, NewType
 
 Result = NewType("Result", bytes)
 
 CANCEL = 1  # the signal that cancels an invocation
 
-_START, _SUSPENSION, _ERROR, _END, _PROPOSAL, _ACK, _AWAITING_ON = 1, 2, 3, 4, 5, 6, 7
+_START, _SUSPENSION, _ERROR, _END, _PROPOSAL, _AWAITING_ON = 1, 2, 3, 4, 5, 7
 _INPUT, _LAST_COMMAND, _NOTIFICATION, _RUN = 10, 29, 30, 26
 _EAGER_STATE, _EAGER_KEYS = 11, 13
 _STEPS = frozenset([_PROPOSAL, _AWAITING_ON, _EAGER_STATE, _EAGER_KEYS, _RUN])
@@ -97,10 +96,6 @@ def named_signal(name: str, result: Result) -> bytes:
     return _frame(_NOTIFICATION, b"\2" + _text(name) + result)
 
 
-def acknowledgement(id: int) -> bytes:
-    return _frame(_ACK, struct.pack(">I", id))
-
-
 def input_command(data: bytes, headers: Iterable[tuple[str, str]] = ()) -> bytes:
     """A journal's first entry: what the handler is called with."""
     return _frame(_INPUT, _pairs(headers) + _blob(data))
@@ -179,20 +174,12 @@ class _Reader:
         return Result(bytes([choice]) + self.data[begun + 1 : self.at])
 
 
-class Kind(Enum):
-    """What may complete an id: any result, an invocation's id alone, or what the attempt itself proposed."""
-
-    ANY = 0
-    INVOCATION = 1
-    PROPOSED = 2
-
-
 @dataclass(frozen=True)
 class Command:
     """A command, as far as a runtime has something to do for it."""
 
-    def carried(self) -> tuple[tuple[int, Kind], ...]:
-        """The completion ids that it carries, each with what may complete it."""
+    def carried(self) -> tuple[int, ...]:
+        """The completion ids that it carries."""
         return ()
 
 
@@ -208,8 +195,8 @@ class Input(Command):
 class _Completed(Command):
     id: int
 
-    def carried(self) -> tuple[tuple[int, Kind], ...]:
-        return ((self.id, Kind.ANY),)
+    def carried(self) -> tuple[int, ...]:
+        return (self.id,)
 
 
 @dataclass(frozen=True)
@@ -246,9 +233,8 @@ class Call(Command):
     id: int | None
     at: int
 
-    def carried(self) -> tuple[tuple[int, Kind], ...]:
-        own = (self.invocation_id, Kind.INVOCATION)
-        return (own,) if self.id is None else (own, (self.id, Kind.ANY))
+    def carried(self) -> tuple[int, ...]:
+        return (self.invocation_id,) if self.id is None else (self.invocation_id, self.id)
 
 
 @dataclass(frozen=True)
@@ -281,8 +267,8 @@ class Run(Command):
     id: int
     name: str
 
-    def carried(self) -> tuple[tuple[int, Kind], ...]:
-        return ((self.id, Kind.PROPOSED),)
+    def carried(self) -> tuple[int, ...]:
+        return (self.id,)
 
 
 @dataclass(frozen=True)
@@ -486,14 +472,6 @@ def read(kind: int, frame: bytes) -> Message:
     raise ValueError(f"an attempt writes no frame of type {kind}")
 
 
-def is_input(kind: int) -> bool:
-    return kind == _INPUT
-
-
-def is_notification(kind: int) -> bool:
-    return kind == _NOTIFICATION
-
-
 def only_steps(output: bytes) -> bool:
     """Whether an output has neither an end nor a command that asks something of the runtime."""
     return all(kind in _STEPS for kind, _ in split(output))
@@ -542,7 +520,7 @@ def described(frame: bytes) -> Described:
     [(kind, whole)] = split(frame)
     it = read(kind, whole)
     fields = tuple((name, _shown(name, part)) for name, part in vars(it).items())
-    carries = tuple(id for id, _ in it.carried()) if isinstance(it, Command) else ()
+    carries = it.carried() if isinstance(it, Command) else ()
     completes = int(it.id[1]) if isinstance(it, Notification) and it.id[0] == 0 else None
     has_failed = isinstance(it, (Notification, Output)) and is_failure(it.result)
     return Described(_NAMES[kind - _INPUT], fields, carries, completes, has_failed)

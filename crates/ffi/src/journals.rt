@@ -1,0 +1,127 @@
+//! The calls of a stored journal.
+ghost use Rattle.std.specs.Prelude.{◌≡◌, ◌≤◌, None};
+ghost use Rattle.vm_store.specs.Arrivals.{arrival_fault};
+ghost use Rattle.vm_store.specs.Given.{given_fault};
+ghost use Rattle.held_journals.specs.Journals.{HasEntries, EntryAnswered, FeedAnswered, FrameAnswered, IsNewJournal, CommitAnswered, OutputAnswered, RowAnswered, UndoAnswered};
+ghost use Rattle.held_journals.specs.Statuses.{status_by, version_named};
+
+use held_journals::{Journal, Row, Stored, Told, calls};
+use std::alloc::Global;
+
+/// Makes a journal without entries, if memory is found. One that was there is dropped.
+#[unsafe(no_mangle)]
+pub extern "C" fn palqytun_journal_new(alloc: Global, journal: &mut Journal) -> u32
+    ensures made { IsNewJournal (status_by result) journal.new.value }
+    ensures known { result ≤ 17 }
+{
+    calls::open(alloc, journal)
+}
+
+/// Drops the journal, if there is one.
+#[unsafe(no_mangle)]
+pub extern "C" fn palqytun_journal_free(alloc: Global, journal: &mut Journal)
+    ensures { journal.new.value ≡ None }
+{
+    calls::close(alloc, journal)
+}
+
+/// How many entries the journal has.
+#[unsafe(no_mangle)]
+pub extern "C" fn palqytun_journal_entries(alloc: Global, journal: &mut Journal) -> Told
+    ensures kept { journal.new.value ≡ journal.old.value }
+    ensures known { result.status ≤ 17 }
+    ensures counted { HasEntries (status_by result.status) result.len journal.old.value }
+{
+    calls::entries(alloc, journal)
+}
+
+/// The next entry of a journal that is loaded.
+#[unsafe(no_mangle)]
+pub extern "C" fn palqytun_journal_entry(alloc: Global, journal: &mut Journal, entry: &[u8]) -> Row
+    ensures { EntryAnswered (given_fault entry.now) entry.now (status_by result.status) result
+        journal.old.value journal.new.value }
+{
+    calls::entry(alloc, journal, entry)
+}
+
+/// A notification arrives.
+#[unsafe(no_mangle)]
+pub extern "C" fn palqytun_journal_arrive(alloc: Global, journal: &mut Journal, entry: &[u8]) -> Row
+    ensures { EntryAnswered (arrival_fault entry.now) entry.now (status_by result.status) result
+        journal.old.value journal.new.value }
+{
+    calls::arrive(alloc, journal, entry)
+}
+
+/// What an attempt wrote is stored, in the form of a version.
+#[unsafe(no_mangle)]
+pub extern "C" fn palqytun_journal_store(
+    alloc: Global,
+    journal: &mut Journal,
+    version: u32,
+    output: &[u8],
+) -> Stored
+    ensures stored { OutputAnswered (version_named version) output.now (status_by result.status)
+        result journal.old.value journal.new.value }
+    ensures known { result.status ≤ 17 }
+{
+    calls::store(alloc, journal, version, output)
+}
+
+/// A row of the last store.
+#[unsafe(no_mangle)]
+pub extern "C" fn palqytun_journal_row(alloc: Global, journal: &mut Journal, at: usize) -> Row
+    ensures kept { journal.new.value ≡ journal.old.value }
+    ensures read { RowAnswered at (status_by result.status) result journal.old.value }
+{
+    calls::row(alloc, journal, at)
+}
+
+/// Writes a row of the last store to the front of `out`, if there is room for it, and says how long it is.
+#[unsafe(no_mangle)]
+pub extern "C" fn palqytun_journal_frame(
+    alloc: Global,
+    journal: &mut Journal,
+    at: usize,
+    out: &mut [u8],
+) -> Told
+    ensures kept { journal.new.value ≡ journal.old.value }
+    ensures known { result.status ≤ 17 }
+    ensures read { FrameAnswered at (status_by result.status) result.len out.old out.new
+        journal.old.value }
+{
+    calls::read_row(alloc, journal, at, out)
+}
+
+/// Writes what answers the last store to the front of `out`, if there is room for it, and says how long it is.
+#[unsafe(no_mangle)]
+pub extern "C" fn palqytun_journal_answer(
+    alloc: Global,
+    journal: &mut Journal,
+    out: &mut [u8],
+) -> Told
+    ensures kept { journal.new.value ≡ journal.old.value }
+    ensures known { result.status ≤ 17 }
+    ensures read { FeedAnswered (status_by result.status) result.len out.old out.new
+        journal.old.value }
+{
+    calls::read_feed(alloc, journal, out)
+}
+
+/// What came since the last commit is committed. Without memory the journal is dropped.
+#[unsafe(no_mangle)]
+pub extern "C" fn palqytun_journal_keep(alloc: Global, journal: &mut Journal) -> u32
+    ensures committed { CommitAnswered (status_by result) journal.old.value journal.new.value }
+    ensures known { result ≤ 17 }
+{
+    calls::keep(alloc, journal)
+}
+
+/// What came since the last commit is taken back.
+#[unsafe(no_mangle)]
+pub extern "C" fn palqytun_journal_undo(alloc: Global, journal: &mut Journal) -> u32
+    ensures undone { UndoAnswered (status_by result) journal.old.value journal.new.value }
+    ensures known { result ≤ 17 }
+{
+    calls::undo(alloc, journal)
+}

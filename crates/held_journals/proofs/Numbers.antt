@@ -1,0 +1,23 @@
+-- A status and its number.
+use Rattle.std.proofs.Common.{◌≡◌, refl}
+use Rattle.vm_store.specs.declared.types.RoundFault.TheVariants as round_fault
+use Rattle.held_journals.specs.declared.status.Status.{Status}
+use Rattle.held_journals.specs.declared.status.Status.TheVariants as status
+use Rattle.held_journals.specs.Statuses.{status_number, status_by}
+
+-- the number of a status names it
+pub named_again : (s : Status) → status_by (status_number s) ≡ s
+named_again status.Done = refl
+named_again status.NoJournal = refl
+named_again status.NoRoom = refl
+named_again status.BadNumber = refl
+named_again status.NoRow = refl
+named_again status.BadOutput = refl
+named_again (status.Refused round_fault.Memory) = refl
+named_again (status.Refused round_fault.NotANotification) = refl
+named_again (status.Refused round_fault.NoSuchId) = refl
+named_again (status.Refused round_fault.SecondCompletion) = refl
+named_again (status.Refused round_fault.WrongKind) = refl
+named_again (status.Refused round_fault.RunIsProposed) = refl
+named_again (status.Refused round_fault.JournalFull) = refl
+named_again (status.Refused round_fault.BadJournal) = refl

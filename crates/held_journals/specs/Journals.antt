@@ -1,0 +1,204 @@
+-- What a call from C does to the journal that it is given.
+use Rattle.std.specs.Prelude.{◌≡◌, ◌<◌, ◌==◌, ◌++◌, ℕ, Bool, true, false, List, [], length, drop, slice_get, Option, Some, None}
+use Rattle.journal_errors.specs.declared.version.Version.{Version}
+use Rattle.vm_store.specs.declared.types.RoundFault.{RoundFault}
+use Rattle.vm_store.specs.declared.types.RoundFault.TheVariants as round_fault
+use Rattle.stored_journals.specs.Journals.{Enters, Holds, IsFault, IsSameKept, Kept, View}
+use Rattle.stored_journals.specs.Stored.{IsStoringFault, StoresNext}
+use Rattle.held_journals.specs.declared.row.Stored.{Stored}
+use Rattle.held_journals.specs.declared.journal.HeldJournal.{HeldJournal}
+use Rattle.held_journals.specs.declared.row.Row.{Row}
+use Rattle.held_journals.specs.declared.status.Status.{Status}
+use Rattle.held_journals.specs.declared.status.Status.TheVariants as status
+use Rattle.held_journals.specs.Rows.{row_in, no_row}
+
+-- ---- what is done to a journal
+
+-- no entries, none to append and nothing to feed
+pub record IsEmptyJournal (j : HeldJournal) : Type 0 where
+  pub holds : Holds j.journal []
+  pub kept : Kept j.journal []
+  pub rows : j.rows.items ≡ []
+  pub feed : j.feed.items ≡ []
+
+-- what came since the last commit is taken back: the journal as it was then is known
+pub record GoesBack (old new : View) : Type 0 where
+  pub holds : (journal : List (List ℕ)) → Kept old journal → Holds new journal
+  pub kept : (journal : List (List ℕ)) → Kept old journal → Kept new journal
+
+-- the same, and there are no rows to append and nothing to feed
+pub record IsUndone (old new : HeldJournal) : Type 0 where
+  pub back : GoesBack old.journal new.journal
+  pub rows : new.rows.items ≡ []
+  pub feed : new.feed.items ≡ []
+
+-- what came since the last commit is committed
+pub record KeepsAll (old new : View) : Type 0 where
+  pub holds : (journal : List (List ℕ)) → Holds old journal → Holds new journal
+  pub kept : (journal : List (List ℕ)) → Holds old journal → Kept new journal
+
+-- what is to be appended and fed stays
+pub record SameRows (old new : HeldJournal) : Type 0 where
+  pub rows : new.rows ≡ old.rows
+  pub feed : new.feed ≡ old.feed
+
+-- ---- an entry
+
+-- the entry is appended, and this is its row
+pub record EntryAppended (fault : List (List ℕ) → Option RoundFault) (entry : List ℕ) (row : Row)
+    (old new : HeldJournal) : Type 0 where
+  pub enters : Enters fault entry old.journal new.journal
+  pub kept : IsSameKept old.journal new.journal
+  pub same : SameRows old new
+  pub answer : row ≡ row_in entry
+
+-- the entry has this fault, and what came since the last commit is taken back
+pub record EntryRefused (fault : List (List ℕ) → Option RoundFault) (f : RoundFault) (row : Row)
+    (old new : HeldJournal) : Type 0 where
+  pub found : IsFault fault old.journal f
+  pub undone : IsUndone old new
+  pub answer : row ≡ no_row (status.Refused f)
+
+-- An entry is appended, if it has no fault of this kind; else what came since the last commit is
+-- taken back.
+abbrev pub EntryDone : (List (List ℕ) → Option RoundFault) → List ℕ → Status → Row → HeldJournal
+    → HeldJournal → Type 0
+EntryDone fault entry status.Done row old new = EntryAppended fault entry row old new
+EntryDone fault entry (status.Refused f) row old new = EntryRefused fault f row old new
+EntryDone fault entry named row old new = ⊥
+
+-- ---- an output
+
+-- all that is stored of an output is stored, and this is whether nothing is left of it
+pub record StoresAll (version : Version) (output : List ℕ) (whole : Bool) (old : View)
+    (rows : List (List ℕ)) (feed : List ℕ) (new : View) (rows' : List (List ℕ)) (feed' : List ℕ)
+    : Type 0 where
+  pub rest : List ℕ
+  pub is_whole : whole ≡ (length rest == 0)
+  pub stores : StoresNext version (length output) output rest old rows feed new rows' feed'
+
+-- the output is stored: its rows are to be appended, and what answers it is to be fed
+pub record IsStored (version : Version) (output : List ℕ) (stored : Stored)
+    (old new : HeldJournal) : Type 0 where
+  pub stores : StoresAll version output true old.journal [] [] new.journal new.rows.items
+      new.feed.items
+  pub kept : IsSameKept old.journal new.journal
+  pub rows : stored.rows ≡ length new.rows.items
+  pub feed : stored.feed ≡ length new.feed.items
+
+-- nothing is stored, and what came since the last commit is taken back
+pub record IsntStored (stored : Stored) (old new : HeldJournal) : Type 0 where
+  pub undone : IsUndone old new
+  pub rows : stored.rows ≡ 0
+  pub feed : stored.feed ≡ 0
+
+-- something is left of an output that is no whole frame
+pub record LeavesRest (version : Version) (output : List ℕ) (old : View) : Type 0 where
+  pub new : View
+  pub rows : List (List ℕ)
+  pub feed : List ℕ
+  pub stores : StoresAll version output false old [] [] new rows feed
+
+-- All that is stored of an output is stored; or there is a fault, or the output isn't whole frames,
+-- and what came since the last commit is taken back.
+abbrev pub OutputDone : Version → List ℕ → Status → Stored → HeldJournal → HeldJournal → Type 0
+OutputDone version output status.Done stored old new = IsStored version output stored old new
+OutputDone version output (status.Refused f) stored old new =
+    IsStoringFault version (length output) output old.journal [] f × IsntStored stored old new
+OutputDone version output status.BadOutput stored old new =
+    LeavesRest version output old.journal × IsntStored stored old new
+OutputDone version output named stored old new = ⊥
+
+-- ---- what is read
+
+-- the row at a place, if there is one, or it is out of memory
+abbrev pub RowFound : Option (List ℕ) → Status → Row → Type 0
+RowFound (Some entry) status.Done row = row ≡ row_in entry
+RowFound (Some entry) (status.Refused f) row =
+    (f ≡ round_fault.Memory) × (row ≡ no_row (status.Refused f))
+RowFound None status.NoRow row = row ≡ no_row status.NoRow
+RowFound found named row = ⊥
+
+-- Bytes are written to the front of the room for them, if there is so much.
+abbrev pub BytesWritten : List ℕ → Status → ℕ → List ℕ → List ℕ → Type 0
+BytesWritten bytes status.Done len before after =
+    (len ≡ length bytes) × (after ≡ bytes ++ drop len before)
+BytesWritten bytes status.NoRoom len before after =
+    (len ≡ length bytes) × (length before < len) × (after ≡ before)
+BytesWritten bytes named len before after = ⊥
+
+-- the bytes of a row are written, if there is one
+abbrev pub RowWritten : Option (List ℕ) → Status → ℕ → List ℕ → List ℕ → Type 0
+RowWritten (Some entry) named len before after = BytesWritten entry named len before after
+RowWritten None status.NoRow len before after = (len ≡ 0) × (after ≡ before)
+RowWritten None named len before after = ⊥
+
+-- ---- the journal that C holds, if there is one
+
+-- a journal was made, and it is empty; or no memory was found, and there is none
+abbrev pub IsNewJournal : Status → Option HeldJournal → Type 0
+IsNewJournal status.Done (Some made) = IsEmptyJournal made
+IsNewJournal (status.Refused f) None = f ≡ round_fault.Memory
+IsNewJournal named made = ⊥
+
+-- how many entries it has
+abbrev pub HasEntries : Status → ℕ → Option HeldJournal → Type 0
+HasEntries status.Done count (Some j) = count ≡ j.journal.entries
+HasEntries status.NoJournal count None = count ≡ 0
+HasEntries named count j = ⊥
+
+-- An entry is appended to the journal that there is.
+abbrev pub EntryAnswered : (List (List ℕ) → Option RoundFault) → List ℕ → Status → Row
+    → Option HeldJournal → Option HeldJournal → Type 0
+EntryAnswered fault entry named row (Some old) (Some new) = EntryDone fault entry named row old new
+EntryAnswered fault entry named row None None =
+    (named ≡ status.NoJournal) × (row ≡ no_row status.NoJournal)
+EntryAnswered fault entry named row old new = ⊥
+
+-- An output is stored in the journal that there is, in the form of a version.
+abbrev pub OutputStored : Version → List ℕ → Status → Stored → Option HeldJournal
+    → Option HeldJournal → Type 0
+OutputStored version output named stored (Some old) (Some new) =
+    OutputDone version output named stored old new
+OutputStored version output named stored None None =
+    (named ≡ status.NoJournal) × (stored.rows ≡ 0) × (stored.feed ≡ 0)
+OutputStored version output named stored old new = ⊥
+
+-- the same, if a number names the version; else nothing is done
+abbrev pub OutputAnswered : Option Version → List ℕ → Status → Stored → Option HeldJournal
+    → Option HeldJournal → Type 0
+OutputAnswered (Some version) output named stored old new =
+    OutputStored version output named stored old new
+OutputAnswered None output named stored old new =
+    (named ≡ status.BadNumber) × (new ≡ old) × (stored.rows ≡ 0) × (stored.feed ≡ 0)
+
+-- What came is committed. Without memory the journal is dropped: it has to be loaded again.
+abbrev pub CommitAnswered : Status → Option HeldJournal → Option HeldJournal → Type 0
+CommitAnswered status.Done (Some old) (Some new) =
+    KeepsAll old.journal new.journal × SameRows old new
+CommitAnswered (status.Refused f) (Some old) None = f ≡ round_fault.Memory
+CommitAnswered status.NoJournal None None = Unit {0}
+CommitAnswered named old new = ⊥
+
+-- What came is taken back.
+abbrev pub UndoAnswered : Status → Option HeldJournal → Option HeldJournal → Type 0
+UndoAnswered status.Done (Some old) (Some new) = IsUndone old new
+UndoAnswered status.NoJournal None None = Unit {0}
+UndoAnswered named old new = ⊥
+
+-- A row of the last store is read.
+abbrev pub RowAnswered : ℕ → Status → Row → Option HeldJournal → Type 0
+RowAnswered at named row (Some j) = RowFound (slice_get j.rows.items at) named row
+RowAnswered at named row None = (named ≡ status.NoJournal) × (row ≡ no_row status.NoJournal)
+
+-- The bytes of a row of the last store are read.
+abbrev pub FrameAnswered : ℕ → Status → ℕ → List ℕ → List ℕ → Option HeldJournal → Type 0
+FrameAnswered at named len before after (Some j) =
+    RowWritten (slice_get j.rows.items at) named len before after
+FrameAnswered at named len before after None =
+    (named ≡ status.NoJournal) × (len ≡ 0) × (after ≡ before)
+
+-- The bytes are read that answer the last store.
+abbrev pub FeedAnswered : Status → ℕ → List ℕ → List ℕ → Option HeldJournal → Type 0
+FeedAnswered named len before after (Some j) = BytesWritten j.feed.items named len before after
+FeedAnswered named len before after None = (named ≡ status.NoJournal) × (len ≡ 0) × (after ≡ before)

@@ -1,0 +1,4 @@
+pub mod Held
+pub mod Statuses
+pub mod Rows
+pub mod Journals

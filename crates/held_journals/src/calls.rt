@@ -1,0 +1,249 @@
+//! What each call from C does with the journal that C holds, if there is one.
+ghost use Rattle.std.specs.Prelude.{◌≡◌, ◌≤◌, None, Some};
+ghost use Rattle.std.specs.Option.{MatchOption};
+ghost use Rattle.vm_store.specs.Arrivals.{arrival_fault};
+ghost use Rattle.vm_store.specs.Given.{given_fault};
+ghost use Rattle.held_journals.specs.Journals.{CommitAnswered, EntryAnswered, FeedAnswered, FrameAnswered, HasEntries, IsNewJournal, OutputAnswered, OutputStored, RowAnswered, UndoAnswered};
+ghost use Rattle.held_journals.specs.Statuses.{status_by, version_named};
+
+use crate::held::{Journal, empty, hide, show};
+use crate::journal::HeldJournal;
+use crate::loose::Loose;
+use crate::row::{Row, Stored, answer_store, no_row};
+use crate::status::Status;
+use journal_errors::Version;
+use std::alloc::Global;
+use vm_store::types::RoundFault;
+
+/// How a call ended, and a length.
+#[repr(C)]
+#[derive(Drop)]
+pub struct Told {
+    pub status: u32,
+    pub len: usize,
+}
+
+/// What C gets.
+fn tell(status: Status, len: usize) -> Told
+    ensures status { status_by result.status ≡ status }
+    ensures known { result.status ≤ 17 }
+    ensures len { result.len ≡ len }
+{
+    Told {
+        status: status.code(),
+        len,
+    }
+}
+
+/// Takes the journal out of the hands of C.
+fn take(alloc: Global, held: &mut Journal) -> Option<Box<HeldJournal>>
+    ensures emptied { held.new.value ≡ None }
+    ensures taken { MatchOption result (held.old.value ≡ None) (λ journal. held.old.value
+        ≡ Some journal.value) }
+{
+    match show(std::mem::replace(held, empty()), alloc) {
+        Some(loose) => Some(loose.into_box()),
+        None => None,
+    }
+}
+
+/// Puts a journal into the hands of C. One that was there is dropped.
+fn give(alloc: Global, held: &mut Journal, journal: Box<HeldJournal>)
+    ensures { held.new.value ≡ Some journal.value }
+{
+    let former = std::mem::replace(held, hide(Loose::of(journal)));
+    if let Some(loose) = show(former, alloc) {
+        drop(loose.into_box());
+    }
+}
+
+/// The version of a number.
+fn version_named(number: u32) -> Option<Version>
+    ensures { result ≡ version_named number }
+{
+    match number {
+        5 => Some(Version::V5),
+        6 => Some(Version::V6),
+        7 => Some(Version::V7),
+        8 => Some(Version::V8),
+        _ => None,
+    }
+}
+
+/// Makes a journal without entries, if memory is found. One that was there is dropped.
+pub fn open(alloc: Global, held: &mut Journal) -> u32
+    ensures made { IsNewJournal (status_by result) held.new.value }
+    ensures known { result ≤ 17 }
+{
+    close(alloc, held);
+    match Box::new(alloc, HeldJournal::new(alloc)) {
+        Ok(made) => {
+            give(alloc, held, made);
+            Status::Done.code()
+        }
+        Err(_) => Status::Refused(RoundFault::Memory).code(),
+    }
+}
+
+/// Drops the journal, if there is one.
+pub fn close(alloc: Global, held: &mut Journal)
+    ensures { held.new.value ≡ None }
+{
+    let journal = take(alloc, held);
+    drop(journal);
+}
+
+/// How many entries the journal has.
+pub fn entries(alloc: Global, held: &mut Journal) -> Told
+    ensures kept { held.new.value ≡ held.old.value }
+    ensures known { result.status ≤ 17 }
+    ensures counted { HasEntries (status_by result.status) result.len held.old.value }
+{
+    match take(alloc, held) {
+        Some(journal) => {
+            let count = journal.journal.entries();
+            give(alloc, held, journal);
+            tell(Status::Done, count as usize)
+        }
+        None => tell(Status::NoJournal, 0),
+    }
+}
+
+/// The next entry of a journal that is loaded.
+pub fn entry(alloc: Global, held: &mut Journal, entry: &[u8]) -> Row
+    ensures { EntryAnswered (given_fault entry.now) entry.now (status_by result.status) result
+        held.old.value held.new.value }
+{
+    match take(alloc, held) {
+        Some(mut journal) => {
+            let row = journal.entry(alloc, entry);
+            give(alloc, held, journal);
+            row
+        }
+        None => no_row(Status::NoJournal),
+    }
+}
+
+/// A notification arrives.
+pub fn arrive(alloc: Global, held: &mut Journal, entry: &[u8]) -> Row
+    ensures { EntryAnswered (arrival_fault entry.now) entry.now (status_by result.status) result
+        held.old.value held.new.value }
+{
+    match take(alloc, held) {
+        Some(mut journal) => {
+            let row = journal.arrive(alloc, entry);
+            give(alloc, held, journal);
+            row
+        }
+        None => no_row(Status::NoJournal),
+    }
+}
+
+/// What an attempt wrote is stored, in the form of this version.
+fn store_as(alloc: Global, held: &mut Journal, version: Version, output: &[u8]) -> Stored
+    ensures stored { OutputStored version output.now (status_by result.status) result
+        held.old.value held.new.value }
+    ensures known { result.status ≤ 17 }
+{
+    match take(alloc, held) {
+        Some(mut journal) => {
+            let stored = journal.store(alloc, version, output);
+            give(alloc, held, journal);
+            stored
+        }
+        None => answer_store(Status::NoJournal, 0, 0),
+    }
+}
+
+/// What an attempt wrote is stored, in the form of the version of this number.
+pub fn store(alloc: Global, held: &mut Journal, version: u32, output: &[u8]) -> Stored
+    ensures stored { OutputAnswered (version_named version) output.now (status_by result.status)
+        result held.old.value held.new.value }
+    ensures known { result.status ≤ 17 }
+{
+    match version_named(version) {
+        Some(version) => store_as(alloc, held, version, output),
+        None => answer_store(Status::BadNumber, 0, 0),
+    }
+}
+
+/// What came since the last commit is committed. Without memory the journal is dropped.
+pub fn keep(alloc: Global, held: &mut Journal) -> u32
+    ensures committed { CommitAnswered (status_by result) held.old.value held.new.value }
+    ensures known { result ≤ 17 }
+{
+    match take(alloc, held) {
+        Some(mut journal) => match journal.keep() {
+            Ok(()) => {
+                give(alloc, held, journal);
+                Status::Done.code()
+            }
+            Err(_) => Status::Refused(RoundFault::Memory).code(),
+        },
+        None => Status::NoJournal.code(),
+    }
+}
+
+/// What came since the last commit is taken back.
+pub fn undo(alloc: Global, held: &mut Journal) -> u32
+    ensures undone { UndoAnswered (status_by result) held.old.value held.new.value }
+    ensures known { result ≤ 17 }
+{
+    match take(alloc, held) {
+        Some(mut journal) => {
+            journal.undo();
+            give(alloc, held, journal);
+            Status::Done.code()
+        }
+        None => Status::NoJournal.code(),
+    }
+}
+
+/// A row of the last store.
+pub fn row(alloc: Global, held: &mut Journal, at: usize) -> Row
+    ensures kept { held.new.value ≡ held.old.value }
+    ensures read { RowAnswered at (status_by result.status) result held.old.value }
+{
+    match take(alloc, held) {
+        Some(journal) => {
+            let row = journal.row(alloc, at);
+            give(alloc, held, journal);
+            row
+        }
+        None => no_row(Status::NoJournal),
+    }
+}
+
+/// Writes a row of the last store to the front of `out`, if there is room for it, and says how long it is.
+pub fn read_row(alloc: Global, held: &mut Journal, at: usize, out: &mut [u8]) -> Told
+    ensures kept { held.new.value ≡ held.old.value }
+    ensures known { result.status ≤ 17 }
+    ensures read { FrameAnswered at (status_by result.status) result.len out.old out.new
+        held.old.value }
+{
+    match take(alloc, held) {
+        Some(journal) => {
+            let (status, len) = journal.read_row(at, out);
+            give(alloc, held, journal);
+            tell(status, len)
+        }
+        None => tell(Status::NoJournal, 0),
+    }
+}
+
+/// Writes what answers the last store to the front of `out`, if there is room for it, and says how long it is.
+pub fn read_feed(alloc: Global, held: &mut Journal, out: &mut [u8]) -> Told
+    ensures kept { held.new.value ≡ held.old.value }
+    ensures known { result.status ≤ 17 }
+    ensures read { FeedAnswered (status_by result.status) result.len out.old out.new
+        held.old.value }
+{
+    match take(alloc, held) {
+        Some(journal) => {
+            let (status, len) = journal.read_feed(out);
+            give(alloc, held, journal);
+            tell(status, len)
+        }
+        None => tell(Status::NoJournal, 0),
+    }
+}

@@ -1,0 +1,57 @@
+//! A journal as C holds it.
+ghost use Rattle.std.specs.Prelude.{◌≡◌, Option, Some, None};
+ghost use Rattle.std.specs.Option.{MatchOption};
+ghost use Rattle.held_journals.specs.declared.journal.HeldJournal.{HeldJournal};
+ghost use Rattle.held_journals.specs.contracts.journal.HeldJournal.{the_row as journal_row};
+ghost use Rattle.held_journals.specs.Held.{journal_held};
+
+use crate::journal::HeldJournal;
+use crate::loose::Loose;
+use std::alloc::Global;
+use std::marker::Model;
+
+/// A journal as C holds it: none, which is all zeroes, or the pointer to its block. It isn't `Drop`: whoever has one takes the
+/// journal out by `show`, so none is forgotten.
+#[repr(C)]
+pub struct Journal {
+    pub(crate) at: *mut u8,
+    pub ghost value: { Option HeldJournal },
+}
+
+impl Model for Journal {
+    ghost also_owns = { λ p. journal_held journal_row p.at p.value };
+}
+
+/// No journal.
+pub(crate) fn empty() -> Journal
+    ensures { result.value ≡ None }
+{
+    Journal {
+        at: std::ptr::null_mut(),
+    }
+}
+
+/// A journal's box, as C holds it.
+pub(crate) fn hide(loose: Loose<HeldJournal, Global>) -> Journal
+    ensures { result.value ≡ Some loose.value }
+{
+    let Loose { at, alloc: _ } = loose;
+    Journal { at: at as *mut u8 }
+}
+
+/// The journal's box, if C holds one.
+pub(crate) fn show(journal: Journal, alloc: Global) -> Option<Loose<HeldJournal, Global>>
+    ensures { MatchOption result (journal.value ≡ None) (λ l. journal.value ≡ Some l.value) }
+{
+    let Journal { at } = journal;
+    if at.is_null() {
+        None
+    } else {
+        Some(Loose {
+            at: at as *mut HeldJournal,
+            alloc,
+        })
+    }
+}
+
+unsafe impl Send for Journal {}

@@ -1,0 +1,15 @@
+//! A stored journal for callers of C, as C holds it: what it knows of the entries, what the last store is to append, and what each call does.
+#![tactic(auto)]
+
+pub mod calls;
+mod held;
+mod journal;
+mod loose;
+mod row;
+mod status;
+
+pub use calls::Told;
+pub use held::Journal;
+pub use journal::HeldJournal;
+pub use row::{Row, Stored};
+pub use status::Status;

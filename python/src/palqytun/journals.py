@@ -1,0 +1,173 @@
+"""A stored journal, as its only writer knows it without its entries: `Journal` says which bytes are to be appended, and refuses what may not be."""
+
+from __future__ import annotations
+
+import ctypes
+from collections.abc import Iterable
+from types import TracebackType
+from typing import NamedTuple, Self
+
+from palqytun import _library
+from palqytun._words import integer, octets
+from palqytun.errors import BadLine, Fault, JournalFault
+from palqytun.values import Data
+
+__all__ = ["Journal", "Row", "Stored"]
+
+_LATEST = 7
+_VERSIONS = 5, 8
+
+
+class Row(NamedTuple):
+    """An entry to be appended: the type of its message (docs/WIRE.md), the completion id that it completes, and its bytes."""
+
+    type: int
+    completes: int | None
+    frame: bytes
+
+
+class Stored(NamedTuple):
+    """What is stored of an attempt's output: the rows, in order, and the bytes that the attempt is fed after the commit."""
+
+    rows: list[Row]
+    feed: bytes
+
+
+class Journal:
+    """A stored journal without its entries. It may stand in a `with`, whose end frees it.
+
+    A journal whose handler has slept until one second after the Unix epoch, and what comes then:
+
+    >>> journal = Journal(map(bytes.fromhex, [
+    ...     "000a00000000000000140000000000000000000000000000000454696c6c",
+    ...     "0012000000000000001400000000000003e8000000010000000000000000",
+    ... ]))
+    >>> journal.entries
+    2
+    >>> slept = bytes.fromhex("001e0000000000000006000000000100")
+    >>> journal.arrive(slept).completes
+    1
+    >>> journal.undo()
+    >>> row = journal.arrive(slept)
+    >>> journal.keep()
+    >>> journal.arrive(slept)
+    Traceback (most recent call last):
+    palqytun.errors.JournalFault: SECOND_COMPLETION: the completion id was completed before
+
+    What may not be appended is a `JournalFault`, which says why; what came since the last `keep` is then taken back.
+    """
+
+    def __init__(self, entries: Iterable[Data] = ()) -> None:
+        """A journal of these entries, each one whole frame, the first one an Input; they are kept.
+
+        >>> Journal([slept])
+        Traceback (most recent call last):
+        palqytun.errors.JournalFault: NO_SUCH_ID: no stored command carries the completion id
+        """
+        self._handle = _library.Handle()
+        self._calls = _library.library().journals
+        self._room = ctypes.create_string_buffer(256)
+        if self._calls.new(self._handle):
+            raise MemoryError("no memory for a journal")
+        loaded = False
+        for entry in entries:
+            self.entry(entry)
+            loaded = True
+        if loaded:
+            self.keep()
+
+    def __enter__(self) -> Self:
+        return self
+
+    def __exit__(self, kind: type[BaseException] | None, error: BaseException | None, trace: TracebackType | None) -> None:
+        self.free()
+
+    def __del__(self) -> None:
+        handle = getattr(self, "_handle", None)
+        if handle is not None and handle.at:
+            self._calls.free(handle)
+
+    def free(self) -> None:
+        """Lets the journal go, with its memory; each later call is a `RuntimeError`. It is done by itself if the journal is garbage."""
+        self._calls.free(self._handle)
+
+    def _check(self, status: int) -> None:
+        if status == _library.NO_MEMORY:
+            raise MemoryError("the journal found no memory")
+        if status == _library.NO_JOURNAL:
+            raise RuntimeError("the journal was let go")
+        if status == _library.BAD_VERSION:
+            raise BadLine(f"version must be from {_VERSIONS[0]} to {_VERSIONS[1]}")
+        if status:
+            raise JournalFault(Fault(status))
+
+    @property
+    def entries(self) -> int:
+        """How many entries it has, those that aren't committed too."""
+        told = self._calls.entries(self._handle)
+        if told.status:
+            self._check(told.status)
+        return told.len
+
+    def _entered(self, row: _library.Row, frame: bytes) -> Row:
+        if row.status:
+            self._check(row.status)
+        return Row(row.type, row.completes if row.is_completion else None, frame)
+
+    def entry(self, frame: Data) -> Row:
+        """The next entry of a journal that is loaded."""
+        frame = octets("frame", frame)
+        return self._entered(self._calls.entry(self._handle, frame, len(frame)), frame)
+
+    def arrive(self, notification: Data) -> Row:
+        """The entry that a notification is. The attempt is fed its bytes after the commit."""
+        frame = octets("notification", notification)
+        return self._entered(self._calls.arrive(self._handle, frame, len(frame)), frame)
+
+    def store(self, output: Data, version: int = _LATEST) -> Stored:
+        """What is stored of what an attempt wrote since the last `store`, as `VM.take_output` gave it: its commands, and the completions
+        that its proposals are. `version` is that of the VM.
+
+        >>> run = bytes.fromhex("001a000000000000000d00000000000000016100000002")
+        >>> proposal = bytes.fromhex("0005000000000000000e0000000200000000000000000178")
+        >>> stored = journal.store(run + proposal)
+        >>> [(row.type, row.completes) for row in stored.rows]
+        [(26, None), (30, 2)]
+        >>> stored.feed.hex()
+        '0006000000000000000400000002'
+        """
+        output = octets("output", output)
+        told = self._calls.store(self._handle, integer("version", version, _VERSIONS[1], _VERSIONS[0]), output, len(output))
+        if told.status:
+            self._check(told.status)
+        return Stored([self._row(at) for at in range(told.rows)], self._answer(told.feed) if told.feed else b"")
+
+    def _fits(self, size: int) -> ctypes.Array[ctypes.c_char]:
+        if size > len(self._room):
+            self._room = ctypes.create_string_buffer(2 * size)
+        return self._room
+
+    def _row(self, at: int) -> Row:
+        row = self._calls.row(self._handle, at)
+        if row.status:
+            self._check(row.status)
+        room = self._fits(row.len)
+        self._calls.frame(self._handle, at, room, len(room))
+        return Row(row.type, row.completes if row.is_completion else None, _library.front(room, row.len))
+
+    def _answer(self, size: int) -> bytes:
+        room = self._fits(size)
+        self._calls.answer(self._handle, room, len(room))
+        return _library.front(room, size)
+
+    def keep(self) -> None:
+        """What came since the last `keep` is committed. After a `MemoryError` the journal is let go, and has to be loaded again."""
+        status = self._calls.keep(self._handle)
+        if status:
+            self._check(status)
+
+    def undo(self) -> None:
+        """What came since the last `keep` isn't committed: the journal is again as it was then."""
+        status = self._calls.undo(self._handle)
+        if status:
+            self._check(status)
