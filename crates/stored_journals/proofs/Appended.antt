@@ -1,7 +1,7 @@
 -- What is known of a journal, as an entry is appended.
 use Rattle.std.proofs.Common.{◌≡◌, ℕ, ◌+◌, ◌<◌, ◌≤◌, Bool, true, false, cond, List, [], ◌∷◌, ◌++◌, length, Option, Some, None, refl, sym, ap, ◌∙◌, subst, arith, append-nil, length-append}
 use Rattle.std.specs.Prelude.{◌==◌, ◌||◌, if◌then◌else◌, is_some}
-use Rattle.std.specs.Option.{option_map, option_or}
+use Rattle.std.specs.Option.{option_or}
 use Rattle.std.proofs.lemmas.Bool.Decides.{nat_tests}
 use Rattle.journal_messages.specs.declared.message.Message.{Message}
 use Rattle.journal_messages.specs.declared.message.RawMessage.{RawMessage}
@@ -21,11 +21,10 @@ use Rattle.vm_store.specs.Entries.{frame_in, note_in, note_of as note_by, notes_
 use Rattle.vm_store.specs.Given.{as_given, frame_fault, framed_fault, given_fault as fault_given, given_note_fault as note_given, noted_fault as noted_given, place_fault}
 use Rattle.vm_store.proofs.Framing.{note_no_command, notes_append}
 use Rattle.stored_journals.specs.declared.frames.Part.{Part}
-use Rattle.stored_journals.specs.declared.known.Kind.{Kind}
 use Rattle.stored_journals.specs.Ids.{Seen, known_now}
 use Rattle.stored_journals.specs.Journals.{Appends, Holds, View, arriving_fault, completes_read, done_read, given_fault, given_note_fault, known_fault, known_given, note_of, noted_fault, proposing_fault, room_at, said_of}
 use Rattle.stored_journals.specs.Journals as by
-use Rattle.stored_journals.specs.Known.{Says, as_completes, with_called, with_result}
+use Rattle.stored_journals.specs.Known.{Says, with_called, with_result}
 
 -- ---- one entry more
 
@@ -75,7 +74,7 @@ appended journal x old new h a = record {
 }
 
 -- a command is appended to what is known
-pub commanded : (m : Message) (called : Option ℕ) (result : Option (ℕ × Kind)) (a b c : Seen) (n k : ℕ) (old : View) → record { ids = a; entries = n; kept = k } ≡ old
+pub commanded : (m : Message) (called : Option ℕ) (result : Option (ℕ × Completes)) (a b c : Seen) (n k : ℕ) (old : View) → record { ids = a; entries = n; kept = k } ≡ old
     → ((id : ℕ) (before : Option Completes) → completes_by id m before ≡ with_result id result (with_called id called before))
     → ((id : ℕ) (before : Option Completes) (done : Bool) → Says before done (known_now a id) → Says (with_called id called before) done (known_now b id))
     → ((id : ℕ) (before : Option Completes) (done : Bool) → Says before done (known_now b id) → Says (with_result id result before) done (known_now c id))
@@ -147,7 +146,7 @@ completion_room (Some completes.Proposal) false brings room e = absurd (cc)
 completion_room (Some completes.AnyResult) false brings room e = e
 
 pub arriving_room : (id : NotificationId) (brings : NotificationResult) (view : View) → view.entries ≤ most_entries → arriving_fault id brings view ≡ None → view.entries < most_entries
-arriving_room (CompletionId id) brings view l e = not_full view.entries l (completion_room (option_map as_completes (known_now view.ids id).kind) (known_now view.ids id).done brings (room_at view.entries) e)
+arriving_room (CompletionId id) brings view l e = not_full view.entries l (completion_room (known_now view.ids id).kind (known_now view.ids id).done brings (room_at view.entries) e)
 arriving_room (SignalId id) brings view l e = not_full view.entries l e
 arriving_room (SignalName name) brings view l e = not_full view.entries l e
 
@@ -168,7 +167,7 @@ proposed_room (Some completes.Proposal) false room e = e
 proposed_room (Some completes.AnyResult) false room e = e
 
 pub proposing_room : (id : ℕ) (view : View) → view.entries ≤ most_entries → proposing_fault id view ≡ None → view.entries < most_entries
-proposing_room id view l e = not_full view.entries l (proposed_room (option_map as_completes (known_now view.ids id).kind) (known_now view.ids id).done (room_at view.entries) e)
+proposing_room id view l e = not_full view.entries l (proposed_room (known_now view.ids id).kind (known_now view.ids id).done (room_at view.entries) e)
 
 -- ---- an entry that has no fault
 

@@ -1,7 +1,7 @@
 -- What is known of ids, as commands carry them and notifications complete them.
 use Rattle.std.proofs.Common.{◌≡◌, ℕ, Bool, true, false, List, [], Option, Some, None, refl, sym, ap, ◌∙◌, subst, arith}
 use Rattle.std.specs.Prelude.{◌==◌, ◌||◌, if◌then◌else◌, cond}
-use Rattle.std.specs.Option.{option_map, option_or, unwrap_or}
+use Rattle.std.specs.Option.{option_or, unwrap_or}
 use Rattle.std.specs.Ordering.{nat_cmp, eq_by_cmp}
 use Rattle.std.specs.Cmp.{nat_cmp_total, eq_by_cmp_equiv}
 use Rattle.std.specs.Map.{lookup, keys_of}
@@ -11,10 +11,9 @@ use Rattle.std.proofs.lemmas.Map.Made.{update_all_distinct}
 use Rattle.std.proofs.lemmas.Map.Keys.{IsDistinct-from_sorted}
 use Rattle.vm_store.specs.declared.completions.Completes.{Completes}
 use Rattle.vm_store.specs.Arrivals.{if_same}
-use Rattle.stored_journals.specs.declared.known.Kind.{Kind}
 use Rattle.stored_journals.specs.declared.known.Known.{Known}
 use Rattle.stored_journals.specs.Ids.{Changes, Seen, known_kept, known_now}
-use Rattle.stored_journals.specs.Known.{Says, as_completes, carried_as, completed, nothing_known}
+use Rattle.stored_journals.specs.Known.{Says, carried_as, completed, nothing_known}
 
 -- ---- one id
 
@@ -41,13 +40,13 @@ changes k change v kept m n is h q =
 
 -- ---- what is said of it
 
-carried_here : (b : Bool) (kind : Kind) (before : Option Completes) (done : Bool) (known new : Known) → new ≡ (if b then carried_as kind known else known) → Says before done known
-    → Says (if_same b (as_completes kind) before) done new
-carried_here true kind before done known new e s = record { kind = ap (λ (k : Known). option_map as_completes k.kind) e; done = ap (λ (k : Known). k.done) e ∙ s.done }
-carried_here false kind before done known new e s = record { kind = ap (λ (k : Known). option_map as_completes k.kind) e ∙ s.kind; done = ap (λ (k : Known). k.done) e ∙ s.done }
+carried_here : (b : Bool) (kind : Completes) (before : Option Completes) (done : Bool) (known new : Known) → new ≡ (if b then carried_as kind known else known) → Says before done known
+    → Says (if_same b kind before) done new
+carried_here true kind before done known new e s = record { kind = ap (λ (k : Known). k.kind) e; done = ap (λ (k : Known). k.done) e ∙ s.done }
+carried_here false kind before done known new e s = record { kind = ap (λ (k : Known). k.kind) e ∙ s.kind; done = ap (λ (k : Known). k.done) e ∙ s.done }
 
-pub carried_says : (k : ℕ) (kind : Kind) (old new : Seen) → Changes k (carried_as kind) old new → (id : ℕ) (before : Option Completes) (done : Bool) → Says before done (known_now old id)
-    → Says (if_same (k == id) (as_completes kind) before) done (known_now new id)
+pub carried_says : (k : ℕ) (kind : Completes) (old new : Seen) → Changes k (carried_as kind) old new → (id : ℕ) (before : Option Completes) (done : Bool) → Says before done (known_now old id)
+    → Says (if_same (k == id) kind before) done (known_now new id)
 carried_says k kind old new h id before done s = carried_here (k == id) kind before done (known_now old id) (known_now new id) (h id) s
 
 or_true : (b : Bool) → (b || true) ≡ true
@@ -59,8 +58,8 @@ or_false true = refl
 or_false false = refl
 
 completed_here : (b : Bool) (before : Option Completes) (done : Bool) (known new : Known) → new ≡ (if b then completed known else known) → Says before done known → Says before (done || b) new
-completed_here true before done known new e s = record { kind = ap (λ (k : Known). option_map as_completes k.kind) e ∙ s.kind; done = ap (λ (k : Known). k.done) e ∙ sym (or_true done) }
-completed_here false before done known new e s = record { kind = ap (λ (k : Known). option_map as_completes k.kind) e ∙ s.kind; done = ap (λ (k : Known). k.done) e ∙ s.done ∙ sym (or_false done) }
+completed_here true before done known new e s = record { kind = ap (λ (k : Known). k.kind) e ∙ s.kind; done = ap (λ (k : Known). k.done) e ∙ sym (or_true done) }
+completed_here false before done known new e s = record { kind = ap (λ (k : Known). k.kind) e ∙ s.kind; done = ap (λ (k : Known). k.done) e ∙ s.done ∙ sym (or_false done) }
 
 pub completed_says : (k : ℕ) (old new : Seen) → Changes k completed old new → (id : ℕ) (before : Option Completes) (done : Bool) → Says before done (known_now old id)
     → Says before (done || (k == id)) (known_now new id)

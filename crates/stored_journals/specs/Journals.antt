@@ -1,6 +1,6 @@
 -- What the object knows of a journal, and what it is to it that an entry is appended.
 use Rattle.std.specs.Prelude.{◌≡◌, ◌⊎◌, ℕ, ◌+◌, ◌==◌, ◌||◌, Bool, true, false, if◌then◌else◌, List, [], ◌∷◌, ◌++◌, length, Option, Some, None, is_some}
-use Rattle.std.specs.Option.{option_map, option_or}
+use Rattle.std.specs.Option.{option_or}
 use Rattle.journal_messages.specs.declared.message.Message.{Message}
 use Rattle.journal_messages.specs.declared.message.RawMessage.{RawMessage}
 use Rattle.journal_values.specs.declared.notification.Notification.{Notification}
@@ -18,7 +18,7 @@ use Rattle.stored_journals.specs.declared.known.Known.{Known}
 use Rattle.stored_journals.specs.declared.frames.Part.{Part}
 use Rattle.stored_journals.specs.declared.frames.Part.TheVariants as part
 use Rattle.stored_journals.specs.Ids.{SaysWith, Seen, known_kept, known_now}
-use Rattle.stored_journals.specs.Known.{IsKnown, as_completes}
+use Rattle.stored_journals.specs.Known.{IsKnown}
 
 -- the ids, how many entries there are, and how many there were at the last commit
 pub record View : Type 0 where
@@ -101,12 +101,12 @@ room_at entries = if entries == most_entries then Some round_fault.JournalFull e
 -- the fault of a completion, by what is known of its id
 abbrev pub known_fault : Known → NotificationResult → Option RoundFault → Option RoundFault
 known_fault known brings room =
-    completion_fault (option_map as_completes known.kind) known.done brings room
+    completion_fault known.kind known.done brings room
 
 -- the same in a journal that is given
 abbrev pub known_given : Known → NotificationResult → Option RoundFault → Option RoundFault
 known_given known brings room =
-    completion_fault (as_given (option_map as_completes known.kind)) known.done brings room
+    completion_fault (as_given known.kind) known.done brings room
 
 -- the fault of a notification
 abbrev pub arriving_fault : NotificationId → NotificationResult → View → Option RoundFault
@@ -139,5 +139,5 @@ given_fault raw read view = option_or (noted_fault (note_of read) view)
 
 -- the fault of a proposal
 abbrev pub proposing_fault : ℕ → View → Option RoundFault
-proposing_fault id view = proposed_fault (option_map as_completes (known_now view.ids id).kind)
+proposing_fault id view = proposed_fault (known_now view.ids id).kind
     (known_now view.ids id).done (room_at view.entries)

@@ -1,24 +1,15 @@
 -- What a journal says of a completion id: what completes it, if a command carries it, and whether
 -- it was completed.
 use Rattle.std.specs.Prelude.{◌≡◌, ℕ, ◌==◌, Bool, true, false, List, Option, Some, None}
-use Rattle.std.specs.Option.{option_map}
 use Rattle.vm_store.specs.declared.completions.Completes.{Completes}
 use Rattle.vm_store.specs.declared.completions.Completes.TheVariants as completes
 use Rattle.vm_store.specs.Arrivals.{completes_among, if_same, completes_id}
 use Rattle.vm_store.specs.Entries.{notes_in, said_in}
-use Rattle.stored_journals.specs.declared.known.Kind.{Kind}
-use Rattle.stored_journals.specs.declared.known.Kind.TheVariants as kind
 use Rattle.stored_journals.specs.declared.known.Known.{Known}
-
--- what completes an id, as it is said of journals
-abbrev pub as_completes : Kind → Completes
-as_completes kind.AnyResult = completes.AnyResult
-as_completes kind.InvocationId = completes.InvocationId
-as_completes kind.Proposal = completes.Proposal
 
 -- this is what completes an id, and whether it was completed
 pub record Says (what : Option Completes) (whether : Bool) (known : Known) : Type 0 where
-  pub kind : option_map as_completes known.kind ≡ what
+  pub kind : known.kind ≡ what
   pub done : known.done ≡ whether
 
 -- this is what a journal says of an id
@@ -31,7 +22,7 @@ abbrev pub nothing_known : Known
 nothing_known = record { kind = None; done = false }
 
 -- from now on this completes the id
-abbrev pub carried_as : Kind → Known → Known
+abbrev pub carried_as : Completes → Known → Known
 carried_as kind known = record { kind = Some kind; done = known.done }
 
 -- the id is completed
@@ -46,6 +37,6 @@ with_called id None before = before
 with_called id (Some called) before = if_same (called == id) completes.InvocationId before
 
 -- the id of a result, if there is one, is carried
-abbrev pub with_result : ℕ → Option (ℕ × Kind) → Option Completes → Option Completes
+abbrev pub with_result : ℕ → Option (ℕ × Completes) → Option Completes → Option Completes
 with_result id None before = before
-with_result id (Some p) before = if_same (p.0 == id) (as_completes p.1) before
+with_result id (Some p) before = if_same (p.0 == id) p.1 before

@@ -1,28 +1,29 @@
 //! The completion ids that a command carries.
 ghost use Rattle.std.specs.Prelude.{◌≡◌, ℕ, Option};
 ghost use Rattle.vm_store.specs.declared.completions.Completes.{Completes};
+ghost use Rattle.vm_store.specs.declared.completions.Completes.TheVariants as completes;
 ghost use Rattle.vm_store.specs.Arrivals.{completes_by};
 ghost use Rattle.stored_journals.specs.Known.{with_called, with_result};
 
-use crate::known::Kind;
 use journal_messages::Message;
+use vm_store::completions::Completes;
 
 /// The completion ids of a command.
 pub(crate) struct Carried {
     /// The one that the id of the called invocation completes.
     pub(crate) called: Option<u32>,
     /// The one of its result, and what completes it.
-    pub(crate) result: Option<(u32, Kind)>,
+    pub(crate) result: Option<(u32, Completes)>,
 }
 
 /// The ids of a command that has one, which any result completes.
 fn one(id: u32) -> Carried
     ensures called { result.called ≡ None }
-    ensures result_id { result.result ≡ Some (id, Kind.AnyResult) }
+    ensures result_id { result.result ≡ Some (id, completes.AnyResult) }
 {
     Carried {
         called: None,
-        result: Some((id, Kind::AnyResult)),
+        result: Some((id, Completes::AnyResult)),
     }
 }
 
@@ -42,7 +43,7 @@ pub(crate) fn ids_in(command: &Message) -> Carried
         Message::GetInvocationOutput(c) => one(c.result_completion_id),
         Message::Call(c) => Carried {
             called: Some(c.request.invocation_id_notification_idx),
-            result: Some((c.result_completion_id, Kind::AnyResult)),
+            result: Some((c.result_completion_id, Completes::AnyResult)),
         },
         Message::OneWayCall(c) => Carried {
             called: Some(c.request.invocation_id_notification_idx),
@@ -50,7 +51,7 @@ pub(crate) fn ids_in(command: &Message) -> Carried
         },
         Message::Run(c) => Carried {
             called: None,
-            result: Some((c.result_completion_id, Kind::Proposal)),
+            result: Some((c.result_completion_id, Completes::Proposal)),
         },
         _ => Carried {
             called: None,

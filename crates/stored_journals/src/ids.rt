@@ -4,11 +4,12 @@ ghost use Rattle.vm_store.specs.Arrivals.{is_of};
 ghost use Rattle.stored_journals.specs.Ids.{Changes, SaysWith, known_kept, known_now};
 ghost use Rattle.stored_journals.specs.Known.{carried_as, completed, with_called, with_result};
 
-use crate::known::{Kind, Known};
+use crate::known::Known;
 use journal_values::NotificationId;
 use std::alloc::{AllocError, Global};
 use std::collections::BTreeMap;
 use std::marker::Model;
+use vm_store::completions::Completes;
 
 /// What is known of each id, and how it was at the last commit.
 #[derive(Drop)]
@@ -61,7 +62,7 @@ impl Ids {
     }
 
     /// From now on this completes an id.
-    pub(crate) fn carry(&mut self, id: u32, kind: Kind) -> Result<(), AllocError>
+    pub(crate) fn carry(&mut self, id: u32, kind: Completes) -> Result<(), AllocError>
         ensures ok { OnOk result (Changes id (carried_as kind) self.old self.new) }
         ensures kept { self.new.kept ≡ self.old.kept }
     {
@@ -100,13 +101,16 @@ impl Ids {
         ensures kept { self.new.kept ≡ self.old.kept }
     {
         match called {
-            Some(id) => self.carry(id, Kind::InvocationId),
+            Some(id) => self.carry(id, Completes::InvocationId),
             None => Ok(()),
         }
     }
 
     /// The id of a result, if there is one, is carried.
-    pub(crate) fn carry_result(&mut self, carried: Option<(u32, Kind)>) -> Result<(), AllocError>
+    pub(crate) fn carry_result(
+        &mut self,
+        carried: Option<(u32, Completes)>,
+    ) -> Result<(), AllocError>
         ensures ok { OnOk result
             (SaysWith (λ id before. with_result id carried before) (λ id done. done)
             self.old self.new) }

@@ -1,46 +1,33 @@
 //! What a journal says of a completion id.
 ghost use Rattle.std.specs.Prelude.{◌≡◌, None, Some, false, true};
-ghost use Rattle.std.specs.Option.{option_map};
 ghost use Rattle.vm_store.specs.Arrivals.{completion_fault, is_invocation_id, proposed_fault};
 ghost use Rattle.vm_store.specs.Given.{as_given};
-ghost use Rattle.stored_journals.specs.Known.{as_completes};
 
 use journal_values::NotificationResult;
-use vm_store::arrival_faults::is_invocation_id;
+use vm_store::completions::{Completes, is_invocation_id};
 use vm_store::types::RoundFault;
-
-/// What completes an id that a command carries.
-#[derive(Clone, Copy)]
-pub enum Kind {
-    /// The result of a call, whatever it is.
-    AnyResult,
-    /// The id of the invocation that a call has made.
-    InvocationId,
-    /// The result of a run, which the attempt that ran it proposes.
-    Proposal,
-}
 
 /// What a journal says of an id.
 #[derive(Clone, Copy)]
 pub struct Known {
     /// What completes it, if a command carries it.
-    pub kind: Option<Kind>,
+    pub kind: Option<Completes>,
     /// Whether it was completed.
     pub done: bool,
 }
 
 /// The fault of what completes an id of this kind that wasn't completed.
 fn kind_fault(
-    kind: Kind,
+    kind: Completes,
     brings: &NotificationResult,
     room: Option<RoundFault>,
 ) -> Option<RoundFault>
-    ensures { result ≡ completion_fault (Some (as_completes kind)) false brings.now room }
+    ensures { result ≡ completion_fault (Some kind) false brings.now room }
 {
     match kind {
-        Kind::AnyResult => room,
-        Kind::Proposal => Some(RoundFault::RunIsProposed),
-        Kind::InvocationId => {
+        Completes::AnyResult => room,
+        Completes::Proposal => Some(RoundFault::RunIsProposed),
+        Completes::InvocationId => {
             if is_invocation_id(brings) {
                 room
             } else {
@@ -51,12 +38,12 @@ fn kind_fault(
 }
 
 /// In a journal that is given the result of a run completes its id as any other result does.
-fn as_given(kind: Kind) -> Kind
-    ensures { Some (as_completes result) ≡ as_given (Some (as_completes kind)) }
+fn as_given(kind: Completes) -> Completes
+    ensures { Some result ≡ as_given (Some kind) }
 {
     match kind {
-        Kind::InvocationId => Kind::InvocationId,
-        Kind::AnyResult | Kind::Proposal => Kind::AnyResult,
+        Completes::InvocationId => Completes::InvocationId,
+        Completes::AnyResult | Completes::Proposal => Completes::AnyResult,
     }
 }
 
@@ -67,7 +54,7 @@ impl Known {
         brings: &NotificationResult,
         room: Option<RoundFault>,
     ) -> Option<RoundFault>
-        ensures { result ≡ completion_fault (option_map as_completes self.kind) self.done brings.now
+        ensures { result ≡ completion_fault self.kind self.done brings.now
             room }
     {
         match (self.kind, self.done) {
@@ -83,7 +70,7 @@ impl Known {
         brings: &NotificationResult,
         room: Option<RoundFault>,
     ) -> Option<RoundFault>
-        ensures { result ≡ completion_fault (as_given (option_map as_completes self.kind)) self.done
+        ensures { result ≡ completion_fault (as_given self.kind) self.done
             brings.now room }
     {
         match (self.kind, self.done) {
@@ -95,14 +82,14 @@ impl Known {
 
     /// The fault of a proposal.
     pub(crate) fn proposed_fault(self, room: Option<RoundFault>) -> Option<RoundFault>
-        ensures { result ≡ proposed_fault (option_map as_completes self.kind) self.done room }
+        ensures { result ≡ proposed_fault self.kind self.done room }
     {
         match (self.kind, self.done) {
             (None, _) => Some(RoundFault::NoSuchId),
             (Some(_), true) => Some(RoundFault::SecondCompletion),
-            (Some(Kind::InvocationId), false) => Some(RoundFault::WrongKind),
-            (Some(Kind::Proposal), false) => room,
-            (Some(Kind::AnyResult), false) => room,
+            (Some(Completes::InvocationId), false) => Some(RoundFault::WrongKind),
+            (Some(Completes::Proposal), false) => room,
+            (Some(Completes::AnyResult), false) => room,
         }
     }
 }

@@ -12,6 +12,6 @@ mod storing;
 mod whole;
 
 pub use journal::StoredJournal;
-pub use known::{Kind, Known};
+pub use known::Known;
 pub use storing::store_from;
 pub use whole::WholeJournal;

@@ -1,11 +1,9 @@
-//! What a world stores: the entries of its journal, what may arrive, what becomes an entry of what an attempt wrote, and what a
-//! round hands out. The rounds are `vm_rounds`'s.
+//! What a world stores: the entries of its journal, what becomes one of what an attempt wrote, and what a round hands out; and the rules of
+//! what may arrive and be stored, as definitions, which `stored_journals` keeps. The rounds are `vm_rounds`'s.
 #![tactic(auto)]
 
-pub mod arrival_faults;
-mod completions;
+pub mod completions;
 pub mod entry;
-pub mod given;
 pub mod handed;
 pub mod storing;
 pub mod types;
