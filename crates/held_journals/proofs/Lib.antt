@@ -1,3 +1,4 @@
 pub mod Numbers
 pub mod Undoing
 pub mod Values
+pub mod Wholes

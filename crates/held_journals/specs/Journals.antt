@@ -1,8 +1,10 @@
 -- What a call from C does to the journal that it is given.
-use Rattle.std.specs.Prelude.{◌≡◌, ◌<◌, ◌==◌, ◌++◌, ℕ, Bool, true, false, List, [], length, drop, slice_get, Option, Some, None}
+use Rattle.std.specs.Prelude.{◌≡◌, ◌<◌, ◌==◌, ◌++◌, ℕ, Bool, false, List, [], length, drop, map, slice_get, Option, Some, None}
 use Rattle.journal_errors.specs.declared.version.Version.{Version}
 use Rattle.vm_store.specs.declared.types.RoundFault.{RoundFault}
 use Rattle.vm_store.specs.declared.types.RoundFault.TheVariants as round_fault
+use Rattle.std.specs.List.{flat_map}
+use Rattle.vm_store.specs.Storing.{NoneFaults, stored_as, waits_behind, written_from}
 use Rattle.stored_journals.specs.Journals.{Enters, Holds, IsFault, IsSameKept, Kept, View}
 use Rattle.stored_journals.specs.Stored.{IsStoringFault, StoresNext}
 use Rattle.held_journals.specs.declared.row.Stored.{Stored}
@@ -77,11 +79,24 @@ pub record StoresAll (version : Version) (output : List ℕ) (whole : Bool) (old
   pub is_whole : whole ≡ (length rest == 0)
   pub stores : StoresNext version (length output) output rest old rows feed new rows' feed'
 
+-- for a journal: these rows are what is stored of an output, in order, and this answers it; none of
+-- it has a fault
+pub record AllStored (version : Version) (output : List ℕ) (journal rows : List (List ℕ))
+    (feed : List ℕ) : Type 0 where
+  pub stored : journal ++ rows ≡ journal ++ map stored_as (written_from output)
+  pub answers : feed ≡ flat_map (waits_behind version) (written_from output)
+  pub faultless : NoneFaults (written_from output) journal
+
+-- so for each journal that is known, and the journal with the rows is known
+pub record StoresWhole (version : Version) (output : List ℕ) (old new : View)
+    (rows : List (List ℕ)) (feed : List ℕ) : Type 0 where
+  pub each : (journal : List (List ℕ)) → Holds old journal
+      → AllStored version output journal rows feed × Holds new (journal ++ rows)
+
 -- the output is stored: its rows are to be appended, and what answers it is to be fed
 pub record IsStored (version : Version) (output : List ℕ) (stored : Stored)
     (old new : HeldJournal) : Type 0 where
-  pub stores : StoresAll version output true old.journal [] [] new.journal new.rows.items
-      new.feed.items
+  pub stores : StoresWhole version output old.journal new.journal new.rows.items new.feed.items
   pub kept : IsSameKept old.journal new.journal
   pub rows : stored.rows ≡ length new.rows.items
   pub feed : stored.feed ≡ length new.feed.items

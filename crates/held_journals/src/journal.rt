@@ -193,7 +193,7 @@ impl HeldJournal {
 
     /// What an attempt wrote is stored: the rows are to be appended, and `feed` is what answers it. If it has a fault, or isn't whole
     /// frames, what came since the last commit is taken back.
-    #[tactic(auto, using(crate::proofs::Undoing::undone_from, crate::proofs::Undoing::leaves_rest))]
+    #[tactic(auto, using(crate::proofs::Undoing::undone_from, crate::proofs::Undoing::leaves_rest, crate::proofs::Wholes::stores_whole))]
     pub fn store(&mut self, alloc: Global, version: Version, output: &[u8]) -> Stored
         ensures done { OutputDone version output.now (status_by result.status) result self.old
             self.new }
