@@ -6,8 +6,8 @@ use Rattle.journal_values.specs.declared.notification.NotificationId.{Notificati
 use Rattle.journal_values.specs.declared.notification.NotificationResult.{NotificationResult}
 use Rattle.arrivals.specs.declared.log.Entry.{Entry}
 use Rattle.arrivals.specs.Ids.{same_id}
-use Rattle.arrivals.specs.Results.{results_of, without_first}
-use Rattle.arrivals.specs.Entries.{given, given_by, places, waits}
+use Rattle.arrivals.specs.Results.{results_of, without_oldest}
+use Rattle.arrivals.specs.Entries.{not_taken, given_by, places, has_waiting_result}
 use Rattle.arrivals.proofs.Ids.{Test, yes, no, test, same_is}
 
 map_append : (f : ℕ → ℕ) (xs ys : List ℕ) → map f (xs ++ ys) ≡ map f xs ++ map f ys
@@ -25,13 +25,13 @@ places_push_at w v ps qs n e = rw (e, map_append suc ps (cond v (n ∷ []) [])) 
     go false false = refl
 
 -- one more entry
-pub places_push : (id : NotificationId) (xs : List Entry) (e : Entry) → places id (xs ++ e ∷ []) ≡ places id xs ++ cond (waits id e) (length xs ∷ []) []
-places_push id [] e = go (waits id e)
+pub places_push : (id : NotificationId) (xs : List Entry) (e : Entry) → places id (xs ++ e ∷ []) ≡ places id xs ++ cond (has_waiting_result id e) (length xs ∷ []) []
+places_push id [] e = go (has_waiting_result id e)
   where
     go : (v : Bool) → cond {A = List ℕ} v (0 ∷ []) [] ≡ [] ++ cond v (0 ∷ []) []
     go true = refl
     go false = refl
-places_push id (x ∷ xs) e = places_push_at (waits id x) (waits id e) (places id xs) (places id (xs ++ e ∷ [])) (length xs) (places_push id xs e)
+places_push id (x ∷ xs) e = places_push_at (has_waiting_result id x) (has_waiting_result id e) (places id xs) (places id (xs ++ e ∷ [])) (length xs) (places_push id xs e)
 
 -- the entry at a place, without its result
 abbrev pub cleared : ℕ → List Entry → List Entry
@@ -89,8 +89,8 @@ shifted (q ∷ qs) p ps e = record { place = q; others = qs; is = refl; place_is
 pub record Front (id : NotificationId) (xs : List Entry) (p : ℕ) (ps : List ℕ) (r : NotificationResult) : Type 0 where
   pub within : p < length xs
   pub result : (d : Entry) → (get_or xs p d).result ≡ Some r
-  pub results : results_of id (given xs) ≡ r ∷ results_of id (given (cleared p xs))
-  pub removed : given (cleared p xs) ≡ without_first id (given xs)
+  pub results : results_of id (not_taken xs) ≡ r ∷ results_of id (not_taken (cleared p xs))
+  pub removed : not_taken (cleared p xs) ≡ without_oldest id (not_taken xs)
   pub left : places id (cleared p xs) ≡ ps
   pub others : (other : NotificationId) → same_id id other ≡ false → places other (cleared p xs) ≡ places other xs
 
@@ -167,7 +167,7 @@ used_step false us vs s p ps before e h =
 pub front_used : (id : NotificationId) (xs : List Entry) (s p : ℕ) (ps : List ℕ) → places id xs ≡ p ∷ ps → p < s → (qs : List ℕ) × (places id (take s xs) ≡ p ∷ qs)
 front_used id [] s p ps e h = cc
 front_used id (x ∷ xs) zero p ps e h = absurd (omega arith)
-front_used id (x ∷ xs) (suc s) p ps e h = used_step (waits id x) (places id xs) (places id (take s xs)) s p ps (front_used id xs s) e h
+front_used id (x ∷ xs) (suc s) p ps e h = used_step (has_waiting_result id x) (places id xs) (places id (take s xs)) s p ps (front_used id xs s) e h
 
 none_of : (id i : NotificationId) (o : Option NotificationResult) (xs : List Entry) (ns : List Notification) → places id (entry id i xs o ∷ xs) ≡ [] → (places id xs ≡ [] → results_of id ns ≡ []) → results_of id (given_by i o ns) ≡ []
 none_of id i None xs ns e f = f (empty (places id xs) e)
@@ -185,11 +185,11 @@ none_of id i (Some r) xs ns e f = go (test (same_id i id))
     go (yes b) = let g = rw b at e in cc
     go (no b) = rw b (f (empty (places id xs) (rw b at e)))
 
-pub none_used : (id : NotificationId) (xs : List Entry) (s : ℕ) → places id xs ≡ [] → results_of id (given (take s xs)) ≡ []
+pub none_used : (id : NotificationId) (xs : List Entry) (s : ℕ) → places id xs ≡ [] → results_of id (not_taken (take s xs)) ≡ []
 none_used id [] zero e = refl
 none_used id [] (suc s) e = refl
 none_used id (x ∷ xs) zero e = refl
-none_used id (x ∷ xs) (suc s) e = none_of id x.id x.result xs (given (take s xs)) e (none_used id xs s)
+none_used id (x ∷ xs) (suc s) e = none_of id x.id x.result xs (not_taken (take s xs)) e (none_used id xs s)
 
 late_by : (id i : NotificationId) (o : Option NotificationResult) (xs : List Entry) (ns : List Notification) (s p : ℕ) (ps : List ℕ)
     → ((q : ℕ) (qs : List ℕ) → places id xs ≡ q ∷ qs → s ≤ q → results_of id ns ≡ [])
@@ -207,7 +207,7 @@ late_by id i (Some r) xs ns s p ps before e h = go (test (same_id i id))
         let l : suc s ≤ suc t.place = rw (← t.place_is) h in
         rw b (before t.place t.others t.is (omega arith))
 
-pub late_used : (id : NotificationId) (xs : List Entry) (s p : ℕ) (ps : List ℕ) → places id xs ≡ p ∷ ps → s ≤ p → results_of id (given (take s xs)) ≡ []
+pub late_used : (id : NotificationId) (xs : List Entry) (s p : ℕ) (ps : List ℕ) → places id xs ≡ p ∷ ps → s ≤ p → results_of id (not_taken (take s xs)) ≡ []
 late_used id [] s p ps e h = cc
 late_used id (x ∷ xs) zero p ps e h = refl
-late_used id (x ∷ xs) (suc s) p ps e h = late_by id x.id x.result xs (given (take s xs)) s p ps (late_used id xs s) e h
+late_used id (x ∷ xs) (suc s) p ps e h = late_by id x.id x.result xs (not_taken (take s xs)) s p ps (late_used id xs s) e h

@@ -8,16 +8,16 @@ use Rattle.journal_values.specs.declared.notification.NotificationId.{Notificati
 use Rattle.journal_values.specs.declared.notification.NotificationResult.{NotificationResult}
 use Rattle.arrivals.specs.declared.log.Entry.{Entry}
 use Rattle.arrivals.specs.Came.{Came}
-use Rattle.arrivals.specs.Entries.{given, given_by, all_given}
+use Rattle.arrivals.specs.Entries.{not_taken, given_by, all_given}
 
 pub by_append : (i : NotificationId) (o : Option NotificationResult) (ns ms : List Notification) → given_by i o (ns ++ ms) ≡ given_by i o ns ++ ms
 by_append i None ns ms = refl
 by_append i (Some r) ns ms = refl
 
 -- one more entry
-pub given_push : (xs : List Entry) (e : Entry) → given (xs ++ e ∷ []) ≡ given xs ++ given_by e.id e.result []
+pub given_push : (xs : List Entry) (e : Entry) → not_taken (xs ++ e ∷ []) ≡ not_taken xs ++ given_by e.id e.result []
 given_push [] e = refl
-given_push (x ∷ xs) e = ap (given_by x.id x.result) (given_push xs e) ∙ by_append x.id x.result (given xs) (given_by e.id e.result [])
+given_push (x ∷ xs) e = ap (given_by x.id x.result) (given_push xs e) ∙ by_append x.id x.result (not_taken xs) (given_by e.id e.result [])
 
 all_step : (a b c : Bool) → (b ≡ true → c ≡ true) → (a && b) ≡ true → (a && c) ≡ true
 all_step true b c f h = f h
@@ -36,8 +36,8 @@ entered n = record { id = n.id; result = Some n.result }
 pub record Grown (s : ℕ) (xs ys : List Entry) (n : Notification) : Type 0 where
   pub within : s ≤ length ys
   pub all : all_given (drop s ys) ≡ true
-  pub queued : given (drop s ys) ≡ given (drop s xs) ++ n ∷ []
-  pub delivered : given (take s ys) ≡ given (take s xs)
+  pub queued : not_taken (drop s ys) ≡ not_taken (drop s xs) ++ n ∷ []
+  pub delivered : not_taken (take s ys) ≡ not_taken (take s xs)
 
 pub grown : (s : ℕ) (xs : List Entry) (n : Notification) → s ≤ length xs → all_given (drop s xs) ≡ true → Grown s xs (xs ++ entered n ∷ []) n
 grown s xs n l a =
@@ -46,7 +46,7 @@ grown s xs n l a =
       within = omega (arith, length_push xs (entered n));
       all = rw rest (all_push (drop s xs) (entered n) refl a);
       queued = rw rest (given_push (drop s xs) (entered n));
-      delivered = ap given (take-append-le s xs (entered n ∷ []) l);
+      delivered = ap not_taken (take-append-le s xs (entered n ∷ []) l);
     }
 
 -- where a growth may be refused
@@ -68,8 +68,8 @@ where_ok (Err e) f p = tt
 pub record Used (s : ℕ) (xs : List Entry) : Type 0 where
   pub arrival : Notification
   pub all : all_given (drop (suc s) xs) ≡ true
-  pub queued : given (drop s xs) ≡ arrival ∷ given (drop (suc s) xs)
-  pub delivered : given (take (suc s) xs) ≡ given (take s xs) ++ arrival ∷ []
+  pub queued : not_taken (drop s xs) ≡ arrival ∷ not_taken (drop (suc s) xs)
+  pub delivered : not_taken (take (suc s) xs) ≡ not_taken (take s xs) ++ arrival ∷ []
 
 use_first : (i : NotificationId) (o : Option NotificationResult) (xs : List Entry) → (is_some o && all_given xs) ≡ true → Used 0 ((let e : Entry = record { id = i; result = o } in e) ∷ xs)
 use_first i None xs a = cc
@@ -80,7 +80,7 @@ use_later i o s xs u = record {
   arrival = u.arrival;
   all = u.all;
   queued = u.queued;
-  delivered = ap (given_by i o) u.delivered ∙ by_append i o (given (take s xs)) (u.arrival ∷ []);
+  delivered = ap (given_by i o) u.delivered ∙ by_append i o (not_taken (take s xs)) (u.arrival ∷ []);
 }
 
 pub used : (s : ℕ) (xs : List Entry) → s < length xs → all_given (drop s xs) ≡ true → Used s xs

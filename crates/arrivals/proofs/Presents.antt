@@ -12,7 +12,7 @@ use Rattle.arrivals.specs.Ids.{same_id}
 use Rattle.arrivals.specs.Results.{first, newest, newest_after, results_of}
 use Rattle.arrivals.proofs.Entries.{front_used, front_at, none_used, late_used}
 use Rattle.arrivals.proofs.Tracking as Tracking
-use Rattle.arrivals.specs.Entries.{given, given_by, places, waits, under}
+use Rattle.arrivals.specs.Entries.{not_taken, given_by, places, has_waiting_result, under}
 use Rattle.arrivals.proofs.Ids.{Test, yes, no, test}
 
 -- ---- places rise
@@ -36,7 +36,7 @@ rises_at false ps h = rises_map ps h
 
 pub places_rise : (id : NotificationId) (xs : List Entry) → IsNonDecreasing (places id xs)
 places_rise id [] = λ i j d l b. absurd (omega arith)
-places_rise id (x ∷ xs) = rises_at (waits id x) (places id xs) (places_rise id xs)
+places_rise id (x ∷ xs) = rises_at (has_waiting_result id x) (places id xs) (places_rise id xs)
 
 -- ---- those among the first entries
 
@@ -62,7 +62,7 @@ used_at false s us ps e = rw (e, under_suc s ps) refl
 pub places_used : (id : NotificationId) (xs : List Entry) (s : ℕ) → places id (take s xs) ≡ under s (places id xs)
 places_used id xs zero = sym (under_zero (places id xs))
 places_used id [] (suc s) = refl
-places_used id (x ∷ xs) (suc s) = used_at (waits id x) s (places id (take s xs)) (places id xs) (places_used id xs s)
+places_used id (x ∷ xs) (suc s) = used_at (has_waiting_result id x) s (places id (take s xs)) (places id xs) (places_used id xs s)
 
 -- ---- the results at them
 
@@ -76,16 +76,16 @@ map_suc e xs d (p ∷ ps) = ap (λ z. at_place xs d p ∷ z) (map_suc e xs d ps)
 abbrev entry : NotificationId → Option NotificationResult → Entry
 entry i o = record { id = i; result = o }
 
-placed : (id i : NotificationId) (o : Option NotificationResult) (xs : List Entry) (d : Entry) → map Some (results_of id (given xs)) ≡ map (at_place xs d) (places id xs)
-    → map Some (results_of id (given_by i o (given xs))) ≡ map (at_place (entry i o ∷ xs) d) (cond (waits id (entry i o)) (0 ∷ map suc (places id xs)) (map suc (places id xs)))
+placed : (id i : NotificationId) (o : Option NotificationResult) (xs : List Entry) (d : Entry) → map Some (results_of id (not_taken xs)) ≡ map (at_place xs d) (places id xs)
+    → map Some (results_of id (given_by i o (not_taken xs))) ≡ map (at_place (entry i o ∷ xs) d) (cond (has_waiting_result id (entry i o)) (0 ∷ map suc (places id xs)) (map suc (places id xs)))
 placed id i None xs d h = h ∙ sym (map_suc (entry i None) xs d (places id xs))
 placed id i (Some r) xs d h = go (test (same_id i id))
   where
-    go : Test (same_id i id) → map Some (cond (same_id i id) (r ∷ results_of id (given xs)) (results_of id (given xs))) ≡ map (at_place (entry i (Some r) ∷ xs) d) (cond (same_id i id) (0 ∷ map suc (places id xs)) (map suc (places id xs)))
+    go : Test (same_id i id) → map Some (cond (same_id i id) (r ∷ results_of id (not_taken xs)) (results_of id (not_taken xs))) ≡ map (at_place (entry i (Some r) ∷ xs) d) (cond (same_id i id) (0 ∷ map suc (places id xs)) (map suc (places id xs)))
     go (yes b) = rw b (ap (λ z. Some r ∷ z) (h ∙ sym (map_suc (entry i (Some r)) xs d (places id xs))))
     go (no b) = rw b (h ∙ sym (map_suc (entry i (Some r)) xs d (places id xs)))
 
-results_placed : (id : NotificationId) (xs : List Entry) (d : Entry) → map Some (results_of id (given xs)) ≡ map (at_place xs d) (places id xs)
+results_placed : (id : NotificationId) (xs : List Entry) (d : Entry) → map Some (results_of id (not_taken xs)) ≡ map (at_place xs d) (places id xs)
 results_placed id [] d = refl
 results_placed id (x ∷ xs) d = placed id x.id x.result xs d (results_placed id xs d)
 
@@ -102,20 +102,20 @@ none_is None e = refl
 none_is (Some x) e = cc
 
 module _ (id : NotificationId) (log : List Entry) (s : ℕ) where
-  by_place : (d : Entry) (o : Option ℕ) → o ≡ newest (under s (places id log)) → option_map Some (newest (results_of id (given (take s log)))) ≡ option_map (at_place (take s log) d) o
+  by_place : (d : Entry) (o : Option ℕ) → o ≡ newest (under s (places id log)) → option_map Some (newest (results_of id (not_taken (take s log)))) ≡ option_map (at_place (take s log) d) o
   by_place d o e =
-      sym (newest_map Some None (results_of id (given (take s log))))
+      sym (newest_map Some None (results_of id (not_taken (take s log))))
       ∙ ap newest (results_placed id (take s log) d)
       ∙ newest_map (at_place (take s log) d) None (places id (take s log))
       ∙ ap (λ z. option_map (at_place (take s log) d) (newest z)) (places_used id log s)
       ∙ ap (option_map (at_place (take s log) d)) (sym e)
 
-  pub newest_none : None ≡ newest (under s (places id log)) → newest (results_of id (given (take s log))) ≡ None
-  newest_none e = none_is (newest (results_of id (given (take s log)))) (by_place (entry id None) None e)
+  pub newest_none : None ≡ newest (under s (places id log)) → newest (results_of id (not_taken (take s log))) ≡ None
+  newest_none e = none_is (newest (results_of id (not_taken (take s log)))) (by_place (entry id None) None e)
 
   module _ (p : ℕ) (e : Some p ≡ newest (under s (places id log))) where
-    at_p : (d : Entry) → (newest (results_of id (given (take s log))) ≡ at_place (take s log) d p) × (is_some (at_place (take s log) d p) ≡ true)
-    at_p d = some_is (newest (results_of id (given (take s log)))) (at_place (take s log) d p) (by_place d (Some p) e)
+    at_p : (d : Entry) → (newest (results_of id (not_taken (take s log))) ≡ at_place (take s log) d p) × (is_some (at_place (take s log) d p) ≡ true)
+    at_p d = some_is (newest (results_of id (not_taken (take s log)))) (at_place (take s log) d p) (by_place d (Some p) e)
 
     among : p < length (take s log)
     among = go (test (nat_lt p (length (take s log))))
@@ -132,7 +132,7 @@ module _ (id : NotificationId) (log : List Entry) (s : ℕ) where
     pub newest_within : p < length log
     newest_within = omega (arith, length-take s log, among)
 
-    pub newest_at : (d : Entry) → (get_or log p d).result ≡ newest (results_of id (given (take s log)))
+    pub newest_at : (d : Entry) → (get_or log p d).result ≡ newest (results_of id (not_taken (take s log)))
     newest_at d =
         let below : p < s = omega (arith, length-take s log, among) in
         ap (λ (z : Entry). z.result) (sym (get_or-take s log p d below)) ∙ sym (at_p d).0
@@ -163,14 +163,14 @@ first_is [] p e = cc
 first_is (q ∷ qs) p e = let f : q ≡ p = cc in ap (λ z. z ∷ qs) f
 
 module _ (id : NotificationId) (log : List Entry) where
-  pub oldest_none : (s : ℕ) → None ≡ first (places id log) → first (results_of id (given (take s log))) ≡ None
+  pub oldest_none : (s : ℕ) → None ≡ first (places id log) → first (results_of id (not_taken (take s log))) ≡ None
   oldest_none s e = ap first (none_used id log s (Tracking.none_is (places id log) (sym e)))
 
   module _ (s p : ℕ) (e : Some p ≡ first (places id log)) where
-    pub oldest_late : s ≤ p → first (results_of id (given (take s log))) ≡ None
+    pub oldest_late : s ≤ p → first (results_of id (not_taken (take s log))) ≡ None
     oldest_late l = ap first (late_used id log s p (drop 1 (places id log)) (first_is (places id log) p e) l)
 
-    pub oldest_at : p < s → (d : Entry) → (get_or log p d).result ≡ first (results_of id (given (take s log)))
+    pub oldest_at : p < s → (d : Entry) → (get_or log p d).result ≡ first (results_of id (not_taken (take s log)))
     oldest_at b d =
         let u = front_used id log s p (drop 1 (places id log)) (first_is (places id log) p e) b in
         let g = front_at id (take s log) p u.0 u.1 in

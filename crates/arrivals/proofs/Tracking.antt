@@ -13,8 +13,8 @@ use Rattle.arrivals.specs.Numbers.{most_for_one}
 use Rattle.std.specs.Option.{is_some}
 use Rattle.std.specs.Prelude.{nat_lt, ◌+◌, IsSome}
 use Rattle.std.proofs.lemmas.Bool.Decides.{nat_tests}
-use Rattle.arrivals.specs.Results.{first, results_of, has_result_among, without_first, without_all}
-use Rattle.arrivals.specs.Entries.{given, places, Tracked, Located}
+use Rattle.arrivals.specs.Results.{first, results_of, has_result_among, without_oldest, without_all}
+use Rattle.arrivals.specs.Entries.{not_taken, places, Tracked, Located}
 use Rattle.arrivals.proofs.Ids.{Test, yes, no, test, same_is}
 use Rattle.arrivals.proofs.Entries.{places_push, cleared, cleared_length, Front, front_at, front_used, none_used, late_used, take_cleared, drop_cleared}
 
@@ -166,8 +166,8 @@ module _ (log : List Entry) (index : Index) (slots : List (List ℕ)) (id : Noti
 
   -- what leaves, where the first s entries are looked at
   pub record Taken (s : ℕ) : Type 0 where
-    pub result : (d : Entry) → (get_or log p d).result ≡ first (results_of id (given (take s log)))
-    pub left : given (take s (cleared p log)) ≡ without_first id (given (take s log))
+    pub result : (d : Entry) → (get_or log p d).result ≡ first (results_of id (not_taken (take s log)))
+    pub left : not_taken (take s (cleared p log)) ≡ without_oldest id (not_taken (take s log))
     pub rest : drop s (cleared p log) ≡ drop s log
 
   pub taken : (s : ℕ) → p < s → Taken s
@@ -178,28 +178,28 @@ module _ (log : List Entry) (index : Index) (slots : List (List ℕ)) (id : Noti
       let same : (d : Entry) → get_or (take s log) p d ≡ get_or log p d = λ d. get_or-take s log p d b in
       record {
         result = λ d. ap (λ (e : Entry). e.result) (sym (same d)) ∙ g.1.result d ∙ sym (ap first g.1.results);
-        left = ap given (take_cleared s p log b) ∙ g.1.removed;
+        left = ap not_taken (take_cleared s p log b) ∙ g.1.removed;
         rest = drop_cleared s p log b;
       }
 
 -- ---- an id without results among the first entries
 
 module _ (log : List Entry) (index : Index) (slots : List (List ℕ)) (id : NotificationId) (s : ℕ) (t : Tracked log index slots) where
-  pub no_slot : slot_of index id ≡ None → results_of id (given (take s log)) ≡ []
+  pub no_slot : slot_of index id ≡ None → results_of id (not_taken (take s log)) ≡ []
   no_slot e = none_used id log s (rw e at (t.located id))
 
-  pub no_front : (k : ℕ) → slot_of index id ≡ Some k → first (get_or slots k []) ≡ None → results_of id (given (take s log)) ≡ []
+  pub no_front : (k : ℕ) → slot_of index id ≡ Some k → first (get_or slots k []) ≡ None → results_of id (not_taken (take s log)) ≡ []
   no_front k e f = none_used id log s (sym (at_slot log index slots id k t e).1 ∙ none_is (get_or slots k []) f)
 
-  pub no_early : (k p : ℕ) → slot_of index id ≡ Some k → first (get_or slots k []) ≡ Some p → s ≤ p → results_of id (given (take s log)) ≡ []
+  pub no_early : (k p : ℕ) → slot_of index id ≡ Some k → first (get_or slots k []) ≡ Some p → s ≤ p → results_of id (not_taken (take s log)) ≡ []
   no_early k p e f l = late_used id log s p (drop 1 (get_or slots k [])) (here log index slots id k p t e f) l
 
-no_first_at : (id : NotificationId) (n : Notification) (ns : List Notification) (b : Bool) → (results_of id ns ≡ [] → without_first id ns ≡ ns)
-    → cond b (n.result ∷ results_of id ns) (results_of id ns) ≡ [] → cond b ns (n ∷ without_first id ns) ≡ n ∷ ns
+no_first_at : (id : NotificationId) (n : Notification) (ns : List Notification) (b : Bool) → (results_of id ns ≡ [] → without_oldest id ns ≡ ns)
+    → cond b (n.result ∷ results_of id ns) (results_of id ns) ≡ [] → cond b ns (n ∷ without_oldest id ns) ≡ n ∷ ns
 no_first_at id n ns true h e = cc
 no_first_at id n ns false h e = ap (λ t. n ∷ t) (h e)
 
-pub no_first : (id : NotificationId) (ns : List Notification) → results_of id ns ≡ [] → without_first id ns ≡ ns
+pub no_first : (id : NotificationId) (ns : List Notification) → results_of id ns ≡ [] → without_oldest id ns ≡ ns
 no_first id [] e = refl
 no_first id (n ∷ ns) e = no_first_at id n ns (same_id n.id id) (no_first id ns) e
 
@@ -221,45 +221,45 @@ has_is id (n ∷ ns) o e = go (test (same_id n.id id)) (has_is id ns)
     go (yes b) f = rw b (ap is_some (rw b at e))
     go (no b) f = rw b (f o (rw b at e))
 
-pub has_none : (id : NotificationId) (log : List Entry) (s : ℕ) → None ≡ first (places id log) → false ≡ has_result_among id (given (take s log))
-has_none id log s e = sym (has_is id (given (take s log)) None (ap first (none_used id log s (none_is (places id log) (sym e)))))
+pub has_none : (id : NotificationId) (log : List Entry) (s : ℕ) → None ≡ first (places id log) → false ≡ has_result_among id (not_taken (take s log))
+has_none id log s e = sym (has_is id (not_taken (take s log)) None (ap first (none_used id log s (none_is (places id log) (sym e)))))
 
-pub has_some : (id : NotificationId) (log : List Entry) (s p : ℕ) → Some p ≡ first (places id log) → nat_lt p s ≡ has_result_among id (given (take s log))
+pub has_some : (id : NotificationId) (log : List Entry) (s p : ℕ) → Some p ≡ first (places id log) → nat_lt p s ≡ has_result_among id (not_taken (take s log))
 has_some id log s p e = go (test (nat_lt p s))
   where
-    go : Test (nat_lt p s) → nat_lt p s ≡ has_result_among id (given (take s log))
+    go : Test (nat_lt p s) → nat_lt p s ≡ has_result_among id (not_taken (take s log))
     go (yes b) =
         let below : p < s = grind (arith, nat_tests) in
         let u = front_used id log s p (drop 1 (places id log)) (first_is (places id log) p (sym e)) below in
         let g = front_at id (take s log) p u.0 u.1 in
-        b ∙ sym (has_is id (given (take s log)) (Some g.0) (ap first g.1.results))
+        b ∙ sym (has_is id (not_taken (take s log)) (Some g.0) (ap first g.1.results))
     go (no b) =
         let late : s ≤ p = grind (arith, nat_tests) in
         let none = late_used id log s p (drop 1 (places id log)) (first_is (places id log) p (sym e)) late in
-        b ∙ sym (has_is id (given (take s log)) None (ap first none))
+        b ∙ sym (has_is id (not_taken (take s log)) None (ap first none))
 
 -- ---- one after another
 
-next_at : (id : NotificationId) (n : Notification) (ns : List Notification) (b : Bool) → same_id n.id id ≡ b → results_of id (without_first id ns) ≡ drop 1 (results_of id ns)
-    → results_of id (cond b ns (n ∷ without_first id ns)) ≡ drop 1 (cond b (n.result ∷ results_of id ns) (results_of id ns))
+next_at : (id : NotificationId) (n : Notification) (ns : List Notification) (b : Bool) → same_id n.id id ≡ b → results_of id (without_oldest id ns) ≡ drop 1 (results_of id ns)
+    → results_of id (cond b ns (n ∷ without_oldest id ns)) ≡ drop 1 (cond b (n.result ∷ results_of id ns) (results_of id ns))
 next_at id n ns true e h = refl
 next_at id n ns false e h = rw e h
 
-pub next : (id : NotificationId) (ns : List Notification) → results_of id (without_first id ns) ≡ drop 1 (results_of id ns)
+pub next : (id : NotificationId) (ns : List Notification) → results_of id (without_oldest id ns) ≡ drop 1 (results_of id ns)
 next id [] = refl
 next id (n ∷ ns) = next_at id n ns (same_id n.id id) refl (next id ns)
 
-all_at : (id : NotificationId) (n : Notification) (ns : List Notification) (b : Bool) → same_id n.id id ≡ b → without_all id (without_first id ns) ≡ without_all id ns
-    → without_all id (cond b ns (n ∷ without_first id ns)) ≡ cond b (without_all id ns) (n ∷ without_all id ns)
+all_at : (id : NotificationId) (n : Notification) (ns : List Notification) (b : Bool) → same_id n.id id ≡ b → without_all id (without_oldest id ns) ≡ without_all id ns
+    → without_all id (cond b ns (n ∷ without_oldest id ns)) ≡ cond b (without_all id ns) (n ∷ without_all id ns)
 all_at id n ns true e h = refl
 all_at id n ns false e h = rw e (ap (λ z. n ∷ z) h)
 
-pub all_next : (id : NotificationId) (ns : List Notification) → without_all id (without_first id ns) ≡ without_all id ns
+pub all_next : (id : NotificationId) (ns : List Notification) → without_all id (without_oldest id ns) ≡ without_all id ns
 all_next id [] = refl
 all_next id (n ∷ ns) = all_at id n ns (same_id n.id id) refl (all_next id ns)
 
 -- a result taken from some, and those after it
-pub one_taken : (id : NotificationId) (before after : List Notification) (r : NotificationResult) → Some r ≡ first (results_of id before) → after ≡ without_first id before → results_of id before ≡ r ∷ results_of id after
+pub one_taken : (id : NotificationId) (before after : List Notification) (r : NotificationResult) → Some r ≡ first (results_of id before) → after ≡ without_oldest id before → results_of id before ≡ r ∷ results_of id after
 one_taken id before after r e f = go (results_of id before) refl e ∙ ap (λ z. r ∷ z) (sym (ap (results_of id) f ∙ next id before))
   where
     go : (rs : List NotificationResult) → results_of id before ≡ rs → Some r ≡ first rs → results_of id before ≡ r ∷ drop 1 (results_of id before)

@@ -16,9 +16,9 @@ given_by id None ns = ns
 given_by id (Some r) ns = record { id = id; result = r } ∷ ns
 
 -- the notifications whose results were not taken
-abbrev pub given : List Entry → List Notification
-given [] = []
-given (e ∷ es) = given_by e.id e.result (given es)
+abbrev pub not_taken : List Entry → List Notification
+not_taken [] = []
+not_taken (e ∷ es) = given_by e.id e.result (not_taken es)
 
 -- no result was taken
 abbrev pub all_given : List Entry → Bool
@@ -26,13 +26,14 @@ all_given [] = true
 all_given (e ∷ es) = is_some e.result && all_given es
 
 -- whether an entry still has a result of this id
-abbrev pub waits : NotificationId → Entry → Bool
-waits id e = is_some e.result && same_id e.id id
+abbrev pub has_waiting_result : NotificationId → Entry → Bool
+has_waiting_result id e = is_some e.result && same_id e.id id
 
 -- the places of the results of an id
 abbrev pub places : NotificationId → List Entry → List ℕ
 places id [] = []
-places id (e ∷ es) = cond (waits id e) (0 ∷ map suc (places id es)) (map suc (places id es))
+places id (e ∷ es) = cond (has_waiting_result id e) (0
+    ∷ map suc (places id es)) (map suc (places id es))
 
 -- an id without a slot has no place, and a slot has the places of its id
 abbrev pub Located : List (List ℕ) → List ℕ → Option ℕ → Type 0

@@ -30,9 +30,9 @@ abbrev pub newest : {X : Type 0} → List X → Option X
 newest = newest_after None
 
 -- without the oldest of an id
-abbrev pub without_first : NotificationId → List Notification → List Notification
-without_first id [] = []
-without_first id (n ∷ ns) = cond (same_id n.id id) ns (n ∷ without_first id ns)
+abbrev pub without_oldest : NotificationId → List Notification → List Notification
+without_oldest id [] = []
+without_oldest id (n ∷ ns) = cond (same_id n.id id) ns (n ∷ without_oldest id ns)
 
 -- without any of an id
 abbrev pub without_all : NotificationId → List Notification → List Notification

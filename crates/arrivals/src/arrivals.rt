@@ -2,7 +2,7 @@
 ghost use Rattle.std.specs.Prelude.{◌≡◌, ◌||◌, ℕ, [], ◌∷◌, ◌++◌, take, OnOk, OnErr};
 ghost use Rattle.std.specs.Option.{option_copied, option_or};
 ghost use Rattle.arrivals.specs.Came.{nothing_came, is_queued, one_used, enough};
-ghost use Rattle.arrivals.specs.Results.{first, newest, results_of, has_result_among, without_first, without_all};
+ghost use Rattle.arrivals.specs.Results.{first, newest, results_of, has_result_among, without_oldest, without_all};
 
 use crate::log::Log;
 use journal_values::{Notification, NotificationId, NotificationResult};
@@ -19,11 +19,11 @@ pub struct Arrivals {
 impl Model for Arrivals {
     ghost use Rattle.std.specs.Prelude.{◌≡◌, ◌≤◌, length, take, drop, true};
     ghost use Rattle.arrivals.specs.Came.{Came};
-    ghost use Rattle.arrivals.specs.Entries.{given, all_given};
+    ghost use Rattle.arrivals.specs.Entries.{not_taken, all_given};
 
     ghost Value = { Came };
 
-    ghost view = { λ s. record { queued = given (drop s.seen s.log); delivered = given (take s.seen s.log) } };
+    ghost view = { λ s. record { queued = not_taken (drop s.seen s.log); delivered = not_taken (take s.seen s.log) } };
 
     ghost invariant = { λ s. (s.seen ≤ length s.log) × (all_given (drop s.seen s.log) ≡ true) };
 }
@@ -114,7 +114,7 @@ impl Arrivals {
     pub fn take_first(&mut self, id: &NotificationId) -> Option<NotificationResult>
         ensures found { result ≡ first (results_of id.now self.old.delivered) }
         ensures left { self.new ≡ record self.old
-            { delivered = without_first id.now self.old.delivered } }
+            { delivered = without_oldest id.now self.old.delivered } }
     {
         self.log.take_first(id, self.seen)
     }

@@ -2,7 +2,7 @@
 //! looked up then.
 ghost use Rattle.std.specs.Prelude.{◌≡◌, [], ◌∷◌, ◌++◌, OnOk, OnErr};
 ghost use Rattle.std.specs.Option.{option_copied};
-ghost use Rattle.arrivals.specs.Results.{first, newest, results_of, has_result_among, without_first, without_all};
+ghost use Rattle.arrivals.specs.Results.{first, newest, results_of, has_result_among, without_oldest, without_all};
 
 use crate::log::Log;
 use journal_values::{Notification, NotificationId, NotificationResult};
@@ -17,12 +17,12 @@ pub struct EagerResults {
 
 impl Model for EagerResults {
     ghost use Rattle.std.specs.Prelude.{List};
-    ghost use Rattle.arrivals.specs.Entries.{given};
+    ghost use Rattle.arrivals.specs.Entries.{not_taken};
     ghost use Rattle.journal_values.specs.declared.notification.Notification.{Notification};
 
     ghost Value = { List Notification };
 
-    ghost view = { λ s. given s.log };
+    ghost view = { λ s. not_taken s.log };
 }
 
 impl EagerResults {
@@ -65,7 +65,7 @@ impl EagerResults {
     /// Takes the oldest result of an id.
     pub fn take_first(&mut self, id: &NotificationId) -> Option<NotificationResult>
         ensures found { result ≡ first (results_of id.now self.old) }
-        ensures left { self.new ≡ without_first id.now self.old }
+        ensures left { self.new ≡ without_oldest id.now self.old }
     {
         let all = self.log.len();
         if all == 0 {

@@ -2,8 +2,8 @@
 ghost use Rattle.std.specs.Prelude.{◌≡◌, ◌<◌, ℕ, List, [], ◌∷◌, ◌++◌, take, drop, length, Some, IsSome, OnOk, OnErr};
 ghost use Rattle.std.specs.Option.{option_copied};
 ghost use Rattle.arrivals.specs.Ids.{slot_of};
-ghost use Rattle.arrivals.specs.Results.{first, newest, results_of, has_result_among, without_first, without_all};
-ghost use Rattle.arrivals.specs.Entries.{given, places, Tracked};
+ghost use Rattle.arrivals.specs.Results.{first, newest, results_of, has_result_among, without_oldest, without_all};
+ghost use Rattle.arrivals.specs.Entries.{not_taken, places, Tracked};
 
 use crate::index::Index;
 use crate::places::Places;
@@ -124,7 +124,7 @@ impl Log {
 
     /// Whether the first `seen` entries have a result of an id.
     pub fn has(&self, id: &NotificationId, seen: usize) -> bool
-        ensures { result ≡ has_result_among id.now (given (take seen self.now)) }
+        ensures { result ≡ has_result_among id.now (not_taken (take seen self.now)) }
     {
         match self.front(id) {
             None => false,
@@ -134,7 +134,8 @@ impl Log {
 
     /// The oldest result of an id among the first `seen` entries.
     pub fn oldest(&self, id: &NotificationId, seen: usize) -> Option<&NotificationResult>
-        ensures { option_copied result ≡ first (results_of id.now (given (take seen self.now))) }
+        ensures { option_copied result
+            ≡ first (results_of id.now (not_taken (take seen self.now))) }
     {
         let place = self.front(id)?;
         if seen <= place {
@@ -145,7 +146,8 @@ impl Log {
 
     /// The newest result of an id among the first `seen` entries.
     pub fn newest(&self, id: &NotificationId, seen: usize) -> Option<&NotificationResult>
-        ensures { option_copied result ≡ newest (results_of id.now (given (take seen self.now))) }
+        ensures { option_copied result
+            ≡ newest (results_of id.now (not_taken (take seen self.now))) }
     {
         let slot = self.index.find(id)?;
         let place = self.slots[slot].newest_under(seen)?;
@@ -154,9 +156,9 @@ impl Log {
 
     /// Takes the oldest result of an id out of the first `seen` entries.
     pub fn take_first(&mut self, id: &NotificationId, seen: usize) -> Option<NotificationResult>
-        ensures found { result ≡ first (results_of id.now (given (take seen self.old))) }
-        ensures left { given (take seen self.new)
-            ≡ without_first id.now (given (take seen self.old)) }
+        ensures found { result ≡ first (results_of id.now (not_taken (take seen self.old))) }
+        ensures left { not_taken (take seen self.new)
+            ≡ without_oldest id.now (not_taken (take seen self.old)) }
         ensures rest { drop seen self.new ≡ drop seen self.old }
         ensures len { length self.new ≡ length self.old }
     {
@@ -173,9 +175,9 @@ impl Log {
 
     /// Takes the newest result of an id out of the first `seen` entries, and drops the older ones that it replaced.
     pub fn take_newest(&mut self, id: &NotificationId, seen: usize) -> Option<NotificationResult>
-        ensures found { result ≡ newest (results_of id.now (given (take seen self.old))) }
-        ensures left { given (take seen self.new)
-            ≡ without_all id.now (given (take seen self.old)) }
+        ensures found { result ≡ newest (results_of id.now (not_taken (take seen self.old))) }
+        ensures left { not_taken (take seen self.new)
+            ≡ without_all id.now (not_taken (take seen self.old)) }
         ensures rest { drop seen self.new ≡ drop seen self.old }
         ensures len { length self.new ≡ length self.old }
     {

@@ -8,14 +8,14 @@ use Rattle.await_trees.specs.declared.nodes.Label.TheVariants.{Leaf, Inner}
 use Rattle.await_trees.specs.declared.tree.UnresolvedFuture.{UnresolvedFuture}
 use Rattle.await_trees.specs.declared.tree.UnresolvedFuture.TheVariants.{Single}
 use Rattle.await_trees.specs.Copies.{future_node, future_at, futures_at}
-use Rattle.await_trees.specs.Preorder.{preorder, preorders, size, joined, next, from}
+use Rattle.await_trees.specs.Preorder.{preorder, preorders, size, forests_joined, forest_after_root, from}
 use Rattle.await_trees.specs.Tree.{Tree, Forest, leaf, node, none, more}
 use Rattle.await_trees.proofs.Preorders.{codes_from, none_from}
 
 abbrev blank : Node
 blank = record { label = Leaf 0; first = 0; count = 0 }
 
-futures_joined : (us rs : Forest) → futures_at (joined us rs) ≡ futures_at us ++ futures_at rs
+futures_joined : (us rs : Forest) → futures_at (forests_joined us rs) ≡ futures_at us ++ futures_at rs
 futures_joined none rs = refl
 futures_joined (more t ts) rs = ap (λ z. future_at t ∷ z) (futures_joined ts rs)
 
@@ -47,7 +47,7 @@ same_kind l a b = cc
 same_handle : {g h : ℕ} (l : Label) → l ≡ Leaf g → l ≡ Leaf h → g ≡ h
 same_handle l a b = cc
 
-behind : (n : Node) (rest : List Node) (stack : List UnresolvedFuture) (f : Forest) → preorders f ≡ n ∷ rest → stack ≡ futures_at (next f) → Behind n stack f
+behind : (n : Node) (rest : List Node) (stack : List UnresolvedFuture) (f : Forest) → preorders f ≡ n ∷ rest → stack ≡ futures_at (forest_after_root f) → Behind n stack f
 behind n rest stack none e s = record { a_leaf = λ h l. absurd cc; enough = λ k l. absurd cc; a_node = λ k l. absurd cc }
 behind n rest stack (more (leaf x) rs) e s =
     let label : n.label ≡ Leaf x = sym (ap (λ (z : Node). z.label) (first_of e)) in

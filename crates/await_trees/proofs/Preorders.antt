@@ -6,7 +6,7 @@ use Rattle.await_trees.specs.declared.tree.UnresolvedFuture.{UnresolvedFuture}
 use Rattle.await_trees.specs.declared.nodes.Node.{Node}
 use Rattle.await_trees.specs.declared.nodes.Label.TheVariants.{Inner}
 use Rattle.await_trees.specs.Tree.{Forest, leaf, node, none, more, tree_of, forest_of}
-use Rattle.await_trees.specs.Preorder.{preorder, preorders, preorders_on, size, joined, next, from}
+use Rattle.await_trees.specs.Preorder.{preorder, preorders, preorders_on, size, forests_joined, forest_after_root, from}
 
 size-forest : (us : List UnresolvedFuture) → size (forest_of us) ≡ length us
 size-forest [] = refl
@@ -66,11 +66,11 @@ node_written ns xs ys whole n h e = append_assoc ns (n ∷ []) ys ∙ ap (λ z. 
 
 -- ---- the trees that begin at a node of a preorder
 
-pub codes_joined : (us rs : Forest) → preorders (joined us rs) ≡ preorders us ++ preorders rs
+pub codes_joined : (us rs : Forest) → preorders (forests_joined us rs) ≡ preorders us ++ preorders rs
 codes_joined none rs = refl
 codes_joined (more t ts) rs = ap (λ z. preorder t ++ z) (codes_joined ts rs) ∙ sym (append_assoc (preorder t) (preorders ts) (preorders rs))
 
-pub codes_next : (ts : Forest) → preorders (next ts) ≡ drop 1 (preorders ts)
+pub codes_next : (ts : Forest) → preorders (forest_after_root ts) ≡ drop 1 (preorders ts)
 codes_next none = refl
 codes_next (more (leaf h) rs) = refl
 codes_next (more (node k us) rs) = codes_joined us rs

@@ -10,7 +10,7 @@ use Rattle.await_trees.specs.declared.outcome.Outcome.{Outcome}
 use Rattle.await_trees.specs.Outcomes.{is_done, all_wait, any_fires, awake}
 use Rattle.await_trees.specs.Residual.{Added, here, later}
 use Rattle.await_trees.specs.Tree.{TreeOver, ForestOver, Tree, Forest, leaf, node, none, more}
-use Rattle.await_trees.specs.Wires.{completion_of, signal_of, name_of, inner, completions, signals, names, nested, sent, first_trees, other_trees, leaves, readings, reading, by_id, has_id, Mapped, AllMapped}
+use Rattle.await_trees.specs.Wires.{with_completion_id, signal_of, with_signal_name, inner, completions, signals, names, nested, sent, first_trees, other_trees, leaves, readings, tree_of_nodes, outcome_of_leaf, has_id, Mapped, AllMapped}
 use Rattle.await_trees.proofs.Prune.{wait_added, fires_added}
 
 joined : {L : Type 0} → ForestOver L → ForestOver L → ForestOver L
@@ -71,7 +71,7 @@ module _ (id : ℕ → Option NotificationId) where
   nested_reads (more (node k us) ts) ns =
       rw (append_assoc (nested id us) (nested id ts) ns, nested_reads us (nested id ts ++ ns), first_inner us (readings (nested id ts ++ ns)), other_inner us (readings (nested id ts ++ ns)), nested_reads ts ns) refl
 
-  reads_node : (k : FutureKind) (ts : Forest) → reading (sent id (node k ts)) ≡ node k (rows ts (inners ts))
+  reads_node : (k : FutureKind) (ts : Forest) → tree_of_nodes (sent id (node k ts)) ≡ node k (rows ts (inners ts))
   reads_node k ts =
       let e : readings (nested id ts) ≡ inners ts = ap readings (sym (append-nil (nested id ts))) ∙ nested_reads ts [] ∙ joined_none (inners ts) in
       let f : first_trees (inner ts) (inners ts) ≡ inners ts = ap (first_trees (inner ts)) (sym (joined_none (inners ts))) ∙ first_inner ts none in
@@ -85,7 +85,7 @@ abbrev lists : List ℕ → List ℕ → List (List ℕ) → ForestOver Notifica
 lists cs ss ns ws = leaves CompletionId cs (leaves SignalId ss (leaves SignalName ns ws))
 
 leaf_added : (o : Option NotificationId) → has_id o → (cs ss : List ℕ) (ns : List (List ℕ)) (ws : ForestOver NotificationId)
-    → (i : NotificationId) × (o ≡ Some i) × Added (leaf i) (lists cs ss ns ws) (lists (completion_of o cs) (signal_of o ss) (name_of o ns) ws)
+    → (i : NotificationId) × (o ≡ Some i) × Added (leaf i) (lists cs ss ns ws) (lists (with_completion_id o cs) (signal_of o ss) (with_signal_name o ns) ws)
 leaf_added None h cs ss ns ws = absurd h
 leaf_added (Some (CompletionId i)) h cs ss ns ws = (CompletionId i, refl, here)
 leaf_added (Some (SignalId i)) h cs ss ns ws = (SignalId i, refl, added_behind CompletionId cs (leaf (SignalId i)) _ _ (here {ts = leaves SignalId ss (leaves SignalName ns ws)}))
@@ -96,14 +96,14 @@ node_added t cs ss ns ws = added_behind CompletionId cs _ _ _ (added_behind Sign
 
 module _ (id : ℕ → Option NotificationId) (at : NotificationId → Outcome) where
   abbrev bt : ℕ → Outcome
-  bt h = by_id at (id h)
+  bt h = outcome_of_leaf at (id h)
 
   rows_wait : (k : FutureKind) (ts : Forest) → AllMapped id ts → all_wait at k (rows id ts (inners id ts)) ≡ all_wait bt k ts
   unfolding inners
   rows_wait k none m = refl
   rows_wait k (more (leaf h) ts) m =
       let (i, e, a) = leaf_added (id h) m.0 (completions id ts) (signals id ts) (names id ts) (inners id ts) in
-      let same : at i ≡ by_id at (id h) = ap (by_id at) (sym e) in
+      let same : at i ≡ outcome_of_leaf at (id h) = ap (outcome_of_leaf at) (sym e) in
       rw (wait_added at k a, same, rows_wait k ts m.1) refl
   rows_wait k (more (node j us) ts) m =
       let a = node_added (node j (rows id us (inners id us))) (completions id ts) (signals id ts) (names id ts) (inners id ts) in
@@ -114,7 +114,7 @@ module _ (id : ℕ → Option NotificationId) (at : NotificationId → Outcome) 
   rows_fire k none m = refl
   rows_fire k (more (leaf h) ts) m =
       let (i, e, a) = leaf_added (id h) m.0 (completions id ts) (signals id ts) (names id ts) (inners id ts) in
-      let same : at i ≡ by_id at (id h) = ap (by_id at) (sym e) in
+      let same : at i ≡ outcome_of_leaf at (id h) = ap (outcome_of_leaf at) (sym e) in
       rw (fires_added at k a, same, rows_fire k ts m.1) refl
   rows_fire k (more (node j us) ts) m =
       let a = node_added (node j (rows id us (inners id us))) (completions id ts) (signals id ts) (names id ts) (inners id ts) in
@@ -124,13 +124,13 @@ module _ (id : ℕ → Option NotificationId) (at : NotificationId → Outcome) 
   or_falses true = refl
   or_falses false = refl
 
-  one_leaf : (o : Option NotificationId) → has_id o → awake at (node FirstCompleted (lists (completion_of o []) (signal_of o []) (name_of o []) none)) ≡ (is_done (by_id at o) || false)
+  one_leaf : (o : Option NotificationId) → has_id o → awake at (node FirstCompleted (lists (with_completion_id o []) (signal_of o []) (with_signal_name o []) none)) ≡ (is_done (outcome_of_leaf at o) || false)
   one_leaf None h = absurd h
   one_leaf (Some (CompletionId i)) h = or_falses (is_done (at (CompletionId i)))
   one_leaf (Some (SignalName i)) h = or_falses (is_done (at (SignalName i)))
   one_leaf (Some (SignalId i)) h = or_falses (is_done (at (SignalId i)))
 
-  pub sent_awake : (t : Tree) → Mapped id t → awake at (reading (sent id t)) ≡ awake bt t
+  pub sent_awake : (t : Tree) → Mapped id t → awake at (tree_of_nodes (sent id t)) ≡ awake bt t
   sent_awake (leaf h) m = one_leaf (id h) m
   sent_awake (node k ts) m =
       let as_sent : awake at (node k (rows id ts (inners id ts))) ≡ awake bt (node k ts) = rw (rows_wait k ts m, rows_fire k ts m) refl in

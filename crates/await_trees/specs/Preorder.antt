@@ -24,17 +24,17 @@ preorders_on [] = []
 preorders_on (row ∷ rows) = preorders_on rows ++ preorders (forest_of row)
 
 -- one row of trees behind another
-abbrev pub joined : Forest → Forest → Forest
-joined none rs = rs
-joined (more t ts) rs = more t (joined ts rs)
+abbrev pub forests_joined : Forest → Forest → Forest
+forests_joined none rs = rs
+forests_joined (more t ts) rs = more t (forests_joined ts rs)
 
 -- once the first tree's root was read, its children come next
-abbrev pub next : Forest → Forest
-next none = none
-next (more (leaf h) rs) = rs
-next (more (node k us) rs) = joined us rs
+abbrev pub forest_after_root : Forest → Forest
+forest_after_root none = none
+forest_after_root (more (leaf h) rs) = rs
+forest_after_root (more (node k us) rs) = forests_joined us rs
 
 -- the trees that begin at a node of a preorder
 abbrev pub from : ℕ → Forest → Forest
 from zero ts = ts
-from (suc i) ts = next (from i ts)
+from (suc i) ts = forest_after_root (from i ts)

@@ -13,11 +13,11 @@ use Rattle.await_trees.specs.Tree.{TreeOver, ForestOver, Tree, Forest, leaf, nod
 
 -- a completion id stands before other completion ids; no id, and an id of another kind, leave them
 -- as they are
-abbrev pub completion_of : Option NotificationId → List ℕ → List ℕ
-completion_of None is = is
-completion_of (Some (CompletionId i)) is = i ∷ is
-completion_of (Some (SignalId i)) is = is
-completion_of (Some (SignalName i)) is = is
+abbrev pub with_completion_id : Option NotificationId → List ℕ → List ℕ
+with_completion_id None is = is
+with_completion_id (Some (CompletionId i)) is = i ∷ is
+with_completion_id (Some (SignalId i)) is = is
+with_completion_id (Some (SignalName i)) is = is
 
 -- and so for signals
 abbrev pub signal_of : Option NotificationId → List ℕ → List ℕ
@@ -27,11 +27,11 @@ signal_of (Some (SignalId i)) is = i ∷ is
 signal_of (Some (SignalName i)) is = is
 
 -- and for signals by name
-abbrev pub name_of : Option NotificationId → List (List ℕ) → List (List ℕ)
-name_of None is = is
-name_of (Some (CompletionId i)) is = is
-name_of (Some (SignalId i)) is = is
-name_of (Some (SignalName i)) is = i ∷ is
+abbrev pub with_signal_name : Option NotificationId → List (List ℕ) → List (List ℕ)
+with_signal_name None is = is
+with_signal_name (Some (CompletionId i)) is = is
+with_signal_name (Some (SignalId i)) is = is
+with_signal_name (Some (SignalName i)) is = i ∷ is
 
 -- how many of these are no leaves
 abbrev pub inner : Forest → ℕ
@@ -44,7 +44,7 @@ module _ (id : ℕ → Option NotificationId) where
   -- the completion ids of the leaves among these, in order
   abbrev pub completions : Forest → List ℕ
   completions none = []
-  completions (more (leaf h) ts) = completion_of (id h) (completions ts)
+  completions (more (leaf h) ts) = with_completion_id (id h) (completions ts)
   completions (more (node k us) ts) = completions ts
 
   abbrev pub signals : Forest → List ℕ
@@ -54,7 +54,7 @@ module _ (id : ℕ → Option NotificationId) where
 
   abbrev pub names : Forest → List (List ℕ)
   names none = []
-  names (more (leaf h) ts) = name_of (id h) (names ts)
+  names (more (leaf h) ts) = with_signal_name (id h) (names ts)
   names (more (node k us) ts) = names ts
 
   -- a node without those that nest in it
@@ -115,15 +115,15 @@ first_tree none = node Unknown none
 first_tree (more t ts) = t
 
 -- a wire future as a tree over notification ids
-abbrev pub reading : List FutureNode → TreeOver NotificationId
-reading ns = first_tree (readings ns)
+abbrev pub tree_of_nodes : List FutureNode → TreeOver NotificationId
+tree_of_nodes ns = first_tree (readings ns)
 
 -- ---- leaves by their ids
 
 -- what a leaf has come to, by its id
-abbrev pub by_id : (NotificationId → Outcome) → Option NotificationId → Outcome
-by_id at None = Pending
-by_id at (Some i) = at i
+abbrev pub outcome_of_leaf : (NotificationId → Outcome) → Option NotificationId → Outcome
+outcome_of_leaf at None = Pending
+outcome_of_leaf at (Some i) = at i
 
 abbrev pub has_id : Option NotificationId → Type 0
 has_id None = ⊥

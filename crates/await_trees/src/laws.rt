@@ -6,14 +6,15 @@ ghost use Rattle.await_trees.specs.declared.outcome.Outcome.{Outcome};
 ghost use Rattle.await_trees.specs.Outcomes.{outcome, awake};
 ghost use Rattle.await_trees.specs.Same.{Same};
 ghost use Rattle.await_trees.specs.Tree.{Tree};
-ghost use Rattle.await_trees.specs.Wires.{sent, reading, by_id, Mapped};
+ghost use Rattle.await_trees.specs.Wires.{sent, tree_of_nodes, outcome_of_leaf, Mapped};
 
 /// What is sent of a tree is one whole future, and where each handle stands for an id, it is awake just where the
 /// tree is, whatever the ids have come to.
 pub fn wire_futures_wake_as_trees()
     ensures whole { (id : ℕ → Option NotificationId) (t : Tree) → IsFuture (sent id t) }
     ensures alike { (id : ℕ → Option NotificationId) (at : NotificationId → Outcome) (t : Tree)
-        → Mapped id t → awake at (reading (sent id t)) ≡ awake (λ h. by_id at (id h)) t }
+        → Mapped id t → awake at (tree_of_nodes (sent id t))
+        ≡ awake (λ h. outcome_of_leaf at (id h)) t }
 {}
 
 /// In which order the children of a node stand, and how often, is of no account: neither for what the tree has come to,

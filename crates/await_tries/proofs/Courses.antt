@@ -20,9 +20,9 @@ use Rattle.await_trees.specs.Outcomes.{any_fires, all_wait, outcome_of, is_done,
 use Rattle.await_trees.specs.Tree.{Tree, Forest, leaf, none, more}
 use Rattle.vm_types.specs.declared.options.SignalDelivery.{SignalDelivery}
 use Rattle.vm_parts.specs.Arrived.{Arrived}
-use Rattle.vm_parts.specs.Deliveries.{id_at, is_listed, present, present_for, has_result_for, ready_after, first_result_for}
+use Rattle.vm_parts.specs.Deliveries.{id_at, is_listed, present_result, present_result_for, has_result_for, ready_after, first_result_for}
 use Rattle.await_tries.specs.Await.{earlier, outcomes}
-use Rattle.await_tries.specs.Courses.{Follows, any_fires_by, all_wait_by}
+use Rattle.await_tries.specs.Courses.{FollowsCourse, any_fires_by, all_wait_by}
 use Rattle.await_tries.specs.Leaves.{result_outcome, leaf_outcome}
 use Rattle.await_tries.specs.Spells.{node_at, children, AllAbove, Spells, SpellAll, no_more, one_more}
 use Rattle.await_tries.specs.Used.{used}
@@ -38,7 +38,7 @@ module _ (at : ℕ → ℕ → Outcome) (ns : List Node) (kids : List ℕ) (cs :
   AllFollow [] none = Unit {0}
   AllFollow [] (more t ts) = ⊥
   AllFollow (c ∷ ds) none = ⊥
-  AllFollow (c ∷ ds) (more t ts) = Follows at t (cs c) × AllFollow ds ts
+  AllFollow (c ∷ ds) (more t ts) = FollowsCourse at t (cs c) × AllFollow ds ts
 
   fires_alike : (k : FutureKind) (n : ℕ) (ds : List ℕ) (ts : Forest) → AllFollow ds ts → any_fires (at n) k ts ≡ any_fires_by cs k n ds
   fires_alike k n [] none a = refl
@@ -52,13 +52,13 @@ module _ (at : ℕ → ℕ → Outcome) (ns : List Node) (kids : List ℕ) (cs :
   waits_alike k n (c ∷ ds) none a = absurd a
   waits_alike k n (c ∷ ds) (more t ts) a = rw (a.0.outcomes n, waits_alike k n ds ts a.1) refl
 
-  module _ (i : ℕ) (known : (m : ℕ) (u : Tree) → i < m → Spells ns kids m u → Follows at u (cs m)) where
+  module _ (i : ℕ) (known : (m : ℕ) (u : Tree) → i < m → Spells ns kids m u → FollowsCourse at u (cs m)) where
     all_follow : (ds : List ℕ) (ts : Forest) → AllAbove i ds → SpellAll ns kids ds ts → AllFollow ds ts
     all_follow ds ts a no_more = tt
     all_follow ds ts a (one_more {c = c} {cs = es} {t = t} {ts = us} s r) = (known c t a.0 s, all_follow es us a.1 r)
 
     pub node_follows : (k : FutureKind) (t : Tree) (c : Course) → (node_at ns i).label ≡ Inner k → Spells ns kids i t → c.outcome ≡ outcome_of k
-        → ((n : ℕ) → enough c.done n ≡ all_wait_by cs k n (children ns kids i)) → ((n : ℕ) → enough c.fired n ≡ any_fires_by cs k n (children ns kids i)) → Follows at t c
+        → ((n : ℕ) → enough c.done n ≡ all_wait_by cs k n (children ns kids i)) → ((n : ℕ) → enough c.fired n ≡ any_fires_by cs k n (children ns kids i)) → FollowsCourse at t c
     node_follows k t c l s o d f =
         let p = opened ns kids i k t l s in
         let all = all_follow (children ns kids i) p.forest p.above p.spelled in
@@ -67,7 +67,7 @@ module _ (at : ℕ → ℕ → Outcome) (ns : List Node) (kids : List ℕ) (cs :
           fires = λ n. rw (p.is) (fires_alike k n (children ns kids i) p.forest all ∙ sym (f n));
         }
 
-pub leaf_follows : (at : ℕ → ℕ → Outcome) (ns : List Node) (kids : List ℕ) (i h : ℕ) (t : Tree) (c : Course) → (node_at ns i).label ≡ Leaf h → Spells ns kids i t → Follows at (leaf h) c → Follows at t c
+pub leaf_follows : (at : ℕ → ℕ → Outcome) (ns : List Node) (kids : List ℕ) (i h : ℕ) (t : Tree) (c : Course) → (node_at ns i).label ≡ Leaf h → Spells ns kids i t → FollowsCourse at (leaf h) c → FollowsCourse at t c
 leaf_follows at ns kids i h t c l s f = rw (leaf_is ns kids i h t l s) f
 
 -- ---- first outcomes
@@ -212,7 +212,7 @@ module _ (delivery : SignalDelivery) (v : Arrived) (id : NotificationId) where
   abbrev has : ℕ → Bool
   has n = has_result_for (Some id) (ready_after n v)
 
-  present_is : (n : ℕ) → present delivery id (ready_after n v) ≡ option_or (pick listed (ds ++ bs n)) (pick listed es)
+  present_is : (n : ℕ) → present_result delivery id (ready_after n v) ≡ option_or (pick listed (ds ++ bs n)) (pick listed es)
   present_is n = ap (λ rs. option_or (pick listed rs) (pick listed es)) (results-append id v.ready.delivered (take n v.queued))
 
   has_any : (n : ℕ) → has n ≡ (any (ds ++ bs n) || any es)
@@ -220,11 +220,11 @@ module _ (delivery : SignalDelivery) (v : Arrived) (id : NotificationId) where
       rw (has_is id (v.ready.delivered ++ take n v.queued) (first (results_of id (v.ready.delivered ++ take n v.queued))) refl, has_is id v.ready.eager (first es) refl)
       (ap (λ rs. any rs || any es) (results-append id v.ready.delivered (take n v.queued)))
 
-  some_present : (n : ℕ) → is_some (present delivery id (ready_after n v)) ≡ has n
+  some_present : (n : ℕ) → is_some (present_result delivery id (ready_after n v)) ≡ has n
   some_present n = rw (present_is n, or_some (pick listed (ds ++ bs n)) (pick listed es), pick_some listed (ds ++ bs n), pick_some listed es) (sym (has_any n))
 
-  now_is : present delivery id (ready_after 0 v) ≡ present delivery id v.ready
-  now_is = ap (λ ns. present delivery id (record v.ready { delivered = ns })) (append-nil v.ready.delivered)
+  now_is : present_result delivery id (ready_after 0 v) ≡ present_result delivery id v.ready
+  now_is = ap (λ ns. present_result delivery id (record v.ready { delivered = ns })) (append-nil v.ready.delivered)
 
   grows : (n : ℕ) → bs (suc n) ≡ bs n ++ one n
   grows n = ap (results_of id) (take_suc v.queued n) ∙ results-append id (take n v.queued) (take 1 (drop n v.queued))
@@ -243,13 +243,13 @@ module _ (delivery : SignalDelivery) (v : Arrived) (id : NotificationId) where
   longer : (n : ℕ) → ds ++ bs (suc n) ≡ (ds ++ bs n) ++ one n
   longer n = ap (λ rs. ds ++ rs) (grows n) ∙ sym (append_assoc ds (bs n) (one n))
 
-  then_first : (n : ℕ) → has n ≡ false → has (suc n) ≡ true → present delivery id (ready_after (suc n) v) ≡ option_or (present delivery id v.ready) (first (results_of id v.queued))
+  then_first : (n : ℕ) → has n ≡ false → has (suc n) ≡ true → present_result delivery id (ready_after (suc n) v) ≡ option_or (present_result delivery id v.ready) (first (results_of id v.queued))
   then_first n h j =
       let before : (any (ds ++ bs n) || any es) ≡ false = sym (has_any n) ∙ h in
       let after : (any ((ds ++ bs n) ++ one n) || any es) ≡ true = ap (λ rs. any rs || any es) (sym (longer n)) ∙ sym (has_any (suc n)) ∙ j in
       let c = one_comes listed ds (bs n) (one n) (results_of id (drop (suc n) v.queued)) es (few (drop n v.queued)) before after in
       let all : results_of id v.queued ≡ (bs n ++ one n) ++ results_of id (drop (suc n) v.queued) = all_are (suc n) ∙ ap (λ rs. rs ++ results_of id (drop (suc n) v.queued)) (grows n) in
-      present_is (suc n) ∙ ap (λ rs. option_or (pick listed rs) (pick listed es)) (longer n) ∙ c ∙ ap (λ rs. option_or (present delivery id v.ready) (first rs)) (sym all)
+      present_is (suc n) ∙ ap (λ rs. option_or (pick listed rs) (pick listed es)) (longer n) ∙ c ∙ ap (λ rs. option_or (present_result delivery id v.ready) (first rs)) (sym all)
 
   has_more : (n : ℕ) → has n ≡ true → has (suc n) ≡ true
   has_more n h = has_any (suc n) ∙ ap (λ rs. any rs || any es) (longer n) ∙ go (any (ds ++ bs n)) (any es) refl (sym (has_any n) ∙ h)
@@ -261,22 +261,22 @@ module _ (delivery : SignalDelivery) (v : Arrived) (id : NotificationId) where
 
   known : (n : ℕ) → has n ≡ true → is_some (first_result_for delivery (Some id) v) ≡ true
   known n h =
-      let now : is_some (present delivery id v.ready) ≡ (any ds || any es) = or_some (pick listed ds) (pick listed es) ∙ rw (pick_some listed ds, pick_some listed es) refl in
-      or_some (present delivery id v.ready) (first (results_of id v.queued))
-      ∙ ap (λ rs. is_some (present delivery id v.ready) || any rs) (all_are n)
-      ∙ some_known ds (bs n) (results_of id (drop n v.queued)) es (is_some (present delivery id v.ready)) now (sym (has_any n) ∙ h)
+      let now : is_some (present_result delivery id v.ready) ≡ (any ds || any es) = or_some (pick listed ds) (pick listed es) ∙ rw (pick_some listed ds, pick_some listed es) refl in
+      or_some (present_result delivery id v.ready) (first (results_of id v.queued))
+      ∙ ap (λ rs. is_some (present_result delivery id v.ready) || any rs) (all_are n)
+      ∙ some_known ds (bs n) (results_of id (drop n v.queued)) es (is_some (present_result delivery id v.ready)) now (sym (has_any n) ∙ h)
 
-  id_comes : Comes (λ n. result_outcome (present delivery id (ready_after n v))) has (result_outcome (first_result_for delivery (Some id) v))
+  id_comes : Comes (λ n. result_outcome (present_result delivery id (ready_after n v))) has (result_outcome (first_result_for delivery (Some id) v))
   id_comes = record {
-    none_yet = λ n h. pending_is (result_outcome (present delivery id (ready_after n v))) (result_done (present delivery id (ready_after n v)) ∙ some_present n ∙ h);
-    at_once = λ h. ap result_outcome (now_is ∙ sym (or_first (present delivery id v.ready) (first (results_of id v.queued)) (ap is_some (sym now_is) ∙ some_present 0 ∙ h)));
+    none_yet = λ n h. pending_is (result_outcome (present_result delivery id (ready_after n v))) (result_done (present_result delivery id (ready_after n v)) ∙ some_present n ∙ h);
+    at_once = λ h. ap result_outcome (now_is ∙ sym (or_first (present_result delivery id v.ready) (first (results_of id v.queued)) (ap is_some (sym now_is) ∙ some_present 0 ∙ h)));
     then = λ n h j. ap result_outcome (then_first n h j);
     stays = has_more;
     done = λ n h. result_done (first_result_for delivery (Some id) v) ∙ known n h;
   }
 
 comes : (delivery : SignalDelivery) (v : Arrived) (id : Option NotificationId)
-    → Comes (λ n. result_outcome (present_for delivery id (ready_after n v))) (λ n. has_result_for id (ready_after n v)) (result_outcome (first_result_for delivery id v))
+    → Comes (λ n. result_outcome (present_result_for delivery id (ready_after n v))) (λ n. has_result_for id (ready_after n v)) (result_outcome (first_result_for delivery id v))
 comes delivery v None = record { none_yet = λ n h. refl; at_once = λ h. refl; then = λ n h j. refl; stays = λ n h. h; done = λ n h. cc }
 comes delivery v (Some id) = id_comes delivery v id
 
@@ -298,5 +298,5 @@ done_is delivery v h n = go (has_result_for (id_at h v.handles) (ready_after n v
     go false e = refl
 
 pub leaf_takes : (delivery : SignalDelivery) (v : Arrived) (h : ℕ) (c : Course) → c.outcome ≡ result_outcome (first_result_for delivery (id_at h v.handles) v)
-    → ((n : ℕ) → enough c.done n ≡ has_result_for (id_at h v.handles) (ready_after n v)) → c.fired ≡ None → Follows (outcomes delivery v) (leaf h) c
+    → ((n : ℕ) → enough c.done n ≡ has_result_for (id_at h v.handles) (ready_after n v)) → c.fired ≡ None → FollowsCourse (outcomes delivery v) (leaf h) c
 leaf_takes delivery v h c o d f = record { outcomes = λ n. outcome_is delivery v h n ∙ rw (o, d n) refl; fires = λ n. rw f refl }

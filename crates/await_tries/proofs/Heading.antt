@@ -7,8 +7,8 @@ use Rattle.journal_values.specs.declared.notification.NotificationId.TheVariants
 use Rattle.await_trees.specs.declared.nodes.Node.{Node}
 use Rattle.await_trees.specs.declared.nodes.Label.TheVariants.{Leaf, Inner}
 use Rattle.await_trees.specs.Tree.{Forest, leaf, node, none, more, forest}
-use Rattle.await_trees.specs.Wires.{completion_of, signal_of, name_of, completions, signals, names, head_of}
-use Rattle.await_tries.specs.Heads.{bare, with_id, with_children}
+use Rattle.await_trees.specs.Wires.{with_completion_id, signal_of, with_signal_name, completions, signals, names, head_of}
+use Rattle.await_tries.specs.Heads.{bare, with_leaf_id, with_children}
 use Rattle.await_tries.specs.Left.{read}
 use Rattle.await_tries.specs.Spells.{node_at, children}
 use Rattle.await_tries.specs.Walks.{reads}
@@ -16,7 +16,7 @@ use Rattle.await_tries.specs.Walks.{reads}
 same_node : (a b : FutureNode) → a.kind ≡ b.kind → a.waiting_completions ≡ b.waiting_completions → a.waiting_signals ≡ b.waiting_signals → a.waiting_named_signals ≡ b.waiting_named_signals → a.nested ≡ b.nested → a ≡ b
 same_node a b k c s n m = λ i. record { kind = k i; waiting_completions = c i; waiting_signals = s i; waiting_named_signals = n i; nested = m i }
 
-completion_first : (o : Option NotificationId) (is : List ℕ) → completion_of o is ≡ completion_of o [] ++ is
+completion_first : (o : Option NotificationId) (is : List ℕ) → with_completion_id o is ≡ with_completion_id o [] ++ is
 completion_first None is = refl
 completion_first (Some (CompletionId i)) is = refl
 completion_first (Some (SignalId i)) is = refl
@@ -28,7 +28,7 @@ signal_first (Some (CompletionId i)) is = refl
 signal_first (Some (SignalId i)) is = refl
 signal_first (Some (SignalName i)) is = refl
 
-name_first : (o : Option NotificationId) (is : List (List ℕ)) → name_of o is ≡ name_of o [] ++ is
+name_first : (o : Option NotificationId) (is : List (List ℕ)) → with_signal_name o is ≡ with_signal_name o [] ++ is
 name_first None is = refl
 name_first (Some (CompletionId i)) is = refl
 name_first (Some (SignalId i)) is = refl
@@ -38,11 +38,11 @@ one_behind : {X : Type 0} (xs ys zs ws : List X) → ws ≡ ys ++ zs → (xs ++ 
 one_behind xs ys zs ws e = append_assoc xs ys zs ∙ ap (λ z. xs ++ z) (sym e)
 
 module _ (id : ℕ → Option NotificationId) where
-  with_leaf : (n : FutureNode) (h : ℕ) (ts : Forest) → with_children id (with_id (id h) n) ts ≡ with_children id n (more (leaf h) ts)
-  with_leaf n h ts = same_node (with_children id (with_id (id h) n) ts) (with_children id n (more (leaf h) ts)) refl
-      (one_behind n.waiting_completions (completion_of (id h) []) (completions id ts) (completion_of (id h) (completions id ts)) (completion_first (id h) (completions id ts)))
+  with_leaf : (n : FutureNode) (h : ℕ) (ts : Forest) → with_children id (with_leaf_id (id h) n) ts ≡ with_children id n (more (leaf h) ts)
+  with_leaf n h ts = same_node (with_children id (with_leaf_id (id h) n) ts) (with_children id n (more (leaf h) ts)) refl
+      (one_behind n.waiting_completions (with_completion_id (id h) []) (completions id ts) (with_completion_id (id h) (completions id ts)) (completion_first (id h) (completions id ts)))
       (one_behind n.waiting_signals (signal_of (id h) []) (signals id ts) (signal_of (id h) (signals id ts)) (signal_first (id h) (signals id ts)))
-      (one_behind n.waiting_named_signals (name_of (id h) []) (names id ts) (name_of (id h) (names id ts)) (name_first (id h) (names id ts)))
+      (one_behind n.waiting_named_signals (with_signal_name (id h) []) (names id ts) (with_signal_name (id h) (names id ts)) (name_first (id h) (names id ts)))
       refl
 
   with_inner : (n : FutureNode) (k : FutureKind) (us ts : Forest) → with_children id (record n { nested = n.nested + 1 }) ts ≡ with_children id n (more (node k us) ts)
@@ -72,7 +72,7 @@ module _ (id : ℕ → Option NotificationId) where
     read_inner zero k p e = absurd (omega arith)
     read_inner (suc f) k p e = (forest (map (read ns kids f) (children ns kids c)), rw e refl)
 
-    pub leaf_turn : (h : ℕ) → (node_at ns c).label ≡ Leaf h → after ≡ with_id (id h) head → with_children id head (reads ns kids (drop i cs)) ≡ whole → with_children id after (reads ns kids (drop (i + 1) cs)) ≡ whole
+    pub leaf_turn : (h : ℕ) → (node_at ns c).label ≡ Leaf h → after ≡ with_leaf_id (id h) head → with_children id head (reads ns kids (drop i cs)) ≡ whole → with_children id after (reads ns kids (drop (i + 1) cs)) ≡ whole
     leaf_turn h label put e =
         let rest = reads ns kids (drop (i + 1) cs) in
         let is : reads ns kids (drop i cs) ≡ more (leaf h) rest = next_is ∙ ap (λ z. more z rest) (read_leaf (length ns) h some label) in

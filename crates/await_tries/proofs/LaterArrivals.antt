@@ -12,7 +12,7 @@ use Rattle.arrivals.proofs.Awaited.{results-append}
 use Rattle.vm_types.specs.declared.options.SignalDelivery.{SignalDelivery}
 use Rattle.vm_types.specs.declared.options.SignalDelivery.TheVariants.{Queued}
 use Rattle.vm_parts.specs.Arrived.{Arrived, Ready}
-use Rattle.vm_parts.specs.Deliveries.{id_at, is_listed, present, present_for}
+use Rattle.vm_parts.specs.Deliveries.{id_at, is_listed, present_result, present_result_for}
 use Rattle.await_trees.specs.declared.outcome.Outcome.{Outcome}
 use Rattle.await_trees.specs.declared.outcome.Outcome.TheVariants.{Pending, Succeeded, Failed}
 use Rattle.await_trees.specs.Outcomes.{is_done, first_of, Grows}
@@ -29,7 +29,7 @@ abbrev pub ready : List Notification → List Notification → Ready
 ready ns es = record { delivered = ns; eager = es }
 
 abbrev pub id_outcome : SignalDelivery → List Notification → List Notification → Option NotificationId → Outcome
-id_outcome delivery ns es o = result_outcome (present_for delivery o (ready ns es))
+id_outcome delivery ns es o = result_outcome (present_result_for delivery o (ready ns es))
 
 -- what is known already does not see what comes later
 known_now : (delivery : SignalDelivery) (v : Arrived) (later : List Notification) (m h : ℕ) → m ≤ length v.queued → leaf_outcome delivery (used (with_later v later) m) h ≡ leaf_outcome delivery (used v m) h
@@ -76,7 +76,7 @@ newest_stays (a ∷ b ∷ ks) bs cs es one d = absurd (omega arith)
 
 module _ (xs ys zs es : List Notification) (once : (i : ℕ) → length (results_of (CompletionId i) ((xs ++ ys) ++ zs)) + length (results_of (CompletionId i) es) ≤ 1)
     (others : (id : NotificationId) → is_listed Queued id ≡ true → results_of id es ≡ []) where
-  present_stays : (id : NotificationId) → is_done (result_outcome (present Queued id (ready xs es))) ≡ true → present Queued id (ready (xs ++ ys) es) ≡ present Queued id (ready xs es)
+  present_stays : (id : NotificationId) → is_done (result_outcome (present_result Queued id (ready xs es))) ≡ true → present_result Queued id (ready (xs ++ ys) es) ≡ present_result Queued id (ready xs es)
   present_stays (SignalId i) d = rw results-append (signal_stays (results_of (SignalId i) xs) (results_of (SignalId i) ys) (results_of (SignalId i) es) (others (SignalId i) refl) d)
   present_stays (SignalName i) d = rw results-append (signal_stays (results_of (SignalName i) xs) (results_of (SignalName i) ys) (results_of (SignalName i) es) (others (SignalName i) refl) d)
   present_stays (CompletionId i) d =

@@ -6,7 +6,7 @@ use Rattle.std.proofs.lemmas.Bool.{cases_lt}
 use Rattle.await_trees.specs.declared.nodes.Node.{Node}
 use Rattle.await_trees.specs.declared.nodes.Label.TheVariants.{Leaf, Inner}
 use Rattle.await_trees.specs.Tree.{Tree, Forest, leaf, node, none, more}
-use Rattle.await_trees.specs.Preorder.{preorder, preorders, size, joined, next, from}
+use Rattle.await_trees.specs.Preorder.{preorder, preorders, size, forests_joined, forest_after_root, from}
 use Rattle.await_trees.proofs.Preorders.{codes_from, none_from}
 use Rattle.await_tries.specs.Link.{Linked}
 use Rattle.await_tries.specs.Spells.{blank, node_at, children, AllAbove, Spells, a_leaf, a_node, SpellAll, no_more, one_more}
@@ -19,11 +19,11 @@ AllUnder (c ∷ cs) n = (c < n) × AllUnder cs n
 
 -- ---- rows of roots
 
-row_split : (ns : List Node) (kids : List ℕ) (us rs : Forest) (cs : List ℕ) → SpellAll ns kids cs (joined us rs) → SpellAll ns kids (take (size us) cs) us × SpellAll ns kids (drop (size us) cs) rs
+row_split : (ns : List Node) (kids : List ℕ) (us rs : Forest) (cs : List ℕ) → SpellAll ns kids cs (forests_joined us rs) → SpellAll ns kids (take (size us) cs) us × SpellAll ns kids (drop (size us) cs) rs
 row_split ns kids none rs cs s = (no_more, s)
 row_split ns kids (more u us) rs cs (one_more {cs = ds} p s) = let q = row_split ns kids us rs ds s in (one_more p q.0, q.1)
 
-row_enough : (ns : List Node) (kids : List ℕ) (us rs : Forest) (cs : List ℕ) → SpellAll ns kids cs (joined us rs) → size us ≤ length cs
+row_enough : (ns : List Node) (kids : List ℕ) (us rs : Forest) (cs : List ℕ) → SpellAll ns kids cs (forests_joined us rs) → size us ≤ length cs
 row_enough ns kids none rs cs s = omega arith
 row_enough ns kids (more u us) rs cs (one_more {cs = ds} p s) = let q = row_enough ns kids us rs ds s in omega arith
 
@@ -157,7 +157,7 @@ module _ (ns : List Node) (kids lids roots after : List ℕ) (h : ℕ) (within :
     pub enough : (node_at ns h).count ≤ length roots
     pub spelled : SpellAll now lids (h ∷ after) f
 
-  pub stepped : (f : Forest) (rest : List Node) → preorders f ≡ node_at ns h ∷ rest → SpellAll ns kids roots (next f) → Stepped f
+  pub stepped : (f : Forest) (rest : List Node) → preorders f ≡ node_at ns h ∷ rest → SpellAll ns kids roots (forest_after_root f) → Stepped f
   stepped none rest e s = cc
   stepped (more (leaf x) rs) rest e s =
       let d : node_at ns h ≡ record { label = Leaf x; first = 0; count = 0 } = head_node e in

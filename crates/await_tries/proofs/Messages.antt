@@ -13,12 +13,12 @@ use Rattle.arrivals.specs.Results.{results_of, first, newest}
 use Rattle.vm_types.specs.declared.options.SignalDelivery.{SignalDelivery}
 use Rattle.vm_types.specs.declared.options.SignalDelivery.TheVariants.{Queued}
 use Rattle.vm_parts.specs.Arrived.{Arrived}
-use Rattle.vm_parts.specs.Deliveries.{id_at, is_listed, present, present_for}
+use Rattle.vm_parts.specs.Deliveries.{id_at, is_listed, present_result, present_result_for}
 use Rattle.await_trees.specs.declared.outcome.Outcome.{Outcome}
 use Rattle.await_trees.specs.declared.outcome.Outcome.TheVariants.{Pending, Succeeded, Failed}
 use Rattle.await_trees.specs.Outcomes.{is_done, outcome, all_wait, fires, any_fires, awake, first_of}
 use Rattle.await_trees.specs.Tree.{Tree, Forest, leaf, node, none, more}
-use Rattle.await_trees.specs.Wires.{by_id}
+use Rattle.await_trees.specs.Wires.{outcome_of_leaf}
 use Rattle.await_trees.proofs.Bools.{or_neither}
 use Rattle.await_trees.proofs.Prune.{Waits, AllWait, residual_waits}
 use Rattle.await_trees.proofs.Readings.{sent_awake}
@@ -87,7 +87,7 @@ module _ (xs ys zs es : List Notification) (once : (i : ℕ) → length (results
       let all : results_of id (xs ++ ys) ≡ results_of id ys = results-append id xs ys ∙ ap (λ z. z ++ results_of id ys) none in
       ap (λ z. option_or (first z) (first (results_of id es))) all ∙ or_none (first (results_of id ys)) (results_of id es) e
 
-  new_present : (id : NotificationId) → is_done (result_outcome (present Queued id (ready xs es))) ≡ false → present Queued id (ready (xs ++ ys) es) ≡ first (results_of id ys)
+  new_present : (id : NotificationId) → is_done (result_outcome (present_result Queued id (ready xs es))) ≡ false → present_result Queued id (ready (xs ++ ys) es) ≡ first (results_of id ys)
   new_present (SignalId i) p = new_signal (SignalId i) (others (SignalId i) refl) p
   new_present (SignalName i) p = new_signal (SignalName i) (others (SignalName i) refl) p
   new_present (CompletionId i) p =
@@ -95,7 +95,7 @@ module _ (xs ys zs es : List Notification) (once : (i : ℕ) → length (results
       rw (← results-append (CompletionId i) xs ys, ← results-append (CompletionId i) (xs ++ ys) zs) (once i) in
       rw results-append (one_newest (results_of (CompletionId i) xs) (results_of (CompletionId i) ys) (results_of (CompletionId i) zs) (results_of (CompletionId i) es) one p)
 
-  new_outcome : (o : Option NotificationId) → is_done (id_outcome Queued xs es o) ≡ false → by_id (first_delivery ys) o ≡ id_outcome Queued (xs ++ ys) es o
+  new_outcome : (o : Option NotificationId) → is_done (id_outcome Queued xs es o) ≡ false → outcome_of_leaf (first_delivery ys) o ≡ id_outcome Queued (xs ++ ys) es o
   new_outcome None p = refl
   new_outcome (Some id) p = ap result_outcome (sym (new_present id p))
 
@@ -111,14 +111,14 @@ message_wakes delivery v t r p later o mapped n =
     let whole : (xs ++ ys) ++ zs ≡ v.ready.delivered ++ (v.queued ++ later) =
     rw (append_assoc xs ys zs, take-append-drop n later) (append_assoc v.ready.delivered v.queued later) in
     let once : (i : ℕ) → length (results_of (CompletionId i) ((xs ++ ys) ++ zs)) + length (results_of (CompletionId i) v.ready.eager) ≤ 1 = λ i. rw whole (o.once i) in
-    let agree : (h : ℕ) → is_done (outcomes delivery v all h) ≡ false → by_id (first_delivery ys) (ids v h) ≡ leaf_outcome delivery (used w (all + n)) h = λ h d.
+    let agree : (h : ℕ) → is_done (outcomes delivery v all h) ≡ false → outcome_of_leaf (first_delivery ys) (ids v h) ≡ leaf_outcome delivery (used w (all + n)) h = λ h d.
     let now : outcomes delivery v all h ≡ leaf_outcome delivery (used v all) h = first_is_now delivery v later stays all h (omega arith) in
     let pending : is_done (id_outcome Queued xs v.ready.eager (id_at h v.handles)) ≡ false = rw (← o.queued, ← take-length v.queued) (rw now at d) in
     rw (delivered, o.queued) (new_outcome xs ys zs v.ready.eager once o.completions (id_at h v.handles) pending) in
     let asleep = or_neither (is_done (outcome (outcomes delivery v all) t)) (fires (outcomes delivery v all) t) (p.never all (omega arith)) in
     let waits : Waits (outcomes delivery v all) r = residual_waits (outcomes delivery v all) p.residual asleep.0 in
     sent_awake (ids v) (first_delivery ys) r mapped
-    ∙ same_awake_on (outcomes delivery v all) (λ h. by_id (first_delivery ys) (ids v h)) (leaf_outcome delivery (used w (all + n))) agree r waits
+    ∙ same_awake_on (outcomes delivery v all) (λ h. outcome_of_leaf (first_delivery ys) (ids v h)) (leaf_outcome delivery (used w (all + n))) agree r waits
     ∙ wakes_alike delivery v t r p later stays (all + n) (omega arith)
 
 -- ---- no leaf of a residual has a present result
@@ -148,4 +148,4 @@ none_present delivery v t r p =
     let asleep = or_neither (is_done (outcome (outcomes delivery v all) t)) (fires (outcomes delivery v all) t) (p.never all (omega arith)) in
     let waits : Waits (outcomes delivery v all) r = residual_waits (outcomes delivery v all) p.residual asleep.0 in
     each_leaf (outcomes delivery v all) (IsAbsent delivery (used v all))
-    (λ h d. absent (present_for delivery (id_at h v.handles) (used v all).ready) (now_pending (earlier delivery v all h) (leaf_outcome delivery (used v all) h) d)) r waits
+    (λ h d. absent (present_result_for delivery (id_at h v.handles) (used v all).ready) (now_pending (earlier delivery v all h) (leaf_outcome delivery (used v all) h) d)) r waits

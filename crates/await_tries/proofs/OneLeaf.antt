@@ -3,7 +3,7 @@ use Rattle.std.proofs.Common.{◌≡◌, ◌<◌, ◌≤◌, ◌+◌, ℕ, zero,
 use Rattle.await_trees.specs.declared.nodes.Label.TheVariants.{Leaf}
 use Rattle.await_trees.specs.declared.nodes.Node.{Node}
 use Rattle.await_trees.specs.Tree.{leaf}
-use Rattle.await_tries.specs.Left.{Left, IsWhole}
+use Rattle.await_tries.specs.Left.{Left, IsTreeLeft}
 use Rattle.await_tries.specs.Ranges.{Ranged}
 use Rattle.await_tries.specs.Spells.{node_at, a_leaf}
 use Rattle.await_tries.proofs.Spelled.{whole}
@@ -22,5 +22,5 @@ ranged h = record {
   numbers = λ k l. absurd (omega arith);
 }
 
-pub whole_leaf : (nodes : List Node) (kids : List ℕ) (h : ℕ) → nodes ≡ (one_leaf h).nodes → kids ≡ [] → IsWhole (record { nodes = nodes; kids = kids })
+pub whole_leaf : (nodes : List Node) (kids : List ℕ) (h : ℕ) → nodes ≡ (one_leaf h).nodes → kids ≡ [] → IsTreeLeft (record { nodes = nodes; kids = kids })
 whole_leaf nodes kids h are none = rw (are, none) (whole (one_leaf h) (leaf h) (ranged h) (a_leaf (omega arith) refl))

@@ -2,7 +2,7 @@
 use Rattle.std.proofs.Common.{◌≡◌, ℕ, zero, suc, ◌+◌, ◌<◌, ◌≤◌, List, length, map, refl, sym, ap, ◌∙◌, arith}
 use Rattle.await_trees.specs.declared.nodes.Node.{Node}
 use Rattle.await_trees.specs.Tree.{Tree, Forest, node, forest}
-use Rattle.await_tries.specs.Left.{Left, read, IsWhole}
+use Rattle.await_tries.specs.Left.{Left, read, IsTreeLeft}
 use Rattle.await_tries.specs.Ranges.{Ranged}
 use Rattle.await_tries.specs.Walks.{reads}
 use Rattle.await_tries.specs.Spells.{children, AllAbove, Spells, a_leaf, a_node, SpellAll, no_more, one_more}
@@ -31,7 +31,7 @@ module _ (ns : List Node) (kids : List ℕ) where
   reads_are cs ts no_more = refl
   reads_are cs ts (one_more {c = c} {cs = ds} {t = t} {ts = us} s r) = rw (spelled_at c t s, reads_are ds us r) refl
 
-pub whole : (l : Left) (t : Tree) → Ranged l.nodes l.kids → Spells l.nodes l.kids 0 t → IsWhole l
+pub whole : (l : Left) (t : Tree) → Ranged l.nodes l.kids → Spells l.nodes l.kids 0 t → IsTreeLeft l
 whole l t r s = record { ranged = r; spelled = rw (spelled_at l.nodes l.kids 0 t s) s }
 
 pub spells_within : (ns : List Node) (kids : List ℕ) (n : ℕ) (t : Tree) → Spells ns kids n t → n < length ns

@@ -9,18 +9,18 @@ use Rattle.await_trees.specs.Tree.{Tree}
 use Rattle.await_trees.proofs.Bools.{or_neither}
 use Rattle.await_tries.specs.declared.course.Course.{Course}
 use Rattle.await_tries.specs.Await.{outcomes, NeverAwake, LeftPending}
-use Rattle.await_tries.specs.Courses.{outcome_by, Follows, course_at, ends_at}
+use Rattle.await_tries.specs.Courses.{outcome_by, FollowsCourse, course_at, ends_at}
 use Rattle.await_tries.specs.Pruned.{Pruned}
 use Rattle.await_tries.specs.Spells.{Spells}
 use Rattle.await_tries.proofs.PrunedTrees.{left}
 use Rattle.await_tries.proofs.Waking.{course_wakes, tree_pending, ends_known}
 
 module _ (delivery : SignalDelivery) (v : Arrived) (t : Tree) (ns : List Node) (kids : List ℕ) (cs : List Course) (spelled : Spells ns kids 0 t)
-    (follow : (n : ℕ) (u : Tree) → Spells ns kids n u → Follows (outcomes delivery v) u (course_at cs n)) where
+    (follow : (n : ℕ) (u : Tree) → Spells ns kids n u → FollowsCourse (outcomes delivery v) u (course_at cs n)) where
   -- it wakes as the course of the first node says
   pub root_wakes : (by : Option ℕ) (root : Course) → root ≡ course_at cs 0 → ((n : ℕ) → enough by n ≡ (is_done (outcome_by root n) || enough root.fired n)) → (n : ℕ) → enough by n ≡ awake (outcomes delivery v n) t
   root_wakes by root r is n =
-      let f : Follows (outcomes delivery v) t root = rw r (follow 0 t spelled) in
+      let f : FollowsCourse (outcomes delivery v) t root = rw r (follow 0 t spelled) in
       is n ∙ course_wakes delivery v t root f n
 
   -- where it stays pending, pruned nodes spell what is left

@@ -17,7 +17,7 @@ use Rattle.vm_types.specs.declared.options.SignalDelivery.{SignalDelivery}
 use Rattle.vm_parts.specs.Arrived.{Arrived}
 use Rattle.vm_parts.specs.Deliveries.{id_at, has_result_for, ready_after, first_result_for}
 use Rattle.await_tries.specs.Await.{outcomes, LeastAwake, NeverAwake, LeftPending}
-use Rattle.await_tries.specs.Courses.{outcome_by, Follows, end_of}
+use Rattle.await_tries.specs.Courses.{outcome_by, FollowsCourse, end_of}
 use Rattle.await_tries.specs.Leaves.{result_outcome}
 use Rattle.await_tries.specs.declared.course.Course.{Course}
 use Rattle.await_tries.proofs.Courses.{outcome_is, done_is}
@@ -70,7 +70,7 @@ module _ (delivery : SignalDelivery) (v : Arrived) where
       or_false false = refl
 
   -- and a tree by its course
-  pub course_wakes : (t : Tree) (c : Course) → Follows (outcomes delivery v) t c → (n : ℕ) → (is_done (outcome_by c n) || enough c.fired n) ≡ awake (outcomes delivery v n) t
+  pub course_wakes : (t : Tree) (c : Course) → FollowsCourse (outcomes delivery v) t c → (n : ℕ) → (is_done (outcome_by c n) || enough c.fired n) ≡ awake (outcomes delivery v n) t
   course_wakes t c f n = rw (f.outcomes n, f.fires n) refl
 
   -- a leaf that stays pending
@@ -87,7 +87,7 @@ module _ (delivery : SignalDelivery) (v : Arrived) where
       }
 
   -- a tree has its outcome by all that wait, where it comes to one
-  pub ends_known : (t : Tree) (c : Course) → Follows (outcomes delivery v) t c → is_some (end_of c) ≡ is_done (outcome (outcomes delivery v all) t)
+  pub ends_known : (t : Tree) (c : Course) → FollowsCourse (outcomes delivery v) t c → is_some (end_of c) ≡ is_done (outcome (outcomes delivery v all) t)
   ends_known t c f = go c.done (is_done c.outcome) refl refl
     where
       go : (d : Option ℕ) (b : Bool) → c.done ≡ d → is_done c.outcome ≡ b → is_some (end_of c) ≡ is_done (outcome (outcomes delivery v all) t)

@@ -8,11 +8,11 @@ use Rattle.await_trees.specs.declared.nodes.Node.{Node}
 use Rattle.await_trees.specs.declared.nodes.Label.{Label}
 use Rattle.await_trees.specs.declared.nodes.Label.TheVariants.{Leaf, Inner}
 use Rattle.await_trees.specs.Handles.{handles_of, handles_in}
-use Rattle.await_trees.specs.Preorder.{preorders, joined, next}
+use Rattle.await_trees.specs.Preorder.{preorders, forests_joined, forest_after_root}
 use Rattle.await_trees.specs.Wires.{head_of, nested}
 use Rattle.await_trees.specs.Tree.{Tree, Forest, leaf, node, none, more}
 use Rattle.await_tries.specs.declared.walk.Row.{Row}
-use Rattle.await_tries.specs.Left.{Left, read, tree_left, IsWhole}
+use Rattle.await_tries.specs.Left.{Left, read, tree_left, IsTreeLeft}
 use Rattle.await_tries.specs.Ranges.{Ranged}
 use Rattle.await_tries.specs.Spells.{node_at, children, Spells, SpellAll, one_more}
 use Rattle.await_tries.specs.Walks.{reads, row_rest, coming, Sound, Steps}
@@ -44,11 +44,11 @@ pub is_leaf : (l : Label) → ((k : FutureKind) → l ≡ Inner k → ⊥) → (
 is_leaf (Leaf h) n = (h, refl)
 is_leaf (Inner k) n = absurd (n k refl)
 
-joined_on : (ts us vs : Forest) → joined (joined ts us) vs ≡ joined ts (joined us vs)
+joined_on : (ts us vs : Forest) → forests_joined (forests_joined ts us) vs ≡ forests_joined ts (forests_joined us vs)
 joined_on none us vs = refl
 joined_on (more t ts) us vs = ap (more t) (joined_on ts us vs)
 
-pub joined_none : (ts : Forest) → joined ts none ≡ ts
+pub joined_none : (ts : Forest) → forests_joined ts none ≡ ts
 joined_none none = refl
 joined_none (more t ts) = ap (more t) (joined_none ts)
 
@@ -84,16 +84,16 @@ module _ (ns : List Node) (kids : List ℕ) where
     child_within = spells_within ns kids c (read ns kids (length ns) c) parts.0
 
     behind : Forest
-    behind = joined (reads ns kids (row_rest kids after)) (coming ns kids rs)
+    behind = forests_joined (reads ns kids (row_rest kids after)) (coming ns kids rs)
 
-    comes : coming ns kids (r ∷ rs) ≡ more (read ns kids (length ns) c) (joined (reads ns kids (row_rest kids after)) (coming ns kids rs))
-    comes = ap (λ z. joined (reads ns kids z) (coming ns kids rs)) after_rest
+    comes : coming ns kids (r ∷ rs) ≡ more (read ns kids (length ns) c) (forests_joined (reads ns kids (row_rest kids after)) (coming ns kids rs))
+    comes = ap (λ z. forests_joined (reads ns kids z) (coming ns kids rs)) after_rest
 
     pub step_leaf : (h : ℕ) → (node_at ns c).label ≡ Leaf h → Steps ns kids (r ∷ rs) (Some c) (after ∷ rs)
     step_leaf h label =
         let is : read ns kids (length ns) c ≡ leaf h = leaf_is ns kids c h (read ns kids (length ns) c) label parts.0 in
         let all : coming ns kids (r ∷ rs) ≡ more (leaf h) (coming ns kids (after ∷ rs)) = comes ∙ ap (λ z. more z (coming ns kids (after ∷ rs))) is in
-        (coming ns kids (after ∷ rs), comes, parts.0, sym (ap next all), (rw end sound.0, parts.1, sound.2))
+        (coming ns kids (after ∷ rs), comes, parts.0, sym (ap forest_after_root all), (rw end sound.0, parts.1, sound.2))
 
     pub step_inner : (g : Row) (k : FutureKind) → Ranged ns kids → (node_at ns c).label ≡ Inner k → g.place ≡ (node_at ns c).first → g.end ≡ (node_at ns c).first + (node_at ns c).count
         → Steps ns kids (r ∷ rs) (Some c) (g ∷ after ∷ rs)
@@ -106,12 +106,12 @@ module _ (ns : List Node) (kids : List ℕ) where
           coming ns kids (after ∷ rs),
           comes,
           parts.0,
-          ap (λ z. joined z (coming ns kids (after ∷ rs))) us_are ∙ sym (ap next all),
+          ap (λ z. forests_joined z (coming ns kids (after ∷ rs))) us_are ∙ sym (ap forest_after_root all),
           (rw last fits, rw (us_are, rest) o.spelled, (rw end sound.0, parts.1, sound.2)),
         )
 
 -- fewer nodes are to come
-pub fewer : (ts us : Forest) (t : Tree) (rs : Forest) → ts ≡ more t rs → us ≡ next ts → length (preorders us) < length (preorders ts)
+pub fewer : (ts us : Forest) (t : Tree) (rs : Forest) → ts ≡ more t rs → us ≡ forest_after_root ts → length (preorders us) < length (preorders ts)
 fewer ts us t rs e f =
     let some : 0 < length (preorders ts) = rw e (long t rs) in
     let less : length (preorders us) ≡ length (preorders ts) - 1 = ap (λ z. length (preorders z)) f ∙ ap length (codes_next ts) ∙ length-drop 1 (preorders ts) in
@@ -124,7 +124,7 @@ fewer ts us t rs e f =
 -- the same, from rows that hold the same trees
 pub steps_from : (ns : List Node) (kids : List ℕ) (start rows after left : List Row) (n : ℕ) → coming ns kids rows ≡ coming ns kids start → Steps ns kids rows (Some n) after → left ≡ after
     → Steps ns kids start (Some n) left
-steps_from ns kids start rows after left n e s b = (s.0, sym e ∙ s.1, s.2, ap (coming ns kids) b ∙ s.3 ∙ ap next e, subst (Sound ns kids) (sym b) s.4)
+steps_from ns kids start rows after left n e s b = (s.0, sym e ∙ s.1, s.2, ap (coming ns kids) b ∙ s.3 ∙ ap forest_after_root e, subst (Sound ns kids) (sym b) s.4)
 
 -- ---- where a walk starts: the root's children
 
@@ -135,7 +135,7 @@ pub record Started (l : Left) (k : FutureKind) (rows : List Row) : Type 0 where
   pub comes : coming l.nodes l.kids rows ≡ trees
   pub sound : Sound l.nodes l.kids rows
 
-pub started : (l : Left) (k : FutureKind) (r : Row) → IsWhole l → (node_at l.nodes 0).label ≡ Inner k → r.place ≡ (node_at l.nodes 0).first → r.end ≡ (node_at l.nodes 0).first + (node_at l.nodes 0).count → Started l k (r ∷ [])
+pub started : (l : Left) (k : FutureKind) (r : Row) → IsTreeLeft l → (node_at l.nodes 0).label ≡ Inner k → r.place ≡ (node_at l.nodes 0).first → r.end ≡ (node_at l.nodes 0).first + (node_at l.nodes 0).count → Started l k (r ∷ [])
 started l k r w label first last =
     let ns = l.nodes in
     let kids = l.kids in
@@ -148,13 +148,13 @@ started l k r w label first last =
       trees = o.forest;
       is = o.is;
       read_so = us;
-      comes = ap (λ z. joined z none) us_are ∙ joined_none o.forest;
+      comes = ap (λ z. forests_joined z none) us_are ∙ joined_none o.forest;
       sound = (rw last fits, rw (us_are, rest) o.spelled, tt);
     }
 
 -- ---- handles
 
-pub handles_joined : (us rs : Forest) → handles_in (joined us rs) ≡ handles_in us ++ handles_in rs
+pub handles_joined : (us rs : Forest) → handles_in (forests_joined us rs) ≡ handles_in us ++ handles_in rs
 handles_joined none rs = refl
 handles_joined (more t ts) rs = ap (λ z. handles_of t ++ z) (handles_joined ts rs) ∙ sym (append_assoc (handles_of t) (handles_in ts) (handles_in rs))
 
@@ -163,14 +163,14 @@ pub handle_next : (ns : List Node) (kids : List ℕ) (rows after : List Row) (n 
 handle_next ns kids rows after n h hs label (rs, is_next, s, later, sound) =
     let is = leaf_is ns kids n h (read ns kids (length ns) n) label s in
     let all : coming ns kids rows ≡ more (leaf h) rs = is_next ∙ ap (λ z. more z rs) is in
-    append_assoc hs (h ∷ []) (handles_in (coming ns kids after)) ∙ ap (λ z. hs ++ h ∷ handles_in z) (later ∙ ap next all) ∙ sym (ap (λ z. hs ++ handles_in z) all)
+    append_assoc hs (h ∷ []) (handles_in (coming ns kids after)) ∙ ap (λ z. hs ++ h ∷ handles_in z) (later ∙ ap forest_after_root all) ∙ sym (ap (λ z. hs ++ handles_in z) all)
 
 pub inner_next : (ns : List Node) (kids : List ℕ) (rows after : List Row) (n : ℕ) (k : FutureKind) (hs : List ℕ) → (node_at ns n).label ≡ Inner k → Steps ns kids rows (Some n) after
     → hs ++ handles_in (coming ns kids after) ≡ hs ++ handles_in (coming ns kids rows)
 inner_next ns kids rows after n k hs label (rs, is_next, s, later, sound) =
     let o = opened ns kids n k (read ns kids (length ns) n) label s in
     let all : coming ns kids rows ≡ more (node k o.forest) rs = is_next ∙ ap (λ z. more z rs) o.is in
-    ap (λ z. hs ++ handles_in z) (later ∙ ap next all) ∙ ap (λ z. hs ++ z) (handles_joined o.forest rs) ∙ sym (ap (λ z. hs ++ handles_in z) all)
+    ap (λ z. hs ++ handles_in z) (later ∙ ap forest_after_root all) ∙ ap (λ z. hs ++ z) (handles_joined o.forest rs) ∙ sym (ap (λ z. hs ++ handles_in z) all)
 
 pub steps_fewer : (ns : List Node) (kids : List ℕ) (rows after : List Row) (n : ℕ) → Steps ns kids rows (Some n) after → length (preorders (coming ns kids after)) < length (preorders (coming ns kids rows))
 steps_fewer ns kids rows after n (rs, is_next, s, later, sound) = fewer (coming ns kids rows) (coming ns kids after) (read ns kids (length ns) n) rs is_next later
@@ -180,7 +180,7 @@ steps_within ns kids rows after n (rs, is_next, s, later, sound) = spells_within
 
 -- ---- what is sent
 
-nested_joined : (id : ℕ → Option NotificationId) (us rs : Forest) → nested id (joined us rs) ≡ nested id us ++ nested id rs
+nested_joined : (id : ℕ → Option NotificationId) (us rs : Forest) → nested id (forests_joined us rs) ≡ nested id us ++ nested id rs
 nested_joined id none rs = refl
 nested_joined id (more (leaf h) ts) rs = nested_joined id ts rs
 nested_joined id (more (node k us) ts) rs = ap (λ z. head_of id k us ∷ z) (ap (λ z. nested id us ++ z) (nested_joined id ts rs) ∙ sym (append_assoc (nested id us) (nested id ts) (nested id rs)))
@@ -193,6 +193,6 @@ head_next id ns kids rows after n k head sent_so_far sent_now label (rs, is_next
     let us = reads_are ns kids (children ns kids n) o.forest o.spelled in
     let is : head ≡ head_of id k o.forest = filled ∙ ap (head_of id k) us in
     let all : coming ns kids rows ≡ more (node k o.forest) rs = is_next ∙ ap (λ z. more z rs) o.is in
-    let rest : nested id (coming ns kids after) ≡ nested id o.forest ++ nested id rs = ap (nested id) (later ∙ ap next all) ∙ nested_joined id o.forest rs in
+    let rest : nested id (coming ns kids after) ≡ nested id o.forest ++ nested id rs = ap (nested id) (later ∙ ap forest_after_root all) ∙ nested_joined id o.forest rs in
     ap (λ z. z ++ nested id (coming ns kids after)) pushed ∙ append_assoc sent_so_far (head ∷ []) (nested id (coming ns kids after))
     ∙ ap (λ z. sent_so_far ++ head ∷ z) rest ∙ ap (λ z. sent_so_far ++ z ∷ (nested id o.forest ++ nested id rs)) is ∙ sym (ap (λ z. sent_so_far ++ nested id z) all)

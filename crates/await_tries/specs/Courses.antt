@@ -14,7 +14,7 @@ abbrev pub outcome_by : Course → ℕ → Outcome
 outcome_by c n = cond (enough c.done n) c.outcome Pending
 
 -- a tree takes this course, where leaves come to `at n` by n notifications
-pub record Follows (at : ℕ → ℕ → Outcome) (t : Tree) (c : Course) : Type 0 where
+pub record FollowsCourse (at : ℕ → ℕ → Outcome) (t : Tree) (c : Course) : Type 0 where
   pub outcomes : (n : ℕ) → outcome (at n) t ≡ outcome_by c n
   pub fires : (n : ℕ) → fires (at n) t ≡ enough c.fired n
 

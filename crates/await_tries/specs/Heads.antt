@@ -4,7 +4,7 @@ use Rattle.journal_attempt.specs.declared.future.FutureKind.{FutureKind}
 use Rattle.journal_attempt.specs.declared.future.FutureNode.{FutureNode}
 use Rattle.journal_values.specs.declared.notification.NotificationId.{NotificationId}
 use Rattle.await_trees.specs.Tree.{Forest}
-use Rattle.await_trees.specs.Wires.{completion_of, signal_of, name_of, completions, signals, names, inner}
+use Rattle.await_trees.specs.Wires.{with_completion_id, signal_of, with_signal_name, completions, signals, names, inner}
 
 -- it waits for nothing yet
 abbrev pub bare : FutureKind → FutureNode
@@ -17,11 +17,11 @@ bare k = record {
 }
 
 -- an id stands last in the list of its kind
-abbrev pub with_id : Option NotificationId → FutureNode → FutureNode
-with_id id n = record n {
-  waiting_completions = n.waiting_completions ++ completion_of id [];
+abbrev pub with_leaf_id : Option NotificationId → FutureNode → FutureNode
+with_leaf_id id n = record n {
+  waiting_completions = n.waiting_completions ++ with_completion_id id [];
   waiting_signals = n.waiting_signals ++ signal_of id [];
-  waiting_named_signals = n.waiting_named_signals ++ name_of id [];
+  waiting_named_signals = n.waiting_named_signals ++ with_signal_name id [];
 }
 
 -- further children

@@ -7,7 +7,7 @@ use Rattle.arrivals.specs.Results.{results_of}
 use Rattle.vm_types.specs.declared.options.SignalDelivery.{SignalDelivery}
 use Rattle.vm_types.specs.declared.options.SignalDelivery.TheVariants.{Queued}
 use Rattle.vm_parts.specs.Arrived.{Arrived}
-use Rattle.vm_parts.specs.Deliveries.{id_at, is_listed, present_for}
+use Rattle.vm_parts.specs.Deliveries.{id_at, is_listed, present_result_for}
 use Rattle.await_trees.specs.Outcomes.{is_done, awake}
 use Rattle.await_trees.specs.Tree.{Tree, Forest, leaf, node, none, more}
 use Rattle.await_tries.specs.Leaves.{leaf_outcome}
@@ -46,7 +46,7 @@ pub record PlainlyLeast (delivery : SignalDelivery) (v : Arrived) (t : Tree) (n 
 
 -- a handle without a present result
 abbrev pub IsAbsent : SignalDelivery → Arrived → ℕ → Type 0
-IsAbsent delivery v h = present_for delivery (id_at h v.handles) v.ready ≡ None
+IsAbsent delivery v h = present_result_for delivery (id_at h v.handles) v.ready ≡ None
 
 -- this holds of each leaf of a tree
 abbrev mutual

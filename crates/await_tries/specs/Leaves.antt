@@ -4,7 +4,7 @@ use Rattle.journal_values.specs.declared.notification.NotificationResult.{Notifi
 use Rattle.journal_values.specs.declared.notification.NotificationResult.TheVariants.{Void, Value, Failure, StateKeys, InvocationId}
 use Rattle.vm_types.specs.declared.options.SignalDelivery.{SignalDelivery}
 use Rattle.vm_parts.specs.Arrived.{Arrived}
-use Rattle.vm_parts.specs.Deliveries.{id_at, present_for}
+use Rattle.vm_parts.specs.Deliveries.{id_at, present_result_for}
 use Rattle.await_trees.specs.declared.outcome.Outcome.{Outcome}
 use Rattle.await_trees.specs.declared.outcome.Outcome.TheVariants.{Pending, Succeeded, Failed}
 
@@ -19,4 +19,4 @@ result_outcome (Some (InvocationId id)) = Succeeded
 
 -- a leaf is judged by the present result of its handle's id
 abbrev pub leaf_outcome : SignalDelivery → Arrived → ℕ → Outcome
-leaf_outcome delivery v h = result_outcome (present_for delivery (id_at h v.handles) v.ready)
+leaf_outcome delivery v h = result_outcome (present_result_for delivery (id_at h v.handles) v.ready)

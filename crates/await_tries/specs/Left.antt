@@ -28,6 +28,6 @@ abbrev pub tree_left : Left → Tree
 tree_left l = read l.nodes l.kids (length l.nodes) 0
 
 -- the first node spells a tree
-pub record IsWhole (l : Left) : Type 0 where
+pub record IsTreeLeft (l : Left) : Type 0 where
   pub ranged : Ranged l.nodes l.kids
   pub spelled : Spells l.nodes l.kids 0 (tree_left l)

@@ -9,7 +9,7 @@ use Rattle.vm_parts.specs.Deliveries.{id_at}
 use Rattle.await_trees.specs.declared.outcome.Outcome.{Outcome}
 use Rattle.await_trees.specs.Outcomes.{awake}
 use Rattle.await_trees.specs.Tree.{Tree}
-use Rattle.await_trees.specs.Wires.{reading, sent, Mapped}
+use Rattle.await_trees.specs.Wires.{tree_of_nodes, sent, Mapped}
 use Rattle.await_tries.specs.Leaves.{leaf_outcome, result_outcome}
 use Rattle.await_tries.specs.Later.{with_later, EachOnce}
 use Rattle.await_tries.specs.Used.{used}
@@ -27,5 +27,5 @@ abbrev pub MessageWakes : SignalDelivery → Arrived → Tree → Tree → Type 
 MessageWakes delivery v t r =
     (later : List Notification) → EachOnce delivery (with_later v later) → Mapped (ids v) r
     → (n : ℕ)
-    → awake (first_delivery (take n later)) (reading (sent (ids v) r))
+    → awake (first_delivery (take n later)) (tree_of_nodes (sent (ids v) r))
     ≡ awake (leaf_outcome delivery (used (with_later v later) (length v.queued + n))) t

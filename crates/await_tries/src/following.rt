@@ -3,7 +3,7 @@ ghost use Rattle.std.specs.Prelude.{◌≡◌, ◌<◌, ℕ, length, IfOk};
 ghost use Rattle.std.specs.Option.{option_copied};
 ghost use Rattle.await_trees.specs.Tree.{Tree, leaf};
 ghost use Rattle.await_tries.specs.Await.{outcomes};
-ghost use Rattle.await_tries.specs.Courses.{Follows, course_at};
+ghost use Rattle.await_tries.specs.Courses.{FollowsCourse, course_at};
 ghost use Rattle.await_tries.specs.Leaves.{result_outcome};
 ghost use Rattle.await_tries.specs.Ranges.{Ranged};
 ghost use Rattle.await_tries.specs.Spells.{node_at, Spells};
@@ -32,7 +32,7 @@ fn outcome_with(given: Option<&NotificationResult>) -> Outcome
 
 /// The course of the leaf of a handle.
 fn leaf_course(results: &AsyncResults, delivery: SignalDelivery, handle: u32) -> Course
-    ensures { Follows (outcomes delivery results.now) (leaf handle) result }
+    ensures { FollowsCourse (outcomes delivery results.now) (leaf handle) result }
 {
     Course {
         outcome: outcome_with(results.first_result(delivery, handle)),
@@ -54,9 +54,9 @@ fn node_course(
     requires ranged { Ranged nodes.now kids.now }
     requires each { length courses.now ≡ length nodes.now }
     ensures { ((m : ℕ) (u : Tree) → i < m → Spells nodes.now kids.now m u
-        → Follows (outcomes delivery results.now) u (course_at courses.now m))
+        → FollowsCourse (outcomes delivery results.now) u (course_at courses.now m))
         → (t : Tree) → Spells nodes.now kids.now i t
-        → Follows (outcomes delivery results.now) t result }
+        → FollowsCourse (outcomes delivery results.now) t result }
 {
     let Node {
         label,
@@ -94,7 +94,7 @@ pub fn list_courses(
     requires { Ranged nodes.now kids.now }
     ensures { IfOk result (λ courses. (length courses.items ≡ length nodes.now)
         × ((n : ℕ) (t : Tree) → Spells nodes.now kids.now n t
-        → Follows (outcomes delivery results.now) t (course_at courses.items n))) }
+        → FollowsCourse (outcomes delivery results.now) t (course_at courses.items n))) }
 {
     let mut courses = no_courses(alloc, nodes.len())?;
     let mut i = nodes.len();

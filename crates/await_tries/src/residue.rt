@@ -1,6 +1,6 @@
 //! What a try leaves of a tree.
 ghost use Rattle.std.specs.Prelude.{◌≡◌};
-ghost use Rattle.await_tries.specs.Left.{IsWhole};
+ghost use Rattle.await_tries.specs.Left.{IsTreeLeft};
 
 use await_trees::Node;
 use std::marker::Model;
@@ -13,13 +13,13 @@ pub struct Residue {
 }
 
 impl Model for Residue {
-    ghost use Rattle.await_tries.specs.Left.{Left, IsWhole};
+    ghost use Rattle.await_tries.specs.Left.{Left, IsTreeLeft};
 
     ghost Value = { Left };
 
     ghost view = { λ r. record { nodes = r.nodes.items; kids = r.kids.items } };
 
-    ghost invariant = { λ r. IsWhole (record { nodes = r.nodes.items; kids = r.kids.items }) };
+    ghost invariant = { λ r. IsTreeLeft (record { nodes = r.nodes.items; kids = r.kids.items }) };
 }
 
 /// What a try of a future came to.
@@ -33,7 +33,7 @@ pub enum Resolution {
 
 impl Residue {
     pub fn new(nodes: Vec<Node>, kids: Vec<usize>) -> Residue
-        requires { IsWhole (record { nodes = nodes.items; kids = kids.items }) }
+        requires { IsTreeLeft (record { nodes = nodes.items; kids = kids.items }) }
         ensures { result ≡ record { nodes = nodes.items; kids = kids.items } }
     {
         Residue { nodes, kids }
@@ -41,7 +41,7 @@ impl Residue {
 
     pub fn nodes(&self) -> &[Node]
         ensures nodes { result.now ≡ self.now.nodes }
-        ensures whole { IsWhole self.now }
+        ensures whole { IsTreeLeft self.now }
     {
         self.nodes.as_slice()
     }

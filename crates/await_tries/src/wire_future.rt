@@ -3,7 +3,7 @@ ghost use Rattle.std.specs.Prelude.{◌≡◌, ◌<◌, ◌∷◌, [], ℕ, List
 ghost use Rattle.std.specs.Option.{option_copied};
 ghost use Rattle.await_trees.specs.Tree.{leaf};
 ghost use Rattle.await_trees.specs.Wires.{sent, head_of};
-ghost use Rattle.await_tries.specs.Heads.{bare, with_id};
+ghost use Rattle.await_tries.specs.Heads.{bare, with_leaf_id};
 ghost use Rattle.await_tries.specs.Left.{tree_left};
 ghost use Rattle.await_tries.specs.Message.{ids};
 ghost use Rattle.await_tries.specs.Spells.{children};
@@ -33,7 +33,7 @@ fn bare(alloc: Global, kind: FutureKind) -> FutureNode
 
 /// Puts an id last in the list of its kind.
 fn put_id(head: &mut FutureNode, id: Option<&NotificationId>) -> Result<(), AllocError>
-    ensures { IfOk result (λ _. head.new ≡ with_id (option_copied id.entry) head.old) }
+    ensures { IfOk result (λ _. head.new ≡ with_leaf_id (option_copied id.entry) head.old) }
 {
     match id {
         None => Ok(()),

@@ -6,12 +6,12 @@ use Rattle.flows.specs.Code.{Code, Give, ◌>>=◌}
 use Rattle.flows.specs.Steps.{start_call, start_sleep}
 
 -- the call's answer if it came first, and else that the time is over
-unfoldable pub first : Bool → NotificationHandle → Code (List ℕ)
-first is answer = if is then value answer else Give (codes "timeout")
+unfoldable pub answer_or_timeout : Bool → NotificationHandle → Code (List ℕ)
+answer_or_timeout is answer = if is then value answer else Give (codes "timeout")
 
 -- what comes first counts
 unfoldable pub in_time : NotificationHandle → NotificationHandle → Code (List ℕ)
-in_time answer deadline = select answer deadline >>= λ is. first is answer
+in_time answer deadline = select answer deadline >>= λ is. answer_or_timeout is answer
 
 abbrev pub race : List ℕ → Code (List ℕ)
 race name =

@@ -1,5 +1,5 @@
 //! It calls another handler, and waits for its answer for one second at most.
-ghost use Rattle.examples.specs.Race.{first, in_time};
+ghost use Rattle.examples.specs.Race.{answer_or_timeout, in_time};
 ghost use Rattle.flows.specs.Follows.{Follows};
 
 use bytes::Bytes;
@@ -11,9 +11,9 @@ use std::time::Duration;
 pub struct Race;
 
 /// The call's answer if it came first, and else that the time is over.
-#[tactic(auto, using(flows::specs::Code::goes_on), unfolding(crate::specs::Race::first))]
+#[tactic(auto, using(flows::specs::Code::goes_on), unfolding(crate::specs::Race::answer_or_timeout))]
 fn first(ctx: &mut Context<'_>, is: bool, answer: NotificationHandle) -> Result<Bytes, Exit>
-    ensures { Follows (first is answer) ctx.old result ctx.new }
+    ensures { Follows (answer_or_timeout is answer) ctx.old result ctx.new }
 {
     if is {
         return ctx.value(answer);

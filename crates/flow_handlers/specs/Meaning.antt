@@ -10,7 +10,7 @@ use Rattle.vm_types.specs.declared.values.NonEmptyValue.TheVariants as non_empty
 use Rattle.vm_types.specs.declared.values.TerminalFailure.{TerminalFailure}
 use Rattle.flows.specs.declared.exit.Fault.{Fault}
 use Rattle.flows.specs.declared.exit.Fault.TheVariants as fault
-use Rattle.flows.specs.Code.{Code, Failed, Given, Next, Outcome, outcome}
+use Rattle.flows.specs.Code.{Code, Failed, Given, Next, FlowOutcome, outcome}
 use Rattle.flows.specs.Steps.{stable}
 
 -- the failure that a handler ends with by a fault
@@ -24,7 +24,7 @@ output_written output [] = step.WriteOutput output stable
 output_written output (answer ∷ answers) = step.End
 
 -- the step after an outcome
-abbrev pub last_step : Outcome (List ℕ) → Step
+abbrev pub last_step : FlowOutcome (List ℕ) → Step
 last_step (Given output answers) = output_written (non_empty.Success output) answers
 last_step (Failed fault answers) = output_written (non_empty.Failure (fault_failure fault)) answers
 last_step (Next step) = step

@@ -11,9 +11,9 @@ use Rattle.flows.specs.declared.exit.Fault.TheVariants as fault
 use Rattle.flows.specs.Code.{Code, Fail, Give, Over}
 
 -- gives what is there; without it the handler is over
-abbrev pub given : {A : Type 0} → Option A → Code A
-given (Some value) = Give value
-given None = Over
+abbrev pub given_or_over : {A : Type 0} → Option A → Code A
+given_or_over (Some value) = Give value
+given_or_over None = Over
 
 -- the handle of a sleep, a call, a read or a run
 abbrev pub handle_in : Answer → Option NotificationHandle
@@ -43,25 +43,25 @@ completed_in (answer.Completed is) = Some is
 completed_in _ = None
 
 -- after an await: it goes on, or the handler is cancelled
-abbrev pub awake : Answer → Code (Unit {0})
-awake answer.Awake = Give tt
-awake answer.Cancelled = Fail fault.Cancelled
-awake _ = Over
+abbrev pub after_await : Answer → Code (Unit {0})
+after_await answer.Awake = Give tt
+after_await answer.Cancelled = Fail fault.Cancelled
+after_await _ = Over
 
 -- the bytes of a result; a failure ends the handler, and a result without bytes gives none
-abbrev pub bytes_of : Option Value → Code (List ℕ)
-bytes_of (Some (value.Success bytes)) = Give bytes
-bytes_of (Some (value.Failure failure)) = Fail (fault.Failed failure)
-bytes_of (Some value.Void) = Give []
-bytes_of (Some (value.StateKeys keys)) = Give []
-bytes_of (Some (value.InvocationId id)) = Give []
-bytes_of None = Over
+abbrev pub result_bytes : Option Value → Code (List ℕ)
+result_bytes (Some (value.Success bytes)) = Give bytes
+result_bytes (Some (value.Failure failure)) = Fail (fault.Failed failure)
+result_bytes (Some value.Void) = Give []
+result_bytes (Some (value.StateKeys keys)) = Give []
+result_bytes (Some (value.InvocationId id)) = Give []
+result_bytes None = Over
 
 -- the bytes of a state, if it is set
-abbrev pub state_of : Option Value → Code (Option (List ℕ))
-state_of (Some (value.Success bytes)) = Give (Some bytes)
-state_of (Some (value.Failure failure)) = Fail (fault.Failed failure)
-state_of (Some value.Void) = Give None
-state_of (Some (value.StateKeys keys)) = Over
-state_of (Some (value.InvocationId id)) = Over
-state_of None = Over
+abbrev pub state_bytes : Option Value → Code (Option (List ℕ))
+state_bytes (Some (value.Success bytes)) = Give (Some bytes)
+state_bytes (Some (value.Failure failure)) = Fail (fault.Failed failure)
+state_bytes (Some value.Void) = Give None
+state_bytes (Some (value.StateKeys keys)) = Over
+state_bytes (Some (value.InvocationId id)) = Over
+state_bytes None = Over

@@ -4,7 +4,7 @@ use Rattle.std.specs.declared.time.Duration.{Duration}
 use Rattle.await_trees.specs.declared.handle.NotificationHandle.{NotificationHandle}
 use Rattle.await_trees.specs.declared.tree.UnresolvedFuture.{UnresolvedFuture}
 use Rattle.await_trees.specs.declared.tree.UnresolvedFuture.TheVariants.{AllCompleted, FirstCompleted, Single}
-use Rattle.flows.specs.Answers.{bytes_of, state_of}
+use Rattle.flows.specs.Answers.{result_bytes, state_bytes}
 use Rattle.flows.specs.Code.{Code, Give, ◌>>=◌}
 use Rattle.flows.specs.Steps.{completed, start_call, start_get, start_run, start_sleep, take, wait}
 
@@ -14,7 +14,7 @@ both first second = Single first ∷ Single second ∷ []
 
 -- waits for the result of a handle
 unfoldable pub value : NotificationHandle → Code (List ℕ)
-value handle = wait (Single handle) >>= λ _. take handle >>= bytes_of
+value handle = wait (Single handle) >>= λ _. take handle >>= result_bytes
 
 -- sleeps until a time since the Unix epoch
 unfoldable pub sleep : Duration → Code (Unit {0})
@@ -30,7 +30,7 @@ run name = start_run name >>= value
 
 -- the state of a key, if it is set
 unfoldable pub get : List ℕ → Code (Option (List ℕ))
-get key = start_get key >>= λ handle. wait (Single handle) >>= λ _. take handle >>= state_of
+get key = start_get key >>= λ handle. wait (Single handle) >>= λ _. take handle >>= state_bytes
 
 -- waits until one of two results is there, and asks whether the first is
 unfoldable pub select : NotificationHandle → NotificationHandle → Code Bool

@@ -15,13 +15,13 @@ pub data Code (A : Type 0) : Type 0 where
 
 -- what code does over a list of answers: it gives a value or ends by a fault, with answers left, or
 -- its next step has no answer
-pub data Outcome (A : Type 0) : Type 0 where
-  Given : A → List Answer → Outcome A
-  Failed : Fault → List Answer → Outcome A
-  Next : Step → Outcome A
+pub data FlowOutcome (A : Type 0) : Type 0 where
+  Given : A → List Answer → FlowOutcome A
+  Failed : Fault → List Answer → FlowOutcome A
+  Next : Step → FlowOutcome A
 
 -- what code does over these answers
-abbrev pub outcome : {A : Type 0} → Code A → List Answer → Outcome A
+abbrev pub outcome : {A : Type 0} → Code A → List Answer → FlowOutcome A
 outcome (Give value) answers = Given value answers
 outcome (Fail fault) answers = Failed fault answers
 outcome Over answers = Next step.End
@@ -44,13 +44,13 @@ rescued Over rescue = Over
 rescued (Ask step next) rescue = Ask step (λ answer. rescued (next answer) rescue)
 
 -- an outcome, and then what follows its value
-abbrev pub onward : {A B : Type 0} → Outcome A → (A → Code B) → Outcome B
+abbrev pub onward : {A B : Type 0} → FlowOutcome A → (A → Code B) → FlowOutcome B
 onward (Given value answers) next = outcome (next value) answers
 onward (Failed fault answers) next = Failed fault answers
 onward (Next step) next = Next step
 
 -- an outcome, and what follows its fault
-abbrev pub aside : {A : Type 0} → Outcome A → (Fault → Code A) → Outcome A
+abbrev pub aside : {A : Type 0} → FlowOutcome A → (Fault → Code A) → FlowOutcome A
 aside (Given value answers) rescue = Given value answers
 aside (Failed fault answers) rescue = outcome (rescue fault) answers
 aside (Next step) rescue = Next step

@@ -1,6 +1,6 @@
 //! What a handler reads from the answer to a step.
 ghost use Rattle.std.specs.Prelude.{◌≡◌, IfOk};
-ghost use Rattle.flows.specs.Answers.{awakeable_in, awake, bytes_of, completed_in, given, handle_in, state_of, taken_in, unit_in};
+ghost use Rattle.flows.specs.Answers.{awakeable_in, after_await, result_bytes, completed_in, given_or_over, handle_in, state_bytes, taken_in, unit_in};
 ghost use Rattle.flows.specs.Follows.{Follows};
 
 use crate::context::Context;
@@ -64,7 +64,7 @@ pub(crate) fn completed_in(answer: &Answer) -> Option<bool>
 impl<'a> Context<'a> {
     /// What was found in the answer; without it the handler is over.
     pub(crate) fn expected<T>(&self, found: Option<T>) -> Result<T, Exit>
-        ensures { Follows (given found) self.now result self.now }
+        ensures { Follows (given_or_over found) self.now result self.now }
     {
         match found {
             Some(value) => Ok(value),
@@ -74,7 +74,7 @@ impl<'a> Context<'a> {
 
     /// After an await: it goes on, or the handler is cancelled.
     pub(crate) fn awake(&self, answer: &Answer) -> Result<(), Exit>
-        ensures { Follows (awake answer.now) self.now result self.now }
+        ensures { Follows (after_await answer.now) self.now result self.now }
     {
         match answer {
             Answer::Awake => Ok(()),
@@ -85,7 +85,7 @@ impl<'a> Context<'a> {
 
     /// The bytes of a result.
     pub(crate) fn bytes_of(&self, taken: Option<Value>) -> Result<Bytes, Exit>
-        ensures { Follows (bytes_of taken) self.now result self.now }
+        ensures { Follows (result_bytes taken) self.now result self.now }
     {
         match taken {
             Some(Value::Success(bytes)) => Ok(bytes),
@@ -97,7 +97,7 @@ impl<'a> Context<'a> {
 
     /// The bytes of a state, if it is set.
     pub(crate) fn state_of(&self, taken: Option<Value>) -> Result<Option<Bytes>, Exit>
-        ensures { Follows (state_of taken) self.now result self.now }
+        ensures { Follows (state_bytes taken) self.now result self.now }
     {
         match taken {
             Some(Value::Success(bytes)) => Ok(Some(bytes)),

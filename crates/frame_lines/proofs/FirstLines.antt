@@ -5,11 +5,11 @@ use Rattle.std.proofs.lemmas.Bool.{eqb-true}
 use Rattle.std.proofs.lemmas.List.{take-append-drop, drop_more, get_or-take, length-take-le}
 use Rattle.std.proofs.lemmas.List.Elements.{All-from_get_or}
 use Rattle.memchr.specs.Find.{Nowhere, NoneBefore, Passes, is_byte}
-use Rattle.frame_lines.specs.Runs.{IsFirstLine}
+use Rattle.frame_lines.specs.Runs.{IsFirstOfLines}
 
 -- a newline stands before it
 pub ends_at : (script : List ℕ) (at : ℕ) → NoneBefore (Passes (is_byte 10) script) 0 (length script) at → Passes (is_byte 10) script at
-    → IsFirstLine script (take at script) (drop (at + 1) script)
+    → IsFirstOfLines script (take at script) (drop (at + 1) script)
 ends_at script at none is =
     let h = none.high in
     let long = length-take-le at script (omega (arith, h)) in
@@ -20,6 +20,6 @@ ends_at script at none is =
     (line, inl (sym (take-append-drop at script) ∙ ap (λ t. take at script ++ t) behind))
 
 -- no newline stands in it
-pub never_ends : (script : List ℕ) → Nowhere (Passes (is_byte 10) script) 0 (length script) → IsFirstLine script script []
+pub never_ends : (script : List ℕ) → Nowhere (Passes (is_byte 10) script) 0 (length script) → IsFirstOfLines script script []
 never_ends script nowhere =
     (All-from_get_or (λ b. b ≢ 10) script 0 (λ i less e. nowhere i (omega arith) less (rw e refl)), inr (refl, refl))

@@ -7,7 +7,7 @@ use Rattle.journal_errors.specs.declared.types.MessageType.{MessageType}
 use Rattle.journal_errors.specs.declared.types.MessageType.TheVariants as type
 use Rattle.journal_errors.specs.Types.{type_at, type_number}
 use Rattle.journal_streams.proofs.Numbers.{type_found}
-use Rattle.frame_lines.specs.Names.{type_name}
+use Rattle.frame_lines.specs.Names.{type_word}
 
 -- each type has a number below 31
 has_number : (ty : MessageType) → type_number ty < 31
@@ -50,13 +50,13 @@ pub unequal : (xs ys : List ℕ) → pointwise nat_eq xs ys ≡ false → xs ≢
 unequal xs ys differ e = cc (sym differ ∙ (bytes_eq-Decides xs ys).1 e)
 
 -- one number more
-pub none_more : (name : List ℕ) (below : ℕ) → ((n : ℕ) (ty : MessageType) → n < below → type_at n ≡ Some ty → name ≢ type_name ty)
-    → ((ty : MessageType) → type_at below ≡ Some ty → name ≢ type_name ty) → (n : ℕ) (ty : MessageType) → n < below + 1 → type_at n ≡ Some ty → name ≢ type_name ty
+pub none_more : (name : List ℕ) (below : ℕ) → ((n : ℕ) (ty : MessageType) → n < below → type_at n ≡ Some ty → name ≢ type_word ty)
+    → ((ty : MessageType) → type_at below ≡ Some ty → name ≢ type_word ty) → (n : ℕ) (ty : MessageType) → n < below + 1 → type_at n ≡ Some ty → name ≢ type_word ty
 none_more name below before here n ty less at = elim (cases_lt n below) [
   | inl lower ↦ before n ty lower at
   | inr not ↦ let last : n ≡ below = omega arith in here ty (rw last at at)
 ]
 
 -- so one that isn't among those below 31 is none
-pub unnamed : (name : List ℕ) (below : ℕ) → 30 < below → ((n : ℕ) (ty : MessageType) → n < below → type_at n ≡ Some ty → name ≢ type_name ty) → (ty : MessageType) → name ≢ type_name ty
+pub unnamed : (name : List ℕ) (below : ℕ) → 30 < below → ((n : ℕ) (ty : MessageType) → n < below → type_at n ≡ Some ty → name ≢ type_word ty) → (ty : MessageType) → name ≢ type_word ty
 unnamed name below h none ty named = let small = has_number ty in none (type_number ty) ty (omega (arith, small)) (type_found ty) named

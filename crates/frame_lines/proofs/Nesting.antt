@@ -4,7 +4,7 @@ use Rattle.std.specs.Prelude.{codes, nat_lt}
 use Rattle.std.proofs.lemmas.Bool.{eq-eqb, le-ltb, lt-ltb, ne_eqb}
 use Rattle.std.proofs.lemmas.List.{append-nil, drop_all, drop_more, reverse-append}
 use Rattle.journal_attempt.specs.declared.future.FutureNode.{FutureNode}
-use Rattle.frame_lines.specs.Futures.{ends_text, head_text, left_then, nodes_text}
+use Rattle.frame_lines.specs.Futures.{ends_text, node_head_text, left_then, nodes_text}
 
 -- what is left to be written there is what is left here
 pub record EndsOn (line_first : List ℕ) (left_first : List ℕ) (line left : List ℕ) : Type 0 where
@@ -49,31 +49,31 @@ pub none_left : (line_first left_first line left : List ℕ) → EndsOn line_fir
 none_left line_first left_first line left so_far none = ap reverse none ∙ ap (λ l. left_then (reverse l)) (sym none) ∙ so_far.after
 
 -- a future in which none nests
-pub node_whole : (left : List ℕ) (n : FutureNode) (nodes : List FutureNode) → n.nested ≡ 0 → nodes_text left (n ∷ nodes) ≡ head_text n ++ (ends_text left ++ nodes_text (left_then left) nodes)
+pub node_whole : (left : List ℕ) (n : FutureNode) (nodes : List FutureNode) → n.nested ≡ 0 → nodes_text left (n ∷ nodes) ≡ node_head_text n ++ (ends_text left ++ nodes_text (left_then left) nodes)
 unfolding nodes_text
 node_whole left n nodes none = rw (eq-eqb n.nested 0 none) refl
 
 -- a future in which others nest
-pub node_open : (left : List ℕ) (n : FutureNode) (nodes : List FutureNode) → n.nested ≢ 0 → nodes_text left (n ∷ nodes) ≡ head_text n ++ nodes_text (n.nested ∷ left) nodes
+pub node_open : (left : List ℕ) (n : FutureNode) (nodes : List FutureNode) → n.nested ≢ 0 → nodes_text left (n ∷ nodes) ≡ node_head_text n ++ nodes_text (n.nested ∷ left) nodes
 unfolding nodes_text
 node_open left n nodes some = rw (ne_eqb n.nested 0 some) refl
 
 -- a future in which none nests is written, and those end that are whole by it
-pub whole_written : (line0 line1 line2 left0 left1 : List ℕ) (n : FutureNode) → n.nested ≡ 0 → line1 ≡ line0 ++ head_text n → line2 ≡ line1 ++ ends_text (reverse left0) → reverse left1 ≡ left_then (reverse left0)
+pub whole_written : (line0 line1 line2 left0 left1 : List ℕ) (n : FutureNode) → n.nested ≡ 0 → line1 ≡ line0 ++ node_head_text n → line2 ≡ line1 ++ ends_text (reverse left0) → reverse left1 ≡ left_then (reverse left0)
     → (others : List FutureNode) → line2 ++ nodes_text (reverse left1) others ≡ line0 ++ nodes_text (reverse left0) (n ∷ others)
 whole_written line0 line1 line2 left0 left1 n none head ends left others =
     let r = reverse left0 in
     let behind = nodes_text (left_then r) others in
-    ap (λ l. line2 ++ nodes_text l others) left ∙ ap (λ t. t ++ behind) (ends ∙ ap (λ t. t ++ ends_text r) head) ∙ append_assoc (line0 ++ head_text n) (ends_text r) behind
-    ∙ append_assoc line0 (head_text n) (ends_text r ++ behind) ∙ ap (λ t. line0 ++ t) (sym (node_whole r n others none))
+    ap (λ l. line2 ++ nodes_text l others) left ∙ ap (λ t. t ++ behind) (ends ∙ ap (λ t. t ++ ends_text r) head) ∙ append_assoc (line0 ++ node_head_text n) (ends_text r) behind
+    ∙ append_assoc line0 (node_head_text n) (ends_text r ++ behind) ∙ ap (λ t. line0 ++ t) (sym (node_whole r n others none))
 
 -- a future in which others nest is written up to the first of them
-pub open_written : (line0 line1 left0 left1 : List ℕ) (n : FutureNode) → n.nested ≢ 0 → line1 ≡ line0 ++ head_text n → left1 ≡ left0 ++ n.nested ∷ []
+pub open_written : (line0 line1 left0 left1 : List ℕ) (n : FutureNode) → n.nested ≢ 0 → line1 ≡ line0 ++ node_head_text n → left1 ≡ left0 ++ n.nested ∷ []
     → (others : List FutureNode) → line1 ++ nodes_text (reverse left1) others ≡ line0 ++ nodes_text (reverse left0) (n ∷ others)
 open_written line0 line1 left0 left1 n some head left others =
     let r = reverse left0 in
     let behind = nodes_text (n.nested ∷ r) others in
-    ap (λ l. line1 ++ nodes_text l others) (popped left1 left0 n.nested left) ∙ ap (λ t. t ++ behind) head ∙ append_assoc line0 (head_text n) behind ∙ ap (λ t. line0 ++ t) (sym (node_open r n others some))
+    ap (λ l. line1 ++ nodes_text l others) (popped left1 left0 n.nested left) ∙ ap (λ t. t ++ behind) head ∙ append_assoc line0 (node_head_text n) behind ∙ ap (λ t. line0 ++ t) (sym (node_open r n others some))
 
 -- ---- the nodes of a future, one after another
 

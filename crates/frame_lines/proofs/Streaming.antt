@@ -5,7 +5,7 @@ use Rattle.std.proofs.lemmas.List.Concat.{flat_map-cons}
 use Rattle.journal_messages.specs.declared.message.RawMessage.{RawMessage}
 use Rattle.journal_streams.specs.Frames.{Whole, next_of}
 use Rattle.frame_lines.specs.Printed.{frame_text}
-use Rattle.frame_lines.specs.Runs.{ArePrinted, AreShown, AreShownBefore, HasNoFrame, IsBadLine, IsFirstLine, IsShownBy, IsUnshown, line_text, rest_lines}
+use Rattle.frame_lines.specs.Runs.{ArePrinted, AreShown, AreShownBefore, HasNoFrame, IsBadLine, IsFirstOfLines, IsShownBy, IsUnshown, line_text, rest_lines}
 
 -- What is printed of the rest is printed of the whole stream, behind this text.
 pub record PrintsOn (stream rest text : List ℕ) : Type 0 where
@@ -44,14 +44,14 @@ pub record HasRead (text rest bytes : List ℕ) (number : ℕ) : Type 0 where
 pub none_read : (text bytes : List ℕ) (number : ℕ) → bytes ≡ [] → number ≡ 0 → HasRead text text bytes number
 none_read text bytes number none zero = record { lines = []; shown = (refl, none); counted = zero }
 
-more_shown : (lines : List (List ℕ)) (text rest behind line first bytes : List ℕ) → AreShownBefore lines text rest bytes → rest ≢ [] → IsFirstLine rest line behind → IsShownBy line first → AreShownBefore (lines ++ line ∷ []) text behind (bytes ++ first)
+more_shown : (lines : List (List ℕ)) (text rest behind line first bytes : List ℕ) → AreShownBefore lines text rest bytes → rest ≢ [] → IsFirstOfLines rest line behind → IsShownBy line first → AreShownBefore (lines ++ line ∷ []) text behind (bytes ++ first)
 more_shown [] text rest behind line first bytes (is, none) some is_line shown =
-    (behind, first, [], subst (λ t. t ≢ []) (sym is) some, subst (λ t. IsFirstLine t line behind) (sym is) is_line, shown, (refl, refl), ap (λ t. t ++ first) none ∙ sym (append-nil first))
+    (behind, first, [], subst (λ t. t ≢ []) (sym is) some, subst (λ t. IsFirstOfLines t line behind) (sym is) is_line, shown, (refl, refl), ap (λ t. t ++ first) none ∙ sym (append-nil first))
 more_shown (l ∷ lines) text rest behind line first bytes (b, f, others, there, first_line, shown_first, shown_others, is) some is_line shown =
     (b, f, others ++ first, there, first_line, shown_first, more_shown lines b rest behind line first others shown_others some is_line shown, ap (λ t. t ++ first) is ∙ append_assoc f others first)
 
 -- a line is read more
-pub line_read : (text rest behind line first bytes next : List ℕ) (number more : ℕ) → HasRead text rest bytes number → rest ≢ [] → IsFirstLine rest line behind → IsShownBy line first → next ≡ bytes ++ first → more ≡ number + 1 → HasRead text behind next more
+pub line_read : (text rest behind line first bytes next : List ℕ) (number more : ℕ) → HasRead text rest bytes number → rest ≢ [] → IsFirstOfLines rest line behind → IsShownBy line first → next ≡ bytes ++ first → more ≡ number + 1 → HasRead text behind next more
 line_read text rest behind line first bytes next number more so_far some is_line shown is counted = record {
   lines = so_far.lines ++ line ∷ [];
   shown = subst (AreShownBefore (so_far.lines ++ line ∷ []) text behind) (sym is) (more_shown so_far.lines text rest behind line first bytes so_far.shown some is_line shown);
@@ -64,7 +64,7 @@ all_read text [] bytes number so_far none = record { lines = so_far.lines; shown
 all_read text (b ∷ rest) bytes number so_far none = absurd (omega arith)
 
 -- the next line has no meaning
-pub stops : (text rest line others bytes : List ℕ) (number here : ℕ) → HasRead text rest bytes number → IsFirstLine rest line others → IsUnshown line → here ≡ number + 1 → IsBadLine text here
+pub stops : (text rest line others bytes : List ℕ) (number here : ℕ) → HasRead text rest bytes number → IsFirstOfLines rest line others → IsUnshown line → here ≡ number + 1 → IsBadLine text here
 stops text rest line others bytes number here so_far first unshown is = record {
   lines = so_far.lines;
   rest = rest;

@@ -9,7 +9,7 @@ use Rattle.journal_messages.specs.Message.{encoding, type_of}
 use Rattle.lines.specs.Atoms.{IsAtom, IsNumber}
 use Rattle.lines.specs.Pieces.{AreWords}
 use Rattle.frame_lines.specs.Messages.{AreFieldsOf}
-use Rattle.frame_lines.specs.Names.{type_name}
+use Rattle.frame_lines.specs.Names.{type_word}
 
 -- a frame as it is: `raw`, the number of its type, and its body
 pub record IsRaw (number body frame : List ℕ) : Type 0 where
@@ -39,7 +39,7 @@ pub record Encodes (ty : MessageType) (words : List (Bor (List ℕ))) (frame : L
 -- the word names a type, and the bytes are a message of it, whose fields the others are
 pub record IsNamed (name : List ℕ) (words : List (Bor (List ℕ))) (frame : List ℕ) : Type 0 where
   pub ty : MessageType
-  pub named : name ≡ type_name ty
+  pub named : name ≡ type_word ty
   pub encodes : Encodes ty words frame
 
 -- the words show these bytes as they are: a frame of any type, or the rest of a stream

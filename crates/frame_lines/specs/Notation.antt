@@ -6,7 +6,7 @@ use Rattle.std.specs.List.{AllZip}
 use Rattle.std.specs.Str.{IsTrimAscii}
 use Rattle.lines.specs.Atoms.{IsAtom, IsText, quoted}
 use Rattle.lines.specs.Pieces.{ArePieces, AreWords, AreWordsWithin, IsWithin}
-use Rattle.line_parts.specs.Fields.{are_named, text_behind, texts}
+use Rattle.line_parts.specs.Fields.{are_named, text_behind, texts_named}
 use Rattle.line_parts.specs.Words.{IsNumberOf, text_at}
 use Rattle.journal_values.specs.declared.parts.Header.{Header}
 
@@ -23,20 +23,21 @@ pub record Notation (A : Type 0) : Type 1 where
 abbrev pub number : ℕ → Notation ℕ
 number bits = record { text = decimal; is_left_out = λ n. n == 0; Says = IsNumberOf bits }
 
-abbrev pub flag_text : Bool → List ℕ
-flag_text true = codes "true"
-flag_text false = codes "false"
+abbrev pub flag_word : Bool → List ℕ
+flag_word true = codes "true"
+flag_word false = codes "false"
 
 -- `true` or `false`; left out at false
-abbrev pub flag : Notation Bool
-flag = record { text = flag_text; is_left_out = not; Says = λ text it. text ≡ flag_text it }
+abbrev pub flag_notation : Notation Bool
+flag_notation =
+    record { text = flag_word; is_left_out = not; Says = λ text it. text ≡ flag_word it }
 
 abbrev pub is_nothing : {A : Type 0} → List A → Bool
 is_nothing xs = length xs == 0
 
 -- bytes in quotes, or as hex digits; left out where there are none
-abbrev pub bytes : Notation (List ℕ)
-bytes = record { text = quoted; is_left_out = is_nothing; Says = IsAtom }
+abbrev pub bytes_notation : Notation (List ℕ)
+bytes_notation = record { text = quoted; is_left_out = is_nothing; Says = IsAtom }
 
 -- the same of a text, which is UTF-8
 abbrev pub string : Notation (List ℕ)
@@ -60,9 +61,9 @@ optional value =
     record { text = text_of_some value.text; is_left_out = is_none; Says = SaysSome value.Says }
 
 -- texts with a comma and a blank between each two
-abbrev pub listed : {A : Type 0} → (A → List ℕ) → List A → List ℕ
-listed text [] = []
-listed text (item ∷ items) = text item ++ flat_map (λ it. codes ", " ++ text it) items
+abbrev pub items_text : {A : Type 0} → (A → List ℕ) → List A → List ℕ
+items_text text [] = []
+items_text text (item ∷ items) = text item ++ flat_map (λ it. codes ", " ++ text it) items
 
 -- without the blanks around it, the text says the value
 abbrev pub SaysInside : {A : Type 0} → (List ℕ → A → Type 0) → List ℕ → A → Type 0
@@ -82,9 +83,9 @@ SaysList Says text items =
     (inside : List ℕ) × IsWithin 91 93 text inside × SaysInside (SayItems Says) inside items
 
 -- the items in square brackets; left out where there are none
-abbrev pub list : {A : Type 0} → Notation A → Notation (List A)
-list item = record {
-  text = λ items. codes "[" ++ listed item.text items ++ codes "]";
+abbrev pub list_notation : {A : Type 0} → Notation A → Notation (List A)
+list_notation item = record {
+  text = λ items. codes "[" ++ items_text item.text items ++ codes "]";
   is_left_out = is_nothing;
   Says = SaysList item.Says;
 }
@@ -106,8 +107,8 @@ pair first second = record {
 }
 
 -- the key and the value in round brackets
-abbrev pub header : Notation Header
-header = record {
+abbrev pub header_notation : Notation Header
+header_notation = record {
   text = λ h. (pair string string).text (h.key, h.value);
   is_left_out = λ _. false;
   Says = λ text h. SaysPair IsText IsText text (h.key, h.value);
@@ -162,7 +163,8 @@ field name part value others = record {
   printed = λ it. (name, unless_left_out value (part it)) ∷ others.printed it;
   names = (name ++ codes "=") ∷ others.names;
   Say =
-      λ words it. SayField value (texts (name ++ codes "=") words) (part it) × others.Say words it;
+      λ words it. SayField value (texts_named (name ++ codes "=") words) (part it)
+      × others.Say words it;
 }
 
 -- words in any order are the fields of this, and no others
@@ -174,7 +176,7 @@ abbrev pub SayPair : {A B : Type 0} → Notation A
     → (List (List ℕ) → List (Bor (List ℕ)) → B → Type 0) → List (List ℕ) → List (Bor (List ℕ)) → A
     × B → Type 0
 SayPair first Others [] words two = ⊥
-SayPair first Others (name ∷ names) words two = SayField first (texts name words) two.0
+SayPair first Others (name ∷ names) words two = SayField first (texts_named name words) two.0
     × Others names words two.1
 
 -- ---- brackets behind a word
@@ -189,8 +191,8 @@ abbrev pub holding : {A : Type 0} → List ℕ → Notation A → A → List ℕ
 holding word value it = word ++ codes "(" ++ value.text it ++ codes ")"
 
 -- what stands there says the value
-abbrev pub Holds : {A : Type 0} → List ℕ → Notation A → List ℕ → A → Type 0
-Holds word value text it =
+abbrev pub HoldsAfterWord : {A : Type 0} → List ℕ → Notation A → List ℕ → A → Type 0
+HoldsAfterWord word value text it =
     (inside : List ℕ) × IsBehind word text inside × SaysInside value.Says inside it
 
 -- what is printed, with a closing bracket

@@ -14,8 +14,8 @@ use Rattle.frame_lines.specs.declared.run_end.RunEnd.{RunEnd}
 use Rattle.frame_lines.specs.declared.run_end.RunEnd.TheVariants as run_end
 
 -- something that this holds of is added
-abbrev pub Adds : (List ℕ → Type 0) → List ℕ → List ℕ → Type 0
-Adds holds old new = (added : List ℕ) × holds added × (new ≡ old ++ added)
+abbrev pub AddsToOutput : (List ℕ → Type 0) → List ℕ → List ℕ → Type 0
+AddsToOutput holds old new = (added : List ℕ) × holds added × (new ≡ old ++ added)
 
 -- ---- frames to lines
 
@@ -50,8 +50,8 @@ pub record ArePrinted (stream lines : List ℕ) : Type 0 where
 -- ---- lines to frames
 
 -- the text's first line, without its end, and what follows it; the last line may have no end
-abbrev pub IsFirstLine : List ℕ → List ℕ → List ℕ → Type 0
-IsFirstLine text line rest =
+abbrev pub IsFirstOfLines : List ℕ → List ℕ → List ℕ → Type 0
+IsFirstOfLines text line rest =
     All (λ b. b ≢ 10) line × ((text ≡ line ++ 10 ∷ rest) ⊎ ((text ≡ line) × (rest ≡ [])))
 
 -- nothing, or a comment
@@ -72,7 +72,7 @@ abbrev pub AreShownBefore : List (List ℕ) → List ℕ → List ℕ → List �
 AreShownBefore [] text rest bytes = (text ≡ rest) × (bytes ≡ [])
 AreShownBefore (line ∷ lines) text rest bytes =
     (behind : List ℕ) × (first : List ℕ) × (others : List ℕ) × (text ≢ [])
-    × IsFirstLine text line behind × IsShownBy line first
+    × IsFirstOfLines text line behind × IsShownBy line first
     × AreShownBefore lines behind rest others × (bytes ≡ first ++ others)
 
 -- the bytes are those that the text's lines show
@@ -98,7 +98,7 @@ pub record IsBadLine (text : List ℕ) (number : ℕ) : Type 0 where
   pub counted : number ≡ length lines + 1
   pub line : List ℕ
   pub others : List ℕ
-  pub first : IsFirstLine rest line others
+  pub first : IsFirstOfLines rest line others
   pub unshown : IsUnshown line
 
 -- why a text isn't read: a line has no meaning, or there is no memory
@@ -121,7 +121,7 @@ pub record Turns (turned : List ℕ → List ℕ → Type 0) (left : Option (Lis
   pub is_written : written output
 
 -- The line of this number of all that the reader had left, where this is known, has no meaning.
-pub record StopsAt (bad : List ℕ → ℕ → Type 0) (left : Option (List ℕ)) (number : ℕ) : Type 0 where
+pub record StopsAtLine (bad : List ℕ → ℕ → Type 0) (left : Option (List ℕ)) (number : ℕ) : Type 0 where
   pub input : List ℕ
   pub all : IfSome left (λ bytes. input ≡ bytes)
   pub is_bad : bad input number
@@ -136,7 +136,7 @@ Tells turned bad left held holds read_fails write_fails read unwritten run_end.U
 Tells turned bad left held holds read_fails write_fails read unwritten (run_end.ReadFailed e) =
     read_fails e × unwritten
 Tells turned bad left held holds read_fails write_fails read unwritten (run_end.BadLine number) =
-    StopsAt bad left number × read × unwritten
+    StopsAtLine bad left number × read × unwritten
 Tells turned bad left held holds read_fails write_fails read unwritten run_end.NoMemory =
     read × unwritten
 Tells turned bad left held holds read_fails write_fails read unwritten (run_end.WriteFailed e) =

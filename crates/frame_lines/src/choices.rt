@@ -2,7 +2,7 @@
 ghost use Rattle.std.specs.Prelude.{◌≡◌, ◌++◌, IfOk, IfSome, List, ℕ, OnOk, true};
 ghost use Rattle.std.specs.Borrow.{Bor};
 ghost use Rattle.lines.specs.Pieces.{AreWords};
-ghost use Rattle.frame_lines.specs.Choices.{behavior, kind, notification_id, notification_result, signal, signal_result, target, value_or_failure, void_or_value};
+ghost use Rattle.frame_lines.specs.Choices.{behavior_notation, kind_notation, notification_id_notation, notification_result_notation, signal_notation, signal_result_notation, target_notation, value_or_failure_notation, void_or_value_notation};
 ghost use Rattle.frame_lines.specs.Notation.{AreFields, IsBehind, SaysInside, closed, holding, put_all};
 
 use crate::forms::Form;
@@ -70,7 +70,7 @@ fn form_in<T: Form>(alloc: Global, inside: &[u8]) -> Result<T, Fault>
 }
 
 impl Value for ErrorBehavior {
-    ghost notation = { behavior };
+    ghost notation = { behavior_notation };
 
     fn is_left_out(&self) -> bool {
         false
@@ -103,7 +103,7 @@ impl Value for ErrorBehavior {
 }
 
 impl Value for FutureKind {
-    ghost notation = { kind };
+    ghost notation = { kind_notation };
 
     fn is_left_out(&self) -> bool {
         false
@@ -144,7 +144,7 @@ impl Value for FutureKind {
 }
 
 impl Value for VoidOrValue {
-    ghost notation = { void_or_value };
+    ghost notation = { void_or_value_notation };
 
     fn is_left_out(&self) -> bool {
         false
@@ -173,7 +173,7 @@ impl Value for VoidOrValue {
 }
 
 impl Value for ValueOrFailure {
-    ghost notation = { value_or_failure };
+    ghost notation = { value_or_failure_notation };
 
     fn is_left_out(&self) -> bool {
         false
@@ -202,7 +202,7 @@ impl Value for ValueOrFailure {
 }
 
 impl Value for SignalResult {
-    ghost notation = { signal_result };
+    ghost notation = { signal_result_notation };
 
     fn is_left_out(&self) -> bool {
         false
@@ -235,7 +235,7 @@ impl Value for SignalResult {
 }
 
 impl Value for NotificationResult {
-    ghost notation = { notification_result };
+    ghost notation = { notification_result_notation };
 
     fn is_left_out(&self) -> bool {
         false
@@ -276,7 +276,7 @@ impl Value for NotificationResult {
 }
 
 impl Value for NotificationId {
-    ghost notation = { notification_id };
+    ghost notation = { notification_id_notation };
 
     fn is_left_out(&self) -> bool {
         false
@@ -309,7 +309,7 @@ impl Value for NotificationId {
 }
 
 impl Value for Signal {
-    ghost notation = { signal };
+    ghost notation = { signal_notation };
 
     fn is_left_out(&self) -> bool {
         false
@@ -338,7 +338,7 @@ impl Value for Signal {
 }
 
 impl Value for InvocationTarget {
-    ghost notation = { target };
+    ghost notation = { target_notation };
 
     fn is_left_out(&self) -> bool {
         false

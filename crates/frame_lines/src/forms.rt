@@ -2,8 +2,8 @@
 ghost use Rattle.std.specs.Prelude.{◌≡◌, ℕ, List, true, IfOk};
 ghost use Rattle.std.specs.Borrow.{Bor};
 ghost use Rattle.std.specs.List.{list_all, list_any};
-ghost use Rattle.line_parts.specs.Fields.{is_named, texts as behind_name};
-ghost use Rattle.lines.specs.Pieces.{texts};
+ghost use Rattle.line_parts.specs.Fields.{is_named, texts_named as behind_name};
+ghost use Rattle.lines.specs.Pieces.{piece_texts};
 ghost use Rattle.frame_lines.specs.Notation.{AreFields, Fields, SayField, SayPair, put, put_all, unless_left_out};
 
 pub mod calls;
@@ -48,7 +48,7 @@ pub trait Parts: Drop {
 
     /// Reads the fields of these names, each written with its `=`.
     fn take(alloc: Global, names: &[&str], words: &[&[u8]]) -> Result<Self, Fault>
-        ensures { IfOk result (Said (texts names.now) words.now) };
+        ensures { IfOk result (Said (piece_texts names.now) words.now) };
 }
 
 impl Parts for () {
@@ -93,7 +93,7 @@ pub fn values_of<T: Parts>(alloc: Global, words: &[&[u8]], names: &[&str]) -> Re
     ensures only { IfOk result
         (λ _. list_all (λ word. list_any (λ name. is_named name.now word.now) names.now) words.now
         ≡ true) }
-    ensures said { IfOk result (T.Said (texts names.now) words.now) }
+    ensures said { IfOk result (T.Said (piece_texts names.now) words.now) }
 {
     if !are_named(words, names) {
         return Err(Fault::Malformed);

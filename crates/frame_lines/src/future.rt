@@ -1,7 +1,7 @@
 //! What an attempt waits for, as it is written on a line.
 ghost use Rattle.std.specs.Prelude.{◌≡◌, ◌∷◌, ◌++◌, ◌==◌, if◌then◌else◌, List, OnOk, codes, reverse};
 ghost use Rattle.journal_attempt.specs.declared.future.FutureNode.{FutureNode};
-ghost use Rattle.frame_lines.specs.Futures.{ends_text, future, future_text, head_text, left_then, node, nodes_text};
+ghost use Rattle.frame_lines.specs.Futures.{ends_text, future_notation, future_text, node_head_text, left_then, node_fields, nodes_text};
 
 use crate::forms::{Form, print_field, values_of};
 use crate::nested::{Begun, begun_of};
@@ -13,7 +13,7 @@ use wire::{Fault, Items, Text};
 
 /// What a future waits for itself, without those that nest in it.
 impl Form for FutureNode {
-    ghost fields = { node };
+    ghost fields = { node_fields };
 
     fn print(&self, line: &mut Line, is_first: bool) -> Result<bool, AllocError> {
         let is_first = print_field(line, is_first, "kind", &self.kind)?;
@@ -47,7 +47,7 @@ fn behind_fields(nested: u64) -> &'static str
 
 /// Writes a future as far as those that nest in it.
 fn print_head(node: &FutureNode, line: &mut Line) -> Result<(), AllocError>
-    ensures { OnOk result (line.new ≡ line.old ++ head_text node.now) }
+    ensures { OnOk result (line.new ≡ line.old ++ node_head_text node.now) }
 {
     line.word("(")?;
     node.print(line, true)?;
@@ -105,7 +105,7 @@ fn node_of(alloc: Global, future: &Begun<'_>) -> Result<FutureNode, Fault> {
 }
 
 impl Value for Future {
-    ghost notation = { future };
+    ghost notation = { future_notation };
 
     fn is_left_out(&self) -> bool {
         false

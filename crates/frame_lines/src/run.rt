@@ -5,7 +5,7 @@ ghost use Rattle.journal_streams.specs.Frames.{Whole, next_of};
 ghost use Rattle.journal_messages.specs.Message.{frame};
 ghost use Rattle.wire.specs.declared.fault.Fault.TheVariants.{Malformed};
 ghost use Rattle.frame_lines.specs.Printed.{frame_text};
-ghost use Rattle.frame_lines.specs.Runs.{Adds, AreShown, ArePrinted, HasNoFrame, IsBadFor, IsBadLine, IsComment, IsFirstLine, IsShownBy, IsShownInside, IsUnshown, IsUnshownInside, NoneIsBad, Tells, line_text, rest_lines};
+ghost use Rattle.frame_lines.specs.Runs.{AddsToOutput, AreShown, ArePrinted, HasNoFrame, IsBadFor, IsBadLine, IsComment, IsFirstOfLines, IsShownBy, IsShownInside, IsUnshown, IsUnshownInside, NoneIsBad, Tells, line_text, rest_lines};
 
 use crate::entry::{frame_of, print_frame, print_rest};
 use crate::run_end::RunEnd;
@@ -111,7 +111,7 @@ pub enum Unread {
 fn first_line(text: &[u8]) -> (&[u8], &[u8])
     requires { 0 < length text.now }
     ensures shorter { length result.1.now < length text.now }
-    ensures first { IsFirstLine text.now result.0.now result.1.now }
+    ensures first { IsFirstOfLines text.now result.0.now result.1.now }
 {
     match memchr(b'\n', text) {
         Some(at) => (&text[..at], &text[at + 1..]),
@@ -131,7 +131,8 @@ fn is_comment(line: &[u8]) -> bool
 
 /// Adds what a line shows that has no blanks around it.
 fn add_shown(alloc: Global, line: &[u8], frames: &mut Vec<u8>) -> Result<(), Fault>
-    ensures value { OnOk result (Adds (IsShownInside line.now) frames.old.items frames.new.items) }
+    ensures value { OnOk result
+        (AddsToOutput (IsShownInside line.now) frames.old.items frames.new.items) }
     ensures none { IfErr result (λ fault. fault ≡ Malformed → IsUnshownInside line.now) }
 {
     if is_comment(line) {
@@ -150,7 +151,8 @@ fn add_shown(alloc: Global, line: &[u8], frames: &mut Vec<u8>) -> Result<(), Fau
 
 /// Adds what a line shows.
 fn add_line(alloc: Global, line: &[u8], frames: &mut Vec<u8>) -> Result<(), Fault>
-    ensures value { OnOk result (Adds (IsShownBy line.now) frames.old.items frames.new.items) }
+    ensures value { OnOk result
+        (AddsToOutput (IsShownBy line.now) frames.old.items frames.new.items) }
     ensures none { IfErr result (λ fault. fault ≡ Malformed → IsUnshown line.now) }
 {
     add_shown(alloc, line.trim_ascii(), frames)

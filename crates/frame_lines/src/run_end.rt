@@ -1,6 +1,6 @@
 //! How a run of the program ends, and the exit status of each end.
 ghost use Rattle.std.specs.Prelude.{◌≡◌};
-ghost use Rattle.frame_lines.specs.Statuses.{code_of};
+ghost use Rattle.frame_lines.specs.Statuses.{frames_exit_code};
 
 use std::io;
 
@@ -24,7 +24,7 @@ pub enum RunEnd {
 impl RunEnd {
     /// The status of the process.
     pub fn code(&self) -> u8
-        ensures { result ≡ code_of self.now }
+        ensures { result ≡ frames_exit_code self.now }
     {
         match self {
             RunEnd::Written => 0,

@@ -1,14 +1,14 @@
 //! The names of the types of messages.
 ghost use Rattle.std.specs.Prelude.{◌≡◌, ◌≢◌, IfNone, IfSome};
 ghost use Rattle.journal_errors.specs.declared.types.MessageType.{MessageType};
-ghost use Rattle.frame_lines.specs.Names.{type_name};
+ghost use Rattle.frame_lines.specs.Names.{type_word};
 
 use journal_errors::MessageType;
 
 /// The name that the type has on a line.
-#[tactic(auto, unfolding(crate::specs::Names::type_name))]
+#[tactic(auto, unfolding(crate::specs::Names::type_word))]
 pub fn name_of(ty: MessageType) -> &'static str
-    ensures { result.now ≡ type_name ty }
+    ensures { result.now ≡ type_word ty }
 {
     match ty {
         MessageType::Start => "Start",
@@ -46,8 +46,8 @@ pub fn name_of(ty: MessageType) -> &'static str
 
 /// The type that has the name.
 pub fn type_named(name: &[u8]) -> Option<MessageType>
-    ensures named { IfSome result (λ ty. name.now ≡ type_name ty) }
-    ensures none { IfNone result ((ty : MessageType) → name.now ≢ type_name ty) }
+    ensures named { IfSome result (λ ty. name.now ≡ type_word ty) }
+    ensures none { IfNone result ((ty : MessageType) → name.now ≢ type_word ty) }
 {
     for number in 0..=30 {
         if let Some(ty) = MessageType::from_number(number)

@@ -1,7 +1,7 @@
 //! The values of fields as they are written on a line.
 ghost use Rattle.std.specs.Prelude.{◌≡◌, ◌++◌, IfOk, IfSome, OnOk, true};
 ghost use Rattle.line_parts.specs.Words.{IsNumberOf, text_at};
-ghost use Rattle.frame_lines.specs.Notation.{Notation, SayItems, SaysInside, SaysPair, bytes, flag, header, list, listed, number, optional, pair, string};
+ghost use Rattle.frame_lines.specs.Notation.{Notation, SayItems, SaysInside, SaysPair, bytes_notation, flag_notation, header_notation, list_notation, items_text, number, optional, pair, string};
 
 use bytes::Bytes;
 use journal_values::Header;
@@ -73,7 +73,7 @@ impl Value for u64 {
 }
 
 impl Value for bool {
-    ghost notation = { flag };
+    ghost notation = { flag_notation };
 
     fn is_left_out(&self) -> bool {
         !*self
@@ -97,7 +97,7 @@ impl Value for bool {
 }
 
 impl Value for Bytes {
-    ghost notation = { bytes };
+    ghost notation = { bytes_notation };
 
     fn is_left_out(&self) -> bool {
         self.is_empty()
@@ -161,7 +161,7 @@ impl<T: Value> Value for Option<T> {
 
 /// Writes items with a comma and a blank between each two.
 fn print_items<T: Value>(items: &[T], line: &mut Line) -> Result<(), AllocError>
-    ensures { OnOk result (line.new ≡ line.old ++ listed T.notation.text items.now) }
+    ensures { OnOk result (line.new ≡ line.old ++ items_text T.notation.text items.now) }
 {
     let [first, others @ ..] = items else {
         return Ok(());
@@ -190,7 +190,7 @@ fn items_of<T: Value>(alloc: Global, text: &[u8]) -> Result<Items<T>, Fault>
 }
 
 impl<T: Value> Value for Items<T> {
-    ghost notation = { list T.notation };
+    ghost notation = { list_notation T.notation };
 
     fn is_left_out(&self) -> bool {
         self.is_empty()
@@ -274,7 +274,7 @@ impl<A: Value, B: Value> Value for (A, B) {
 }
 
 impl Value for Header {
-    ghost notation = { header };
+    ghost notation = { header_notation };
 
     fn is_left_out(&self) -> bool {
         false

@@ -12,8 +12,8 @@ use Rattle.vm_types.specs.declared.values.Value.{Value}
 use Rattle.vm_types.specs.declared.values.Value.TheVariants as value
 
 -- payloads that each attempt writes the same
-abbrev pub stable : PayloadOptions
-stable = record { unstable_serialization = false }
+abbrev pub stable_payload : PayloadOptions
+stable_payload = record { unstable_serialization = false }
 
 -- the bytes of an input; none where there isn't one
 abbrev pub bytes_of_input : Option Answer → List ℕ
@@ -133,4 +133,5 @@ says_cancelled None = false
 -- the output of a handler that was cancelled
 abbrev pub cancelled_output : Step
 cancelled_output = step.WriteOutput
-    (non_empty.Failure (record { code = 409; message = codes "cancelled"; metadata = [] })) stable
+    (non_empty.Failure (record { code = 409; message = codes "cancelled"; metadata = [] }))
+    stable_payload

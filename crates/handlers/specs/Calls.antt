@@ -7,7 +7,7 @@ use Rattle.await_trees.specs.declared.handle.NotificationHandle.{NotificationHan
 use Rattle.await_trees.specs.declared.tree.UnresolvedFuture.{UnresolvedFuture}
 use Rattle.await_trees.specs.declared.tree.UnresolvedFuture.TheVariants.{Single}
 use Rattle.vm_types.specs.declared.values.Target.{Target}
-use Rattle.handlers.specs.Answers.{stable}
+use Rattle.handlers.specs.Answers.{stable_payload}
 
 -- a service's handler, without a key
 abbrev pub plain_target : List ℕ → List ℕ → Target
@@ -24,12 +24,13 @@ plain_target service handler =
 
 -- the call of a service's handler with an input
 abbrev pub plain_call : List ℕ → List ℕ → List ℕ → Step
-plain_call service handler input = step.Call (plain_target service handler) input None stable
+plain_call service handler input =
+    step.Call (plain_target service handler) input None stable_payload
 
 -- the same with a deadline, since the Unix epoch
 abbrev pub call_until : List ℕ → List ℕ → List ℕ → Duration → Step
 call_until service handler input time =
-    step.CallWithDeadline (plain_target service handler) input time None stable
+    step.CallWithDeadline (plain_target service handler) input time None stable_payload
 
 -- two handles, to be awaited together
 abbrev pub two_awaited : NotificationHandle → NotificationHandle → List UnresolvedFuture

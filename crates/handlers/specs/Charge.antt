@@ -5,7 +5,7 @@ use Rattle.vm_types.specs.declared.steps.Answer.{Answer}
 use Rattle.vm_types.specs.declared.steps.Step.{Step}
 use Rattle.vm_types.specs.declared.steps.Step.TheVariants as step
 use Rattle.await_trees.specs.declared.tree.UnresolvedFuture.TheVariants.{Single}
-use Rattle.handlers.specs.Answers.{answered_handle, says_cancelled, cancelled_output, output_of, stable}
+use Rattle.handlers.specs.Answers.{answered_handle, says_cancelled, cancelled_output, output_of, stable_payload}
 
 -- the next step, once these answers were given
 abbrev pub charge_step : List Answer → Step
@@ -17,5 +17,5 @@ charge_step answers =
     else step.Take (answered_handle (slice_get answers 1)))
     else if length answers == 4 then
     (if says_cancelled (slice_get answers 2) then step.End
-    else step.WriteOutput (output_of (slice_get answers 3)) stable)
+    else step.WriteOutput (output_of (slice_get answers 3)) stable_payload)
     else step.End

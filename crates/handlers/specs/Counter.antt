@@ -12,7 +12,7 @@ use Rattle.await_trees.specs.declared.tree.UnresolvedFuture.TheVariants.{Single}
 use Rattle.vm_types.specs.declared.values.NonEmptyValue.TheVariants as non_empty
 use Rattle.vm_types.specs.declared.values.Value.{Value}
 use Rattle.vm_types.specs.declared.values.Value.TheVariants as value
-use Rattle.handlers.specs.Answers.{answered_handle, says_cancelled, cancelled_output, stable}
+use Rattle.handlers.specs.Answers.{answered_handle, says_cancelled, cancelled_output, stable_payload}
 
 -- the number of 1 to 18 decimal digits; 0 of all other bytes
 abbrev pub count_in : List ℕ → ℕ
@@ -51,14 +51,14 @@ next_count answers = decimal (count_of (slice_get answers 3) + 1)
 -- the next step, once these answers were given
 abbrev pub counter_step : List Answer → Step
 counter_step answers =
-    if length answers == 1 then step.StateGet (codes "count") None stable
+    if length answers == 1 then step.StateGet (codes "count") None stable_payload
     else if length answers == 2 then step.Await (Single (answered_handle (slice_get answers 1)))
     else if length answers == 3 then
     (if says_cancelled (slice_get answers 2) then cancelled_output
     else step.Take (answered_handle (slice_get answers 1)))
     else if length answers == 4 then
     (if says_cancelled (slice_get answers 2) then step.End
-    else step.StateSet (codes "count") (next_count answers) None stable)
+    else step.StateSet (codes "count") (next_count answers) None stable_payload)
     else if length answers == 5
-    then step.WriteOutput (non_empty.Success (next_count answers)) stable
+    then step.WriteOutput (non_empty.Success (next_count answers)) stable_payload
     else step.End

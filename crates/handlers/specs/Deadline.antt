@@ -10,7 +10,7 @@ use Rattle.await_trees.specs.declared.handle.NotificationHandle.{NotificationHan
 use Rattle.await_trees.specs.declared.tree.UnresolvedFuture.TheVariants.{FirstCompleted}
 use Rattle.vm_types.specs.declared.values.NonEmptyValue.{NonEmptyValue}
 use Rattle.vm_types.specs.declared.values.NonEmptyValue.TheVariants.{Success}
-use Rattle.handlers.specs.Answers.{call_handle_of, cancelled_output, deadline_handle_of, bytes_of_input, says_cancelled, says_completed, output_of, stable}
+use Rattle.handlers.specs.Answers.{call_handle_of, cancelled_output, deadline_handle_of, bytes_of_input, says_cancelled, says_completed, output_of, stable_payload}
 use Rattle.handlers.specs.Calls.{two_awaited, call_until}
 
 -- the handle of the call, where its result is there, and else of the deadline
@@ -38,5 +38,5 @@ deadline_step answers =
     else step.Completed (call_handle_of (slice_get answers 1)))
     else if length answers == 4 then
     (if says_cancelled (slice_get answers 2) then step.End else step.Take (earlier_handle answers))
-    else if length answers == 5 then step.WriteOutput (deadline_output answers) stable
+    else if length answers == 5 then step.WriteOutput (deadline_output answers) stable_payload
     else step.End

@@ -7,7 +7,7 @@ use Rattle.vm_types.specs.declared.steps.Step.{Step}
 use Rattle.vm_types.specs.declared.steps.Step.TheVariants as step
 use Rattle.await_trees.specs.declared.tree.UnresolvedFuture.TheVariants.{AllCompleted}
 use Rattle.vm_types.specs.declared.values.NonEmptyValue.TheVariants.{Success}
-use Rattle.handlers.specs.Answers.{call_handle_of, cancelled_output, says_cancelled, stable}
+use Rattle.handlers.specs.Answers.{call_handle_of, cancelled_output, says_cancelled, stable_payload}
 use Rattle.handlers.specs.Calls.{two_awaited, plain_call}
 
 -- the next step, once these answers were given
@@ -24,5 +24,5 @@ parent_step answers =
     else if length answers == 5 then
     (if says_cancelled (slice_get answers 3) then step.End
     else step.Take (call_handle_of (slice_get answers 2)))
-    else if length answers == 6 then step.WriteOutput (Success (codes "done")) stable
+    else if length answers == 6 then step.WriteOutput (Success (codes "done")) stable_payload
     else step.End

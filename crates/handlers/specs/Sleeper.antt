@@ -6,7 +6,7 @@ use Rattle.vm_types.specs.declared.steps.Step.{Step}
 use Rattle.vm_types.specs.declared.steps.Step.TheVariants as step
 use Rattle.await_trees.specs.declared.tree.UnresolvedFuture.TheVariants.{Single}
 use Rattle.vm_types.specs.declared.values.NonEmptyValue.TheVariants.{Success}
-use Rattle.handlers.specs.Answers.{answered_handle, says_cancelled, cancelled_output, stable}
+use Rattle.handlers.specs.Answers.{answered_handle, says_cancelled, cancelled_output, stable_payload}
 
 -- the next step, once these answers were given
 abbrev pub sleeper_step : List Answer → Step
@@ -18,5 +18,5 @@ sleeper_step answers =
     else step.Take (answered_handle (slice_get answers 1)))
     else if length answers == 4 then
     (if says_cancelled (slice_get answers 2) then step.End
-    else step.WriteOutput (Success []) stable)
+    else step.WriteOutput (Success []) stable_payload)
     else step.End

@@ -7,7 +7,7 @@ use Rattle.journal_messages.specs.declared.message.RawMessage.{RawMessage}
 use Rattle.invocation_vm.specs.Frames.{Rest, Tail, frames_of}
 use Rattle.vm_store.specs.declared.storing.Written.{Written}
 use Rattle.vm_store.specs.Storing.{NoneFaults, stored_as, waits_behind, written_among, written_from}
-use Rattle.stored_journals.specs.Journals.{Holds, View}
+use Rattle.stored_journals.specs.Journals.{Holds, JournalView}
 use Rattle.stored_journals.specs.Stored.{StoresNext}
 use Rattle.held_journals.specs.Journals.{StoresAll, StoresWhole}
 
@@ -24,7 +24,7 @@ none_framed : frames_of [] ≡ ([], Rest [])
 unfolding frames_of
 none_framed = refl
 
-module _ (version : Version) (output : List ℕ) (old new : View) (rows : List (List ℕ)) (feed : List ℕ) where
+module _ (version : Version) (output : List ℕ) (old new : JournalView) (rows : List (List ℕ)) (feed : List ℕ) where
   from_none : (rest : List ℕ) → rest ≡ [] → StoresNext version (length output) output rest old [] [] new rows feed → StoresWhole version output old new rows feed
   from_none rest none next = record {
     each = λ journal holds.

@@ -5,7 +5,7 @@ use Rattle.vm_store.specs.declared.types.RoundFault.{RoundFault}
 use Rattle.vm_store.specs.declared.types.RoundFault.TheVariants as round_fault
 use Rattle.std.specs.List.{flat_map}
 use Rattle.vm_store.specs.Storing.{NoneFaults, stored_as, waits_behind, written_from}
-use Rattle.stored_journals.specs.Journals.{Enters, Holds, IsFault, IsSameKept, Kept, View}
+use Rattle.stored_journals.specs.Journals.{Enters, Holds, IsFault, IsSameKept, Kept, JournalView}
 use Rattle.stored_journals.specs.Stored.{IsStoringFault, StoresNext}
 use Rattle.held_journals.specs.declared.row.Stored.{Stored}
 use Rattle.held_journals.specs.declared.journal.HeldJournal.{HeldJournal}
@@ -24,7 +24,7 @@ pub record IsEmptyJournal (j : HeldJournal) : Type 0 where
   pub feed : j.feed.items ≡ []
 
 -- what came since the last commit is taken back: the journal as it was then is known
-pub record GoesBack (old new : View) : Type 0 where
+pub record GoesBack (old new : JournalView) : Type 0 where
   pub holds : (journal : List (List ℕ)) → Kept old journal → Holds new journal
   pub kept : (journal : List (List ℕ)) → Kept old journal → Kept new journal
 
@@ -35,7 +35,7 @@ pub record IsUndone (old new : HeldJournal) : Type 0 where
   pub feed : new.feed.items ≡ []
 
 -- what came since the last commit is committed
-pub record KeepsAll (old new : View) : Type 0 where
+pub record KeepsAll (old new : JournalView) : Type 0 where
   pub holds : (journal : List (List ℕ)) → Holds old journal → Holds new journal
   pub kept : (journal : List (List ℕ)) → Holds old journal → Kept new journal
 
@@ -72,8 +72,9 @@ EntryDone fault entry named row old new = ⊥
 -- ---- an output
 
 -- all that is stored of an output is stored, and this is whether nothing is left of it
-pub record StoresAll (version : Version) (output : List ℕ) (whole : Bool) (old : View)
-    (rows : List (List ℕ)) (feed : List ℕ) (new : View) (rows' : List (List ℕ)) (feed' : List ℕ)
+pub record StoresAll (version : Version) (output : List ℕ) (whole : Bool) (old : JournalView)
+    (rows : List (List ℕ)) (feed : List ℕ) (new : JournalView) (rows' : List (List ℕ))
+    (feed' : List ℕ)
     : Type 0 where
   pub rest : List ℕ
   pub is_whole : whole ≡ (length rest == 0)
@@ -88,7 +89,7 @@ pub record AllStored (version : Version) (output : List ℕ) (journal rows : Lis
   pub faultless : NoneFaults (written_from output) journal
 
 -- so for each journal that is known, and the journal with the rows is known
-pub record StoresWhole (version : Version) (output : List ℕ) (old new : View)
+pub record StoresWhole (version : Version) (output : List ℕ) (old new : JournalView)
     (rows : List (List ℕ)) (feed : List ℕ) : Type 0 where
   pub each : (journal : List (List ℕ)) → Holds old journal
       → AllStored version output journal rows feed × Holds new (journal ++ rows)
@@ -108,8 +109,8 @@ pub record IsntStored (stored : Stored) (old new : HeldJournal) : Type 0 where
   pub feed : stored.feed ≡ 0
 
 -- something is left of an output that is no whole frame
-pub record LeavesRest (version : Version) (output : List ℕ) (old : View) : Type 0 where
-  pub new : View
+pub record LeavesRest (version : Version) (output : List ℕ) (old : JournalView) : Type 0 where
+  pub new : JournalView
   pub rows : List (List ℕ)
   pub feed : List ℕ
   pub stores : StoresAll version output false old [] [] new rows feed

@@ -13,7 +13,7 @@ use Rattle.journal_messages.specs.declared.message.Message.{Message}
 use Rattle.vm_machine.specs.declared.phase.Phase.TheVariants.{Closed}
 use Rattle.vm_machine.specs.Phases.{is_closed}
 use Rattle.vm_asks.specs.Requests.{ids_of}
-use Rattle.vm_machine.specs.Commands.{CanBeRead, Fits, answered_by}
+use Rattle.vm_machine.specs.Commands.{CanBeRead, HandleFits, answered_by}
 use Rattle.vm_machine.specs.Ephemerals.{answers_ready, may_answer}
 use Rattle.vm_types.specs.declared.types.AwaitResponse.TheVariants.{EphemeralNotificationReady}
 use Rattle.vm_types.specs.declared.types.EphemeralCompletionId.{EphemeralCompletionId}
@@ -138,14 +138,14 @@ settles_sent m v (Err (fault.Refused e)) r before mid new s h =
     elim s as (λ _. OnOk r (CanBeRead m v)) [ inl x ↦ rw x.0 tt | inr x ↦ rw x.0 tt ]
 
 -- where a call is answered, its event was, and its handles fit
-pub settles_fits : (m : Message) (given : Result NotificationHandle Fault) (r : Result NotificationHandle Error) (before : Counters) (mid new : Machine) → Settles before given r mid new → IfOk given (Fits m) → IfOk r (Fits m)
+pub settles_fits : (m : Message) (given : Result NotificationHandle Fault) (r : Result NotificationHandle Error) (before : Counters) (mid new : Machine) → Settles before given r mid new → IfOk given (HandleFits m) → IfOk r (HandleFits m)
 settles_fits m (Ok a) r before mid new s h = rw s.0 h
 settles_fits m (Err fault.Memory) r before mid new s h = rw s.0 tt
 settles_fits m (Err (fault.Refused e)) r before mid new s h =
-    elim s as (λ _. IfOk r (Fits m)) [ inl x ↦ rw x.0 tt | inr x ↦ rw x.0 tt ]
+    elim s as (λ _. IfOk r (HandleFits m)) [ inl x ↦ rw x.0 tt | inr x ↦ rw x.0 tt ]
 
 -- both handles of a call fit
-pub fits_both : (m : Message) (r : Result NotificationHandle Error) → ids_of m ≡ 2 → IfOk r (Fits m) → IfOk r (λ handle. handle.0 + 1 < 2 ^ 32)
+pub fits_both : (m : Message) (r : Result NotificationHandle Error) → ids_of m ≡ 2 → IfOk r (HandleFits m) → IfOk r (λ handle. handle.0 + 1 < 2 ^ 32)
 fits_both m (Ok handle) two fits = omega (arith, two, fits)
 fits_both m (Err e) two fits = tt
 

@@ -8,7 +8,7 @@ use Rattle.journal_protocol.proofs.Facts.{malformed_more, nothing_is_partial, wh
 use Rattle.vm_machine.specs.declared.machine.Machine.{Machine}
 use Rattle.vm_machine.specs.Outcomes.{called, called_at}
 use Rattle.vm_machine.specs.Inputs.{malformed_step}
-use Rattle.invocation_vm.specs.Frames.{Tail, Rest, Garbage, frames_by, frames_from, frames_of, joined}
+use Rattle.invocation_vm.specs.Frames.{Tail, Rest, Garbage, frames_by, frames_from, frames_of, frames_joined}
 use Rattle.invocation_vm.specs.Views.{View, received, spoiled, all_received, left_over, consumed, after_input, left_by}
 
 -- ---- frames, with any fuel
@@ -54,12 +54,12 @@ frames_of_none = refl
 
 -- ---- the frames of two pieces
 
-joined_behind : (raw : RawMessage) (p : List RawMessage × Tail) (b : List ℕ) → joined (raw ∷ p.0, p.1) b ≡ (raw ∷ (joined p b).0, (joined p b).1)
+joined_behind : (raw : RawMessage) (p : List RawMessage × Tail) (b : List ℕ) → frames_joined (raw ∷ p.0, p.1) b ≡ (raw ∷ (frames_joined p b).0, (frames_joined p b).1)
 joined_behind raw (frames, Rest bytes) b = refl
 joined_behind raw (frames, Garbage) b = refl
 
-cut_at : (n : ℕ) (a b : List ℕ) (o : NextFrame) → next_of a ≡ o → length a ≤ suc n → ((c : List ℕ) → length c ≤ n → frames_of (c ++ b) ≡ joined (frames_of c) b)
-    → frames_of (a ++ b) ≡ joined (frames_of a) b
+cut_at : (n : ℕ) (a b : List ℕ) (o : NextFrame) → next_of a ≡ o → length a ≤ suc n → ((c : List ℕ) → length c ≤ n → frames_of (c ++ b) ≡ frames_joined (frames_of c) b)
+    → frames_of (a ++ b) ≡ frames_joined (frames_of a) b
 cut_at n a b (Whole raw rest) e h more =
     let s = whole_shorter a raw rest e in
     rw (frames_of-next a, e, frames_of-next (a ++ b), whole_more a b raw rest e)
@@ -67,11 +67,11 @@ cut_at n a b (Whole raw rest) e h more =
 cut_at n a b Partial e h more = rw (frames_of-next a, e) refl
 cut_at n a b Malformed e h more = rw (frames_of-next a, e, frames_of-next (a ++ b), malformed_more a b e) refl
 
-cut_by : (n : ℕ) (a b : List ℕ) → length a ≤ n → frames_of (a ++ b) ≡ joined (frames_of a) b
+cut_by : (n : ℕ) (a b : List ℕ) → length a ≤ n → frames_of (a ++ b) ≡ frames_joined (frames_of a) b
 cut_by zero a b h = rw (no_bytes a h, frames_of_none) refl
 cut_by (suc n) a b h = cut_at n a b (next_of a) refl h (λ c k. cut_by n c b k)
 
-pub frames_of-append : (a b : List ℕ) → frames_of (a ++ b) ≡ joined (frames_of a) b
+pub frames_of-append : (a b : List ℕ) → frames_of (a ++ b) ≡ frames_joined (frames_of a) b
 frames_of-append a b = cut_by (length a) a b (omega arith)
 
 -- ---- a failed machine stays as it is
@@ -115,7 +115,7 @@ input_failed : (v : View) (bytes : List ℕ) → is_some v.machine.failure ≡ t
 input_failed v bytes h = rw h refl
 
 cut_rest : (o : Option Error) (frames : List RawMessage) (rest more : List ℕ) (m : Machine) → (all_received frames m).failure ≡ o
-    → after_input (consumed (frames, Rest rest) m) more ≡ consumed (joined (frames, Rest rest) more) m
+    → after_input (consumed (frames, Rest rest) m) more ≡ consumed (frames_joined (frames, Rest rest) more) m
 cut_rest (Some e) frames rest more m h =
     let w = all_received frames m in
     let f = frames_of (rest ++ more) in
@@ -125,7 +125,7 @@ cut_rest None frames rest more m h = rw (all_received-append frames (frames_of (
 cut_garbage : (frames : List RawMessage) (more : List ℕ) (m : Machine) → after_input (consumed (frames, Garbage) m) more ≡ consumed (frames, Garbage) m
 cut_garbage frames more m = input_failed (consumed (frames, Garbage) m) more (spoiled_fails (all_received frames m))
 
-cut_frames : (p : List RawMessage × Tail) (more : List ℕ) (m : Machine) → after_input (consumed p m) more ≡ consumed (joined p more) m
+cut_frames : (p : List RawMessage × Tail) (more : List ℕ) (m : Machine) → after_input (consumed p m) more ≡ consumed (frames_joined p more) m
 cut_frames (frames, Rest rest) more m = cut_rest (all_received frames m).failure frames rest more m refl
 cut_frames (frames, Garbage) more m = cut_garbage frames more m
 
@@ -135,7 +135,7 @@ cut_view None v xs ys h =
     let p = frames_of (v.undecoded ++ xs) in
     let first : after_input v xs ≡ consumed p v.machine = rw h refl in
     let both : after_input v (xs ++ ys) ≡ consumed (frames_of (v.undecoded ++ (xs ++ ys))) v.machine = rw h refl in
-    let joins : frames_of (v.undecoded ++ (xs ++ ys)) ≡ joined p ys = rw (← append_assoc) (frames_of-append (v.undecoded ++ xs) ys) in
+    let joins : frames_of (v.undecoded ++ (xs ++ ys)) ≡ frames_joined p ys = rw (← append_assoc) (frames_of-append (v.undecoded ++ xs) ys) in
     ap (λ (w : View). after_input w ys) first
     ∙ (cut_frames p ys v.machine ∙ sym (both ∙ ap (λ (f : List RawMessage × Tail). consumed f v.machine) joins))
 

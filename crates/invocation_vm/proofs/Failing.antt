@@ -11,7 +11,7 @@ use Rattle.await_trees.specs.declared.handle.NotificationHandle.{NotificationHan
 use Rattle.await_trees.specs.declared.tree.UnresolvedFuture.{UnresolvedFuture}
 use Rattle.await_trees.specs.Tree.{tree_of}
 use Rattle.vm_awaits.specs.Awaits.{Awaits}
-use Rattle.vm_awaits.specs.Cancels.{Finishes}
+use Rattle.vm_awaits.specs.Cancels.{FollowsFirstPart}
 use Rattle.journal_errors.specs.Errors.{no_memory}
 use Rattle.vm_types.specs.declared.types.AwaitResponse.{AwaitResponse}
 use Rattle.vm_machine.specs.declared.machine.Machine.{Machine}
@@ -71,7 +71,7 @@ any_awaited future r e old new is (answered, (whole, u), flat) =
     let R = Awaits (tree_of future) old.machine in
     let mid : View = record old { machine = whole.1 } in
     let first = first_by (CalledBy R old.machine) whole.0 e old mid is (λ o. awaited_at old.machine.failure R e old.machine o is) whole.2 refl in
-    let stays : (d : Error) → whole.0 ≡ Err d → (answered ≡ Err d) × (new.machine ≡ whole.1) = λ d h. subst (λ x. Finishes x answered whole.1 new.machine) h whole.3 in
+    let stays : (d : Error) → whole.0 ≡ Err d → (answered ≡ Err d) × (new.machine ≡ whole.1) = λ d h. subst (λ x. FollowsFirstPart x answered whole.1 new.machine) h whole.3 in
     elim first.0 as (λ _. AnswersFirst e r old new) [
       | inl x ↦ (inl (flat ∙ ap flattened (stays e x).0), viewed old new old.machine ((stays e x).1 ∙ ap (λ (v : View). v.machine) first.1) u)
       | inr x ↦ (inr (flat ∙ ap flattened (stays no_memory x).0), viewed old new old.machine ((stays no_memory x).1 ∙ ap (λ (v : View). v.machine) first.1) u)

@@ -17,7 +17,7 @@ use Rattle.vm_machine.specs.declared.machine.Machine.{Machine}
 use Rattle.vm_awaits.specs.Awaits.{Awaits}
 use Rattle.vm_awaits.specs.Cancels.{AwaitsWhole}
 use Rattle.vm_asks.specs.Asks.{run_command}
-use Rattle.vm_machine.specs.Commands.{CanBeRead, Fits, answered_by, commanded, knows_next}
+use Rattle.vm_machine.specs.Commands.{CanBeRead, HandleFits, answered_by, commanded, knows_next}
 use Rattle.vm_machine.specs.Ephemerals.{answers_ready, may_answer}
 use Rattle.vm_machine.specs.Several.{AllFit, MakesAll, commanded_before}
 use Rattle.vm_machine.specs.Outcomes.{Outcome, flattened, refused}
@@ -33,7 +33,7 @@ use Rattle.invocation_vm.specs.Views.{View, Calls, CallsBy}
 -- and its handles fit.
 abbrev pub CallsCommand : Command → Result NotificationHandle Error → View → View → Type 0
 CallsCommand c r old new = Calls (commanded c) r old new × OnOk r (CanBeRead c.message old.machine)
-    × IfOk r (Fits c.message)
+    × IfOk r (HandleFits c.message)
 
 -- A call that has a command, answered by this of its first handle.
 abbrev pub CallsFor : {A : Type 0} → (NotificationHandle → A) → Command → Result A Error → View

@@ -25,10 +25,10 @@ unfoldable pub frames_of : List ℕ → List RawMessage × Tail
 frames_of bytes = frames_by (length bytes) bytes
 
 -- frames of bytes, and of the bytes that follow
-abbrev pub joined : List RawMessage × Tail → List ℕ → List RawMessage × Tail
-joined (frames, Rest bytes) more = (
+abbrev pub frames_joined : List RawMessage × Tail → List ℕ → List RawMessage × Tail
+frames_joined (frames, Rest bytes) more = (
   frames
       ++ (frames_of (bytes ++ more)).0,
   (frames_of (bytes ++ more)).1,
 )
-joined (frames, Garbage) more = (frames, Garbage)
+frames_joined (frames, Garbage) more = (frames, Garbage)

@@ -24,15 +24,15 @@ supported V7 = Ok V7
 supported V8 = Ok V8
 
 -- a version that is read has to be supported
-abbrev pub known : Option Version → Result Version Error
-known None = Err (named_error fault.BadContentType None)
-known (Some version) = supported version
+abbrev pub supported_version : Option Version → Result Version Error
+supported_version None = Err (named_error fault.BadContentType None)
+supported_version (Some version) = supported version
 
 -- The header that names the content type can't be read, is absent, or is a text.
 abbrev pub version_in : Option (Option (List ℕ)) → Result Version Error
 version_in None = Err (named_error fault.BadRequest None)
 version_in (Some None) = Err (named_error fault.MissingContentType None)
-version_in (Some (Some text)) = known (version_of text)
+version_in (Some (Some text)) = supported_version (version_of text)
 
 -- a VM before any input
 abbrev pub made : Global → VMOptions → Version → View

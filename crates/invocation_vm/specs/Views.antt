@@ -64,8 +64,8 @@ after_error v e relationship =
     record v { machine = left_by (called (report_step e relationship v.machine) v.machine) }
 
 -- the messages that bytes bring
-abbrev pub brought : View → List ℕ → List RawMessage
-brought v bytes = (frames_of (v.undecoded ++ bytes)).0
+abbrev pub messages_in_bytes : View → List ℕ → List RawMessage
+messages_in_bytes v bytes = (frames_of (v.undecoded ++ bytes)).0
 
 -- the first of these messages have come, and these are left
 pub record HaveCome (raws left : List RawMessage) (old reached : Machine) : Type 0 where

@@ -14,7 +14,7 @@ ghost use Rattle.vm_asks.specs.Carried.{AreBelow, all_carried};
 ghost use Rattle.vm_asks.specs.declared.state_read.StateRead.TheVariants as reads;
 ghost use Rattle.invocation_vm.specs.Calls.{CallsAllFor, CallsCommand, CallsFlatAwait, CallsFor, CallsProposal, CallsRead, CallsRun, CallsUnit, name_or_empty, new_awakeable_step};
 ghost use Rattle.invocation_vm.specs.Making.{Makes, response_head, version_in};
-ghost use Rattle.invocation_vm.specs.Views.{View, Calls, Leaves, TakesOutput, after_closing, after_error, after_input, brought};
+ghost use Rattle.invocation_vm.specs.Views.{View, Calls, Leaves, TakesOutput, after_closing, after_error, after_input, messages_in_bytes};
 
 use bytes::Bytes;
 use journal_errors::{Error, HeaderMap};
@@ -48,7 +48,8 @@ pub trait VM: Sized {
 
     /// The next bytes of the attempt, cut anywhere. What they spell may fail the VM; the answer is Ok then too.
     fn notify_input(&mut self, bytes: Bytes) -> Result<(), AllocError>
-        ensures { Leaves (brought (view self.old) bytes) (after_input (view self.old) bytes) result
+        ensures { Leaves (messages_in_bytes (view self.old) bytes)
+            (after_input (view self.old) bytes) result
             (view self.old) (view self.new) };
 
     /// No more bytes are to be waited for. Memory is taken only where known entries are missing, for the error.

@@ -2,7 +2,7 @@
 use Rattle.std.specs.Prelude.{◌≡◌, refl}
 use Rattle.wire.specs.Format.{Format}
 use Rattle.wire.specs.Forms.{u32_format, u64_format, flag_format, bytes_format, text_format, pair_format, option_format, list_format, via, spelled}
-use Rattle.journal_attempt.specs.Encoding.{start, input, sleep, output, suspension, awaiting_on, run, propose_run_completion, propose_run_completion_ack}
+use Rattle.journal_attempt.specs.Encoding.{start_body, input, sleep_body, output_body, suspension, awaiting_on, run_body, propose_run_completion, propose_run_completion_ack}
 use Rattle.journal_values.specs.Parts.{header_format, value_format}
 use Rattle.journal_attempt.specs.Futures.{future_format}
 use Rattle.journal_attempt.specs.declared.control.Suspension.{Suspension}
@@ -40,13 +40,13 @@ sleep_by_parts = via (λ m. (m.wake_up_time, (m.result_completion_id, m.name)))
     (λ _. refl)
     (pair_format u64_format (pair_format u32_format text_format))
 
-pub sleep_same : (m : SleepCommand) → sleep m ≡ (sleep_by_parts).spelling m
-unfolding sleep
+pub sleep_same : (m : SleepCommand) → sleep_body m ≡ (sleep_by_parts).spelling m
+unfolding sleep_body
 sleep_same m = refl
 
 -- the format of a sleep's body: wake-up time (u64), completion id (u32), name (text)
 abbrev pub sleep_format : Format SleepCommand
-sleep_format = spelled sleep sleep_by_parts sleep_same
+sleep_format = spelled sleep_body sleep_by_parts sleep_same
 
 -- ---- output
 
@@ -55,13 +55,13 @@ abbrev pub output_by_parts : Format OutputCommand
 output_by_parts = via (λ m. m.result) (λ p. record { result = p }) (λ _. refl) (λ _. refl)
     value_format
 
-pub output_same : (m : OutputCommand) → output m ≡ (output_by_parts).spelling m
-unfolding output
+pub output_same : (m : OutputCommand) → output_body m ≡ (output_by_parts).spelling m
+unfolding output_body
 output_same m = refl
 
 -- the format of an output's body: a value or a failure
 abbrev pub output_format : Format OutputCommand
-output_format = spelled output output_by_parts output_same
+output_format = spelled output_body output_by_parts output_same
 
 -- ---- suspension
 
@@ -114,7 +114,16 @@ start_by_parts = via (λ s. (
             known_entries,
             (
               state,
-              (partial, (retry_count, (duration, (random_seed, (scope, (limit_key, idempotency_key)))))),
+              (
+                partial,
+                (
+                  retry_count,
+                  (
+                    duration,
+                    (random_seed, (scope, (limit_key, idempotency_key))),
+                  ),
+                ),
+              ),
             ),
           ),
         ),
@@ -144,15 +153,15 @@ start_by_parts = via (λ s. (
     (pair_format (option_format text_format)
     (pair_format (option_format text_format) (option_format text_format))))))))))))
 
-pub start_same : (m : Start) → start m ≡ (start_by_parts).spelling m
-unfolding start
+pub start_same : (m : Start) → start_body m ≡ (start_by_parts).spelling m
+unfolding start_body
 start_same m = refl
 
 -- the format of a start's body: id (bytes), debug id and key (texts), known entries (u32), state
 -- (pairs of bytes), partial (a flag), retry count (u32), duration and random seed (u64), scope,
 -- limit key and idempotency key (texts or none)
 abbrev pub start_format : Format Start
-start_format = spelled start start_by_parts start_same
+start_format = spelled start_body start_by_parts start_same
 
 -- ---- awaiting on
 
@@ -178,13 +187,13 @@ run_by_parts = via (λ m. (m.name, m.result_completion_id))
     (λ p. record { name = p.0; result_completion_id = p.1 }) (λ _. refl) (λ _. refl)
     (pair_format text_format u32_format)
 
-pub run_same : (m : RunCommand) → run m ≡ (run_by_parts).spelling m
-unfolding run
+pub run_same : (m : RunCommand) → run_body m ≡ (run_by_parts).spelling m
+unfolding run_body
 run_same m = refl
 
 -- the format of a run's body: name (text), completion id (u32)
 abbrev pub run_format : Format RunCommand
-run_format = spelled run run_by_parts run_same
+run_format = spelled run_body run_by_parts run_same
 
 -- ---- propose run completion
 

@@ -16,8 +16,8 @@ use Rattle.journal_values.specs.Encoding.{pair_of_texts, header, value_or_failur
 -- a start: id (bytes), debug id and key (texts), known entries (u32), state: a count (u64) and so
 -- many pairs of bytes, partial (0 or 1), retry count (u32), duration and random seed (u64); scope,
 -- limit key, idempotency key: each 0, or 1 and a text
-unfoldable pub start : Start → List ℕ
-start s = fields (bytes s.id ∷ bytes s.debug_id ∷ bytes s.key ∷ u32s s.known_entries
+unfoldable pub start_body : Start → List ℕ
+start_body s = fields (bytes s.id ∷ bytes s.debug_id ∷ bytes s.key ∷ u32s s.known_entries
     ∷ list pair_of_texts s.state ∷ flag s.partial ∷ u32s s.retry_count
     ∷ u64s s.duration ∷ u64s s.random_seed ∷ option bytes s.scope ∷ option bytes s.limit_key
     ∷ option bytes s.idempotency_key ∷ [])
@@ -27,12 +27,12 @@ unfoldable pub input : InputCommand → List ℕ
 input m = fields (list header m.headers ∷ bytes m.value ∷ [])
 
 -- a sleep: wake-up time in ms (u64), the completion id of its result (u32), name (text)
-unfoldable pub sleep : SleepCommand → List ℕ
-sleep m = fields (u64s m.wake_up_time ∷ u32s m.result_completion_id ∷ bytes m.name ∷ [])
+unfoldable pub sleep_body : SleepCommand → List ℕ
+sleep_body m = fields (u64s m.wake_up_time ∷ u32s m.result_completion_id ∷ bytes m.name ∷ [])
 
 -- an output: a value or a failure
-unfoldable pub output : OutputCommand → List ℕ
-output m = fields (value_or_failure m.result ∷ [])
+unfoldable pub output_body : OutputCommand → List ℕ
+output_body m = fields (value_or_failure m.result ∷ [])
 
 -- a suspension: the future until which the attempt stops
 unfoldable pub suspension : Suspension → List ℕ
@@ -47,8 +47,8 @@ awaiting_on m = fields (future m.future ∷ flag m.executing_side_effects ∷ []
 -- ---- runs
 
 -- a run: name (text), the completion id of its result (u32)
-unfoldable pub run : RunCommand → List ℕ
-run m = fields (bytes m.name ∷ u32s m.result_completion_id ∷ [])
+unfoldable pub run_body : RunCommand → List ℕ
+run_body m = fields (bytes m.name ∷ u32s m.result_completion_id ∷ [])
 
 -- a run's result is proposed: id (u32), a value or a failure
 unfoldable pub propose_run_completion : ProposeRunCompletion → List ℕ

@@ -6,7 +6,7 @@ use Rattle.std.proofs.lemmas.Bool.{false≢true}
 use Rattle.std.proofs.lemmas.List.{length-append}
 use Rattle.std.proofs.lemmas.Grind.{flat_map-append}
 use Rattle.std.proofs.lemmas.List.Concat.{flat_map-cons}
-use Rattle.wire.specs.Format.{Format, Reading, IsReadBack, IsSpelled, read_as, read_then, read_nothing, read_byte, choose, no_case, read_case, u32s, u64s, bytes, list, fields}
+use Rattle.wire.specs.Format.{Format, Reading, IsReadBack, IsSpelled, read_as, read_then, read_nothing, read_byte, read_if_number, read_no_case, read_case, u32s, u64s, bytes, list, fields}
 use Rattle.wire.specs.Forms.{then_some, same_some, case_is, cases_are, no_case_is, nothing_format, u32_format, u64_format, text_format, pair_format, list_format, via, spelled}
 use Rattle.journal_attempt.specs.declared.future.FutureKind.{FutureKind}
 use Rattle.journal_attempt.specs.declared.future.FutureKind.TheVariants.{FirstCompleted, AllCompleted, FirstSucceededOrAllFailed, AllSucceededOrFirstFailed, Unknown}
@@ -24,12 +24,12 @@ kind Unknown = 4 ∷ []
 -- the kind whose number, 0 to 4, is the first byte; none where it is another byte or none is left
 unfoldable pub read_kind : Reading FutureKind
 read_kind = read_case (
-    choose 0 (read_as (λ _. FirstCompleted) read_nothing) (
-    choose 1 (read_as (λ _. AllCompleted) read_nothing) (
-    choose 2 (read_as (λ _. FirstSucceededOrAllFailed) read_nothing) (
-    choose 3 (read_as (λ _. AllSucceededOrFirstFailed) read_nothing) (
-    choose 4 (read_as (λ _. Unknown) read_nothing) (
-    no_case))))))
+    read_if_number 0 (read_as (λ _. FirstCompleted) read_nothing) (
+    read_if_number 1 (read_as (λ _. AllCompleted) read_nothing) (
+    read_if_number 2 (read_as (λ _. FirstSucceededOrAllFailed) read_nothing) (
+    read_if_number 3 (read_as (λ _. AllSucceededOrFirstFailed) read_nothing) (
+    read_if_number 4 (read_as (λ _. Unknown) read_nothing) (
+    read_no_case))))))
 
 pub kind_reads : IsReadBack kind (λ _. Unit {0}) read_kind
 unfolding read_kind read_byte

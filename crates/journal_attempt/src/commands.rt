@@ -41,7 +41,7 @@ impl Wire for InputCommand {
     }
 }
 
-#[tactic(auto, unfolding(crate::specs::Encoding::sleep))]
+#[tactic(auto, unfolding(crate::specs::Encoding::sleep_body))]
 impl Wire for SleepCommand {
     ghost use Rattle.journal_attempt.specs.Bodies.{sleep_format};
 
@@ -63,7 +63,7 @@ impl Wire for SleepCommand {
     }
 }
 
-#[tactic(auto, unfolding(crate::specs::Encoding::output))]
+#[tactic(auto, unfolding(crate::specs::Encoding::output_body))]
 impl Wire for OutputCommand {
     ghost use Rattle.journal_attempt.specs.Bodies.{output_format};
 

@@ -24,7 +24,7 @@ pub struct ProposeRunCompletionAck {
     pub id: u32,
 }
 
-#[tactic(auto, unfolding(crate::specs::Encoding::run))]
+#[tactic(auto, unfolding(crate::specs::Encoding::run_body))]
 impl Wire for RunCommand {
     ghost use Rattle.journal_attempt.specs.Bodies.{run_format};
 

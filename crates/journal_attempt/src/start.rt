@@ -31,7 +31,7 @@ type Parts = (
 
 type Rest = (u64, (u64, (Option<Text>, (Option<Text>, Option<Text>))));
 
-#[tactic(auto, unfolding(crate::specs::Encoding::start))]
+#[tactic(auto, unfolding(crate::specs::Encoding::start_body))]
 impl Wire for Start {
     ghost use Rattle.journal_attempt.specs.Bodies.{start_format};
 

@@ -2,7 +2,7 @@
 use Rattle.std.specs.Prelude.{◌≡◌, refl}
 use Rattle.wire.specs.Format.{Format}
 use Rattle.wire.specs.Forms.{u32_format, u64_format, bytes_format, text_format, pair_format, option_format, list_format, via, spelled}
-use Rattle.journal_calls.specs.Encoding.{call_request, call, one_way_call, complete_awakeable, send_signal, promise, complete_promise, invocation}
+use Rattle.journal_calls.specs.Encoding.{call_request, call_body, one_way_call, complete_awakeable_body, send_signal, promise_body, complete_promise_body, invocation}
 use Rattle.journal_values.specs.Parts.{header_format, value_format}
 use Rattle.journal_calls.specs.Choices.{signal_format, signal_result_format, target_format}
 use Rattle.journal_calls.specs.declared.calls.CallRequest.{CallRequest}
@@ -87,13 +87,13 @@ call_by_parts = via (λ m. (m.request, m.result_completion_id))
     (λ p. record { request = p.0; result_completion_id = p.1 }) (λ _. refl) (λ _. refl)
     (pair_format call_request_format u32_format)
 
-pub call_same : (m : CallCommand) → call m ≡ (call_by_parts).spelling m
-unfolding call
+pub call_same : (m : CallCommand) → call_body m ≡ (call_by_parts).spelling m
+unfolding call_body
 call_same m = refl
 
 -- the format of a call's body: its request, completion id (u32)
 abbrev pub call_format : Format CallCommand
-call_format = spelled call call_by_parts call_same
+call_format = spelled call_body call_by_parts call_same
 
 -- ---- one way call
 
@@ -120,15 +120,15 @@ complete_awakeable_by_parts = via (λ m. (m.awakeable_id, m.result))
     (λ p. record { awakeable_id = p.0; result = p.1 }) (λ _. refl) (λ _. refl)
     (pair_format text_format value_format)
 
-pub complete_awakeable_same : (m : CompleteAwakeableCommand) → complete_awakeable m
+pub complete_awakeable_same : (m : CompleteAwakeableCommand) → complete_awakeable_body m
     ≡ (complete_awakeable_by_parts).spelling m
-unfolding complete_awakeable
+unfolding complete_awakeable_body
 complete_awakeable_same m = refl
 
 -- the format of the body that completes an awakeable: its id (text), a value or a failure
 abbrev pub complete_awakeable_format : Format CompleteAwakeableCommand
 complete_awakeable_format =
-    spelled complete_awakeable complete_awakeable_by_parts complete_awakeable_same
+    spelled complete_awakeable_body complete_awakeable_by_parts complete_awakeable_same
 
 -- ---- send signal
 
@@ -156,13 +156,13 @@ promise_by_parts = via (λ m. (m.key, m.result_completion_id))
     (λ p. record { key = p.0; result_completion_id = p.1 }) (λ _. refl) (λ _. refl)
     (pair_format text_format u32_format)
 
-pub promise_same : (m : PromiseCommand) → promise m ≡ (promise_by_parts).spelling m
-unfolding promise
+pub promise_same : (m : PromiseCommand) → promise_body m ≡ (promise_by_parts).spelling m
+unfolding promise_body
 promise_same m = refl
 
 -- the format of the body of both a get and a peek of a promise: key (text), completion id (u32)
 abbrev pub promise_format : Format PromiseCommand
-promise_format = spelled promise promise_by_parts promise_same
+promise_format = spelled promise_body promise_by_parts promise_same
 
 -- ---- complete promise
 
@@ -173,15 +173,16 @@ complete_promise_by_parts = via (λ m. (m.key, (m.completion, m.result_completio
     (λ _. refl)
     (pair_format text_format (pair_format value_format u32_format))
 
-pub complete_promise_same : (m : CompletePromiseCommand) → complete_promise m
+pub complete_promise_same : (m : CompletePromiseCommand) → complete_promise_body m
     ≡ (complete_promise_by_parts).spelling m
-unfolding complete_promise
+unfolding complete_promise_body
 complete_promise_same m = refl
 
 -- the format of the body that completes a promise: key (text), a value or a failure, completion id
 -- (u32)
 abbrev pub complete_promise_format : Format CompletePromiseCommand
-complete_promise_format = spelled complete_promise complete_promise_by_parts complete_promise_same
+complete_promise_format =
+    spelled complete_promise_body complete_promise_by_parts complete_promise_same
 
 -- ---- invocation
 

@@ -1,8 +1,8 @@
 -- The formats of what commands choose from.
 use Rattle.std.specs.Prelude.{◌≡◌, refl}
-use Rattle.wire.specs.Format.{Format, Reading, IsReadBack, IsSpelled, read_as, read_nothing, read_byte, choose, no_case, read_case}
+use Rattle.wire.specs.Format.{Format, Reading, IsReadBack, IsSpelled, read_as, read_nothing, read_byte, read_if_number, read_no_case, read_case}
 use Rattle.wire.specs.Forms.{case_reads, case_is, cases_are, no_case_is, nothing_format, u32_format, bytes_format, text_format, pair_format, option_format, via, spelled}
-use Rattle.journal_calls.specs.Encoding.{signal, signal_result, workflow_id, idempotency_id, invocation_target}
+use Rattle.journal_calls.specs.Encoding.{signal_bytes, signal_result_bytes, workflow_id, idempotency_id, invocation_target}
 use Rattle.journal_values.specs.Parts.{failure_format}
 use Rattle.journal_calls.specs.declared.signals.Signal.{Signal}
 use Rattle.journal_calls.specs.declared.signals.Signal.TheVariants as by
@@ -24,26 +24,26 @@ signal_valid (by.Name name) = text_format.valid name
 -- or either can't be read
 unfoldable pub read_signal : Reading Signal
 read_signal = read_case (
-    choose 0 (read_as by.Index u32_format.read) (
-    choose 1 (read_as by.Name text_format.read) (
-    no_case)))
+    read_if_number 0 (read_as by.Index u32_format.read) (
+    read_if_number 1 (read_as by.Name text_format.read) (
+    read_no_case)))
 
-pub signal_reads : IsReadBack signal signal_valid read_signal
+pub signal_reads : IsReadBack signal_bytes signal_valid read_signal
 unfolding read_signal read_byte
 signal_reads (by.Index a) rest v = case_reads by.Index u32_format a rest v
 signal_reads (by.Name a) rest v = case_reads by.Name text_format a rest v
 
-pub signal_is : IsSpelled signal signal_valid read_signal
+pub signal_is : IsSpelled signal_bytes signal_valid read_signal
 unfolding read_signal
-signal_is = cases_are signal signal_valid _ (
-    case_is signal signal_valid 0 by.Index u32_format _ (λ _ v. v) (λ _. refl) (
-    case_is signal signal_valid 1 by.Name text_format _ (λ _ v. v) (λ _. refl) (
-    no_case_is signal signal_valid)))
+signal_is = cases_are signal_bytes signal_valid _ (
+    case_is signal_bytes signal_valid 0 by.Index u32_format _ (λ _ v. v) (λ _. refl) (
+    case_is signal_bytes signal_valid 1 by.Name text_format _ (λ _ v. v) (λ _. refl) (
+    no_case_is signal_bytes signal_valid)))
 
 -- the format of a signal: 0 and its number (u32), or 1 and its name (text)
 abbrev pub signal_format : Format Signal
 signal_format = record {
-  spelling = signal;
+  spelling = signal_bytes;
   valid = signal_valid;
   read = read_signal;
   reads = signal_reads;
@@ -62,31 +62,33 @@ signal_result_valid (sent.Failure f) = failure_format.valid f
 -- stands in front or what is behind it can't be read
 unfoldable pub read_signal_result : Reading SignalResult
 read_signal_result = read_case (
-    choose 0 (read_as (λ _. sent.Void) read_nothing) (
-    choose 1 (read_as sent.Value bytes_format.read) (
-    choose 2 (read_as sent.Failure failure_format.read) (
-    no_case))))
+    read_if_number 0 (read_as (λ _. sent.Void) read_nothing) (
+    read_if_number 1 (read_as sent.Value bytes_format.read) (
+    read_if_number 2 (read_as sent.Failure failure_format.read) (
+    read_no_case))))
 
-pub signal_result_reads : IsReadBack signal_result signal_result_valid read_signal_result
+pub signal_result_reads : IsReadBack signal_result_bytes signal_result_valid read_signal_result
 unfolding read_signal_result read_byte
 signal_result_reads sent.Void rest v = refl
 signal_result_reads (sent.Value a) rest v = case_reads sent.Value bytes_format a rest v
 signal_result_reads (sent.Failure a) rest v = case_reads sent.Failure failure_format a rest v
 
-pub signal_result_is : IsSpelled signal_result signal_result_valid read_signal_result
+pub signal_result_is : IsSpelled signal_result_bytes signal_result_valid read_signal_result
 unfolding read_signal_result
-signal_result_is = cases_are signal_result signal_result_valid _ (
-    case_is signal_result signal_result_valid 0 (λ _. sent.Void) nothing_format _ (λ _ v. v)
+signal_result_is = cases_are signal_result_bytes signal_result_valid _ (
+    case_is signal_result_bytes signal_result_valid 0 (λ _. sent.Void) nothing_format _ (λ _ v. v)
     (λ _. refl) (
-    case_is signal_result signal_result_valid 1 sent.Value bytes_format _ (λ _ v. v) (λ _. refl) (
-    case_is signal_result signal_result_valid 2 sent.Failure failure_format _ (λ _ v. v) (λ _. refl)
+    case_is signal_result_bytes signal_result_valid 1 sent.Value bytes_format _ (λ _ v. v)
+    (λ _. refl) (
+    case_is signal_result_bytes signal_result_valid 2 sent.Failure failure_format _ (λ _ v. v)
+    (λ _. refl)
     (
-    no_case_is signal_result signal_result_valid))))
+    no_case_is signal_result_bytes signal_result_valid))))
 
 -- the format of what is sent to a signal: 0 for void, 1 and a value's bytes, or 2 and a failure
 abbrev pub signal_result_format : Format SignalResult
 signal_result_format = record {
-  spelling = signal_result;
+  spelling = signal_result_bytes;
   valid = signal_result_valid;
   read = read_signal_result;
   reads = signal_result_reads;
@@ -146,10 +148,10 @@ target_valid (of.IdempotencyId w) = idempotency_id_format.valid w
 -- none where another byte stands in front or what is behind it can't be read
 unfoldable pub read_target : Reading InvocationTarget
 read_target = read_case (
-    choose 0 (read_as of.InvocationId text_format.read) (
-    choose 1 (read_as of.WorkflowId workflow_id_format.read) (
-    choose 2 (read_as of.IdempotencyId idempotency_id_format.read) (
-    no_case))))
+    read_if_number 0 (read_as of.InvocationId text_format.read) (
+    read_if_number 1 (read_as of.WorkflowId workflow_id_format.read) (
+    read_if_number 2 (read_as of.IdempotencyId idempotency_id_format.read) (
+    read_no_case))))
 
 pub target_reads : IsReadBack invocation_target target_valid read_target
 unfolding read_target read_byte

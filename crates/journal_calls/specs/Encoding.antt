@@ -32,8 +32,8 @@ call_request r = fields (bytes r.service_name ∷ bytes r.handler_name ∷ bytes
     ∷ bytes r.name ∷ [])
 
 -- a call: its request, the completion id of its result (u32)
-unfoldable pub call : CallCommand → List ℕ
-call m = fields (call_request m.request ∷ u32s m.result_completion_id ∷ [])
+unfoldable pub call_body : CallCommand → List ℕ
+call_body m = fields (call_request m.request ∷ u32s m.result_completion_id ∷ [])
 
 -- a call without a result: its request, the time in ms at which it starts (u64; 0 is at once)
 unfoldable pub one_way_call : OneWayCallCommand → List ℕ
@@ -42,35 +42,36 @@ one_way_call m = fields (call_request m.request ∷ u64s m.invoke_time ∷ [])
 -- ---- signals
 
 -- an awakeable is completed: its id (text), a value or a failure
-unfoldable pub complete_awakeable : CompleteAwakeableCommand → List ℕ
-complete_awakeable m = fields (bytes m.awakeable_id ∷ value_or_failure m.result ∷ [])
+unfoldable pub complete_awakeable_body : CompleteAwakeableCommand → List ℕ
+complete_awakeable_body m = fields (bytes m.awakeable_id ∷ value_or_failure m.result ∷ [])
 
 -- 0 and a signal's number (u32), or 1 and its name (text)
-abbrev pub signal : Signal → List ℕ
-signal (by.Index n) = 0 ∷ u32s n
-signal (by.Name name) = 1 ∷ bytes name
+abbrev pub signal_bytes : Signal → List ℕ
+signal_bytes (by.Index n) = 0 ∷ u32s n
+signal_bytes (by.Name name) = 1 ∷ bytes name
 
 -- 0 for void, 1 and a value's bytes, or 2 and a failure
-abbrev pub signal_result : SignalResult → List ℕ
-signal_result sent.Void = 0 ∷ []
-signal_result (sent.Value bs) = 1 ∷ bytes bs
-signal_result (sent.Failure f) = 2 ∷ failure f
+abbrev pub signal_result_bytes : SignalResult → List ℕ
+signal_result_bytes sent.Void = 0 ∷ []
+signal_result_bytes (sent.Value bs) = 1 ∷ bytes bs
+signal_result_bytes (sent.Failure f) = 2 ∷ failure f
 
 -- a signal is sent: the id of the invocation that it goes to (text), which signal, and its result
 unfoldable pub send_signal : SendSignalCommand → List ℕ
 send_signal m =
-    fields (bytes m.target_invocation_id ∷ signal m.signal ∷ signal_result m.result ∷ [])
+    fields (bytes m.target_invocation_id ∷ signal_bytes m.signal
+    ∷ signal_result_bytes m.result ∷ [])
 
 -- ---- promises
 
 -- a promise is awaited or looked at: key (text), the completion id of its result (u32)
-unfoldable pub promise : PromiseCommand → List ℕ
-promise m = fields (bytes m.key ∷ u32s m.result_completion_id ∷ [])
+unfoldable pub promise_body : PromiseCommand → List ℕ
+promise_body m = fields (bytes m.key ∷ u32s m.result_completion_id ∷ [])
 
 -- a promise is completed: key (text), a value or a failure, the completion id of the command's
 -- result (u32)
-unfoldable pub complete_promise : CompletePromiseCommand → List ℕ
-complete_promise m =
+unfoldable pub complete_promise_body : CompletePromiseCommand → List ℕ
+complete_promise_body m =
     fields (bytes m.key ∷ value_or_failure m.completion ∷ u32s m.result_completion_id ∷ [])
 
 -- ---- other invocations

@@ -49,11 +49,11 @@ idempotency_exact = exact_on
     (exact_pair (exact_option bytes_decides)
     (exact_pair bytes_decides (exact_pair bytes_decides (exact_option bytes_decides)))))
 
-pub target_exact : Exact (targets.ghosts).eq
-target_exact (of.InvocationId x) (of.InvocationId y) =
+pub attach_target_exact : Exact (targets.ghosts).eq
+attach_target_exact (of.InvocationId x) (of.InvocationId y) =
     (λ e. ap of.InvocationId ((bytes_decides x y).0 e), λ e. (bytes_decides x y).1 cc)
-target_exact (of.WorkflowId x) (of.WorkflowId y) =
+attach_target_exact (of.WorkflowId x) (of.WorkflowId y) =
     (λ e. ap of.WorkflowId ((workflow_exact x y).0 e), λ e. (workflow_exact x y).1 cc)
-target_exact (of.IdempotencyId x) (of.IdempotencyId y) =
+attach_target_exact (of.IdempotencyId x) (of.IdempotencyId y) =
     (λ e. ap of.IdempotencyId ((idempotency_exact x y).0 e), λ e. (idempotency_exact x y).1 cc)
-target_exact _ _ = (λ e. absurd cc, λ e. absurd cc)
+attach_target_exact _ _ = (λ e. absurd cc, λ e. absurd cc)

@@ -82,7 +82,7 @@ impl Wire for CallRequest {
     }
 }
 
-#[tactic(auto, unfolding(crate::specs::Encoding::call))]
+#[tactic(auto, unfolding(crate::specs::Encoding::call_body))]
 impl Wire for CallCommand {
     ghost use Rattle.journal_calls.specs.Bodies.{call_format};
 

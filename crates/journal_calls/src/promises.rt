@@ -20,7 +20,7 @@ pub struct CompletePromiseCommand {
     pub result_completion_id: u32,
 }
 
-#[tactic(auto, unfolding(crate::specs::Encoding::promise))]
+#[tactic(auto, unfolding(crate::specs::Encoding::promise_body))]
 impl Wire for PromiseCommand {
     ghost use Rattle.journal_calls.specs.Bodies.{promise_format};
 
@@ -40,7 +40,7 @@ impl Wire for PromiseCommand {
     }
 }
 
-#[tactic(auto, unfolding(crate::specs::Encoding::complete_promise))]
+#[tactic(auto, unfolding(crate::specs::Encoding::complete_promise_body))]
 impl Wire for CompletePromiseCommand {
     ghost use Rattle.journal_calls.specs.Bodies.{complete_promise_format};
 

@@ -1,5 +1,5 @@
 //! Whose `==` says whether two values are the same.
-ghost use Rattle.journal_calls.specs.Same.{signal_exact, signal_result_exact, target_exact};
+ghost use Rattle.journal_calls.specs.Same.{signal_exact, signal_result_exact, attach_target_exact};
 
 use crate::{InvocationTarget, Signal, SignalResult};
 use wire::Exact;
@@ -13,5 +13,5 @@ impl Exact for SignalResult {
 }
 
 impl Exact for InvocationTarget {
-    ghost compares = { target_exact };
+    ghost compares = { attach_target_exact };
 }

@@ -32,7 +32,7 @@ pub struct SendSignalCommand {
     pub result: SignalResult,
 }
 
-#[tactic(auto, unfolding(crate::specs::Encoding::complete_awakeable))]
+#[tactic(auto, unfolding(crate::specs::Encoding::complete_awakeable_body))]
 impl Wire for CompleteAwakeableCommand {
     ghost use Rattle.journal_calls.specs.Bodies.{complete_awakeable_format};
 

@@ -40,18 +40,18 @@ fault_error Memory = no_memory
 fault_error Malformed = named_error fault.BadMessage None
 
 -- an empty name is no name
-abbrev pub name_of : List ℕ → Option (List ℕ)
-name_of [] = None
-name_of (c ∷ cs) = Some (c ∷ cs)
+abbrev pub name_if_any : List ℕ → Option (List ℕ)
+name_if_any [] = None
+name_if_any (c ∷ cs) = Some (c ∷ cs)
 
 -- whole milliseconds, as far as a u64 goes
-abbrev pub millis_of : Duration → ℕ
-millis_of d = min (as_nanos d / 1_000_000) (2 ^ 64 - 1)
+abbrev pub capped_millis : Duration → ℕ
+capped_millis d = min (as_nanos d / 1_000_000) (2 ^ 64 - 1)
 
 -- the name of the command that an error is about; none where it is about none or the name is empty
 abbrev pub related_name : Option RelatedCommand → Option (List ℕ)
 related_name None = None
-related_name (Some r) = name_of r.name
+related_name (Some r) = name_if_any r.name
 
 -- what is written of an error
 abbrev pub error_message : Error → ErrorMessage
@@ -63,5 +63,5 @@ error_message e = record {
   index = option_map (λ r. r.index) e.related_command;
   ty = option_map (λ r. type_number r.ty) e.related_command;
   name = related_name e.related_command;
-  delay = option_map millis_of e.next_retry_delay;
+  delay = option_map capped_millis e.next_retry_delay;
 }

@@ -1,6 +1,6 @@
 -- The format of what is to be done after an error.
 use Rattle.std.specs.Prelude.{refl}
-use Rattle.wire.specs.Format.{Format, Reading, IsReadBack, IsSpelled, read_as, read_nothing, read_byte, choose, no_case, read_case}
+use Rattle.wire.specs.Format.{Format, Reading, IsReadBack, IsSpelled, read_as, read_nothing, read_byte, read_if_number, read_no_case, read_case}
 use Rattle.wire.specs.Forms.{case_is, cases_are, no_case_is, nothing_format}
 use Rattle.journal_errors.specs.Encoding.{behavior}
 use Rattle.journal_errors.specs.declared.error.ErrorBehavior.{ErrorBehavior}
@@ -11,10 +11,10 @@ use Rattle.journal_errors.specs.declared.error.ErrorBehavior.TheVariants.{Retry,
 -- 0 retry, 1 pause, 2 fail; none where it is another byte or no byte is left
 unfoldable pub read_behavior : Reading ErrorBehavior
 read_behavior = read_case (
-    choose 0 (read_as (λ _. Retry) read_nothing) (
-    choose 1 (read_as (λ _. Pause) read_nothing) (
-    choose 2 (read_as (λ _. Fail) read_nothing) (
-    no_case))))
+    read_if_number 0 (read_as (λ _. Retry) read_nothing) (
+    read_if_number 1 (read_as (λ _. Pause) read_nothing) (
+    read_if_number 2 (read_as (λ _. Fail) read_nothing) (
+    read_no_case))))
 
 pub behavior_reads : IsReadBack behavior (λ _. Unit {0}) read_behavior
 unfolding read_behavior read_byte

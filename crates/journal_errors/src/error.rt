@@ -1,7 +1,7 @@
 //! The errors of the layer. One that a named fault makes takes no memory, so want of memory has a form.
 ghost use Rattle.std.specs.Prelude.{◌≡◌, [], Some, None, IfOk, string_bytes};
 ghost use Rattle.wire.specs.declared.fault.Fault.TheVariants as wire_fault;
-ghost use Rattle.journal_errors.specs.Errors.{plain_error, named_error, no_memory, fault_error, error_message, name_of, millis_of};
+ghost use Rattle.journal_errors.specs.Errors.{plain_error, named_error, no_memory, fault_error, error_message, name_if_any, capped_millis};
 
 use crate::{ErrorMessage, MessageType, NamedFault, Said};
 use std::alloc::{AllocError, Global};
@@ -166,13 +166,13 @@ impl From<Fault> for Error {
 
 /// Whole milliseconds, as far as they go.
 fn millis_of(delay: Duration) -> u64
-    ensures { result ≡ millis_of delay }
+    ensures { result ≡ capped_millis delay }
 {
     u64::try_from(delay.as_millis()).unwrap_or(u64::MAX)
 }
 
 fn name_of(name: &Text) -> Result<Option<Text>, AllocError>
-    ensures { IfOk result (λ n. n ≡ name_of name.now) }
+    ensures { IfOk result (λ n. n ≡ name_if_any name.now) }
 {
     if name.as_str().is_empty() {
         Ok(None)

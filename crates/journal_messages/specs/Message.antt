@@ -7,10 +7,10 @@ use Rattle.wire.specs.declared.fault.Fault.TheVariants.{Memory, Malformed}
 use Rattle.journal_errors.specs.Types.{type_number}
 use Rattle.journal_errors.specs.declared.types.MessageType.{MessageType}
 use Rattle.journal_errors.specs.declared.types.MessageType.TheVariants as type
-use Rattle.journal_attempt.specs.Encoding.{start, suspension, propose_run_completion, propose_run_completion_ack, awaiting_on, input, sleep, run, output}
+use Rattle.journal_attempt.specs.Encoding.{start_body, suspension, propose_run_completion, propose_run_completion_ack, awaiting_on, input, sleep_body, run_body, output_body}
 use Rattle.journal_errors.specs.Encoding.{error}
 use Rattle.journal_state.specs.Encoding.{get_state_ephemeral_command, get_state_ephemeral_notification, get_eager_state, get_lazy_state, get_eager_state_keys, get_lazy_state_keys, set_state, clear_state, clear_all_state}
-use Rattle.journal_calls.specs.Encoding.{call, one_way_call, complete_awakeable, send_signal, promise, complete_promise, invocation}
+use Rattle.journal_calls.specs.Encoding.{call_body, one_way_call, complete_awakeable_body, send_signal, promise_body, complete_promise_body, invocation}
 use Rattle.journal_values.specs.Encoding.{notification}
 use Rattle.journal_attempt.specs.Bodies.{start_format, suspension_format, propose_run_completion_format, propose_run_completion_ack_format, awaiting_on_format, input_format, sleep_format, run_format, output_format}
 use Rattle.journal_errors.specs.Bodies.{error_format}
@@ -57,7 +57,7 @@ type_of (message.Notification _) = type.Notification
 
 -- the message's fields, one behind the other; an end has none
 abbrev pub body : Message → List ℕ
-body (message.Start m) = start m
+body (message.Start m) = start_body m
 body (message.Suspension m) = suspension m
 body (message.Error m) = error m
 body message.End = []
@@ -74,18 +74,18 @@ body (message.GetLazyStateKeys m) = get_lazy_state_keys m
 body (message.SetState m) = set_state m
 body (message.ClearState m) = clear_state m
 body (message.ClearAllState m) = clear_all_state m
-body (message.Sleep m) = sleep m
-body (message.Call m) = call m
+body (message.Sleep m) = sleep_body m
+body (message.Call m) = call_body m
 body (message.OneWayCall m) = one_way_call m
-body (message.CompleteAwakeable m) = complete_awakeable m
+body (message.CompleteAwakeable m) = complete_awakeable_body m
 body (message.SendSignal m) = send_signal m
-body (message.GetPromise m) = promise m
-body (message.PeekPromise m) = promise m
-body (message.CompletePromise m) = complete_promise m
-body (message.Run m) = run m
+body (message.GetPromise m) = promise_body m
+body (message.PeekPromise m) = promise_body m
+body (message.CompletePromise m) = complete_promise_body m
+body (message.Run m) = run_body m
 body (message.AttachInvocation m) = invocation m
 body (message.GetInvocationOutput m) = invocation m
-body (message.Output m) = output m
+body (message.Output m) = output_body m
 body (message.Notification m) = notification m
 
 -- a number, a length and that many bytes

@@ -1,6 +1,6 @@
 -- The format of what stands under a key.
 use Rattle.std.specs.Prelude.{refl}
-use Rattle.wire.specs.Format.{Format, Reading, IsReadBack, IsSpelled, read_as, read_nothing, read_byte, choose, no_case, read_case}
+use Rattle.wire.specs.Format.{Format, Reading, IsReadBack, IsSpelled, read_as, read_nothing, read_byte, read_if_number, read_no_case, read_case}
 use Rattle.wire.specs.Forms.{case_reads, case_is, cases_are, no_case_is, nothing_format, bytes_format}
 use Rattle.journal_state.specs.Encoding.{void_or_value}
 use Rattle.journal_state.specs.declared.state.VoidOrValue.{VoidOrValue}
@@ -17,9 +17,9 @@ void_or_value_valid (state.Value bs) = bytes_format.valid bs
 -- before
 unfoldable pub read_void_or_value : Reading VoidOrValue
 read_void_or_value = read_case (
-    choose 0 (read_as (λ _. state.Void) read_nothing) (
-    choose 1 (read_as state.Value bytes_format.read) (
-    no_case)))
+    read_if_number 0 (read_as (λ _. state.Void) read_nothing) (
+    read_if_number 1 (read_as state.Value bytes_format.read) (
+    read_no_case)))
 
 pub void_or_value_reads : IsReadBack void_or_value void_or_value_valid read_void_or_value
 unfolding read_void_or_value read_byte

@@ -10,7 +10,7 @@ use Rattle.journal_errors.specs.Types.{type_at, type_number}
 use Rattle.journal_messages.specs.Message.{frame}
 use Rattle.journal_errors.specs.declared.types.MessageType.{MessageType}
 use Rattle.journal_messages.specs.declared.message.RawMessage.{RawMessage}
-use Rattle.journal_streams.specs.Frames.{NextFrame, Whole, Partial, Malformed, number_in, size_in, framed, typed, next_of}
+use Rattle.journal_streams.specs.Frames.{NextFrame, Whole, Partial, Malformed, number_in, size_in, framed, framed_by_type, next_of}
 use Rattle.journal_streams.proofs.Numbers.{small_number, type_found}
 use Rattle.journal_streams.proofs.Frames.{frame_parts, next_typed, typed_long, framed_long, next_framed}
 
@@ -35,7 +35,7 @@ is_malformed false x e = (refl, e)
 whole_known : (raw : RawMessage) (rest : List ℕ) → Whole raw rest ≡ Malformed → ⊥
 whole_known raw rest e = cc
 
-next_is : (bs : List ℕ) → next_of bs ≡ (if nat_lt (length bs) 2 then Partial else typed (type_at (number_in bs)) bs)
+next_is : (bs : List ℕ) → next_of bs ≡ (if nat_lt (length bs) 2 then Partial else framed_by_type (type_at (number_in bs)) bs)
 unfolding next_of
 next_is bs = refl
 
@@ -59,7 +59,7 @@ size_more bs ys l =
     ap (λ t. from_be_bytes w64 (take 8 t)) (drop-append-le 2 bs ys (omega (arith, l)))
     ∙ ap (from_be_bytes w64) (take-append-le 8 (drop 2 bs) ys (omega (arith, length-drop 2 bs, l)))
 
-typed_more : (o : Option MessageType) (bs ys : List ℕ) (raw : RawMessage) (rest : List ℕ) → typed o bs ≡ Whole raw rest → typed o (bs ++ ys) ≡ Whole raw (rest ++ ys)
+typed_more : (o : Option MessageType) (bs ys : List ℕ) (raw : RawMessage) (rest : List ℕ) → framed_by_type o bs ≡ Whole raw rest → framed_by_type o (bs ++ ys) ≡ Whole raw (rest ++ ys)
 typed_more None bs ys raw rest e = absurd cc
 typed_more (Some ty) bs ys raw rest e =
     let h = is_whole (nat_lt (length bs) 10) (framed ty (size_in bs) (drop 10 bs)) raw rest e in
@@ -69,7 +69,7 @@ typed_more (Some ty) bs ys raw rest e =
     ∙ ap (framed ty (size_in bs)) (drop-append-le 10 bs ys l)
     ∙ framed_more ty (size_in bs) (drop 10 bs) ys raw rest h.1
 
-typed_unknown : (o : Option MessageType) (bs ys : List ℕ) → typed o bs ≡ Malformed → typed o (bs ++ ys) ≡ Malformed
+typed_unknown : (o : Option MessageType) (bs ys : List ℕ) → framed_by_type o bs ≡ Malformed → framed_by_type o (bs ++ ys) ≡ Malformed
 typed_unknown None bs ys e = refl
 typed_unknown (Some ty) bs ys e =
     let h = is_malformed (nat_lt (length bs) 10) (framed ty (size_in bs) (drop 10 bs)) e in
@@ -79,7 +79,7 @@ typed_unknown (Some ty) bs ys e =
 -- a whole frame stays the first one
 pub whole_more : (bs ys : List ℕ) (raw : RawMessage) (rest : List ℕ) → next_of bs ≡ Whole raw rest → next_of (bs ++ ys) ≡ Whole raw (rest ++ ys)
 whole_more bs ys raw rest e =
-    let h = is_whole (nat_lt (length bs) 2) (typed (type_at (number_in bs)) bs) raw rest (sym (next_is bs) ∙ e) in
+    let h = is_whole (nat_lt (length bs) 2) (framed_by_type (type_at (number_in bs)) bs) raw rest (sym (next_is bs) ∙ e) in
     let l = not_less (length bs) 2 h.0 in
     next_typed (bs ++ ys) (type_at (number_in bs)) (omega (arith, length-append bs ys, l)) (ap type_at (number_more bs ys l))
     ∙ typed_more (type_at (number_in bs)) bs ys raw rest h.1
@@ -87,7 +87,7 @@ whole_more bs ys raw rest e =
 -- a number that is no type's stays
 pub malformed_more : (bs ys : List ℕ) → next_of bs ≡ Malformed → next_of (bs ++ ys) ≡ Malformed
 malformed_more bs ys e =
-    let h = is_malformed (nat_lt (length bs) 2) (typed (type_at (number_in bs)) bs) (sym (next_is bs) ∙ e) in
+    let h = is_malformed (nat_lt (length bs) 2) (framed_by_type (type_at (number_in bs)) bs) (sym (next_is bs) ∙ e) in
     let l = not_less (length bs) 2 h.0 in
     next_typed (bs ++ ys) (type_at (number_in bs)) (omega (arith, length-append bs ys, l)) (ap type_at (number_more bs ys l))
     ∙ typed_unknown (type_at (number_in bs)) bs ys h.1
@@ -97,7 +97,7 @@ framed_shorter ty n bs raw rest e =
     let h = is_whole (nat_lt (length bs) n) (Whole (record { ty = ty; body = take n bs }) (drop n bs)) raw rest e in
     omega (arith, ap (λ t. length (rest_in t)) h.1, length-drop n bs)
 
-typed_shorter : (o : Option MessageType) (bs : List ℕ) (raw : RawMessage) (rest : List ℕ) → typed o bs ≡ Whole raw rest → length rest < length bs
+typed_shorter : (o : Option MessageType) (bs : List ℕ) (raw : RawMessage) (rest : List ℕ) → framed_by_type o bs ≡ Whole raw rest → length rest < length bs
 typed_shorter None bs raw rest e = absurd cc
 typed_shorter (Some ty) bs raw rest e =
     let h = is_whole (nat_lt (length bs) 10) (framed ty (size_in bs) (drop 10 bs)) raw rest e in
@@ -106,7 +106,7 @@ typed_shorter (Some ty) bs raw rest e =
 -- what comes after a frame is shorter
 pub whole_shorter : (bs : List ℕ) (raw : RawMessage) (rest : List ℕ) → next_of bs ≡ Whole raw rest → length rest < length bs
 whole_shorter bs raw rest e =
-    typed_shorter (type_at (number_in bs)) bs raw rest (is_whole (nat_lt (length bs) 2) (typed (type_at (number_in bs)) bs) raw rest (sym (next_is bs) ∙ e)).1
+    typed_shorter (type_at (number_in bs)) bs raw rest (is_whole (nat_lt (length bs) 2) (framed_by_type (type_at (number_in bs)) bs) raw rest (sym (next_is bs) ∙ e)).1
 
 -- a frame is the first one of bytes that begin with it
 pub whole_spelled : (ty : MessageType) (b rest : List ℕ) → length b < 2 ^ 64 → next_of (frame ty b ++ rest) ≡ Whole (record { ty = ty; body = b }) rest

@@ -10,8 +10,8 @@ use Rattle.wire.specs.Forms.{u16_format, u64_format}
 use Rattle.wire.proofs.Read.{one_form}
 use Rattle.journal_errors.specs.Types.{type_number, type_at}
 use Rattle.journal_errors.specs.declared.types.MessageType.{MessageType}
-use Rattle.journal_streams.specs.Stream.{IsPart, IsMalformed, IsFront}
-use Rattle.journal_streams.specs.Frames.{Whole, Partial, Malformed, number_in, size_in, framed, typed, next_of}
+use Rattle.journal_streams.specs.Stream.{IsPart, IsMalformed, IsFirstFrame}
+use Rattle.journal_streams.specs.Frames.{Whole, Partial, Malformed, number_in, size_in, framed, framed_by_type, next_of}
 use Rattle.journal_streams.proofs.Numbers.{small_number}
 
 two : (n : ℕ) → length (u16s n) ≡ 2
@@ -64,14 +64,14 @@ pub next_short : (bs : List ℕ) → length bs < 2 → next_of bs ≡ Partial
 unfolding next_of
 next_short bs l = grind (arith, nat_tests)
 
-pub next_typed : (bs : List ℕ) (o : Option MessageType) → 2 ≤ length bs → type_at (number_in bs) ≡ o → next_of bs ≡ typed o bs
+pub next_typed : (bs : List ℕ) (o : Option MessageType) → 2 ≤ length bs → type_at (number_in bs) ≡ o → next_of bs ≡ framed_by_type o bs
 unfolding next_of
 next_typed bs o l e = rw e (grind (arith, nat_tests))
 
-typed_short : (ty : MessageType) (bs : List ℕ) → length bs < 10 → typed (Some ty) bs ≡ Partial
+typed_short : (ty : MessageType) (bs : List ℕ) → length bs < 10 → framed_by_type (Some ty) bs ≡ Partial
 typed_short ty bs l = grind (arith, nat_tests)
 
-pub typed_long : (ty : MessageType) (bs : List ℕ) → 10 ≤ length bs → typed (Some ty) bs ≡ framed ty (size_in bs) (drop 10 bs)
+pub typed_long : (ty : MessageType) (bs : List ℕ) → 10 ≤ length bs → framed_by_type (Some ty) bs ≡ framed ty (size_in bs) (drop 10 bs)
 typed_long ty bs l = grind (arith, nat_tests)
 
 framed_short : (ty : MessageType) (n : ℕ) (bs : List ℕ) → length bs < n → framed ty n bs ≡ Partial
@@ -132,7 +132,7 @@ no_body bs rest after n ty len l k e l' e2 s = (
   next_framed bs rest after n ty len l k e l' e2 ∙ framed_short ty len after s,
 )
 
-pub whole_frame : (bs rest after : List ℕ) (n : ℕ) (ty : MessageType) (len : ℕ) → n < 2 ^ 16 → Some ty ≡ type_at n → type_number ty ≡ n → bs ≡ u16s n ++ rest → len < 2 ^ 64 → rest ≡ u64s len ++ after → len ≤ length after → IsFront ty (10 + len) bs
+pub whole_frame : (bs rest after : List ℕ) (n : ℕ) (ty : MessageType) (len : ℕ) → n < 2 ^ 16 → Some ty ≡ type_at n → type_number ty ≡ n → bs ≡ u16s n ++ rest → len < 2 ^ 64 → rest ≡ u64s len ++ after → len ≤ length after → IsFirstFrame ty (10 + len) bs
 whole_frame bs rest after n ty len l k r e l' e2 s =
     let b = drop 10 (take (10 + len) bs) in
     let t : b ≡ take len after = drop-take 10 len bs ∙ ap (take len) (body_read bs rest after n len e e2) in

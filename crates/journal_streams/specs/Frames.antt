@@ -27,10 +27,11 @@ framed ty n bs = if nat_lt (length bs) n then Partial
 
 -- no frame where the number is no type's; else a part of one until the number, the length and all
 -- of the body are there
-abbrev pub typed : Option MessageType → List ℕ → NextFrame
-typed None bs = Malformed
-typed (Some ty) bs = if nat_lt (length bs) 10 then Partial else framed ty (size_in bs) (drop 10 bs)
+abbrev pub framed_by_type : Option MessageType → List ℕ → NextFrame
+framed_by_type None bs = Malformed
+framed_by_type (Some ty) bs = if nat_lt (length bs) 10 then Partial
+    else framed ty (size_in bs) (drop 10 bs)
 
 -- the first frame and what comes after it, if it is whole and its number is a type's
 unfoldable pub next_of : List ℕ → NextFrame
-next_of bs = if nat_lt (length bs) 2 then Partial else typed (type_at (number_in bs)) bs
+next_of bs = if nat_lt (length bs) 2 then Partial else framed_by_type (type_at (number_in bs)) bs

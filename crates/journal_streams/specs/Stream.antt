@@ -46,12 +46,12 @@ pub record NextIsError (old : List ℕ) (e : Error) (new : List ℕ) : Type 0 wh
   pub unchanged : NextIs old (Err why) new
 
 -- as NextIs, but a fault is the error that it is for the one who sent the bytes
-abbrev pub Gives : List ℕ → Result (Option RawMessage) Error → List ℕ → Type 0
-Gives old (Ok raw) new = NextIs old (Ok raw) new
-Gives old (Err e) new = NextIsError old e new
+abbrev pub IsNextOrError : List ℕ → Result (Option RawMessage) Error → List ℕ → Type 0
+IsNextOrError old (Ok raw) new = NextIs old (Ok raw) new
+IsNextOrError old (Err e) new = NextIsError old e new
 
 -- the first n bytes are a frame of this type: its head, and its body
-pub record IsFront (ty : MessageType) (n : ℕ) (bs : List ℕ) : Type 0 where
+pub record IsFirstFrame (ty : MessageType) (n : ℕ) (bs : List ℕ) : Type 0 where
   pub head : 10 ≤ n
   pub fits : n ≤ length bs
   pub small : length (drop 10 (take n bs)) < 2 ^ 64
@@ -60,7 +60,7 @@ pub record IsFront (ty : MessageType) (n : ℕ) (bs : List ℕ) : Type 0 where
 
 -- the type of the frame at the front, and how many bytes the frame takes
 abbrev pub FrameAt : List ℕ → Result (Option (MessageType × ℕ)) Fault → Type 0
-FrameAt bs (Ok (Some x)) = IsFront x.0 x.1 bs
+FrameAt bs (Ok (Some x)) = IsFirstFrame x.0 x.1 bs
 FrameAt bs (Ok None) = IsPart bs × (next_of bs ≡ Partial)
 FrameAt bs (Err fault.Memory) = ⊥
 FrameAt bs (Err fault.Malformed) = IsMalformed bs × (next_of bs ≡ Malformed)

@@ -1,7 +1,7 @@
 //! Frames out of the pieces of a stream, however it was cut.
 ghost use Rattle.std.specs.Prelude.{◌≡◌, ◌<◌, ◌^◌, ◌++◌, [], length, MatchOption, OnOk, OnErr};
 ghost use Rattle.wire.specs.Format.{u16s, u64s};
-ghost use Rattle.journal_streams.specs.Stream.{Next, NextIs, Gives, FrameAt};
+ghost use Rattle.journal_streams.specs.Stream.{Next, NextIs, IsNextOrError, FrameAt};
 
 use crate::waiting::Waiting;
 use bytes::Bytes;
@@ -73,7 +73,7 @@ impl Decoder {
 
     /// As `next_frame`, the fault as the error that it is for the one who sent the bytes.
     pub fn next(&mut self) -> Result<Option<RawMessage>, Error>
-        ensures { Gives self.old result self.new }
+        ensures { IsNextOrError self.old result self.new }
     {
         match self.next_frame() {
             Ok(frame) => Ok(frame),

@@ -1,6 +1,6 @@
 -- The formats of what messages are made of.
 use Rattle.std.specs.Prelude.{◌≡◌, ℕ, List, refl}
-use Rattle.wire.specs.Format.{Format, Reading, IsReadBack, IsSpelled, read_as, read_nothing, read_byte, choose, no_case, read_case}
+use Rattle.wire.specs.Format.{Format, Reading, IsReadBack, IsSpelled, read_as, read_nothing, read_byte, read_if_number, read_no_case, read_case}
 use Rattle.wire.specs.Forms.{case_reads, case_is, cases_are, no_case_is, nothing_format, u32_format, bytes_format, text_format, pair_format, list_format, via, spelled}
 use Rattle.journal_values.specs.Encoding.{header, failure, value_or_failure, notification_id, notification_result}
 use Rattle.journal_values.specs.declared.parts.Header.{Header}
@@ -55,9 +55,9 @@ value_valid (value.Failure f) = failure_format.valid f
 -- front or the rest can't be read
 unfoldable pub read_value : Reading ValueOrFailure
 read_value = read_case (
-    choose 0 (read_as value.Value bytes_format.read) (
-    choose 1 (read_as value.Failure failure_format.read) (
-    no_case)))
+    read_if_number 0 (read_as value.Value bytes_format.read) (
+    read_if_number 1 (read_as value.Failure failure_format.read) (
+    read_no_case)))
 
 pub value_reads : IsReadBack value_or_failure value_valid read_value
 unfolding read_value read_byte
@@ -93,10 +93,10 @@ id_valid (id.SignalName name) = text_format.valid name
 -- another byte stands in front or what is behind it can't be read
 unfoldable pub read_id : Reading NotificationId
 read_id = read_case (
-    choose 0 (read_as id.CompletionId u32_format.read) (
-    choose 1 (read_as id.SignalId u32_format.read) (
-    choose 2 (read_as id.SignalName text_format.read) (
-    no_case))))
+    read_if_number 0 (read_as id.CompletionId u32_format.read) (
+    read_if_number 1 (read_as id.SignalId u32_format.read) (
+    read_if_number 2 (read_as id.SignalName text_format.read) (
+    read_no_case))))
 
 pub id_reads : IsReadBack notification_id id_valid read_id
 unfolding read_id read_byte
@@ -138,12 +138,12 @@ result_valid (result.InvocationId name) = text_format.valid name
 -- none where another byte stands in front or what is behind it can't be read
 unfoldable pub read_result : Reading NotificationResult
 read_result = read_case (
-    choose 0 (read_as (λ _. result.Void) read_nothing) (
-    choose 1 (read_as result.Value bytes_format.read) (
-    choose 2 (read_as result.Failure failure_format.read) (
-    choose 3 (read_as result.StateKeys (list_format bytes_format).read) (
-    choose 4 (read_as result.InvocationId text_format.read) (
-    no_case))))))
+    read_if_number 0 (read_as (λ _. result.Void) read_nothing) (
+    read_if_number 1 (read_as result.Value bytes_format.read) (
+    read_if_number 2 (read_as result.Failure failure_format.read) (
+    read_if_number 3 (read_as result.StateKeys (list_format bytes_format).read) (
+    read_if_number 4 (read_as result.InvocationId text_format.read) (
+    read_no_case))))))
 
 pub result_reads : IsReadBack notification_result result_valid read_result
 unfolding read_result read_byte

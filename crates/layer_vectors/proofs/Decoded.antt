@@ -8,10 +8,10 @@ use Rattle.journal_errors.specs.Types.{type_at}
 use Rattle.journal_errors.specs.declared.types.MessageType.{MessageType}
 use Rattle.journal_messages.specs.Reading.{message_in}
 use Rattle.journal_messages.specs.declared.message.Message.{Message}
-use Rattle.layers.specs.Layers.{IsRead, Malformed, Whole, layer_fault}
+use Rattle.layers.specs.Layers.{IsFrontRead, Malformed, Whole, layer_fault}
 use Rattle.layers.specs.Own.{front_if}
 use Rattle.layer_vectors.specs.Laws.{whole_frame}
-use Rattle.layer_vectors.specs.Short.{body_in, short_front, spelled}
+use Rattle.layer_vectors.specs.Short.{body_in, short_front, short_front_in}
 
 -- so many bytes and a number stand after the length
 pub record IsFramed (bs : List ℕ) (n : ℕ) : Type 0 where
@@ -21,26 +21,26 @@ pub record IsFramed (bs : List ℕ) (n : ℕ) : Type 0 where
 abbrev pub type_in : List ℕ → ℕ → Option MessageType
 type_in bs n = type_at (from_be_bytes w16 (take 2 (drop (n + 4) bs)))
 
-none_spelled : (ty : Option MessageType) (rest : List ℕ) → spelled ty None rest ≡ Malformed
+none_spelled : (ty : Option MessageType) (rest : List ℕ) → short_front_in ty None rest ≡ Malformed
 none_spelled None rest = refl
 none_spelled (Some ty) rest = refl
 
 pub no_type : (bs : List ℕ) (n : ℕ) → IsFramed bs n → type_in bs n ≡ None → short_front bs ≡ Malformed
-no_type bs n f e = whole_frame bs n f.long f.len ∙ ap (λ z. spelled z (body_in (take n (drop 4 bs))) (drop (n + 6) bs)) e
+no_type bs n f e = whole_frame bs n f.long f.len ∙ ap (λ z. short_front_in z (body_in (take n (drop 4 bs))) (drop (n + 6) bs)) e
 
 pub no_body : (bs : List ℕ) (n : ℕ) → IsFramed bs n → body_in (take n (drop 4 bs)) ≡ None → short_front bs ≡ Malformed
-no_body bs n f e = whole_frame bs n f.long f.len ∙ ap (λ z. spelled (type_in bs n) z (drop (n + 6) bs)) e ∙ none_spelled (type_in bs n) (drop (n + 6) bs)
+no_body bs n f e = whole_frame bs n f.long f.len ∙ ap (λ z. short_front_in (type_in bs n) z (drop (n + 6) bs)) e ∙ none_spelled (type_in bs n) (drop (n + 6) bs)
 
 parts : (bs : List ℕ) (n : ℕ) (ty : MessageType) (b : List ℕ) → IsFramed bs n → type_in bs n ≡ Some ty → body_in (take n (drop 4 bs)) ≡ Some b
     → short_front bs ≡ front_if (message_in ty b) (drop (n + 6) bs)
-parts bs n ty b f t e = whole_frame bs n f.long f.len ∙ ap (λ z. spelled z (body_in (take n (drop 4 bs))) (drop (n + 6) bs)) t
-    ∙ ap (λ z. spelled (Some ty) z (drop (n + 6) bs)) e
+parts bs n ty b f t e = whole_frame bs n f.long f.len ∙ ap (λ z. short_front_in z (body_in (take n (drop 4 bs))) (drop (n + 6) bs)) t
+    ∙ ap (λ z. short_front_in (Some ty) z (drop (n + 6) bs)) e
 
 pub read : (bs : List ℕ) (n : ℕ) (ty : MessageType) (b : List ℕ) (m : Message) → IsFramed bs n → type_in bs n ≡ Some ty → body_in (take n (drop 4 bs)) ≡ Some b
     → message_in ty b ≡ Some m → (n + 6 ≤ length bs) × (short_front bs ≡ Whole m (drop (n + 6) bs))
 read bs n ty b m f t e r = (f.long, parts bs n ty b f t e ∙ ap (λ z. front_if z (drop (n + 6) bs)) r)
 
 pub refused : (bs : List ℕ) (n : ℕ) (ty : MessageType) (b : List ℕ) (why : Fault) → IsFramed bs n → type_in bs n ≡ Some ty → body_in (take n (drop 4 bs)) ≡ Some b
-    → Read (message_in ty b) (Err why) → IsRead short_front bs (Err (layer_fault why))
+    → Read (message_in ty b) (Err why) → IsFrontRead short_front bs (Err (layer_fault why))
 refused bs n ty b fault.Memory f t e r = tt
 refused bs n ty b fault.Malformed f t e r = parts bs n ty b f t e ∙ ap (λ z. front_if z (drop (n + 6) bs)) r

@@ -16,7 +16,7 @@ use Rattle.journal_streams.proofs.Numbers.{small_number, type_found}
 use Rattle.layers.specs.Layers.{Front, Whole, Partial, Malformed}
 use Rattle.layers.specs.Own.{front_if, malformed_if, rest_if, whole_if}
 use Rattle.layer_vectors.specs.declared.short.Short.{Short}
-use Rattle.layer_vectors.specs.Short.{IsShort, body_in, mark_of, short, short_frame, short_front, sized, spelled}
+use Rattle.layer_vectors.specs.Short.{IsShort, body_in, mark_of, short, short_frame, short_front, sized, short_front_in}
 
 not_less : (m n : ℕ) → nat_lt m n ≡ false → n ≤ m
 not_less m n e = grind (arith, nat_tests)
@@ -54,10 +54,10 @@ long_enough bs l = front_is bs ∙ ap (λ b. if b then Partial
     else sized (from_be_bytes w32 (take 4 bs)) (drop 4 bs)) (less_not (length bs) 4 l)
 
 sized_long : (n : ℕ) (bs : List ℕ) → n + 2 ≤ length bs → sized n bs
-    ≡ spelled (type_at (from_be_bytes w16 (take 2 (drop n bs)))) (body_in (take n bs))
+    ≡ short_front_in (type_at (from_be_bytes w16 (take 2 (drop n bs)))) (body_in (take n bs))
     (drop (n + 2) bs)
 sized_long n bs l = ap (λ b. if b then Partial
-    else spelled (type_at (from_be_bytes w16 (take 2 (drop n bs)))) (body_in (take n bs))
+    else short_front_in (type_at (from_be_bytes w16 (take 2 (drop n bs)))) (body_in (take n bs))
     (drop (n + 2) bs)) (less_not (length bs) (n + 2) l)
 
 -- ---- what is at the front, by its parts
@@ -76,14 +76,15 @@ six : (n : ℕ) → n + 2 + 4 ≡ n + 6
 six n = omega arith
 
 pub whole_frame : (bs : List ℕ) (n : ℕ) → n + 6 ≤ length bs → n ≡ from_be_bytes w32 (take 4 bs)
-    → short_front bs ≡ spelled (type_at (from_be_bytes w16 (take 2 (drop (n + 4) bs))))
+    → short_front bs ≡ short_front_in (type_at (from_be_bytes w16 (take 2 (drop (n + 4) bs))))
     (body_in (take n (drop 4 bs))) (drop (n + 6) bs)
 whole_frame bs n l e = long_enough bs (omega (arith, l))
     ∙ ap (λ z. sized z (drop 4 bs)) (sym e)
     ∙ sized_long n (drop 4 bs) (omega (arith, l, length-drop 4 bs))
-    ∙ ap (λ z. spelled (type_at (from_be_bytes w16 (take 2 z))) (body_in (take n (drop 4 bs)))
+    ∙ ap (λ z. short_front_in (type_at (from_be_bytes w16 (take 2 z)))
+    (body_in (take n (drop 4 bs)))
     (drop (n + 2) (drop 4 bs))) (drops n 4 bs)
-    ∙ ap (spelled (type_at (from_be_bytes w16 (take 2 (drop (n + 4) bs))))
+    ∙ ap (short_front_in (type_at (from_be_bytes w16 (take 2 (drop (n + 4) bs))))
     (body_in (take n (drop 4 bs)))) (drops (n + 2) 4 bs ∙ ap (λ z. drop z bs) (six n))
 
 -- ---- a message is read back
@@ -125,7 +126,7 @@ after_payload ty p rest =
 
 payload_read : (ty : MessageType) (p rest : List ℕ)
     → sized (length p) (p ++ (to_be_bytes w16 (type_number ty) ++ rest))
-    ≡ spelled (Some ty) (body_in p) rest
+    ≡ short_front_in (Some ty) (body_in p) rest
 payload_read ty p rest =
     let tail = to_be_bytes w16 (type_number ty) ++ rest in
     sized_long (length p) (p ++ tail) (omega (
@@ -134,17 +135,18 @@ payload_read ty p rest =
       length-append (to_be_bytes w16 (type_number ty)) rest,
       two (type_number ty),
     ))
-    ∙ ap (λ z. spelled (type_at (from_be_bytes w16 (take 2 z)))
+    ∙ ap (λ z. short_front_in (type_at (from_be_bytes w16 (take 2 z)))
     (body_in (take (length p) (p ++ tail)))
     (drop (length p + 2) (p ++ tail))) (drop_at p tail (length p) refl)
-    ∙ ap (λ z. spelled z (body_in (take (length p) (p ++ tail))) (drop (length p + 2) (p ++ tail)))
+    ∙ ap (λ z. short_front_in z (body_in (take (length p) (p ++ tail)))
+    (drop (length p + 2) (p ++ tail)))
     (number_read ty rest)
-    ∙ ap (λ z. spelled (Some ty) (body_in z) (drop (length p + 2) (p ++ tail)))
+    ∙ ap (λ z. short_front_in (Some ty) (body_in z) (drop (length p + 2) (p ++ tail)))
     (take-append_seam p tail)
-    ∙ ap (spelled (Some ty) (body_in p)) (after_payload ty p rest)
+    ∙ ap (short_front_in (Some ty) (body_in p)) (after_payload ty p rest)
 
 frame_read : (ty : MessageType) (p rest : List ℕ) → length p < 2 ^ 32
-    → short_front (short_frame ty p ++ rest) ≡ spelled (Some ty) (body_in p) rest
+    → short_front (short_frame ty p ++ rest) ≡ short_front_in (Some ty) (body_in p) rest
 frame_read ty p rest l =
     let tail = p ++ (to_be_bytes w16 (type_number ty) ++ rest) in
     let head = to_be_bytes w32 (length p) in
@@ -154,49 +156,50 @@ frame_read ty p rest l =
     ∙ ap (sized (length p)) (drop_at head tail 4 (four (length p)))
     ∙ payload_read ty p rest
 
-pub read_back : (layer : Short) (m : Message) (rest : List ℕ) → IsShort m
+pub short_read_back : (layer : Short) (m : Message) (rest : List ℕ) → IsShort m
     → short_front (short layer m ++ rest) ≡ Whole m rest
-read_back layer m rest w =
+short_read_back layer m rest w =
     frame_read (type_of m) (mark_of layer.mark ∷ body m) rest (omega (arith, w.1))
-    ∙ ap (λ b. spelled (Some (type_of m)) b rest) (marked layer.mark (body m))
+    ∙ ap (λ b. short_front_in (Some (type_of m)) b rest) (marked layer.mark (body m))
     ∙ ap (λ x. front_if x rest) (alone.read_back m w.0)
 
 -- ---- bytes that follow change nothing
 
 whole_spelled : (ty : Option MessageType) (b : Option (List ℕ)) (rest : List ℕ) (m : Message)
-    (next more : List ℕ) → spelled ty b rest ≡ Whole m next
-    → spelled ty b (rest ++ more) ≡ Whole m (next ++ more)
+    (next more : List ℕ) → short_front_in ty b rest ≡ Whole m next
+    → short_front_in ty b (rest ++ more) ≡ Whole m (next ++ more)
 whole_spelled None b rest m next more e = absurd cc
 whole_spelled (Some ty) None rest m next more e = absurd cc
 whole_spelled (Some ty) (Some b) rest m next more e =
     whole_if (message_in ty b) rest m next more e
 
 malformed_spelled : (ty : Option MessageType) (b : Option (List ℕ)) (rest next : List ℕ)
-    → spelled ty b rest ≡ Malformed → spelled ty b next ≡ Malformed
+    → short_front_in ty b rest ≡ Malformed → short_front_in ty b next ≡ Malformed
 malformed_spelled None b rest next e = refl
 malformed_spelled (Some ty) None rest next e = refl
 malformed_spelled (Some ty) (Some b) rest next e = malformed_if (message_in ty b) rest next e
 
 rest_spelled : (ty : Option MessageType) (b : Option (List ℕ)) (rest : List ℕ) (m : Message)
-    (next : List ℕ) → spelled ty b rest ≡ Whole m next → rest ≡ next
+    (next : List ℕ) → short_front_in ty b rest ≡ Whole m next → rest ≡ next
 rest_spelled None b rest m next e = absurd cc
 rest_spelled (Some ty) None rest m next e = absurd cc
 rest_spelled (Some ty) (Some b) rest m next e = rest_if (message_in ty b) rest m next e
 
 -- more bytes after a payload and a number
 sized_more : (n : ℕ) (bs more : List ℕ) → n + 2 ≤ length bs → sized n (bs ++ more)
-    ≡ spelled (type_at (from_be_bytes w16 (take 2 (drop n bs)))) (body_in (take n bs))
+    ≡ short_front_in (type_at (from_be_bytes w16 (take 2 (drop n bs)))) (body_in (take n bs))
     (drop (n + 2) bs ++ more)
 sized_more n bs more l =
     sized_long n (bs ++ more) (omega (arith, length-append bs more, l))
-    ∙ ap (λ z. spelled (type_at (from_be_bytes w16 (take 2 z))) (body_in (take n (bs ++ more)))
+    ∙ ap (λ z. short_front_in (type_at (from_be_bytes w16 (take 2 z)))
+    (body_in (take n (bs ++ more)))
     (drop (n + 2) (bs ++ more))) (drop-append-le n bs more (omega (arith, l)))
-    ∙ ap (λ z. spelled (type_at (from_be_bytes w16 z)) (body_in (take n (bs ++ more)))
+    ∙ ap (λ z. short_front_in (type_at (from_be_bytes w16 z)) (body_in (take n (bs ++ more)))
     (drop (n + 2) (bs ++ more)))
     (take-append-le 2 (drop n bs) more (omega (arith, length-drop n bs, l)))
-    ∙ ap (λ z. spelled (type_at (from_be_bytes w16 (take 2 (drop n bs)))) (body_in z)
+    ∙ ap (λ z. short_front_in (type_at (from_be_bytes w16 (take 2 (drop n bs)))) (body_in z)
     (drop (n + 2) (bs ++ more))) (take-append-le n bs more (omega (arith, l)))
-    ∙ ap (spelled (type_at (from_be_bytes w16 (take 2 (drop n bs)))) (body_in (take n bs)))
+    ∙ ap (short_front_in (type_at (from_be_bytes w16 (take 2 (drop n bs)))) (body_in (take n bs)))
     (drop-append-le (n + 2) bs more l)
 
 more_after_four : (bs more : List ℕ) → 4 ≤ length bs → short_front (bs ++ more)
@@ -205,9 +208,9 @@ more_after_four bs more l = long_enough (bs ++ more) (omega (arith, length-appen
     ∙ ap (λ z. sized (from_be_bytes w32 z) (drop 4 (bs ++ more))) (take-append-le 4 bs more l)
     ∙ ap (sized (from_be_bytes w32 (take 4 bs))) (drop-append-le 4 bs more l)
 
-pub whole_stays : (bs more : List ℕ) (m : Message) (rest : List ℕ)
+pub short_whole_stays : (bs more : List ℕ) (m : Message) (rest : List ℕ)
     → short_front bs ≡ Whole m rest → short_front (bs ++ more) ≡ Whole m (rest ++ more)
-whole_stays bs more m rest e =
+short_whole_stays bs more m rest e =
     let h = whole_if_long _ _ m rest (sym (front_is bs) ∙ e) in
     let l = not_less (length bs) 4 h.0 in
     let n = from_be_bytes w32 (take 4 bs) in
@@ -216,9 +219,9 @@ whole_stays bs more m rest e =
     more_after_four bs more l ∙ sized_more n (drop 4 bs) more j
     ∙ whole_spelled _ _ (drop (n + 2) (drop 4 bs)) m rest more k.1
 
-pub malformed_stays : (bs more : List ℕ)
+pub short_malformed_stays : (bs more : List ℕ)
     → short_front bs ≡ Malformed → short_front (bs ++ more) ≡ Malformed
-malformed_stays bs more e =
+short_malformed_stays bs more e =
     let h = malformed_if_long _ _ (sym (front_is bs) ∙ e) in
     let l = not_less (length bs) 4 h.0 in
     let n = from_be_bytes w32 (take 4 bs) in
@@ -227,9 +230,9 @@ malformed_stays bs more e =
     more_after_four bs more l ∙ sized_more n (drop 4 bs) more j
     ∙ malformed_spelled _ _ (drop (n + 2) (drop 4 bs)) (drop (n + 2) (drop 4 bs) ++ more) k.1
 
-pub shorter : (bs : List ℕ) (m : Message) (rest : List ℕ)
+pub short_rest_is_shorter : (bs : List ℕ) (m : Message) (rest : List ℕ)
     → short_front bs ≡ Whole m rest → length rest < length bs
-shorter bs m rest e =
+short_rest_is_shorter bs m rest e =
     let h = whole_if_long _ _ m rest (sym (front_is bs) ∙ e) in
     let l = not_less (length bs) 4 h.0 in
     let n = from_be_bytes w32 (take 4 bs) in

@@ -34,15 +34,15 @@ body_in [] = None
 body_in (mark ∷ b) = if nat_lt mark 2 then Some b else None
 
 -- the message of this type and body, if there are both
-abbrev pub spelled : Option MessageType → Option (List ℕ) → List ℕ → Front
-spelled None b rest = Malformed
-spelled (Some ty) None rest = Malformed
-spelled (Some ty) (Some b) rest = front_if (message_in ty b) rest
+abbrev pub short_front_in : Option MessageType → Option (List ℕ) → List ℕ → Front
+short_front_in None b rest = Malformed
+short_front_in (Some ty) None rest = Malformed
+short_front_in (Some ty) (Some b) rest = front_if (message_in ty b) rest
 
 -- what follows a length: so many bytes and the number of a type, or not all of them yet
 abbrev pub sized : ℕ → List ℕ → Front
 sized n bs = if nat_lt (length bs) (n + 2) then Partial
-    else spelled (type_at (from_be_bytes w16 (take 2 (drop n bs)))) (body_in (take n bs))
+    else short_front_in (type_at (from_be_bytes w16 (take 2 (drop n bs)))) (body_in (take n bs))
     (drop (n + 2) bs)
 
 -- the message at the front of a stream

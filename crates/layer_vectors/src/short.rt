@@ -89,7 +89,7 @@ fn body_at(stream: &Bytes, len: usize) -> Result<Option<Bytes>, AllocError>
 }
 
 impl Layer for Short {
-    ghost use Rattle.layer_vectors.specs.Laws.{malformed_stays, read_back, shorter, whole_stays};
+    ghost use Rattle.layer_vectors.specs.Laws.{short_malformed_stays, short_read_back, short_rest_is_shorter, short_whole_stays};
     ghost use Rattle.layer_vectors.specs.Short.{IsShort, short, short_front};
 
     ghost frame = { short };
@@ -98,13 +98,13 @@ impl Layer for Short {
 
     ghost front = { short_front };
 
-    ghost read_back = { read_back };
+    ghost read_back = { short_read_back };
 
-    ghost whole_stays = { whole_stays };
+    ghost whole_stays = { short_whole_stays };
 
-    ghost malformed_stays = { malformed_stays };
+    ghost malformed_stays = { short_malformed_stays };
 
-    ghost shorter = { shorter };
+    ghost shorter = { short_rest_is_shorter };
 
     fn encode(&self, message: &Message, out: &mut Vec<u8>) -> Result<(), LayerFault> {
         let raw = framed(self.alloc, message)?;

@@ -4,17 +4,17 @@ use Rattle.std.specs.List.{flat_map}
 use Rattle.std.proofs.lemmas.List.{flat_map_more}
 use Rattle.std.proofs.lemmas.Grind.{flat_map-append}
 use Rattle.journal_messages.specs.declared.message.Message.{Message}
-use Rattle.layers.specs.Layers.{Front, Whole, Holds, Translates}
+use Rattle.layers.specs.Layers.{Front, Whole, HoldsMessages, Translates}
 
 -- so far these messages are read, and written in the other layer
 pub record Done (front : List ℕ → Front) (frame : Message → List ℕ) (stream : List ℕ) (rest : List ℕ) (out : List ℕ) : Type 0 where
   pub messages : List Message
-  pub held : Holds front stream messages rest
+  pub held : HoldsMessages front stream messages rest
   pub written : out ≡ flat_map frame messages
 
 -- one more, after those that are read
 pub one_more : (front : List ℕ → Front) (bs : List ℕ) (ms : List Message) (rest : List ℕ) (m : Message) (next : List ℕ)
-    → Holds front bs ms rest → front rest ≡ Whole m next → Holds front bs (ms ++ m ∷ []) next
+    → HoldsMessages front bs ms rest → front rest ≡ Whole m next → HoldsMessages front bs (ms ++ m ∷ []) next
 one_more front bs [] rest m next h e = (next, subst (λ z. front z ≡ Whole m next) (sym h) e, refl)
 one_more front bs (x ∷ xs) rest m next h e = (h.0, h.1, one_more front h.0 xs rest m next h.2 e)
 
@@ -26,14 +26,14 @@ abbrev pub WholeStays : (List ℕ → Front) → Type 0
 WholeStays front = (bs more : List ℕ) (m : Message) (rest : List ℕ) → front bs ≡ Whole m rest → front (bs ++ more) ≡ Whole m (rest ++ more)
 
 pub and_more : (front : List ℕ → Front) → WholeStays front → (bs more : List ℕ) (ms : List Message) (rest : List ℕ)
-    → Holds front bs ms rest → Holds front (bs ++ more) ms (rest ++ more)
+    → HoldsMessages front bs ms rest → HoldsMessages front (bs ++ more) ms (rest ++ more)
 and_more front stays bs more [] rest h = ap (λ z. z ++ more) h
 and_more front stays bs more (m ∷ ms) rest h = (h.0 ++ more, stays bs more m h.0 h.1, and_more front stays h.0 more ms rest h.2)
 
 -- some messages, and then others
 pub and_then : (front : List ℕ → Front) (bs : List ℕ) (ms : List Message) (mid : List ℕ) (others : List Message) (rest : List ℕ)
-    → Holds front bs ms mid → Holds front mid others rest → Holds front bs (ms ++ others) rest
-and_then front bs [] mid others rest h t = subst (λ z. Holds front z others rest) (sym h) t
+    → HoldsMessages front bs ms mid → HoldsMessages front mid others rest → HoldsMessages front bs (ms ++ others) rest
+and_then front bs [] mid others rest h t = subst (λ z. HoldsMessages front z others rest) (sym h) t
 and_then front bs (m ∷ ms) mid others rest h t = (h.0, h.1, and_then front h.0 ms mid others rest h.2 t)
 
 -- however a stream is cut, its translation is that of its pieces

@@ -30,39 +30,41 @@ Encoded Fits frame m old (Err TooLong) new = Fits m → ⊥
 
 -- The message at the front is read, with the length of its frame; none if it isn't whole yet. Want
 -- of memory says nothing of the bytes.
-abbrev pub IsRead : (List ℕ → Front) → List ℕ → Result (Option (Message × ℕ)) LayerFault → Type 0
-IsRead front bs (Ok (Some x)) = (x.1 ≤ length bs) × (front bs ≡ Whole x.0 (drop x.1 bs))
-IsRead front bs (Ok None) = front bs ≡ Partial
-IsRead front bs (Err Memory) = Unit {0}
-IsRead front bs (Err BadBytes) = front bs ≡ Malformed
-IsRead front bs (Err TooLong) = ⊥
+abbrev pub IsFrontRead : (List ℕ → Front) → List ℕ → Result (Option (Message × ℕ)) LayerFault
+    → Type 0
+IsFrontRead front bs (Ok (Some x)) = (x.1 ≤ length bs) × (front bs ≡ Whole x.0 (drop x.1 bs))
+IsFrontRead front bs (Ok None) = front bs ≡ Partial
+IsFrontRead front bs (Err Memory) = Unit {0}
+IsFrontRead front bs (Err BadBytes) = front bs ≡ Malformed
+IsFrontRead front bs (Err TooLong) = ⊥
 
 -- these messages stand at the front of the stream, one after another, and then the rest
-abbrev pub Holds : (List ℕ → Front) → List ℕ → List Message → List ℕ → Type 0
-Holds front bs [] rest = bs ≡ rest
-Holds front bs (m ∷ ms) rest = (next : List ℕ) × (front bs ≡ Whole m next)
-    × Holds front next ms rest
+abbrev pub HoldsMessages : (List ℕ → Front) → List ℕ → List Message → List ℕ → Type 0
+HoldsMessages front bs [] rest = bs ≡ rest
+HoldsMessages front bs (m ∷ ms) rest = (next : List ℕ) × (front bs ≡ Whole m next)
+    × HoldsMessages front next ms rest
 
 -- A translation: what comes out are the frames, in the other layer, of the whole messages at the
 -- front of what went in; no whole message is left.
 pub record Translates (front : List ℕ → Front) (frame : Message → List ℕ) (stream : List ℕ)
     (out : List ℕ) (rest : List ℕ) : Type 0 where
   pub messages : List Message
-  pub held : Holds front stream messages rest
+  pub held : HoldsMessages front stream messages rest
   pub written : out ≡ flat_map frame messages
   pub partial : front rest ≡ Partial
 
 -- Why a stream isn't translated: after some messages there is no frame, or the frame of one that
 -- doesn't fit the other layer. Want of memory says nothing of it.
-abbrev pub Refuses : (List ℕ → Front) → (Message → Type 0) → List ℕ → LayerFault → Type 0
-Refuses front Fits rest Memory = Unit {0}
-Refuses front Fits rest BadBytes = front rest ≡ Malformed
-Refuses front Fits rest TooLong = (m : Message) × (next : List ℕ) × (front rest ≡ Whole m next)
+abbrev pub RefusesStream : (List ℕ → Front) → (Message → Type 0) → List ℕ → LayerFault → Type 0
+RefusesStream front Fits rest Memory = Unit {0}
+RefusesStream front Fits rest BadBytes = front rest ≡ Malformed
+RefusesStream front Fits rest TooLong =
+    (m : Message) × (next : List ℕ) × (front rest ≡ Whole m next)
     × (Fits m → ⊥)
 
 pub record IsUntranslatable (front : List ℕ → Front) (Fits : Message → Type 0) (stream : List ℕ)
     (why : LayerFault) : Type 0 where
   pub messages : List Message
   pub rest : List ℕ
-  pub held : Holds front stream messages rest
-  pub refused : Refuses front Fits rest why
+  pub held : HoldsMessages front stream messages rest
+  pub refused : RefusesStream front Fits rest why

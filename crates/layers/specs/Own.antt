@@ -26,9 +26,9 @@ own_front bs = front_of (next_of bs)
 
 -- ---- its laws
 
-pub read_back : (m : Message) (rest : List ℕ) → IsWhole m
+pub own_read_back : (m : Message) (rest : List ℕ) → IsWhole m
     → own_front (encoding m ++ rest) ≡ Whole m rest
-read_back m rest w = rw (alone.framed m rest w, alone.read_back m w) refl
+own_read_back m rest w = rw (alone.framed m rest w, alone.read_back m w) refl
 
 pub whole_if : (o : Option Message) (rest : List ℕ) (m : Message) (next more : List ℕ)
     → front_if o rest ≡ Whole m next → front_if o (rest ++ more) ≡ Whole m (next ++ more)
@@ -48,9 +48,9 @@ whole_of (frame.Whole raw next) bs more m rest h e =
 whole_of frame.Partial bs more m rest h e = absurd cc
 whole_of frame.Malformed bs more m rest h e = absurd cc
 
-pub whole_stays : (bs more : List ℕ) (m : Message) (rest : List ℕ)
+pub own_whole_stays : (bs more : List ℕ) (m : Message) (rest : List ℕ)
     → own_front bs ≡ Whole m rest → own_front (bs ++ more) ≡ Whole m (rest ++ more)
-whole_stays bs more m rest e = whole_of (next_of bs) bs more m rest refl e
+own_whole_stays bs more m rest e = whole_of (next_of bs) bs more m rest refl e
 
 malformed_of : (x : NextFrame) (bs more : List ℕ) → next_of bs ≡ x
     → front_of x ≡ Malformed → own_front (bs ++ more) ≡ Malformed
@@ -60,9 +60,9 @@ malformed_of (frame.Whole raw next) bs more h e =
 malformed_of frame.Partial bs more h e = absurd cc
 malformed_of frame.Malformed bs more h e = rw (cuts.malformed_more bs more h) refl
 
-pub malformed_stays : (bs more : List ℕ)
+pub own_malformed_stays : (bs more : List ℕ)
     → own_front bs ≡ Malformed → own_front (bs ++ more) ≡ Malformed
-malformed_stays bs more e = malformed_of (next_of bs) bs more refl e
+own_malformed_stays bs more e = malformed_of (next_of bs) bs more refl e
 
 pub rest_if : (o : Option Message) (rest : List ℕ) (m : Message) (next : List ℕ)
     → front_if o rest ≡ Whole m next → rest ≡ next
@@ -77,6 +77,6 @@ shorter_of (frame.Whole raw next) bs m rest h e =
 shorter_of frame.Partial bs m rest h e = absurd cc
 shorter_of frame.Malformed bs m rest h e = absurd cc
 
-pub shorter : (bs : List ℕ) (m : Message) (rest : List ℕ)
+pub own_rest_is_shorter : (bs : List ℕ) (m : Message) (rest : List ℕ)
     → own_front bs ≡ Whole m rest → length rest < length bs
-shorter bs m rest e = shorter_of (next_of bs) bs m rest refl e
+own_rest_is_shorter bs m rest e = shorter_of (next_of bs) bs m rest refl e

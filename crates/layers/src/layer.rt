@@ -44,7 +44,7 @@ impl From<Fault> for LayerFault {
 /// Messages as bytes. Those above go by these words and laws alone, whatever the bytes are.
 pub trait Layer {
     ghost use Rattle.std.specs.Prelude.{◌≡◌, ◌++◌, ◌<◌, List, length, ℕ};
-    ghost use Rattle.layers.specs.Layers.{Encoded, Front, IsRead, Malformed, Whole};
+    ghost use Rattle.layers.specs.Layers.{Encoded, Front, IsFrontRead, Malformed, Whole};
     ghost use Rattle.journal_messages.specs.declared.message.Message.{Message};
 
     /// The bytes of a message's frame. A layer may spell a message in several ways; each value of the type writes one.
@@ -77,5 +77,5 @@ pub trait Layer {
 
     /// The message at the front, and how many bytes its frame takes; none if only a part of a frame is there.
     fn decode(&self, alloc: Global, stream: &Bytes) -> Result<Option<(Message, usize)>, LayerFault>
-        ensures { IsRead front stream.now result };
+        ensures { IsFrontRead front stream.now result };
 }

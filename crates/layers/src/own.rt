@@ -15,7 +15,7 @@ pub struct Own {
 
 impl Layer for Own {
     ghost use Rattle.journal_messages.specs.Message.{IsWhole, encoding};
-    ghost use Rattle.layers.specs.Own.{malformed_stays, own_front, read_back, shorter, whole_stays};
+    ghost use Rattle.layers.specs.Own.{own_malformed_stays, own_front, own_read_back, own_rest_is_shorter, own_whole_stays};
 
     ghost frame = { λ _. encoding };
 
@@ -23,13 +23,13 @@ impl Layer for Own {
 
     ghost front = { own_front };
 
-    ghost read_back = { λ _. read_back };
+    ghost read_back = { λ _. own_read_back };
 
-    ghost whole_stays = { whole_stays };
+    ghost whole_stays = { own_whole_stays };
 
-    ghost malformed_stays = { malformed_stays };
+    ghost malformed_stays = { own_malformed_stays };
 
-    ghost shorter = { shorter };
+    ghost shorter = { own_rest_is_shorter };
 
     fn encode(&self, message: &Message, out: &mut Vec<u8>) -> Result<(), LayerFault> {
         let frame = Encoder::new(self.alloc).encode(message)?;

@@ -14,7 +14,7 @@ use Rattle.vm_types.specs.declared.options.NonDeterministicChecksOption.{NonDete
 use Rattle.vm_types.specs.declared.options.NonDeterministicChecksOption.TheVariants as checks
 use Rattle.vm_types.specs.declared.options.SignalDelivery.{SignalDelivery}
 use Rattle.vm_types.specs.declared.options.SignalDelivery.TheVariants as delivery
-use Rattle.line_parts.specs.VmOptions.{IsAwaiting, IsCancel, IsChecks, IsDelivery, IsMismatch, IsReplay}
+use Rattle.line_parts.specs.VmOptions.{IsAwaitingPolicy, IsCancel, IsChecks, IsDelivery, IsMismatch, IsReplay}
 
 pub no_cancel : (text : List ℕ) (fault : Fault) → text ≢ codes "calls" → text ≢ codes "none" → text ≢ codes "sends" → text ≢ codes "both" → text ≢ codes "off" → Blames (IsCancel text) fault
 no_cancel text fault a b c d e = record { nothing = λ bad it is. go it is }
@@ -33,10 +33,10 @@ no_checks text fault a b = record { nothing = λ bad it is. go it is }
     go checks.Enabled is = a is
     go checks.PayloadChecksDisabled is = b is
 
-pub no_awaiting : (text : List ℕ) (fault : Fault) → text ≢ codes "norun" → text ≢ codes "always" → text ≢ codes "never" → Blames (IsAwaiting text) fault
+pub no_awaiting : (text : List ℕ) (fault : Fault) → text ≢ codes "norun" → text ≢ codes "always" → text ≢ codes "never" → Blames (IsAwaitingPolicy text) fault
 no_awaiting text fault a b c = record { nothing = λ bad it is. go it is }
   where
-    go : (it : AwaitingOnPolicy) → IsAwaiting text it → ⊥
+    go : (it : AwaitingOnPolicy) → IsAwaitingPolicy text it → ⊥
     go awaiting.DontSendWhenExecutingRun is = a is
     go awaiting.SendAlways is = b is
     go awaiting.DontSend is = c is

@@ -8,7 +8,7 @@ use Rattle.vm_types.specs.declared.command_type.CommandType.TheVariants as comma
 use Rattle.lines.specs.Pieces.{AreWordsWithin}
 use Rattle.lines.specs.Readings.{Blames}
 use Rattle.lines.proofs.Once.{words_within_once}
-use Rattle.line_parts.specs.Reports.{AreTypeAndName, IsCommand, IsCommandAt, IsCommandName, IsType, type_name}
+use Rattle.line_parts.specs.Reports.{AreTypeAndName, IsCommandText, IsCommandAt, IsCommandName, IsType, command_type_name}
 use Rattle.line_parts.specs.Words.{IsNumberOf, text_at}
 use Rattle.line_parts.proofs.Finding.{none_named}
 use Rattle.line_parts.proofs.Pairs.{same_at, same_length}
@@ -20,11 +20,11 @@ types =
     command.Input ∷ command.Output ∷ command.GetState ∷ command.GetStateKeys ∷ command.SetState ∷ command.ClearState ∷ command.ClearAllState ∷ command.GetPromise ∷ command.PeekPromise ∷ command.CompletePromise ∷ command.Sleep ∷ command.Call ∷ command.OneWayCall ∷ command.SendSignal ∷ command.Run ∷ command.AttachInvocation ∷ command.GetInvocationOutput ∷ command.CompleteAwakeable ∷ command.CancelInvocation ∷ []
 
 -- a word that names no type
-pub no_type : (text : List ℕ) (fault : Fault) → find (λ ty. pointwise nat_eq text (type_name ty)) types ≡ None → Blames (IsType text) fault
+pub no_type : (text : List ℕ) (fault : Fault) → find (λ ty. pointwise nat_eq text (command_type_name ty)) types ≡ None → Blames (IsType text) fault
 no_type text fault none = record { nothing = λ bad ty is. go ty is }
   where
-    at : (i : ℕ) → i < 19 → text ≡ type_name (get_or types i command.Input) → ⊥
-    at i h e = none_named type_name types text none i command.Input (omega arith) e
+    at : (i : ℕ) → i < 19 → text ≡ command_type_name (get_or types i command.Input) → ⊥
+    at i h e = none_named command_type_name types text none i command.Input (omega arith) e
 
     go : (ty : CommandType) → IsType text ty → ⊥
     go command.Input is = at 0 (omega arith) is
@@ -60,10 +60,10 @@ name_blamed words d fault two blames = record {
   nothing = λ bad command are. blames.nothing bad command.1 (subst (λ t. IsCommandName t command.1) (sym (word_at words 1 d (omega arith))) are.2);
 }
 
-pub unbracketed_blamed : (text : List ℕ) (fault : Fault) → Blames (AreWordsWithin 40 41 text) fault → Blames (IsCommand text) fault
+pub unbracketed_blamed : (text : List ℕ) (fault : Fault) → Blames (AreWordsWithin 40 41 text) fault → Blames (IsCommandText text) fault
 unbracketed_blamed text fault blames = record { nothing = λ bad command is. blames.nothing bad is.words is.are_words }
 
-pub words_blamed : (text : List ℕ) (ws : List (Bor (List ℕ))) (fault : Fault) → AreWordsWithin 40 41 text ws → Blames (AreTypeAndName ws) fault → Blames (IsCommand text) fault
+pub words_blamed : (text : List ℕ) (ws : List (Bor (List ℕ))) (fault : Fault) → AreWordsWithin 40 41 text ws → Blames (AreTypeAndName ws) fault → Blames (IsCommandText text) fault
 words_blamed text ws fault are blames = record {
   nothing = λ bad command is.
       let all = words_within_once 40 41 text ws is.words are is.are_words in

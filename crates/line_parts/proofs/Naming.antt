@@ -6,25 +6,25 @@ use Rattle.std.specs.Option.{is_some}
 use Rattle.std.specs.Borrow.{Bor}
 use Rattle.std.proofs.lemmas.List.{take_more, take-append-drop, append-nil}
 use Rattle.std.proofs.lemmas.List.Elements.{filter_map-append}
-use Rattle.line_parts.specs.Fields.{text_behind, texts}
+use Rattle.line_parts.specs.Fields.{text_behind, texts_named}
 
-texts_append : (name : List ℕ) (words more : List (Bor (List ℕ))) → texts name (words ++ more) ≡ texts name words ++ texts name more
+texts_append : (name : List ℕ) (words more : List (Bor (List ℕ))) → texts_named name (words ++ more) ≡ texts_named name words ++ texts_named name more
 texts_append name words more = filter_map-append (λ (w : Bor (List ℕ)). text_behind name w.now) words more
 
-texts_one_more : (name : List ℕ) (words : List (Bor (List ℕ))) (i : ℕ) (d : Bor (List ℕ)) → i < length words → texts name (take (i + 1) words) ≡ texts name (take i words) ++ texts name (get_or words i d ∷ [])
-texts_one_more name words i d h = ap (texts name) (take_more words i d h) ∙ texts_append name (take i words) (get_or words i d ∷ [])
+texts_one_more : (name : List ℕ) (words : List (Bor (List ℕ))) (i : ℕ) (d : Bor (List ℕ)) → i < length words → texts_named name (take (i + 1) words) ≡ texts_named name (take i words) ++ texts_named name (get_or words i d ∷ [])
+texts_one_more name words i d h = ap (texts_named name) (take_more words i d h) ∙ texts_append name (take i words) (get_or words i d ∷ [])
 
 -- a word that doesn't begin with the name
-pub texts_none : (name : List ℕ) (words : List (Bor (List ℕ))) (i : ℕ) (d : Bor (List ℕ)) → i < length words → text_behind name (get_or words i d).now ≡ None → texts name (take (i + 1) words) ≡ texts name (take i words)
-texts_none name words i d h e = let more = texts_one_more name words i d h in (rw e at more) ∙ append-nil (texts name (take i words))
+pub texts_none : (name : List ℕ) (words : List (Bor (List ℕ))) (i : ℕ) (d : Bor (List ℕ)) → i < length words → text_behind name (get_or words i d).now ≡ None → texts_named name (take (i + 1) words) ≡ texts_named name (take i words)
+texts_none name words i d h e = let more = texts_one_more name words i d h in (rw e at more) ∙ append-nil (texts_named name (take i words))
 
 -- a word that begins with it
-pub texts_some : (name : List ℕ) (words : List (Bor (List ℕ))) (i : ℕ) (d : Bor (List ℕ)) (text : List ℕ) → i < length words → text_behind name (get_or words i d).now ≡ Some text → texts name (take (i + 1) words) ≡ texts name (take i words) ++ text ∷ []
+pub texts_some : (name : List ℕ) (words : List (Bor (List ℕ))) (i : ℕ) (d : Bor (List ℕ)) (text : List ℕ) → i < length words → text_behind name (get_or words i d).now ≡ Some text → texts_named name (take (i + 1) words) ≡ texts_named name (take i words) ++ text ∷ []
 texts_some name words i d text h e = let more = texts_one_more name words i d h in rw e at more
 
 -- the only text behind the name, if there is one
 abbrev pub IsOnly : List ℕ → List (Bor (List ℕ)) → Option (Bor (List ℕ)) → Type 0
-IsOnly name words found = MatchOption found (texts name words ≡ []) (λ text. texts name words ≡ text.now ∷ [])
+IsOnly name words found = MatchOption found (texts_named name words ≡ []) (λ text. texts_named name words ≡ text.now ∷ [])
 
 -- the first word that begins with the name
 pub only_more : (name : List ℕ) (words : List (Bor (List ℕ))) (i : ℕ) (d : Bor (List ℕ)) (found after : Option (Bor (List ℕ))) (text : Bor (List ℕ)) → IsOnly name (take i words) found → is_some found ≡ false → i < length words
@@ -35,13 +35,13 @@ only_more name words i d (Some first) after text one new h e is = absurd (grind 
 
 -- a second word that begins with the name
 pub twice : (name : List ℕ) (words : List (Bor (List ℕ))) (i : ℕ) (d : Bor (List ℕ)) (found : Option (Bor (List ℕ))) (text : List ℕ) → IsOnly name (take i words) found → is_some found ≡ true → i < length words
-    → text_behind name (get_or words i d).now ≡ Some text → 1 < length (texts name words)
+    → text_behind name (get_or words i d).now ≡ Some text → 1 < length (texts_named name words)
 twice name words i d None text one some h e = absurd (cc some)
 twice name words i d (Some first) text one some h e =
-    let whole : texts name words ≡ texts name (take (i + 1) words) ++ texts name (drop (i + 1) words) =
-    ap (texts name) (sym (take-append-drop (i + 1) words)) ∙ texts_append name (take (i + 1) words) (drop (i + 1) words) in
-    let front : texts name (take (i + 1) words) ≡ first.now ∷ text ∷ [] = texts_some name words i d text h e ∙ ap (λ ts. ts ++ text ∷ []) one in
-    let long = ap length (whole ∙ ap (λ ts. ts ++ texts name (drop (i + 1) words)) front) in
+    let whole : texts_named name words ≡ texts_named name (take (i + 1) words) ++ texts_named name (drop (i + 1) words) =
+    ap (texts_named name) (sym (take-append-drop (i + 1) words)) ∙ texts_append name (take (i + 1) words) (drop (i + 1) words) in
+    let front : texts_named name (take (i + 1) words) ≡ first.now ∷ text ∷ [] = texts_some name words i d text h e ∙ ap (λ ts. ts ++ text ∷ []) one in
+    let long = ap length (whole ∙ ap (λ ts. ts ++ texts_named name (drop (i + 1) words)) front) in
     omega (arith, long)
 
 -- ---- names that a text begins with

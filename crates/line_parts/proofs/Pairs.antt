@@ -8,7 +8,7 @@ use Rattle.lines.specs.Pieces.{AreWordsWithin}
 use Rattle.lines.specs.Readings.{Blames}
 use Rattle.lines.proofs.Once.{Same, words_within_once}
 use Rattle.journal_values.specs.declared.parts.Header.{Header}
-use Rattle.line_parts.specs.Fields.{text_behind, texts}
+use Rattle.line_parts.specs.Fields.{text_behind, texts_named}
 use Rattle.line_parts.specs.Targets.{AreHeaders}
 use Rattle.line_parts.specs.Values.{ArePairs, IsPair}
 use Rattle.line_parts.specs.Words.{AreTwoTexts, text_at}
@@ -64,19 +64,19 @@ pairs_blamed words i d fault h blames = record { nothing = λ bad pairs are. go 
     go bad (w ∷ words) (suc i) (p ∷ pairs) h none are = go bad words i pairs (omega arith) none are.1
 
 -- a header that is no pair, behind other words
-behind_first : (name : List ℕ) (w : Bor (List ℕ)) (words : List (Bor (List ℕ))) (found : Option (List ℕ)) → text_behind name w.now ≡ found → ((headers : List Header) → AreHeaders (texts name words) headers → ⊥)
-    → (headers : List Header) → AreHeaders (texts name (w ∷ words)) headers → ⊥
+behind_first : (name : List ℕ) (w : Bor (List ℕ)) (words : List (Bor (List ℕ))) (found : Option (List ℕ)) → text_behind name w.now ≡ found → ((headers : List Header) → AreHeaders (texts_named name words) headers → ⊥)
+    → (headers : List Header) → AreHeaders (texts_named name (w ∷ words)) headers → ⊥
 behind_first name w words None at none headers are = none headers (rw at at are)
 behind_first name w words (Some t) at none [] are = rw at at are
 behind_first name w words (Some t) at none (x ∷ headers) are = let both = rw at at are in none headers both.1
 
 no_headers : (name : List ℕ) (words : List (Bor (List ℕ))) (i : ℕ) (d : Bor (List ℕ)) (text : List ℕ) → i < length words → text_behind name (get_or words i d).now ≡ Some text → ((pair : List ℕ × List ℕ) → IsPair text pair → ⊥)
-    → (headers : List Header) → AreHeaders (texts name words) headers → ⊥
+    → (headers : List Header) → AreHeaders (texts_named name words) headers → ⊥
 no_headers name [] i d text h e none headers are = absurd (omega arith)
 no_headers name (w ∷ words) zero d text h e none [] are = rw e at are
 no_headers name (w ∷ words) zero d text h e none (x ∷ headers) are = let both = rw e at are in none (x.key, x.value) both.0
 no_headers name (w ∷ words) (suc i) d text h e none headers are =
     behind_first name w words (text_behind name w.now) refl (λ others them. no_headers name words i d text (omega arith) e none others them) headers are
 
-pub headers_blamed : (name : List ℕ) (words : List (Bor (List ℕ))) (i : ℕ) (d : Bor (List ℕ)) (text : List ℕ) (fault : Fault) → i < length words → text_behind name (get_or words i d).now ≡ Some text → Blames (IsPair text) fault → Blames (AreHeaders (texts name words)) fault
+pub headers_blamed : (name : List ℕ) (words : List (Bor (List ℕ))) (i : ℕ) (d : Bor (List ℕ)) (text : List ℕ) (fault : Fault) → i < length words → text_behind name (get_or words i d).now ≡ Some text → Blames (IsPair text) fault → Blames (AreHeaders (texts_named name words)) fault
 headers_blamed name words i d text fault h e blames = record { nothing = λ bad headers are. no_headers name words i d text h e (blames.nothing bad) headers are }

@@ -3,7 +3,7 @@ use Rattle.std.proofs.Common.{◌≡◌, ◌<◌, ◌-◌, ℕ, zero, suc, List,
 use Rattle.std.proofs.Math.Seq.{take-length}
 use Rattle.std.specs.Borrow.{Bor}
 use Rattle.lines.specs.Atoms.{IsAtom, IsText}
-use Rattle.line_parts.specs.Words.{AreThreeTexts, AreTwoTexts, behind, text_at}
+use Rattle.line_parts.specs.Words.{AreThreeTexts, AreTwoTexts, words_after_first, text_at}
 
 pub word_at : (words : List (Bor (List ℕ))) (i : ℕ) (d : Bor (List ℕ)) → i < length words → (get_or words i d).now ≡ text_at i words
 word_at [] i d h = absurd (omega arith)
@@ -20,12 +20,12 @@ atom_is_at i words d bytes h is = subst (λ t. IsAtom t bytes) (word_at words i 
 pub behind_is : {A : Type 0} (n : ℕ) (words : List A) → take (length words - n) (drop n words) ≡ drop n words
 behind_is n words = ap (λ m. take m (drop n words)) (sym (length-drop n words)) ∙ take-length (drop n words)
 
-pub drop_first : (words : List (Bor (List ℕ))) → drop 1 words ≡ behind words
+pub drop_first : (words : List (Bor (List ℕ))) → drop 1 words ≡ words_after_first words
 drop_first [] = refl
 drop_first (w ∷ words) = refl
 
 -- and those behind the first
-pub others_are : (words : List (Bor (List ℕ))) → take (length words - 1) (drop 1 words) ≡ behind words
+pub others_are : (words : List (Bor (List ℕ))) → take (length words - 1) (drop 1 words) ≡ words_after_first words
 others_are words = behind_is 1 words ∙ drop_first words
 
 pub drop_two_more : (words others : List (Bor (List ℕ))) → others ≡ drop 1 words → drop 2 others ≡ drop 3 words

@@ -8,12 +8,12 @@ use Rattle.runs.specs.declared.types.RunExitResult.{RunExitResult}
 use Rattle.runs.specs.declared.types.RunExitResult.TheVariants as exit
 use Rattle.vm_types.specs.declared.values.NonEmptyValue.TheVariants as value
 use Rattle.lines.specs.Readings.{Blames}
-use Rattle.line_parts.specs.Fields.{IsSet, are_named, texts}
+use Rattle.line_parts.specs.Fields.{IsSet, are_named, texts_named}
 use Rattle.line_parts.specs.Policies.{IsPolicy}
 use Rattle.line_parts.specs.Reports.{IsError}
 use Rattle.line_parts.specs.Results.{IsProposal, IsResult, IsRetryable, is_policy, retryable_names}
 use Rattle.line_parts.specs.Values.{IsTime, IsValue, but_last, last_is}
-use Rattle.line_parts.specs.Words.{IsNumberOf, behind, text_at}
+use Rattle.line_parts.specs.Words.{IsNumberOf, words_after_first, text_at}
 
 pub duration_blamed : (words : List (Bor (List ℕ))) (fault : Fault) → Blames (IsTime (text_at 0 words)) fault → Blames (IsRetryable words) fault
 duration_blamed words fault blames = record { nothing = λ bad failed is. blames.nothing bad failed.0 is.duration }
@@ -50,7 +50,7 @@ no_value words name other some r is = go (first_front words)
     go (inl e) = other (ap (λ t. get_or t 0 0) (sym is ∙ e ∙ r))
     go (inr e) = some (ap (λ t. get_or t 0 0) (sym is ∙ e))
 
-pub retryable_blamed : (words others : List (Bor (List ℕ))) (fault : Fault) → text_at 0 words ≡ codes "retryable" → others ≡ behind words → Blames (IsRetryable others) fault → Blames (IsResult words) fault
+pub retryable_blamed : (words others : List (Bor (List ℕ))) (fault : Fault) → text_at 0 words ≡ codes "retryable" → others ≡ words_after_first words → Blames (IsRetryable others) fault → Blames (IsResult words) fault
 retryable_blamed words others fault r e blames = record { nothing = λ bad it is. go bad it is }
   where
     go : fault ≡ Malformed → (it : RunExitResult) → IsResult words it → ⊥
@@ -84,10 +84,10 @@ nothing_blamed (w ∷ words) fault h = absurd (omega arith)
 pub handle_blamed : (words : List (Bor (List ℕ))) (fault : Fault) → Blames (IsNumberOf 32 (text_at 0 words)) fault → Blames (IsProposal words) fault
 handle_blamed words fault blames = record { nothing = λ bad it is. blames.nothing bad it.handle.0 is.handle }
 
-pub result_blamed : (words others : List (Bor (List ℕ))) (fault : Fault) → others ≡ behind words → Blames (IsResult others) fault → Blames (IsProposal words) fault
+pub result_blamed : (words others : List (Bor (List ℕ))) (fault : Fault) → others ≡ words_after_first words → Blames (IsResult others) fault → Blames (IsProposal words) fault
 result_blamed words others fault e blames = record { nothing = λ bad it is. blames.nothing bad it.result (subst (λ ws. IsResult ws it.result) (sym e) is.result) }
 
-pub policy_blamed : (words others : List (Bor (List ℕ))) (fault : Fault) → others ≡ behind words → Blames (IsSet IsPolicy policy.Infinite (texts (codes "policy=") others)) fault → Blames (IsProposal words) fault
+pub policy_blamed : (words others : List (Bor (List ℕ))) (fault : Fault) → others ≡ words_after_first words → Blames (IsSet IsPolicy policy.Infinite (texts_named (codes "policy=") others)) fault → Blames (IsProposal words) fault
 policy_blamed words others fault e blames = record {
-  nothing = λ bad it is. blames.nothing bad it.policy (subst (λ ws. IsSet IsPolicy policy.Infinite (texts (codes "policy=") ws) it.policy) (sym e) is.policy);
+  nothing = λ bad it is. blames.nothing bad it.policy (subst (λ ws. IsSet IsPolicy policy.Infinite (texts_named (codes "policy=") ws) it.policy) (sym e) is.policy);
 }

@@ -9,8 +9,8 @@ use Rattle.vm_types.specs.declared.command_type.CommandRelationship.{CommandRela
 use Rattle.vm_types.specs.declared.command_type.CommandRelationship.TheVariants as relationship
 use Rattle.lines.specs.Atoms.{IsText}
 use Rattle.lines.specs.Readings.{Blames}
-use Rattle.line_parts.specs.Fields.{IsOptional, are_named, text_behind, texts}
-use Rattle.line_parts.specs.Reports.{AreDetails, IsBehavior, IsCommand, IsCommandAt, IsCommandName, IsError, IsRelated, IsRelatedAlone, IsReport, error_names}
+use Rattle.line_parts.specs.Fields.{IsOptional, are_named, text_behind, texts_named}
+use Rattle.line_parts.specs.Reports.{AreDetails, IsBehavior, IsCommandText, IsCommandAt, IsCommandName, IsError, IsRelated, IsRelatedAlone, IsReport, error_names}
 use Rattle.line_parts.specs.Words.{IsNumberOf, text_at}
 use Rattle.line_parts.proofs.Naming.{begins_so, otherwise, same_text}
 
@@ -32,12 +32,12 @@ name_blamed text fault other blames = record { nothing = λ bad name is. go bad 
 
 -- ---- the command that an error relates to
 
-pub next_blamed : (text command : List ℕ) (fault : Fault) → text_behind (codes "next") text ≡ Some command → Blames (IsCommand command) fault → Blames (IsRelated text) fault
+pub next_blamed : (text command : List ℕ) (fault : Fault) → text_behind (codes "next") text ≡ Some command → Blames (IsCommandText command) fault → Blames (IsRelated text) fault
 next_blamed text command fault e blames = record { nothing = λ bad it is. go bad it is }
   where
     go : fault ≡ Malformed → (it : CommandRelationship) → IsRelated text it → ⊥
     go bad relationship.Last is = otherwise 110 108 (codes "ext") text command e (ap (λ t. get_or t 0 0) is) (omega arith)
-    go bad (relationship.Next ty name) (other, at, is) = blames.nothing bad (ty, name) (subst (λ t. IsCommand t (ty, name)) (same_text other command (sym at ∙ e)) is)
+    go bad (relationship.Next ty name) (other, at, is) = blames.nothing bad (ty, name) (subst (λ t. IsCommandText t (ty, name)) (same_text other command (sym at ∙ e)) is)
     go bad (relationship.Specific index ty name) (other, at, is) = otherwise 110 97 (codes "ext") text command e (begins_so 97 (codes "t") text other at) (omega arith)
 
 pub at_blamed : (text command : List ℕ) (fault : Fault) → text_behind (codes "at") text ≡ Some command → Blames (IsCommandAt command) fault → Blames (IsRelated text) fault
@@ -73,7 +73,7 @@ error_blamed words fault blames = record { nothing = λ bad report is. blames.no
 pub options_blamed : (options : List (Bor (List ℕ))) (fault : Fault) → are_named error_names options ≡ false → Blames (IsRelatedAlone options) fault
 options_blamed options fault other = record { nothing = λ bad related are. absurd (cc (sym other ∙ are.1)) }
 
-pub related_blamed : (options : List (Bor (List ℕ))) (fault : Fault) → Blames (IsOptional IsRelated (texts (codes "rel=") options)) fault → Blames (IsRelatedAlone options) fault
+pub related_blamed : (options : List (Bor (List ℕ))) (fault : Fault) → Blames (IsOptional IsRelated (texts_named (codes "rel=") options)) fault → Blames (IsRelatedAlone options) fault
 related_blamed options fault blames = record { nothing = λ bad related are. blames.nothing bad related are.0 }
 
 pub alone_blamed : (words options : List (Bor (List ℕ))) (fault : Fault) → options ≡ drop 2 words → Blames (IsRelatedAlone options) fault → Blames (IsReport words) fault

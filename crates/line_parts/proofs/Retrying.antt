@@ -11,9 +11,9 @@ use Rattle.lines.specs.Readings.{Blames}
 use Rattle.lines.proofs.Once.{Same, words_within_once}
 use Rattle.line_parts.specs.declared.policies.Bounds.{Bounds}
 use Rattle.line_parts.specs.declared.policies.Growth.{Growth}
-use Rattle.line_parts.specs.Fields.{IsOptional, IsRequired, are_named, text_behind, texts}
+use Rattle.line_parts.specs.Fields.{IsOptional, IsRequired, are_named, text_behind, texts_named}
 use Rattle.line_parts.specs.Policies.{AreBounds, AreGrowth, IsExponential, IsFixed, IsFraction, IsPolicy, exponential_names, fixed_names, is_slash}
-use Rattle.line_parts.specs.Values.{HasFlag, IsTime, without}
+use Rattle.line_parts.specs.Values.{HasFlag, IsTime, words_without}
 use Rattle.line_parts.specs.Words.{IsNumberOf}
 use Rattle.line_parts.proofs.Naming.{begins_so, otherwise, same_text}
 use Rattle.line_parts.proofs.Sames.{flag_same, named_same, texts_same, without_same}
@@ -66,26 +66,26 @@ fixed_unbracketed text fault blames = record { nothing = λ bad bounds is. blame
 pub fixed_bounds : (text : List ℕ) (ws : List (Bor (List ℕ))) (fault : Fault) → AreWordsWithin 40 41 text ws → Blames (AreBounds ws) fault → Blames (IsFixed text) fault
 fixed_bounds text ws fault are blames = record { nothing = λ bad bounds is. blames.nothing bad bounds (bounds_same ws is.words bounds (words_within_once 40 41 text ws is.words are is.are_words) is.are_bounds) }
 
-pub fixed_others : (text : List ℕ) (ws others : List (Bor (List ℕ))) (fault : Fault) → AreWordsWithin 40 41 text ws → others ≡ without (codes "pause") ws → are_named fixed_names others ≡ false → Blames (IsFixed text) fault
+pub fixed_others : (text : List ℕ) (ws others : List (Bor (List ℕ))) (fault : Fault) → AreWordsWithin 40 41 text ws → others ≡ words_without (codes "pause") ws → are_named fixed_names others ≡ false → Blames (IsFixed text) fault
 fixed_others text ws others fault are but other = record {
   nothing = λ bad bounds is.
       let all = words_within_once 40 41 text ws is.words are is.are_words in
-      absurd (cc (sym other ∙ ap (are_named fixed_names) but ∙ named_same fixed_names (without (codes "pause") ws) (without (codes "pause") is.words) (without_same (codes "pause") ws is.words all) ∙ is.only));
+      absurd (cc (sym other ∙ ap (are_named fixed_names) but ∙ named_same fixed_names (words_without (codes "pause") ws) (words_without (codes "pause") is.words) (without_same (codes "pause") ws is.words all) ∙ is.only));
 }
 
 pub growth_unbracketed : (text : List ℕ) (fault : Fault) → Blames (AreWordsWithin 40 41 text) fault → Blames (IsExponential text) fault
 growth_unbracketed text fault blames = record { nothing = λ bad growth is. blames.nothing bad is.words is.are_words }
 
-pub initial_blamed : (words : List (Bor (List ℕ))) (fault : Fault) → Blames (IsRequired IsTime (texts (codes "initial=") words)) fault → Blames (AreGrowth words) fault
+pub initial_blamed : (words : List (Bor (List ℕ))) (fault : Fault) → Blames (IsRequired IsTime (texts_named (codes "initial=") words)) fault → Blames (AreGrowth words) fault
 initial_blamed words fault blames = record { nothing = λ bad growth are. blames.nothing bad growth.initial are.0 }
 
-pub factor_blamed : (words : List (Bor (List ℕ))) (fault : Fault) → Blames (IsRequired IsFraction (texts (codes "factor=") words)) fault → Blames (AreGrowth words) fault
+pub factor_blamed : (words : List (Bor (List ℕ))) (fault : Fault) → Blames (IsRequired IsFraction (texts_named (codes "factor=") words)) fault → Blames (AreGrowth words) fault
 factor_blamed words fault blames = record { nothing = λ bad growth are. blames.nothing bad growth.factor are.1 }
 
 pub growth_bounds : (words : List (Bor (List ℕ))) (fault : Fault) → Blames (AreBounds words) fault → Blames (AreGrowth words) fault
 growth_bounds words fault blames = record { nothing = λ bad growth are. blames.nothing bad growth.bounds are.2 }
 
-pub growth_others : (words others : List (Bor (List ℕ))) (fault : Fault) → others ≡ without (codes "pause") words → are_named exponential_names others ≡ false → Blames (AreGrowth words) fault
+pub growth_others : (words others : List (Bor (List ℕ))) (fault : Fault) → others ≡ words_without (codes "pause") words → are_named exponential_names others ≡ false → Blames (AreGrowth words) fault
 growth_others words others fault but other = record { nothing = λ bad growth are. absurd (cc (sym other ∙ ap (are_named exponential_names) but ∙ are.3)) }
 
 pub growth_blamed : (text : List ℕ) (ws : List (Bor (List ℕ))) (fault : Fault) → AreWordsWithin 40 41 text ws → Blames (AreGrowth ws) fault → Blames (IsExponential text) fault
@@ -96,7 +96,7 @@ growth_blamed text ws fault are blames = record {
         subst (λ ts. IsRequired IsTime ts growth.initial) (sym (texts_same (codes "initial=") ws is.words all)) is.initial,
         subst (λ ts. IsRequired IsFraction ts growth.factor) (sym (texts_same (codes "factor=") ws is.words all)) is.factor,
         bounds_same ws is.words growth.bounds all is.are_bounds,
-        named_same exponential_names (without (codes "pause") ws) (without (codes "pause") is.words) (without_same (codes "pause") ws is.words all) ∙ is.only,
+        named_same exponential_names (words_without (codes "pause") ws) (words_without (codes "pause") is.words) (without_same (codes "pause") ws is.words all) ∙ is.only,
       );
 }
 

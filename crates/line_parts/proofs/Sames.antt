@@ -3,16 +3,16 @@ use Rattle.std.proofs.Common.{◌≡◌, ℕ, suc, Bool, true, false, List, [], 
 use Rattle.std.specs.Borrow.{Bor}
 use Rattle.std.specs.List.{list_any}
 use Rattle.lines.proofs.Once.{Same}
-use Rattle.line_parts.specs.Fields.{are_named, is_named, text_behind, texts}
-use Rattle.line_parts.specs.Values.{HasFlag, is_flag, without}
+use Rattle.line_parts.specs.Fields.{are_named, is_named, text_behind, texts_named}
+use Rattle.line_parts.specs.Values.{HasFlag, is_flag, words_without}
 
-pub texts_same : (name : List ℕ) (ws vs : List (Bor (List ℕ))) → Same ws vs → texts name ws ≡ texts name vs
+pub texts_same : (name : List ℕ) (ws vs : List (Bor (List ℕ))) → Same ws vs → texts_named name ws ≡ texts_named name vs
 texts_same name [] [] all = refl
 texts_same name [] (v ∷ vs) all = absurd all
 texts_same name (w ∷ ws) [] all = absurd all
 texts_same name (w ∷ ws) (v ∷ vs) all = go (text_behind name w.now) refl (ap (text_behind name) (sym all.0)) (texts_same name ws vs all.1)
   where
-    go : (found : Option (List ℕ)) → text_behind name w.now ≡ found → text_behind name v.now ≡ text_behind name w.now → texts name ws ≡ texts name vs → texts name (w ∷ ws) ≡ texts name (v ∷ vs)
+    go : (found : Option (List ℕ)) → text_behind name w.now ≡ found → text_behind name v.now ≡ text_behind name w.now → texts_named name ws ≡ texts_named name vs → texts_named name (w ∷ ws) ≡ texts_named name (v ∷ vs)
     go None at other more = rw (other, at) more
     go (Some t) at other more = rw (other, at) (ap (λ ts. t ∷ ts) more)
 
@@ -30,13 +30,13 @@ pub flag_same : (flag : List ℕ) (ws vs : List (Bor (List ℕ))) (stands : Bool
 flag_same flag ws vs stands all has = flags_same flag ws vs all ∙ has
 
 -- the words but one
-pub without_same : (flag : List ℕ) (ws vs : List (Bor (List ℕ))) → Same ws vs → Same (without flag ws) (without flag vs)
+pub without_same : (flag : List ℕ) (ws vs : List (Bor (List ℕ))) → Same ws vs → Same (words_without flag ws) (words_without flag vs)
 without_same flag [] [] all = tt
 without_same flag [] (v ∷ vs) all = absurd all
 without_same flag (w ∷ ws) [] all = absurd all
 without_same flag (w ∷ ws) (v ∷ vs) all = go (is_flag flag w) refl (ap (λ t. is_flag flag (record { ref_ptr = (0, 0); now = t })) (sym all.0)) (without_same flag ws vs all.1)
   where
-    go : (b : Bool) → is_flag flag w ≡ b → is_flag flag v ≡ is_flag flag w → Same (without flag ws) (without flag vs) → Same (without flag (w ∷ ws)) (without flag (v ∷ vs))
+    go : (b : Bool) → is_flag flag w ≡ b → is_flag flag v ≡ is_flag flag w → Same (words_without flag ws) (words_without flag vs) → Same (words_without flag (w ∷ ws)) (words_without flag (v ∷ vs))
     go true at other more = rw (other, at) more
     go false at other more = rw (other, at) (all.0, more)
 

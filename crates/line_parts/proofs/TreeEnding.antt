@@ -13,7 +13,7 @@ use Rattle.await_trees.specs.Tree.{Tree, Forest, leaf, node, none, more, tree_of
 use Rattle.await_trees.specs.declared.handle.NotificationHandle.{NotificationHandle}
 use Rattle.await_trees.specs.declared.tree.UnresolvedFuture.{UnresolvedFuture}
 use Rattle.lines.specs.Readings.{Blames}
-use Rattle.line_parts.specs.OpenNodes.{Closes, GoesOn, behind_word, is_break, word_of}
+use Rattle.line_parts.specs.OpenNodes.{ClosesNodes, GoesOn, behind_word, is_break, word_of}
 use Rattle.line_parts.specs.Trees.{IsKind, SpellsClosely, SpellsTree, SpellsForest, kind_name}
 use Rattle.line_parts.specs.Words.{IsNumberOf}
 
@@ -64,13 +64,13 @@ no_break (c ∷ cs) behind rest u some e = cc (sym u.0 ∙ ap (λ t. is_break (g
 
 -- ---- what follows a tree
 
-closes_breaks : (nodes : ℕ) (text : List ℕ) → Closes nodes text → Breaks text
+closes_breaks : (nodes : ℕ) (text : List ℕ) → ClosesNodes nodes text → Breaks text
 closes_breaks zero text e = subst Breaks (sym e) tt
 closes_breaks (suc nodes) text (others, behind, none, e, o, c) = subst Breaks (sym (e ∙ ap (λ z. z ++ 41 ∷ behind) o)) refl
 closes_breaks (suc nodes) text (others, behind, more t ts, e, (inside, o, s), c) = subst Breaks (sym (e ∙ ap (λ z. z ++ 41 ∷ behind) o)) refl
 
 -- no bracket opens behind a tree
-closes_no_opening : (nodes : ℕ) (text rest : List ℕ) → Closes nodes text → text ≡ 40 ∷ rest → ⊥
+closes_no_opening : (nodes : ℕ) (text rest : List ℕ) → ClosesNodes nodes text → text ≡ 40 ∷ rest → ⊥
 closes_no_opening zero text rest e o = let long = ap length (sym e ∙ o) in absurd (omega arith)
 closes_no_opening (suc nodes) text rest (others, behind, none, e, o, c) i =
     let first = ap (λ t. get_or t 0 0) (sym i ∙ e ∙ ap (λ z. z ++ 41 ∷ behind) o) in absurd (omega arith)
@@ -78,7 +78,7 @@ closes_no_opening (suc nodes) text rest (others, behind, more t ts, e, (inside, 
     let first = ap (λ t. get_or t 0 0) (sym i ∙ e ∙ ap (λ z. z ++ 41 ∷ behind) o) in absurd (omega arith)
 
 -- trees and the bracket behind them
-forest_on : (nodes : ℕ) (inside behind : List ℕ) (t : Tree) (ts : Forest) → SpellsForest inside (more t ts) → Closes nodes behind → GoesOn (suc nodes) None (inside ++ 41 ∷ behind)
+forest_on : (nodes : ℕ) (inside behind : List ℕ) (t : Tree) (ts : Forest) → SpellsForest inside (more t ts) → ClosesNodes nodes behind → GoesOn (suc nodes) None (inside ++ 41 ∷ behind)
 forest_on nodes inside behind t none s c = (inside, 41 ∷ behind, t, refl, s, ([], behind, none, refl, refl, c))
 forest_on nodes inside behind t (more u us) (first, others, e, s, f) c =
     (first, 44 ∷ (others ++ 41 ∷ behind), t, ap (λ z. z ++ 41 ∷ behind) e ∙ append_assoc first (44 ∷ others) (41 ∷ behind), s, (44 ∷ others, behind, more u us, refl, (others, refl, f), c))
@@ -99,8 +99,8 @@ forest_begins inside behind rest t (more u us) (first, others, o, s, f) e =
 -- a handle, or a kind and a bracket
 abbrev Begun : ℕ → List ℕ → Type 0
 Begun nodes text =
-    ((handle : ℕ) × IsNumberOf 32 (word_of text) handle × Closes nodes (behind_word text))
-    ⊎ ((kind : FutureKind) × (children : Forest) × (inside behind : List ℕ) × IsKind (word_of text) kind × (behind_word text ≡ 40 ∷ (inside ++ 41 ∷ behind)) × SpellsForest inside children × Closes nodes behind)
+    ((handle : ℕ) × IsNumberOf 32 (word_of text) handle × ClosesNodes nodes (behind_word text))
+    ⊎ ((kind : FutureKind) × (children : Forest) × (inside behind : List ℕ) × IsKind (word_of text) kind × (behind_word text ≡ 40 ∷ (inside ++ 41 ∷ behind)) × SpellsForest inside children × ClosesNodes nodes behind)
 
 node_text : (name inside behind : List ℕ) → (name ++ 40 ∷ (inside ++ 41 ∷ [])) ++ behind ≡ name ++ 40 ∷ (inside ++ 41 ∷ behind)
 node_text name inside behind = simp append_assoc refl
@@ -108,17 +108,17 @@ node_text name inside behind = simp append_assoc refl
 begun : (nodes : ℕ) (text : List ℕ) → GoesOn nodes None text → Begun nodes text
 begun nodes text (own, behind, leaf h, e, s, c) =
     let cut = cut_at own behind (numeral_unbroken own s.0.1) (closes_breaks nodes behind c) in
-    inl (h, subst (λ w. IsNumberOf 32 w h) (sym (ap word_of e ∙ cut.0)) s, subst (Closes nodes) (sym (ap behind_word e ∙ cut.1)) c)
+    inl (h, subst (λ w. IsNumberOf 32 w h) (sym (ap word_of e ∙ cut.0)) s, subst (ClosesNodes nodes) (sym (ap behind_word e ∙ cut.1)) c)
 begun nodes text (own, behind, node kind children, e, (inside, o, s), c) =
     let whole : text ≡ kind_name kind ++ 40 ∷ (inside ++ 41 ∷ behind) = e ∙ ap (λ z. z ++ behind) o ∙ node_text (kind_name kind) inside behind in
     let cut = cut_at (kind_name kind) (40 ∷ (inside ++ 41 ∷ behind)) (kind_unbroken kind) refl in
     inr (kind, children, inside, behind, ap word_of whole ∙ cut.0, ap behind_word whole ∙ cut.1, s, c)
 
-pub handle_goes_on : (nodes : ℕ) (text rest : List ℕ) → rest ≡ behind_word text → ((r : List ℕ) → rest ≢ 40 ∷ r) → GoesOn nodes None text → Closes nodes rest
+pub handle_goes_on : (nodes : ℕ) (text rest : List ℕ) → rest ≡ behind_word text → ((r : List ℕ) → rest ≢ 40 ∷ r) → GoesOn nodes None text → ClosesNodes nodes rest
 handle_goes_on nodes text rest e other on = go (begun nodes text on)
   where
-    go : Begun nodes text → Closes nodes rest
-    go (inl (handle, number, c)) = subst (Closes nodes) (sym e) c
+    go : Begun nodes text → ClosesNodes nodes rest
+    go (inl (handle, number, c)) = subst (ClosesNodes nodes) (sym e) c
     go (inr (kind, children, inside, behind, k, o, s, c)) = absurd (other _ (e ∙ o))
 
 pub no_handle : (nodes : ℕ) (text word rest : List ℕ) (fault : Fault) → word ≡ word_of text → rest ≡ behind_word text → ((r : List ℕ) → rest ≢ 40 ∷ r)
@@ -138,24 +138,24 @@ no_kind nodes text word rest inside fault w e opens blames bad on = go (begun no
 
 -- what stands behind a node's bracket
 opened : (nodes : ℕ) (text rest inside : List ℕ) → rest ≡ behind_word text → rest ≡ 40 ∷ inside → GoesOn nodes None text
-    → (children : Forest) × (within behind : List ℕ) × (inside ≡ within ++ 41 ∷ behind) × SpellsForest within children × Closes nodes behind
+    → (children : Forest) × (within behind : List ℕ) × (inside ≡ within ++ 41 ∷ behind) × SpellsForest within children × ClosesNodes nodes behind
 opened nodes text rest inside e opens on = go (begun nodes text on)
   where
-    go : Begun nodes text → (children : Forest) × (within behind : List ℕ) × (inside ≡ within ++ 41 ∷ behind) × SpellsForest within children × Closes nodes behind
+    go : Begun nodes text → (children : Forest) × (within behind : List ℕ) × (inside ≡ within ++ 41 ∷ behind) × SpellsForest within children × ClosesNodes nodes behind
     go (inl (handle, number, c)) = absurd (closes_no_opening nodes (behind_word text) inside c (sym e ∙ opens))
     go (inr (kind, children, within, behind, k, o, s, c)) = (children, within, behind, ap (drop 1) (sym opens ∙ e ∙ o), s, c)
 
-pub empty_goes_on : (nodes : ℕ) (text rest inside behind : List ℕ) → rest ≡ behind_word text → rest ≡ 40 ∷ inside → inside ≡ 41 ∷ behind → GoesOn nodes None text → Closes nodes behind
+pub empty_goes_on : (nodes : ℕ) (text rest inside behind : List ℕ) → rest ≡ behind_word text → rest ≡ 40 ∷ inside → inside ≡ 41 ∷ behind → GoesOn nodes None text → ClosesNodes nodes behind
 empty_goes_on nodes text rest inside behind e opens closes on = go (opened nodes text rest inside e opens on)
   where
-    go : (children : Forest) × (within after : List ℕ) × (inside ≡ within ++ 41 ∷ after) × SpellsForest within children × Closes nodes after → Closes nodes behind
-    go (none, within, after, o, s, c) = subst (Closes nodes) (ap (drop 1) (sym (o ∙ ap (λ z. z ++ 41 ∷ after) s) ∙ closes)) c
+    go : (children : Forest) × (within after : List ℕ) × (inside ≡ within ++ 41 ∷ after) × SpellsForest within children × ClosesNodes nodes after → ClosesNodes nodes behind
+    go (none, within, after, o, s, c) = subst (ClosesNodes nodes) (ap (drop 1) (sym (o ∙ ap (λ z. z ++ 41 ∷ after) s) ∙ closes)) c
     go (more t ts, within, after, o, s, c) = absurd (forest_begins within (41 ∷ after) behind t ts s (sym o ∙ closes))
 
 pub node_goes_on : (nodes more_nodes : ℕ) (text rest inside : List ℕ) → more_nodes ≡ nodes + 1 → rest ≡ behind_word text → rest ≡ 40 ∷ inside → ((r : List ℕ) → inside ≢ 41 ∷ r) → GoesOn nodes None text → GoesOn more_nodes None inside
 node_goes_on nodes more_nodes text rest inside m e opens other on = go (opened nodes text rest inside e opens on)
   where
-    go : (children : Forest) × (within after : List ℕ) × (inside ≡ within ++ 41 ∷ after) × SpellsForest within children × Closes nodes after → GoesOn more_nodes None inside
+    go : (children : Forest) × (within after : List ℕ) × (inside ≡ within ++ 41 ∷ after) × SpellsForest within children × ClosesNodes nodes after → GoesOn more_nodes None inside
     go (none, within, after, o, s, c) = absurd (other after (o ∙ ap (λ z. z ++ 41 ∷ after) s))
     go (more t ts, within, after, o, s, c) =
         let n : suc nodes ≡ more_nodes = omega arith in
@@ -163,33 +163,33 @@ node_goes_on nodes more_nodes text rest inside m e opens other on = go (opened n
 
 -- ---- behind a tree
 
-pub over : (nodes : ℕ) (text : List ℕ) → nodes ≡ 0 → 0 < length text → Closes nodes text → ⊥
-over nodes text n some c = let long = ap length (subst (λ k. Closes k text) n c) in absurd (omega arith)
+pub over : (nodes : ℕ) (text : List ℕ) → nodes ≡ 0 → 0 < length text → ClosesNodes nodes text → ⊥
+over nodes text n some c = let long = ap length (subst (λ k. ClosesNodes k text) n c) in absurd (omega arith)
 
 -- one node fewer
-inner : (nodes fewer : ℕ) (text : List ℕ) → nodes ≡ fewer + 1 → Closes nodes text → Closes (suc fewer) text
-inner nodes fewer text n c = let m : nodes ≡ suc fewer = omega arith in subst (λ k. Closes k text) m c
+inner : (nodes fewer : ℕ) (text : List ℕ) → nodes ≡ fewer + 1 → ClosesNodes nodes text → ClosesNodes (suc fewer) text
+inner nodes fewer text n c = let m : nodes ≡ suc fewer = omega arith in subst (λ k. ClosesNodes k text) m c
 
-pub closing_goes_on : (nodes fewer : ℕ) (text rest : List ℕ) → nodes ≡ fewer + 1 → text ≡ 41 ∷ rest → Closes nodes text → Closes fewer rest
+pub closing_goes_on : (nodes fewer : ℕ) (text rest : List ℕ) → nodes ≡ fewer + 1 → text ≡ 41 ∷ rest → ClosesNodes nodes text → ClosesNodes fewer rest
 closing_goes_on nodes fewer text rest n i c = go (inner nodes fewer text n c)
   where
-    go : Closes (suc fewer) text → Closes fewer rest
-    go (others, behind, none, e, o, c) = subst (Closes fewer) (ap (drop 1) (sym (e ∙ ap (λ z. z ++ 41 ∷ behind) o) ∙ i)) c
+    go : ClosesNodes (suc fewer) text → ClosesNodes fewer rest
+    go (others, behind, none, e, o, c) = subst (ClosesNodes fewer) (ap (drop 1) (sym (e ∙ ap (λ z. z ++ 41 ∷ behind) o) ∙ i)) c
     go (others, behind, more t ts, e, (inside, o, s), c) = let first = ap (λ t. get_or t 0 0) (sym i ∙ e ∙ ap (λ z. z ++ 41 ∷ behind) o) in absurd (omega arith)
 
-pub comma_goes_on : (nodes fewer again : ℕ) (text rest : List ℕ) → nodes ≡ fewer + 1 → again ≡ fewer + 1 → text ≡ 44 ∷ rest → Closes nodes text → GoesOn again None rest
+pub comma_goes_on : (nodes fewer again : ℕ) (text rest : List ℕ) → nodes ≡ fewer + 1 → again ≡ fewer + 1 → text ≡ 44 ∷ rest → ClosesNodes nodes text → GoesOn again None rest
 comma_goes_on nodes fewer again text rest n m i c = go (inner nodes fewer text n c)
   where
-    go : Closes (suc fewer) text → GoesOn again None rest
+    go : ClosesNodes (suc fewer) text → GoesOn again None rest
     go (others, behind, none, e, o, c) = let first = ap (λ t. get_or t 0 0) (sym i ∙ e ∙ ap (λ z. z ++ 41 ∷ behind) o) in absurd (omega arith)
     go (others, behind, more t ts, e, (inside, o, s), c) =
         let k : suc fewer ≡ again = omega arith in
         subst (λ j. GoesOn j None rest) k (subst (GoesOn (suc fewer) None) (ap (drop 1) (sym (e ∙ ap (λ z. z ++ 41 ∷ behind) o) ∙ i)) (forest_on fewer inside behind t ts s c))
 
-pub neither : (nodes fewer : ℕ) (text : List ℕ) → nodes ≡ fewer + 1 → ((r : List ℕ) → text ≢ 41 ∷ r) → ((r : List ℕ) → text ≢ 44 ∷ r) → Closes nodes text → ⊥
+pub neither : (nodes fewer : ℕ) (text : List ℕ) → nodes ≡ fewer + 1 → ((r : List ℕ) → text ≢ 41 ∷ r) → ((r : List ℕ) → text ≢ 44 ∷ r) → ClosesNodes nodes text → ⊥
 neither nodes fewer text n closes commas c = go (inner nodes fewer text n c)
   where
-    go : Closes (suc fewer) text → ⊥
+    go : ClosesNodes (suc fewer) text → ⊥
     go (others, behind, none, e, o, c) = closes behind (e ∙ ap (λ z. z ++ 41 ∷ behind) o)
     go (others, behind, more t ts, e, (inside, o, s), c) = commas (inside ++ 41 ∷ behind) (e ∙ ap (λ z. z ++ 41 ∷ behind) o)
 
@@ -203,7 +203,7 @@ tree_some : (text : List ℕ) (t : Tree) → SpellsTree text t → 0 < length te
 tree_some text (leaf h) s = s.0.0
 tree_some text (node kind children) (inside, o, s) = let long = ap length o in omega (arith, long, kind_some kind, length-append (kind_name kind) (40 ∷ (inside ++ 41 ∷ [])))
 
-closes_some : (nodes : ℕ) (text : List ℕ) → 0 < nodes → Closes nodes text → 0 < length text
+closes_some : (nodes : ℕ) (text : List ℕ) → 0 < nodes → ClosesNodes nodes text → 0 < length text
 closes_some zero text h c = absurd (omega arith)
 closes_some (suc nodes) text h (others, behind, forest, e, o, c) = let long = ap length e in omega (arith, long, length-append others (41 ∷ behind))
 

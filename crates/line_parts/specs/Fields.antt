@@ -12,8 +12,8 @@ unfoldable pub text_behind : List ℕ → List ℕ → Option (List ℕ)
 text_behind name word = if is_named name word then Some (drop (length name) word) else None
 
 -- the texts behind this name
-abbrev pub texts : List ℕ → List (Bor (List ℕ)) → List (List ℕ)
-texts name words = filter_map (λ word. text_behind name word.now) words
+abbrev pub texts_named : List ℕ → List (Bor (List ℕ)) → List (List ℕ)
+texts_named name words = filter_map (λ word. text_behind name word.now) words
 
 -- whether each word begins with one of these names
 abbrev pub are_named : List (List ℕ) → List (Bor (List ℕ)) → Bool

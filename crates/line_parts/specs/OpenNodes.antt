@@ -42,17 +42,17 @@ AreOthers text (more t ts) = (inside : List ℕ) × (text ≡ comma ∷ inside)
 
 -- what follows a tree within so many nodes: for each, the innermost first, further trees and its
 -- bracket
-abbrev pub Closes : ℕ → List ℕ → Type 0
-Closes zero text = text ≡ []
-Closes (suc nodes) text = (others behind : List ℕ) × (forest : Forest)
-    × (text ≡ others ++ closing ∷ behind) × AreOthers others forest × Closes nodes behind
+abbrev pub ClosesNodes : ℕ → List ℕ → Type 0
+ClosesNodes zero text = text ≡ []
+ClosesNodes (suc nodes) text = (others behind : List ℕ) × (forest : Forest)
+    × (text ≡ others ++ closing ∷ behind) × AreOthers others forest × ClosesNodes nodes behind
 
 -- what follows within so many nodes, behind a tree that was read whole; where none was, a tree
 -- comes first
 abbrev pub GoesOn : ℕ → Option UnresolvedFuture → List ℕ → Type 0
 GoesOn nodes None text = (own behind : List ℕ) × (t : Tree) × (text ≡ own ++ behind)
-    × SpellsTree own t × Closes nodes behind
-GoesOn nodes (Some future) text = Closes nodes text
+    × SpellsTree own t × ClosesNodes nodes behind
+GoesOn nodes (Some future) text = ClosesNodes nodes text
 
 -- ---- pieces of a text
 

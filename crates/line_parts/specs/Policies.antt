@@ -8,8 +8,8 @@ use Rattle.retries.specs.declared.policy.RetryPolicy.TheVariants as policy
 use Rattle.lines.specs.Pieces.{AreWordsWithin}
 use Rattle.line_parts.specs.declared.policies.Bounds.{Bounds}
 use Rattle.line_parts.specs.declared.policies.Growth.{Growth}
-use Rattle.line_parts.specs.Fields.{IsOptional, IsRequired, are_named, text_behind, texts}
-use Rattle.line_parts.specs.Values.{HasFlag, IsTime, without}
+use Rattle.line_parts.specs.Fields.{IsOptional, IsRequired, are_named, text_behind, texts_named}
+use Rattle.line_parts.specs.Values.{HasFlag, IsTime, words_without}
 use Rattle.line_parts.specs.Words.{IsNumberOf}
 
 abbrev pub is_slash : ℕ → Bool
@@ -24,9 +24,10 @@ pub record IsFraction (text : List ℕ) (fraction : Fraction) : Type 0 where
 
 -- `[interval=D] [attempts=N] [max=D] [pause]`, among other words
 pub record AreBounds (words : List (Bor (List ℕ))) (bounds : Bounds) : Type 0 where
-  pub interval : IsOptional IsTime (texts (codes "interval=") words) bounds.interval
-  pub attempts : IsOptional (IsNumberOf 32) (texts (codes "attempts=") words) bounds.max_attempts
-  pub longest : IsOptional IsTime (texts (codes "max=") words) bounds.max_duration
+  pub interval : IsOptional IsTime (texts_named (codes "interval=") words) bounds.interval
+  pub attempts : IsOptional (IsNumberOf 32) (texts_named (codes "attempts=") words)
+      bounds.max_attempts
+  pub longest : IsOptional IsTime (texts_named (codes "max=") words) bounds.max_duration
   pub pause : HasFlag (codes "pause") words (is_pause bounds.on_max_attempts)
 
 -- what a policy with a fixed delay may have, beside `pause`
@@ -43,24 +44,24 @@ pub record IsFixed (text : List ℕ) (bounds : Bounds) : Type 0 where
   pub words : List (Bor (List ℕ))
   pub are_words : AreWordsWithin 40 41 text words
   pub are_bounds : AreBounds words bounds
-  pub only : are_named fixed_names (without (codes "pause") words) ≡ true
+  pub only : are_named fixed_names (words_without (codes "pause") words) ≡ true
 
 -- `initial=D factor=N/N [interval=D] [attempts=N] [max=D] [pause]`, and nothing else
 abbrev pub AreGrowth : List (Bor (List ℕ)) → Growth → Type 0
 AreGrowth words growth =
-    IsRequired IsTime (texts (codes "initial=") words) growth.initial
-    × IsRequired IsFraction (texts (codes "factor=") words) growth.factor
+    IsRequired IsTime (texts_named (codes "initial=") words) growth.initial
+    × IsRequired IsFraction (texts_named (codes "factor=") words) growth.factor
     × AreBounds words growth.bounds
-    × (are_named exponential_names (without (codes "pause") words) ≡ true)
+    × (are_named exponential_names (words_without (codes "pause") words) ≡ true)
 
 -- the first delay in the brackets, its factor and the bounds, and nothing else
 pub record IsExponential (text : List ℕ) (growth : Growth) : Type 0 where
   pub words : List (Bor (List ℕ))
   pub are_words : AreWordsWithin 40 41 text words
-  pub initial : IsRequired IsTime (texts (codes "initial=") words) growth.initial
-  pub factor : IsRequired IsFraction (texts (codes "factor=") words) growth.factor
+  pub initial : IsRequired IsTime (texts_named (codes "initial=") words) growth.initial
+  pub factor : IsRequired IsFraction (texts_named (codes "factor=") words) growth.factor
   pub are_bounds : AreBounds words growth.bounds
-  pub only : are_named exponential_names (without (codes "pause") words) ≡ true
+  pub only : are_named exponential_names (words_without (codes "pause") words) ≡ true
 
 -- `infinite`, `none`, `fixed(..)` or `exp(..)`; where the delay grows, the interval is the longest
 -- one

@@ -15,7 +15,7 @@ use Rattle.std.specs.Borrow.{Bor}
 use Rattle.lines.specs.Atoms.{IsText}
 use Rattle.lines.specs.Pieces.{AreWordsWithin}
 use Rattle.line_parts.specs.declared.report.Details.{Details}
-use Rattle.line_parts.specs.Fields.{IsOptional, IsSet, are_named, text_behind, texts}
+use Rattle.line_parts.specs.Fields.{IsOptional, IsSet, are_named, text_behind, texts_named}
 use Rattle.line_parts.specs.Values.{HasCodeAndText, IsTime}
 use Rattle.line_parts.specs.Words.{IsNumberOf, text_at}
 
@@ -30,30 +30,30 @@ abbrev pub IsBehavior : List ℕ → ErrorBehavior → Type 0
 IsBehavior text it = text ≡ behavior_name it
 
 -- the types of commands
-unfoldable pub type_name : CommandType → List ℕ
-type_name command.Input = codes "Input"
-type_name command.Output = codes "Output"
-type_name command.GetState = codes "GetState"
-type_name command.GetStateKeys = codes "GetStateKeys"
-type_name command.SetState = codes "SetState"
-type_name command.ClearState = codes "ClearState"
-type_name command.ClearAllState = codes "ClearAllState"
-type_name command.GetPromise = codes "GetPromise"
-type_name command.PeekPromise = codes "PeekPromise"
-type_name command.CompletePromise = codes "CompletePromise"
-type_name command.Sleep = codes "Sleep"
-type_name command.Call = codes "Call"
-type_name command.OneWayCall = codes "OneWayCall"
-type_name command.SendSignal = codes "SendSignal"
-type_name command.Run = codes "Run"
-type_name command.AttachInvocation = codes "AttachInvocation"
-type_name command.GetInvocationOutput = codes "GetInvocationOutput"
-type_name command.CompleteAwakeable = codes "CompleteAwakeable"
-type_name command.CancelInvocation = codes "CancelInvocation"
+unfoldable pub command_type_name : CommandType → List ℕ
+command_type_name command.Input = codes "Input"
+command_type_name command.Output = codes "Output"
+command_type_name command.GetState = codes "GetState"
+command_type_name command.GetStateKeys = codes "GetStateKeys"
+command_type_name command.SetState = codes "SetState"
+command_type_name command.ClearState = codes "ClearState"
+command_type_name command.ClearAllState = codes "ClearAllState"
+command_type_name command.GetPromise = codes "GetPromise"
+command_type_name command.PeekPromise = codes "PeekPromise"
+command_type_name command.CompletePromise = codes "CompletePromise"
+command_type_name command.Sleep = codes "Sleep"
+command_type_name command.Call = codes "Call"
+command_type_name command.OneWayCall = codes "OneWayCall"
+command_type_name command.SendSignal = codes "SendSignal"
+command_type_name command.Run = codes "Run"
+command_type_name command.AttachInvocation = codes "AttachInvocation"
+command_type_name command.GetInvocationOutput = codes "GetInvocationOutput"
+command_type_name command.CompleteAwakeable = codes "CompleteAwakeable"
+command_type_name command.CancelInvocation = codes "CancelInvocation"
 
 -- the word for a type of command
 abbrev pub IsType : List ℕ → CommandType → Type 0
-IsType text ty = text ≡ type_name ty
+IsType text ty = text ≡ command_type_name ty
 
 -- the stack trace that is given, or the one before
 abbrev pub stack_or : Option (String Global) → List ℕ → List ℕ
@@ -87,7 +87,7 @@ AreTypeAndName words command = (length words ≡ 2) × IsType (text_at 0 words) 
     × IsCommandName (text_at 1 words) command.1
 
 -- the words in the brackets name this type and this name
-pub record IsCommand (text : List ℕ) (command : CommandType × Option (List ℕ)) : Type 0 where
+pub record IsCommandText (text : List ℕ) (command : CommandType × Option (List ℕ)) : Type 0 where
   pub words : List (Bor (List ℕ))
   pub are_words : AreWordsWithin 40 41 text words
   pub two : length words ≡ 2
@@ -107,7 +107,7 @@ pub record IsCommandAt (text : List ℕ) (command : ℕ × CommandType × Option
 abbrev pub IsRelated : List ℕ → CommandRelationship → Type 0
 IsRelated text relationship.Last = text ≡ codes "last"
 IsRelated text (relationship.Next ty name) = (command : List ℕ)
-    × (text_behind (codes "next") text ≡ Some command) × IsCommand command (ty, name)
+    × (text_behind (codes "next") text ≡ Some command) × IsCommandText command (ty, name)
 IsRelated text (relationship.Specific index ty name) = (command : List ℕ)
     × (text_behind (codes "at") text ≡ Some command) × IsCommandAt command (index, ty, name)
 
@@ -117,14 +117,15 @@ error_names = codes "stack=" ∷ codes "behaviour=" ∷ codes "delay=" ∷ codes
 
 -- the command that an error relates to, among options that are no others than an error's
 abbrev pub IsRelatedAlone : List (Bor (List ℕ)) → Option CommandRelationship → Type 0
-IsRelatedAlone options related = IsOptional IsRelated (texts (codes "rel=") options) related
+IsRelatedAlone options related = IsOptional IsRelated (texts_named (codes "rel=") options) related
     × (are_named error_names options ≡ true)
 
 -- what the options of an error say of it
 pub record AreDetails (words : List (Bor (List ℕ))) (error : Error) : Type 0 where
-  pub stack : IsSet IsText [] (texts (codes "stack=") words) error.stacktrace
-  pub behavior : IsSet IsBehavior behavior.Retry (texts (codes "behaviour=") words) error.behavior
-  pub delay : IsOptional IsTime (texts (codes "delay=") words) error.next_retry_delay
+  pub stack : IsSet IsText [] (texts_named (codes "stack=") words) error.stacktrace
+  pub behavior : IsSet IsBehavior behavior.Retry (texts_named (codes "behaviour=") words)
+      error.behavior
+  pub delay : IsOptional IsTime (texts_named (codes "delay=") words) error.next_retry_delay
 
 -- the words begin with an error's code and text, and the options behind them say the rest of it
 pub record IsError (words : List (Bor (List ℕ))) (error : Error) : Type 0 where
@@ -135,5 +136,5 @@ pub record IsError (words : List (Bor (List ℕ))) (error : Error) : Type 0 wher
 -- the error that is reported, and the command that it relates to
 pub record IsReport (words : List (Bor (List ℕ))) (report : Error × Option CommandRelationship) : Type 0 where
   pub error : IsError words report.0
-  pub related : IsOptional IsRelated (texts (codes "rel=") (drop 2 words)) report.1
+  pub related : IsOptional IsRelated (texts_named (codes "rel=") (drop 2 words)) report.1
   pub only : are_named error_names (drop 2 words) ≡ true

@@ -9,11 +9,11 @@ use Rattle.runs.specs.declared.types.RunExitResult.TheVariants as exit
 use Rattle.vm_types.specs.declared.values.NonEmptyValue.{NonEmptyValue}
 use Rattle.vm_types.specs.declared.values.NonEmptyValue.TheVariants as value
 use Rattle.line_parts.specs.declared.results.Proposal.{Proposal}
-use Rattle.line_parts.specs.Fields.{IsSet, are_named, is_named, texts}
+use Rattle.line_parts.specs.Fields.{IsSet, are_named, is_named, texts_named}
 use Rattle.line_parts.specs.Policies.{IsPolicy}
 use Rattle.line_parts.specs.Reports.{IsError}
 use Rattle.line_parts.specs.Values.{IsTime, IsValue, but_last}
-use Rattle.line_parts.specs.Words.{IsNumberOf, behind, text_at}
+use Rattle.line_parts.specs.Words.{IsNumberOf, words_after_first, text_at}
 
 -- whether a word names a policy
 abbrev pub is_policy : List ℕ → Bool
@@ -30,9 +30,9 @@ pub record IsRetryable (words : List (Bor (List ℕ))) (failed : Duration × Err
   pub only : are_named retryable_names (drop 3 words) ≡ true
 
 -- the result that a value is
-abbrev pub settled : NonEmptyValue → RunExitResult
-settled (value.Success bytes) = exit.Success bytes
-settled (value.Failure failure) = exit.TerminalFailure failure
+abbrev pub exit_of_value : NonEmptyValue → RunExitResult
+exit_of_value (value.Success bytes) = exit.Success bytes
+exit_of_value (value.Failure failure) = exit.TerminalFailure failure
 
 -- the words are a result, with or without a policy: a value, in front of the policy, or `retryable`
 -- and what is told of the failure
@@ -41,11 +41,12 @@ IsResult words (exit.Success bytes) = IsValue (but_last is_policy words) (value.
 IsResult words (exit.TerminalFailure failure) = IsValue (but_last is_policy words)
     (value.Failure failure)
 IsResult words (exit.RetryableFailure duration error) = (text_at 0 words ≡ codes "retryable")
-    × IsRetryable (behind words) (duration, error)
+    × IsRetryable (words_after_first words) (duration, error)
 
 -- the handle of the run, its result, and the policy
 pub record IsProposal (words : List (Bor (List ℕ))) (proposal : Proposal) : Type 0 where
   pub handle : IsNumberOf 32 (text_at 0 words) proposal.handle.0
-  pub result : IsResult (behind words) proposal.result
-  pub policy : IsSet IsPolicy policy.Infinite (texts (codes "policy=") (behind words))
+  pub result : IsResult (words_after_first words) proposal.result
+  pub policy : IsSet IsPolicy policy.Infinite
+      (texts_named (codes "policy=") (words_after_first words))
       proposal.policy

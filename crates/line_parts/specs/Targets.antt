@@ -11,9 +11,9 @@ use Rattle.journal_values.specs.declared.parts.Header.{Header}
 use Rattle.lines.specs.Atoms.{IsText}
 use Rattle.vm_types.specs.declared.options.PayloadOptions.{PayloadOptions}
 use Rattle.vm_types.specs.declared.values.Target.{Target}
-use Rattle.line_parts.specs.Fields.{IsOptional, are_named, texts}
-use Rattle.line_parts.specs.Values.{HasFlag, IsPair, IsTime, without}
-use Rattle.line_parts.specs.Words.{AreThreeTexts, AreTwoTexts, IsOneText, behind, text_at}
+use Rattle.line_parts.specs.Fields.{IsOptional, are_named, texts_named}
+use Rattle.line_parts.specs.Values.{HasFlag, IsPair, IsTime, words_without}
+use Rattle.line_parts.specs.Words.{AreThreeTexts, AreTwoTexts, IsOneText, words_after_first, text_at}
 
 -- texts that are these headers
 abbrev pub AreHeaders : List (List ℕ) → List Header → Type 0
@@ -22,12 +22,13 @@ AreHeaders found headers =
 
 -- what the options of a call say of its target, and the call's name
 pub record HasCallOptions (words : List (Bor (List ℕ))) (called : Target × Option (List ℕ)) : Type 0 where
-  pub key : IsOptional IsText (texts (codes "key=") words) called.0.key
-  pub idempotency_key : IsOptional IsText (texts (codes "idem=") words) called.0.idempotency_key
-  pub scope : IsOptional IsText (texts (codes "scope=") words) called.0.scope
-  pub limit_key : IsOptional IsText (texts (codes "limit=") words) called.0.limit_key
-  pub headers : AreHeaders (texts (codes "header=") words) called.0.headers
-  pub named : IsOptional IsText (texts (codes "name=") words) called.1
+  pub key : IsOptional IsText (texts_named (codes "key=") words) called.0.key
+  pub idempotency_key : IsOptional IsText (texts_named (codes "idem=") words)
+      called.0.idempotency_key
+  pub scope : IsOptional IsText (texts_named (codes "scope=") words) called.0.scope
+  pub limit_key : IsOptional IsText (texts_named (codes "limit=") words) called.0.limit_key
+  pub headers : AreHeaders (texts_named (codes "header=") words) called.0.headers
+  pub named : IsOptional IsText (texts_named (codes "name=") words) called.1
 
 -- the names of a call's options
 abbrev pub call_names : List (List ℕ)
@@ -36,26 +37,27 @@ call_names = codes "key=" ∷ codes "idem=" ∷ codes "scope=" ∷ codes "limit=
 
 -- the options of a call, and `unstable` or not
 pub record AreCallOptions (words : List (Bor (List ℕ))) (target : Target) (name : Option (List ℕ)) (options : PayloadOptions) : Type 0 where
-  pub named : HasCallOptions (without (codes "unstable") words) (target, name)
+  pub named : HasCallOptions (words_without (codes "unstable") words) (target, name)
   pub unstable : HasFlag (codes "unstable") words options.unstable_serialization
-  pub only : are_named call_names (without (codes "unstable") words) ≡ true
+  pub only : are_named call_names (words_without (codes "unstable") words) ≡ true
 
 -- those of a call whose result nobody waits for, which may have a time too
 pub record AreSendOptions (words : List (Bor (List ℕ))) (target : Target) (time : Option Duration) (name : Option (List ℕ)) (options : PayloadOptions) : Type 0 where
-  pub named : HasCallOptions (without (codes "unstable") words) (target, name)
-  pub timed : IsOptional IsTime (texts (codes "at=") (without (codes "unstable") words)) time
+  pub named : HasCallOptions (words_without (codes "unstable") words) (target, name)
+  pub timed : IsOptional IsTime (texts_named (codes "at=") (words_without (codes "unstable") words))
+      time
   pub unstable : HasFlag (codes "unstable") words options.unstable_serialization
-  pub only : are_named (codes "at=" ∷ call_names) (without (codes "unstable") words) ≡ true
+  pub only : are_named (codes "at=" ∷ call_names) (words_without (codes "unstable") words) ≡ true
 
 -- `[scope=T]` alone
 pub record HasScope (words : List (Bor (List ℕ))) (scope : Option (List ℕ)) : Type 0 where
-  pub named : IsOptional IsText (texts (codes "scope=") words) scope
+  pub named : IsOptional IsText (texts_named (codes "scope=") words) scope
   pub only : are_named (codes "scope=" ∷ []) words ≡ true
 
 -- `[skey=T] [scope=T]` alone
 pub record HasKeyAndScope (words : List (Bor (List ℕ))) (found : Option (List ℕ) × Option (List ℕ)) : Type 0 where
-  pub keyed : IsOptional IsText (texts (codes "skey=") words) found.0
-  pub scoped : IsOptional IsText (texts (codes "scope=") words) found.1
+  pub keyed : IsOptional IsText (texts_named (codes "skey=") words) found.0
+  pub scoped : IsOptional IsText (texts_named (codes "scope=") words) found.1
   pub only : are_named (codes "skey=" ∷ codes "scope=" ∷ []) words ≡ true
 
 -- a workflow's name and key, and its scope
@@ -78,4 +80,4 @@ NamesBehind word others (target.IdempotencyId call) = (word ≡ codes "idem") ×
 
 -- the words name this invocation
 abbrev pub NamesInvocation : List (Bor (List ℕ)) → InvocationTarget → Type 0
-NamesInvocation words target = NamesBehind (text_at 0 words) (behind words) target
+NamesInvocation words target = NamesBehind (text_at 0 words) (words_after_first words) target

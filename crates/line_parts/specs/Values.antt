@@ -13,8 +13,8 @@ use Rattle.vm_types.specs.declared.values.NonEmptyValue.TheVariants as value
 use Rattle.vm_types.specs.declared.values.TerminalFailure.{TerminalFailure}
 use Rattle.line_parts.specs.declared.arguments.Extras.{Extras}
 use Rattle.line_parts.specs.Durations.{IsDuration}
-use Rattle.line_parts.specs.Fields.{IsOptional, are_named, texts}
-use Rattle.line_parts.specs.Words.{IsNumberOf, IsOneAtom, behind, text_at}
+use Rattle.line_parts.specs.Fields.{IsOptional, are_named, texts_named}
+use Rattle.line_parts.specs.Words.{IsNumberOf, IsOneAtom, words_after_first, text_at}
 
 -- two texts in braces
 pub record IsPair (text : List ℕ) (pair : List ℕ × List ℕ) : Type 0 where
@@ -47,7 +47,7 @@ IsValueBehind word others (value.Failure failure) = (word ≡ codes "failure")
 
 -- the words are a value
 abbrev pub IsValue : List (Bor (List ℕ)) → NonEmptyValue → Type 0
-IsValue words value = IsValueBehind (text_at 0 words) (behind words) value
+IsValue words value = IsValueBehind (text_at 0 words) (words_after_first words) value
 
 -- whether the last word passes
 abbrev pub last_is : (List ℕ → Bool) → List (Bor (List ℕ)) → Bool
@@ -71,8 +71,8 @@ abbrev pub is_flag : List ℕ → Bor (List ℕ) → Bool
 is_flag flag word = pointwise nat_eq word.now flag
 
 -- the words but this one
-abbrev pub without : List ℕ → List (Bor (List ℕ)) → List (Bor (List ℕ))
-without flag words = filter (λ word. not (is_flag flag word)) words
+abbrev pub words_without : List ℕ → List (Bor (List ℕ)) → List (Bor (List ℕ))
+words_without flag words = filter (λ word. not (is_flag flag word)) words
 
 -- whether this word stands there, which it may once
 abbrev pub HasFlag : List ℕ → List (Bor (List ℕ)) → Bool → Type 0
@@ -84,15 +84,15 @@ IsTime text time = IsDuration text (as_nanos time) × (as_nanos time ≤ max_nan
 
 -- `[name=T]` alone
 pub record HasName (words : List (Bor (List ℕ))) (name : Option (List ℕ)) : Type 0 where
-  pub named : IsOptional IsText (texts (codes "name=") words) name
+  pub named : IsOptional IsText (texts_named (codes "name=") words) name
   pub only : are_named (codes "name=" ∷ []) words ≡ true
 
 -- `[name=T] [unstable]`
 pub record HasExtras (words : List (Bor (List ℕ))) (extras : Extras) : Type 0 where
-  pub named : HasName (without (codes "unstable") words) extras.name
+  pub named : HasName (words_without (codes "unstable") words) extras.name
   pub unstable : HasFlag (codes "unstable") words extras.payload.unstable_serialization
 
 -- `[now=D]` alone
 pub record HasNow (words : List (Bor (List ℕ))) (now : Option Duration) : Type 0 where
-  pub named : IsOptional IsTime (texts (codes "now=") words) now
+  pub named : IsOptional IsTime (texts_named (codes "now=") words) now
   pub only : are_named (codes "now=" ∷ []) words ≡ true

@@ -15,7 +15,7 @@ use Rattle.vm_types.specs.declared.options.NonDeterministicChecksOption.{NonDete
 use Rattle.vm_types.specs.declared.options.NonDeterministicChecksOption.TheVariants as checks
 use Rattle.vm_types.specs.declared.options.SignalDelivery.{SignalDelivery}
 use Rattle.vm_types.specs.declared.options.SignalDelivery.TheVariants as delivery
-use Rattle.line_parts.specs.Fields.{IsSet, are_named, texts}
+use Rattle.line_parts.specs.Fields.{IsSet, are_named, texts_named}
 use Rattle.line_parts.specs.Words.{IsNumberOf}
 
 -- which children the cancel signal cancels too
@@ -61,8 +61,8 @@ IsCancel text it = text ≡ cancel_word it
 abbrev pub IsChecks : List ℕ → NonDeterministicChecksOption → Type 0
 IsChecks text it = text ≡ checks_word it
 
-abbrev pub IsAwaiting : List ℕ → AwaitingOnPolicy → Type 0
-IsAwaiting text it = text ≡ awaiting_word it
+abbrev pub IsAwaitingPolicy : List ℕ → AwaitingOnPolicy → Type 0
+IsAwaitingPolicy text it = text ≡ awaiting_word it
 
 abbrev pub IsMismatch : List ℕ → JournalMismatchRetryBehavior → Type 0
 IsMismatch text it = text ≡ mismatch_word it
@@ -76,17 +76,20 @@ IsDelivery text it = text ≡ delivery_word it
 -- An option is what the word behind its name stands for, and as by default where it isn't named.
 -- The seed stands apart.
 pub record ArePolicies (words : List (Bor (List ℕ))) (options : VMOptions) : Type 0 where
-  pub cancel : IsSet IsCancel default_options.implicit_cancellation (texts (codes "cancel=") words)
+  pub cancel : IsSet IsCancel default_options.implicit_cancellation
+      (texts_named (codes "cancel=") words)
       options.implicit_cancellation
-  pub checks : IsSet IsChecks default_options.non_determinism_checks (texts (codes "checks=") words)
+  pub checks : IsSet IsChecks default_options.non_determinism_checks
+      (texts_named (codes "checks=") words)
       options.non_determinism_checks
-  pub awaiting : IsSet IsAwaiting default_options.awaiting_on_policy
-      (texts (codes "awaiting=") words) options.awaiting_on_policy
+  pub awaiting : IsSet IsAwaitingPolicy default_options.awaiting_on_policy
+      (texts_named (codes "awaiting=") words) options.awaiting_on_policy
   pub mismatch : IsSet IsMismatch default_options.journal_mismatch_retry_behavior
-      (texts (codes "mismatch=") words) options.journal_mismatch_retry_behavior
-  pub replay : IsSet IsReplay default_options.journal_replay (texts (codes "replay=") words)
+      (texts_named (codes "mismatch=") words) options.journal_mismatch_retry_behavior
+  pub replay : IsSet IsReplay default_options.journal_replay (texts_named (codes "replay=") words)
       options.journal_replay
-  pub delivery : IsSet IsDelivery default_options.signal_delivery (texts (codes "delivery=") words)
+  pub delivery : IsSet IsDelivery default_options.signal_delivery
+      (texts_named (codes "delivery=") words)
       options.signal_delivery
 
 -- the names of the options
@@ -98,5 +101,5 @@ option_names = codes "cancel=" ∷ codes "checks=" ∷ codes "awaiting=" ∷ cod
 pub record AreOptions (words : List (Bor (List ℕ))) (options : VMOptions) : Type 0 where
   pub policies : ArePolicies words options
   pub seed : IsSet (IsNumberOf 64) default_options.fallback_random_seed
-      (texts (codes "seed=") words) options.fallback_random_seed
+      (texts_named (codes "seed=") words) options.fallback_random_seed
   pub only : are_named option_names words ≡ true

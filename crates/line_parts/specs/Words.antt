@@ -13,9 +13,9 @@ text_at zero (word ∷ words) = word.now
 text_at (suc i) (word ∷ words) = text_at i words
 
 -- the words behind the first
-abbrev pub behind : List (Bor (List ℕ)) → List (Bor (List ℕ))
-behind [] = []
-behind (word ∷ words) = words
+abbrev pub words_after_first : List (Bor (List ℕ)) → List (Bor (List ℕ))
+words_after_first [] = []
+words_after_first (word ∷ words) = words
 
 -- the decimal digits of a number of so many bits
 abbrev pub IsNumberOf : ℕ → List ℕ → ℕ → Type 0

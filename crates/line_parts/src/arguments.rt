@@ -2,8 +2,8 @@
 ghost use Rattle.std.specs.Prelude.{◌≡◌, codes, drop, IfErr, IfOk};
 ghost use Rattle.lines.specs.Atoms.{IsText};
 ghost use Rattle.lines.specs.Readings.{Blames};
-ghost use Rattle.line_parts.specs.Fields.{IsOptional, texts};
-ghost use Rattle.line_parts.specs.Values.{HasExtras, HasFlag, HasName, HasNow, IsTime, without};
+ghost use Rattle.line_parts.specs.Fields.{IsOptional, texts_named};
+ghost use Rattle.line_parts.specs.Values.{HasExtras, HasFlag, HasName, HasNow, IsTime, words_without};
 ghost use Rattle.line_parts.specs.Words.{AreThreeTexts, AreTwoTexts, IsEphemeralId, IsHandle, IsOneAtom, IsOneText};
 
 use crate::atoms::{duration_of, ephemeral_id_of, handle_of, shared_of, text_of};
@@ -42,7 +42,7 @@ fn stands_once(words: &[&[u8]], flag: &str) -> Result<bool, Fault>
 
 /// The words but this one.
 fn others<'a>(alloc: Global, words: &[&'a [u8]], flag: &str) -> Result<Vec<&'a [u8]>, AllocError>
-    ensures { IfOk result (λ others. others.items ≡ without flag.now words.now) }
+    ensures { IfOk result (λ others. others.items ≡ words_without flag.now words.now) }
 {
     let mut others = Vec::new(alloc);
     for word in words {
@@ -59,7 +59,7 @@ pub fn without_flag<'a>(
     words: &[&'a [u8]],
     flag: &str,
 ) -> Result<(Vec<&'a [u8]>, bool), Fault>
-    ensures others { IfOk result (λ found. found.0.items ≡ without flag.now words.now) }
+    ensures others { IfOk result (λ found. found.0.items ≡ words_without flag.now words.now) }
     ensures flag { IfOk result (λ found. HasFlag flag.now words.now found.1) }
     ensures none { IfErr result (Blames (HasFlag flag.now words.now)) }
 {
@@ -73,7 +73,8 @@ pub fn without_unstable<'a>(
     alloc: Global,
     words: &[&'a [u8]],
 ) -> Result<(Vec<&'a [u8]>, PayloadOptions), Fault>
-    ensures others { IfOk result (λ found. found.0.items ≡ without (codes "unstable") words.now) }
+    ensures others { IfOk result (λ found. found.0.items
+        ≡ words_without (codes "unstable") words.now) }
     ensures flag { IfOk result
         (λ found. HasFlag (codes "unstable") words.now found.1.unstable_serialization) }
     ensures none { IfErr result (Blames (HasFlag (codes "unstable") words.now)) }
@@ -88,8 +89,8 @@ pub fn without_unstable<'a>(
 /// `[NAME=T]`, among other words.
 #[tactic(auto, using(crate::proofs::Missing::optional_blamed))]
 pub fn optional_text(alloc: Global, words: &[&[u8]], name: &str) -> Result<Option<Text>, Fault>
-    ensures value { IfOk result (IsOptional IsText (texts name.now words.now)) }
-    ensures none { IfErr result (Blames (IsOptional IsText (texts name.now words.now))) }
+    ensures value { IfOk result (IsOptional IsText (texts_named name.now words.now)) }
+    ensures none { IfErr result (Blames (IsOptional IsText (texts_named name.now words.now))) }
 {
     match field_of(words, name) {
         Ok(Some(text)) => match text_of(alloc, text) {
@@ -130,8 +131,8 @@ pub fn extras_of(alloc: Global, words: &[&[u8]]) -> Result<Extras, Fault>
 
 /// `[NAME=D]`, among other words.
 pub fn optional_duration(words: &[&[u8]], name: &str) -> Result<Option<Duration>, Fault>
-    ensures value { IfOk result (IsOptional IsTime (texts name.now words.now)) }
-    ensures none { IfErr result (Blames (IsOptional IsTime (texts name.now words.now))) }
+    ensures value { IfOk result (IsOptional IsTime (texts_named name.now words.now)) }
+    ensures none { IfErr result (Blames (IsOptional IsTime (texts_named name.now words.now))) }
 {
     match field_of(words, name) {
         Ok(Some(text)) => match duration_of(text) {

@@ -1,7 +1,7 @@
 //! The words of a line that stand in any order: a name, `=` and a text. A name is written with its `=`.
 ghost use Rattle.std.specs.Prelude.{◌≡◌, ◌<◌, [], ◌∷◌, length, IfOk, IfErr, MatchOption, Some, None};
 ghost use Rattle.std.specs.List.{list_all, list_any};
-ghost use Rattle.line_parts.specs.Fields.{is_named, text_behind, texts};
+ghost use Rattle.line_parts.specs.Fields.{is_named, text_behind, texts_named};
 
 use wire::Fault;
 
@@ -17,9 +17,9 @@ pub fn text_behind<'a>(word: &'a [u8], name: &str) -> Option<&'a [u8]>
 /// The text behind this name, where one stands; `Malformed` where there are two.
 pub fn field_of<'a>(words: &[&'a [u8]], name: &str) -> Result<Option<&'a [u8]>, Fault>
     ensures found { IfOk result
-        (λ found. MatchOption found (texts name.now words.now
-        ≡ []) (λ text. texts name.now words.now ≡ text.now ∷ [])) }
-    ensures twice { IfErr result (λ _. 1 < length (texts name.now words.now)) }
+        (λ found. MatchOption found (texts_named name.now words.now
+        ≡ []) (λ text. texts_named name.now words.now ≡ text.now ∷ [])) }
+    ensures twice { IfErr result (λ _. 1 < length (texts_named name.now words.now)) }
 {
     let mut found = None;
     for word in words {

@@ -3,9 +3,9 @@ ghost use Rattle.std.specs.Prelude.{◌≡◌, IfErr, IfOk, codes};
 ghost use Rattle.lines.specs.Readings.{Blames};
 ghost use Rattle.vm_types.specs.Options.{default_options};
 ghost use Rattle.vm_types.specs.declared.options.ImplicitCancellationOption.TheVariants as cancellation;
-ghost use Rattle.line_parts.specs.Fields.{IsSet, are_named, texts};
+ghost use Rattle.line_parts.specs.Fields.{IsSet, are_named, texts_named};
 ghost use Rattle.line_parts.specs.Words.{IsNumberOf};
-ghost use Rattle.line_parts.specs.VmOptions.{AreOptions, ArePolicies, IsAwaiting, IsCancel, IsChecks, IsDelivery, IsMismatch, IsReplay, option_names};
+ghost use Rattle.line_parts.specs.VmOptions.{AreOptions, ArePolicies, IsAwaitingPolicy, IsCancel, IsChecks, IsDelivery, IsMismatch, IsReplay, option_names};
 
 use crate::atoms::u64_of;
 use crate::fields::{are_named, field_of};
@@ -53,10 +53,11 @@ fn cancellation_of(text: &[u8]) -> Result<ImplicitCancellationOption, Fault>
 #[tactic(auto, using(crate::proofs::Missing::set_blamed, crate::proofs::Missing::twice_set))]
 fn cancellation_in(words: &[&[u8]]) -> Result<ImplicitCancellationOption, Fault>
     ensures value { IfOk result
-        (IsSet IsCancel default_options.implicit_cancellation (texts (codes "cancel=") words.now)) }
+        (IsSet IsCancel default_options.implicit_cancellation
+        (texts_named (codes "cancel=") words.now)) }
     ensures none { IfErr result
         (Blames (IsSet IsCancel default_options.implicit_cancellation
-        (texts (codes "cancel=") words.now))) }
+        (texts_named (codes "cancel=") words.now))) }
 {
     match field_of(words, "cancel=") {
         Ok(Some(text)) => cancellation_of(text),
@@ -84,10 +85,11 @@ fn checks_of(text: &[u8]) -> Result<NonDeterministicChecksOption, Fault>
 #[tactic(auto, using(crate::proofs::Missing::set_blamed, crate::proofs::Missing::twice_set))]
 fn checks_in(words: &[&[u8]]) -> Result<NonDeterministicChecksOption, Fault>
     ensures value { IfOk result
-        (IsSet IsChecks default_options.non_determinism_checks (texts (codes "checks=") words.now)) }
+        (IsSet IsChecks default_options.non_determinism_checks
+        (texts_named (codes "checks=") words.now)) }
     ensures none { IfErr result
         (Blames (IsSet IsChecks default_options.non_determinism_checks
-        (texts (codes "checks=") words.now))) }
+        (texts_named (codes "checks=") words.now))) }
 {
     match field_of(words, "checks=") {
         Ok(Some(text)) => checks_of(text),
@@ -99,8 +101,8 @@ fn checks_in(words: &[&[u8]]) -> Result<NonDeterministicChecksOption, Fault>
 /// When an await that waits for input says what it waits for.
 #[tactic(auto, using(crate::proofs::Choices::no_awaiting))]
 fn awaiting_of(text: &[u8]) -> Result<AwaitingOnPolicy, Fault>
-    ensures value { IfOk result (IsAwaiting text.now) }
-    ensures none { IfErr result (Blames (IsAwaiting text.now)) }
+    ensures value { IfOk result (IsAwaitingPolicy text.now) }
+    ensures none { IfErr result (Blames (IsAwaitingPolicy text.now)) }
 {
     if text == b"norun".as_slice() {
         return Ok(AwaitingOnPolicy::DontSendWhenExecutingRun);
@@ -118,10 +120,11 @@ fn awaiting_of(text: &[u8]) -> Result<AwaitingOnPolicy, Fault>
 #[tactic(auto, using(crate::proofs::Missing::set_blamed, crate::proofs::Missing::twice_set))]
 fn awaiting_in(words: &[&[u8]]) -> Result<AwaitingOnPolicy, Fault>
     ensures value { IfOk result
-        (IsSet IsAwaiting default_options.awaiting_on_policy (texts (codes "awaiting=") words.now)) }
+        (IsSet IsAwaitingPolicy default_options.awaiting_on_policy
+        (texts_named (codes "awaiting=") words.now)) }
     ensures none { IfErr result
-        (Blames (IsSet IsAwaiting default_options.awaiting_on_policy
-        (texts (codes "awaiting=") words.now))) }
+        (Blames (IsSet IsAwaitingPolicy default_options.awaiting_on_policy
+        (texts_named (codes "awaiting=") words.now))) }
 {
     match field_of(words, "awaiting=") {
         Ok(Some(text)) => awaiting_of(text),
@@ -153,10 +156,10 @@ fn mismatch_of(text: &[u8]) -> Result<JournalMismatchRetryBehavior, Fault>
 fn mismatch_in(words: &[&[u8]]) -> Result<JournalMismatchRetryBehavior, Fault>
     ensures value { IfOk result
         (IsSet IsMismatch default_options.journal_mismatch_retry_behavior
-        (texts (codes "mismatch=") words.now)) }
+        (texts_named (codes "mismatch=") words.now)) }
     ensures none { IfErr result
         (Blames (IsSet IsMismatch default_options.journal_mismatch_retry_behavior
-        (texts (codes "mismatch=") words.now))) }
+        (texts_named (codes "mismatch=") words.now))) }
 {
     match field_of(words, "mismatch=") {
         Ok(Some(text)) => mismatch_of(text),
@@ -184,9 +187,10 @@ fn replay_of(text: &[u8]) -> Result<JournalReplay, Fault>
 #[tactic(auto, using(crate::proofs::Missing::set_blamed, crate::proofs::Missing::twice_set))]
 fn replay_in(words: &[&[u8]]) -> Result<JournalReplay, Fault>
     ensures value { IfOk result
-        (IsSet IsReplay default_options.journal_replay (texts (codes "replay=") words.now)) }
+        (IsSet IsReplay default_options.journal_replay (texts_named (codes "replay=") words.now)) }
     ensures none { IfErr result
-        (Blames (IsSet IsReplay default_options.journal_replay (texts (codes "replay=") words.now))) }
+        (Blames (IsSet IsReplay default_options.journal_replay
+        (texts_named (codes "replay=") words.now))) }
 {
     match field_of(words, "replay=") {
         Ok(Some(text)) => replay_of(text),
@@ -214,10 +218,11 @@ fn delivery_of(text: &[u8]) -> Result<SignalDelivery, Fault>
 #[tactic(auto, using(crate::proofs::Missing::set_blamed, crate::proofs::Missing::twice_set))]
 fn delivery_in(words: &[&[u8]]) -> Result<SignalDelivery, Fault>
     ensures value { IfOk result
-        (IsSet IsDelivery default_options.signal_delivery (texts (codes "delivery=") words.now)) }
+        (IsSet IsDelivery default_options.signal_delivery
+        (texts_named (codes "delivery=") words.now)) }
     ensures none { IfErr result
         (Blames (IsSet IsDelivery default_options.signal_delivery
-        (texts (codes "delivery=") words.now))) }
+        (texts_named (codes "delivery=") words.now))) }
 {
     match field_of(words, "delivery=") {
         Ok(Some(text)) => delivery_of(text),
@@ -229,8 +234,9 @@ fn delivery_in(words: &[&[u8]]) -> Result<SignalDelivery, Fault>
 /// `[seed=N]`, by default 0.
 #[tactic(auto, using(crate::proofs::Missing::set_blamed, crate::proofs::Missing::twice_set))]
 pub fn seed_in(words: &[&[u8]]) -> Result<u64, Fault>
-    ensures value { IfOk result (IsSet (IsNumberOf 64) 0 (texts (codes "seed=") words.now)) }
-    ensures none { IfErr result (Blames (IsSet (IsNumberOf 64) 0 (texts (codes "seed=") words.now))) }
+    ensures value { IfOk result (IsSet (IsNumberOf 64) 0 (texts_named (codes "seed=") words.now)) }
+    ensures none { IfErr result
+        (Blames (IsSet (IsNumberOf 64) 0 (texts_named (codes "seed=") words.now))) }
 {
     match field_of(words, "seed=") {
         Ok(Some(text)) => u64_of(text),

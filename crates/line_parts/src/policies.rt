@@ -3,9 +3,9 @@ ghost use Rattle.std.specs.Prelude.{◌≡◌, ◌<◌, ◌==◌, codes, length,
 ghost use Rattle.retries.specs.Policies.{is_pause};
 ghost use Rattle.retries.specs.declared.policy.RetryPolicy.TheVariants as policy;
 ghost use Rattle.lines.specs.Readings.{Blames};
-ghost use Rattle.line_parts.specs.Fields.{IsOptional, IsRequired, IsSet, are_named, texts};
+ghost use Rattle.line_parts.specs.Fields.{IsOptional, IsRequired, IsSet, are_named, texts_named};
 ghost use Rattle.line_parts.specs.Policies.{AreBounds, AreGrowth, IsExponential, IsFixed, IsFraction, IsPolicy, exponential_names, fixed_names, is_slash};
-ghost use Rattle.line_parts.specs.Values.{IsTime, without};
+ghost use Rattle.line_parts.specs.Values.{IsTime, words_without};
 ghost use Rattle.line_parts.specs.Words.{IsNumberOf};
 
 use crate::arguments::{optional_duration, without_flag};
@@ -59,9 +59,10 @@ fn fraction_of(text: &[u8]) -> Result<Fraction, Fault>
 /// `[attempts=N]`, among other words.
 #[tactic(auto, using(crate::proofs::Missing::optional_blamed))]
 fn attempts_in(words: &[&[u8]]) -> Result<Option<u32>, Fault>
-    ensures value { IfOk result (IsOptional (IsNumberOf 32) (texts (codes "attempts=") words.now)) }
+    ensures value { IfOk result
+        (IsOptional (IsNumberOf 32) (texts_named (codes "attempts=") words.now)) }
     ensures none { IfErr result
-        (Blames (IsOptional (IsNumberOf 32) (texts (codes "attempts=") words.now))) }
+        (Blames (IsOptional (IsNumberOf 32) (texts_named (codes "attempts=") words.now))) }
 {
     match field_of(words, "attempts=") {
         Ok(Some(text)) => match u32_of(text) {
@@ -76,8 +77,9 @@ fn attempts_in(words: &[&[u8]]) -> Result<Option<u32>, Fault>
 /// `initial=D`, among other words.
 #[tactic(auto, using(crate::proofs::Missing::required_blamed, crate::proofs::Missing::required_twice, crate::proofs::Missing::required_missing))]
 fn initial_in(words: &[&[u8]]) -> Result<Duration, Fault>
-    ensures value { IfOk result (IsRequired IsTime (texts (codes "initial=") words.now)) }
-    ensures none { IfErr result (Blames (IsRequired IsTime (texts (codes "initial=") words.now))) }
+    ensures value { IfOk result (IsRequired IsTime (texts_named (codes "initial=") words.now)) }
+    ensures none { IfErr result
+        (Blames (IsRequired IsTime (texts_named (codes "initial=") words.now))) }
 {
     match field_of(words, "initial=") {
         Ok(Some(text)) => duration_of(text),
@@ -89,8 +91,9 @@ fn initial_in(words: &[&[u8]]) -> Result<Duration, Fault>
 /// `factor=N/N`, among other words.
 #[tactic(auto, using(crate::proofs::Missing::required_blamed, crate::proofs::Missing::required_twice, crate::proofs::Missing::required_missing))]
 fn factor_in(words: &[&[u8]]) -> Result<Fraction, Fault>
-    ensures value { IfOk result (IsRequired IsFraction (texts (codes "factor=") words.now)) }
-    ensures none { IfErr result (Blames (IsRequired IsFraction (texts (codes "factor=") words.now))) }
+    ensures value { IfOk result (IsRequired IsFraction (texts_named (codes "factor=") words.now)) }
+    ensures none { IfErr result
+        (Blames (IsRequired IsFraction (texts_named (codes "factor=") words.now))) }
 {
     match field_of(words, "factor=") {
         Ok(Some(text)) => fraction_of(text),
@@ -114,7 +117,8 @@ fn on_max_attempts(pause: bool) -> OnMaxAttempts
 #[tactic(auto, using(crate::proofs::Retrying::pause_blamed))]
 fn bounds_of<'a>(alloc: Global, words: &[&'a [u8]]) -> Result<(Bounds, Vec<&'a [u8]>), Fault>
     ensures bounds { IfOk result (λ found. AreBounds words.now found.0) }
-    ensures others { IfOk result (λ found. found.1.items ≡ without (codes "pause") words.now) }
+    ensures others { IfOk result (λ found. found.1.items
+        ≡ words_without (codes "pause") words.now) }
     ensures none { IfErr result (Blames (AreBounds words.now)) }
 {
     let (others, pause) = without_flag(alloc, words, "pause")?;
@@ -252,9 +256,10 @@ fn policy_of(alloc: Global, text: &[u8]) -> Result<RetryPolicy, Fault>
 /// `[policy=P]`, among other words; by default `infinite`.
 #[tactic(auto, using(crate::proofs::Missing::set_blamed, crate::proofs::Missing::twice_set))]
 pub fn policy_in(alloc: Global, words: &[&[u8]]) -> Result<RetryPolicy, Fault>
-    ensures value { IfOk result (IsSet IsPolicy policy.Infinite (texts (codes "policy=") words.now)) }
+    ensures value { IfOk result
+        (IsSet IsPolicy policy.Infinite (texts_named (codes "policy=") words.now)) }
     ensures none { IfErr result
-        (Blames (IsSet IsPolicy policy.Infinite (texts (codes "policy=") words.now))) }
+        (Blames (IsSet IsPolicy policy.Infinite (texts_named (codes "policy=") words.now))) }
 {
     match field_of(words, "policy=") {
         Ok(Some(text)) => policy_of(alloc, text),

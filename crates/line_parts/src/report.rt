@@ -3,8 +3,8 @@ ghost use Rattle.std.specs.Prelude.{◌≡◌, [], IfErr, IfOk, codes, string_by
 ghost use Rattle.journal_errors.specs.declared.error.ErrorBehavior.TheVariants as behavior;
 ghost use Rattle.lines.specs.Atoms.{IsText};
 ghost use Rattle.lines.specs.Readings.{Blames};
-ghost use Rattle.line_parts.specs.Fields.{IsOptional, IsSet, are_named, texts};
-ghost use Rattle.line_parts.specs.Reports.{AreDetails, AreTypeAndName, IsBehavior, IsCommand, IsCommandAt, IsCommandName, IsError, IsRelated, IsRelatedAlone, IsReport, IsType, delay_or, error_names, reported, stack_or, type_name};
+ghost use Rattle.line_parts.specs.Fields.{IsOptional, IsSet, are_named, texts_named};
+ghost use Rattle.line_parts.specs.Reports.{AreDetails, AreTypeAndName, IsBehavior, IsCommandText, IsCommandAt, IsCommandName, IsError, IsRelated, IsRelatedAlone, IsReport, IsType, delay_or, error_names, reported, stack_or, command_type_name};
 ghost use Rattle.line_parts.specs.Values.{IsTime};
 
 use crate::arguments::optional_duration;
@@ -68,9 +68,9 @@ static TYPES: [CommandType; 19] = [
 ];
 
 /// The name of a type of command.
-#[tactic(auto, unfolding(crate::specs::Reports::type_name))]
+#[tactic(auto, unfolding(crate::specs::Reports::command_type_name))]
 fn name_of_type(ty: CommandType) -> &'static str
-    ensures { result.now ≡ type_name ty }
+    ensures { result.now ≡ command_type_name ty }
 {
     match ty {
         CommandType::Input => "Input",
@@ -137,8 +137,8 @@ fn type_and_name(alloc: Global, words: &[&[u8]]) -> Result<(CommandType, Option<
 /// `(TYPE NAME)`.
 #[tactic(auto, using(crate::proofs::Commands::unbracketed_blamed, crate::proofs::Commands::words_blamed))]
 fn next_of(alloc: Global, text: &[u8]) -> Result<(CommandType, Option<Text>), Fault>
-    ensures value { IfOk result (IsCommand text.now) }
-    ensures none { IfErr result (Blames (IsCommand text.now)) }
+    ensures value { IfOk result (IsCommandText text.now) }
+    ensures none { IfErr result (Blames (IsCommandText text.now)) }
 {
     let words = words_within(alloc, text, b'(', b')')?;
     let (ty, name) = type_and_name(alloc, words.as_slice())?;
@@ -189,8 +189,9 @@ fn relationship_of(alloc: Global, text: &[u8]) -> Result<CommandRelationship, Fa
 /// `[rel=R]`, among other words.
 #[tactic(auto, using(crate::proofs::Missing::optional_blamed))]
 fn related_in(alloc: Global, words: &[&[u8]]) -> Result<Option<CommandRelationship>, Fault>
-    ensures value { IfOk result (IsOptional IsRelated (texts (codes "rel=") words.now)) }
-    ensures none { IfErr result (Blames (IsOptional IsRelated (texts (codes "rel=") words.now))) }
+    ensures value { IfOk result (IsOptional IsRelated (texts_named (codes "rel=") words.now)) }
+    ensures none { IfErr result
+        (Blames (IsOptional IsRelated (texts_named (codes "rel=") words.now))) }
 {
     match field_of(words, "rel=") {
         Ok(Some(text)) => match relationship_of(alloc, text) {
@@ -206,8 +207,8 @@ fn related_in(alloc: Global, words: &[&[u8]]) -> Result<Option<CommandRelationsh
 #[tactic(auto, using(crate::proofs::Missing::set_blamed, crate::proofs::Missing::twice_set))]
 fn stack_in(alloc: Global, words: &[&[u8]]) -> Result<Option<String>, Fault>
     ensures value { IfOk result
-        (λ stack. IsSet IsText [] (texts (codes "stack=") words.now) (stack_or stack [])) }
-    ensures none { IfErr result (Blames (IsSet IsText [] (texts (codes "stack=") words.now))) }
+        (λ stack. IsSet IsText [] (texts_named (codes "stack=") words.now) (stack_or stack [])) }
+    ensures none { IfErr result (Blames (IsSet IsText [] (texts_named (codes "stack=") words.now))) }
 {
     match field_of(words, "stack=") {
         Ok(Some(text)) => match string_of(alloc, text) {
@@ -223,9 +224,9 @@ fn stack_in(alloc: Global, words: &[&[u8]]) -> Result<Option<String>, Fault>
 #[tactic(auto, using(crate::proofs::Missing::set_blamed, crate::proofs::Missing::twice_set))]
 fn behavior_in(words: &[&[u8]]) -> Result<ErrorBehavior, Fault>
     ensures value { IfOk result
-        (IsSet IsBehavior behavior.Retry (texts (codes "behaviour=") words.now)) }
+        (IsSet IsBehavior behavior.Retry (texts_named (codes "behaviour=") words.now)) }
     ensures none { IfErr result
-        (Blames (IsSet IsBehavior behavior.Retry (texts (codes "behaviour=") words.now))) }
+        (Blames (IsSet IsBehavior behavior.Retry (texts_named (codes "behaviour=") words.now))) }
 {
     match field_of(words, "behaviour=") {
         Ok(Some(text)) => behavior_of(text),
@@ -237,12 +238,13 @@ fn behavior_in(words: &[&[u8]]) -> Result<ErrorBehavior, Fault>
 /// `[stack=T] [behaviour=..] [delay=D]`, among other words.
 fn details_in(alloc: Global, words: &[&[u8]]) -> Result<Details, Fault>
     ensures stack { IfOk result
-        (λ details. IsSet IsText [] (texts (codes "stack=") words.now) (stack_or details.stack [])) }
+        (λ details. IsSet IsText [] (texts_named (codes "stack=") words.now)
+        (stack_or details.stack [])) }
     ensures behavior { IfOk result
-        (λ details. IsSet IsBehavior behavior.Retry (texts (codes "behaviour=") words.now)
+        (λ details. IsSet IsBehavior behavior.Retry (texts_named (codes "behaviour=") words.now)
         details.behavior) }
     ensures delay { IfOk result
-        (λ details. IsOptional IsTime (texts (codes "delay=") words.now) details.delay) }
+        (λ details. IsOptional IsTime (texts_named (codes "delay=") words.now) details.delay) }
     ensures none { IfErr result (Blames (AreDetails words.now)) }
 {
     let stack = stack_in(alloc, words)?;

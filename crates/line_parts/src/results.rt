@@ -2,7 +2,7 @@
 ghost use Rattle.std.specs.Prelude.{◌≡◌, IfErr, IfOk};
 ghost use Rattle.lines.specs.Readings.{Blames};
 ghost use Rattle.line_parts.specs.Fields.{are_named};
-ghost use Rattle.line_parts.specs.Results.{IsProposal, IsResult, IsRetryable, is_policy, retryable_names, settled};
+ghost use Rattle.line_parts.specs.Results.{IsProposal, IsResult, IsRetryable, is_policy, retryable_names, exit_of_value};
 ghost use Rattle.line_parts.specs.Values.{but_last};
 
 use crate::fields::are_named;
@@ -62,7 +62,7 @@ fn before_policy<'w, 'a>(words: &'w [&'a [u8]]) -> &'w [&'a [u8]]
 
 /// The result that a value is.
 fn settled(value: NonEmptyValue) -> RunExitResult
-    ensures { result ≡ settled value }
+    ensures { result ≡ exit_of_value value }
 {
     match value {
         NonEmptyValue::Success(bytes) => RunExitResult::Success(bytes),

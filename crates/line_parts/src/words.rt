@@ -3,7 +3,7 @@ ghost use Rattle.std.specs.Prelude.{◌≡◌, drop, IfErr, IfOk, string_bytes};
 ghost use Rattle.lines.specs.Atoms.{IsAtom, IsText};
 ghost use Rattle.lines.specs.Readings.{Blames};
 ghost use Rattle.line_parts.specs.Values.{IsTime};
-ghost use Rattle.line_parts.specs.Words.{IsNumberOf, behind, text_at};
+ghost use Rattle.line_parts.specs.Words.{IsNumberOf, words_after_first, text_at};
 
 use crate::atoms::{duration_of, shared_of, string_of, text_of, u16_of, u32_of};
 use bytes::Bytes;
@@ -93,7 +93,7 @@ pub fn behind<'w, 'a>(words: &'w [&'a [u8]], count: usize) -> &'w [&'a [u8]]
 /// The words behind the first.
 #[tactic(auto, using(crate::proofs::Places::drop_first))]
 pub(crate) fn but_first<'w, 'a>(words: &'w [&'a [u8]]) -> &'w [&'a [u8]]
-    ensures { result.now ≡ behind words.now }
+    ensures { result.now ≡ words_after_first words.now }
 {
     behind(words, 1)
 }

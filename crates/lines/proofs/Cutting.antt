@@ -7,7 +7,7 @@ use Rattle.std.proofs.lemmas.List.{take-append-le, get_or_append_left, take_more
 use Rattle.std.proofs.lemmas.List.Elements.{All-append}
 use Rattle.std.proofs.lemmas.List.Sums.{fold-append}
 use Rattle.lines.specs.declared.pieces.Nesting.{Nesting}
-use Rattle.lines.specs.Pieces.{behind, place, outside, IsUncut, IsPiece, ArePieces}
+use Rattle.lines.specs.Pieces.{nesting_after, place, outside, IsUncut, IsPiece, ArePieces}
 
 -- the pieces, with a separator behind each
 abbrev pub ended : ℕ → List (Bor (List ℕ)) → List ℕ
@@ -47,7 +47,7 @@ cut_none separator text pieces nesting none e = rw none record {
 
 -- a byte more of a piece
 pub cut_within : (separator start i : ℕ) (text : List ℕ) (pieces : List (Bor (List ℕ))) (n m : Nesting) → IsCut separator start i text pieces n → i < length text
-    → (get_or text i 0 ≡ separator → Some n ≢ outside) → behind (Some n) (get_or text i 0) ≡ Some m → IsCut separator start (i + 1) text pieces m
+    → (get_or text i 0 ≡ separator → Some n ≢ outside) → nesting_after (Some n) (get_or text i 0) ≡ Some m → IsCut separator start (i + 1) text pieces m
 cut_within separator start i text pieces n m cut h here e =
     let b : ℕ = get_or text i 0 in
     record {
@@ -56,7 +56,7 @@ cut_within separator start i text pieces n m cut h here e =
       start_is = cut.start_is;
       text_is = take_more text i 0 h ∙ ap (λ t. t ++ b ∷ []) cut.text_is ∙ append_assoc (ended separator pieces) cut.piece (b ∷ []);
       whole = cut.whole;
-      at = fold-append behind outside cut.piece (b ∷ []) ∙ ap (λ p. behind p b) cut.at ∙ e;
+      at = fold-append nesting_after outside cut.piece (b ∷ []) ∙ ap (λ p. nesting_after p b) cut.at ∙ e;
       uncut = uncut_more separator b cut.piece cut.uncut (λ s p. here s (sym cut.at ∙ p));
     }
 

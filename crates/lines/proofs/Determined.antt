@@ -6,7 +6,7 @@ use Rattle.std.specs.List.{All}
 use Rattle.std.proofs.Math.Seq.{get_or-append_seam, take-append_seam, drop-append_seam}
 use Rattle.std.proofs.lemmas.List.{take-append-le, get_or_append_left}
 use Rattle.std.proofs.lemmas.List.Elements.{All-head, All-tail}
-use Rattle.lines.specs.Pieces.{ArePieces, AreWords, IsPiece, is_word, place, texts}
+use Rattle.lines.specs.Pieces.{ArePieces, AreWords, IsPiece, is_word, place, piece_texts}
 use Rattle.lines.proofs.Cutting.{ended}
 
 -- no piece is longer than another one with which the same text begins
@@ -29,7 +29,7 @@ same_first separator p q r s hp hq e =
     let rest : separator ∷ r ≡ separator ∷ s = sym (drop-append_seam p (separator ∷ r)) ∙ ap (drop (length p)) e ∙ ap (λ n. drop n (q ++ separator ∷ s)) long ∙ drop-append_seam q (separator ∷ s) in
     (first, ap (drop 1) rest)
 
-same_pieces : (separator : ℕ) (ps qs : List (Bor (List ℕ))) → All (λ p. IsPiece separator p.now) ps → All (λ p. IsPiece separator p.now) qs → ended separator ps ≡ ended separator qs → texts ps ≡ texts qs
+same_pieces : (separator : ℕ) (ps qs : List (Bor (List ℕ))) → All (λ p. IsPiece separator p.now) ps → All (λ p. IsPiece separator p.now) qs → ended separator ps ≡ ended separator qs → piece_texts ps ≡ piece_texts qs
 same_pieces separator [] [] hp hq e = refl
 same_pieces separator [] (q ∷ qs) hp hq e =
     let long = ap length e in absurd (omega (arith, long, length-append (q.now ++ separator ∷ []) (ended separator qs), length-append q.now (separator ∷ [])))
@@ -40,18 +40,18 @@ same_pieces separator (p ∷ ps) (q ∷ qs) hp hq e =
     let whole : p.now ++ separator ∷ ended separator ps ≡ q.now ++ separator ∷ ended separator qs =
     sym (append_assoc p.now (separator ∷ []) (ended separator ps)) ∙ e ∙ append_assoc q.now (separator ∷ []) (ended separator qs) in
     let same = same_first separator p.now q.now (ended separator ps) (ended separator qs) (All-head P p ps hp) (All-head P q qs hq) whole in
-    ap (λ t. t ∷ texts ps) same.0 ∙ ap (λ ts. q.now ∷ ts) (same_pieces separator ps qs (All-tail P p ps hp) (All-tail P q qs hq) same.1)
+    ap (λ t. t ∷ piece_texts ps) same.0 ∙ ap (λ ts. q.now ∷ ts) (same_pieces separator ps qs (All-tail P p ps hp) (All-tail P q qs hq) same.1)
 
-pub pieces_determined : (separator : ℕ) (text : List ℕ) (ps qs : List (Bor (List ℕ))) → ArePieces separator text ps → ArePieces separator text qs → texts ps ≡ texts qs
+pub pieces_determined : (separator : ℕ) (text : List ℕ) (ps qs : List (Bor (List ℕ))) → ArePieces separator text ps → ArePieces separator text qs → piece_texts ps ≡ piece_texts qs
 pieces_determined separator text ps qs a b = same_pieces separator ps qs a.0 b.0 (sym a.1 ∙ b.1)
 
 -- which pieces are words is said by their texts
-kept : (p q : Bor (List ℕ)) (ps qs : List (Bor (List ℕ))) (b : Bool) → is_word p ≡ b → is_word q ≡ b → p.now ≡ q.now → texts (filter is_word ps) ≡ texts (filter is_word qs)
-    → texts (filter is_word (p ∷ ps)) ≡ texts (filter is_word (q ∷ qs))
-kept p q ps qs true e f same rest = rw (e, f) (ap (λ t. t ∷ texts (filter is_word ps)) same ∙ ap (λ ts. q.now ∷ ts) rest)
+kept : (p q : Bor (List ℕ)) (ps qs : List (Bor (List ℕ))) (b : Bool) → is_word p ≡ b → is_word q ≡ b → p.now ≡ q.now → piece_texts (filter is_word ps) ≡ piece_texts (filter is_word qs)
+    → piece_texts (filter is_word (p ∷ ps)) ≡ piece_texts (filter is_word (q ∷ qs))
+kept p q ps qs true e f same rest = rw (e, f) (ap (λ t. t ∷ piece_texts (filter is_word ps)) same ∙ ap (λ ts. q.now ∷ ts) rest)
 kept p q ps qs false e f same rest = rw (e, f) rest
 
-same_words : (ps qs : List (Bor (List ℕ))) → texts ps ≡ texts qs → texts (filter is_word ps) ≡ texts (filter is_word qs)
+same_words : (ps qs : List (Bor (List ℕ))) → piece_texts ps ≡ piece_texts qs → piece_texts (filter is_word ps) ≡ piece_texts (filter is_word qs)
 same_words [] [] e = refl
 same_words [] (q ∷ qs) e = let long = ap length e in absurd (omega (arith, long))
 same_words (p ∷ ps) [] e = let long = ap length e in absurd (omega (arith, long))
@@ -59,5 +59,5 @@ same_words (p ∷ ps) (q ∷ qs) e =
     let first : p.now ≡ q.now = ap (λ ts. get_or ts 0 []) e in
     kept p q ps qs (is_word p) refl (ap (λ t. not (nat_eq (length t) 0)) (sym first)) first (same_words ps qs (ap (drop 1) e))
 
-pub words_determined : (text : List ℕ) (ws vs : List (Bor (List ℕ))) → AreWords text ws → AreWords text vs → texts ws ≡ texts vs
-words_determined text ws vs (ps, a, is) (qs, b, os) = ap texts is ∙ same_words ps qs (pieces_determined 32 text ps qs a b) ∙ ap texts (sym os)
+pub words_determined : (text : List ℕ) (ws vs : List (Bor (List ℕ))) → AreWords text ws → AreWords text vs → piece_texts ws ≡ piece_texts vs
+words_determined text ws vs (ps, a, is) (qs, b, os) = ap piece_texts is ∙ same_words ps qs (pieces_determined 32 text ps qs a b) ∙ ap piece_texts (sym os)

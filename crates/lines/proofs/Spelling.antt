@@ -5,7 +5,7 @@ use Rattle.std.specs.Char.{digit_char}
 use Rattle.std.proofs.lemmas.Str.{digit_value-digit_char}
 use Rattle.std.proofs.lemmas.List.{append-nil, take_more, flat_map_more}
 use Rattle.memchr.specs.Find.{Nowhere, Passes, is_byte2}
-use Rattle.lines.specs.Atoms.{Spells, first_char, first_hex, escaped, hex_byte, shown, in_hex, before}
+use Rattle.lines.specs.Atoms.{Spells, first_char, first_hex, escaped, hex_byte, printed_byte, in_hex, before}
 
 -- one byte more is taken off
 pub spells_more : (first : List ℕ → Option (ℕ × List ℕ)) (text rest behind bytes more : List ℕ) (byte : ℕ) → first rest ≡ Some (byte, behind) → more ≡ bytes ++ byte ∷ []
@@ -47,15 +47,15 @@ hex_read b h =
     rw (high, low) (grind arith)
 
 -- a byte that is printed between quotes is read as itself
-pub char_read : (b : ℕ) (rest : List ℕ) → b < 256 → first_char (shown b ++ rest) ≡ Some (b, rest)
-unfolding first_char shown escaped
+pub char_read : (b : ℕ) (rest : List ℕ) → b < 256 → first_char (printed_byte b ++ rest) ≡ Some (b, rest)
+unfolding first_char printed_byte escaped
 char_read b rest h = grind (arith, hex_read)
 
 -- bytes that are printed between quotes are read as themselves
-pub chars_read : (bytes : List ℕ) → ((k : ℕ) → get_or bytes k 0 < 256) → Spells first_char (flat_map shown bytes) bytes
+pub chars_read : (bytes : List ℕ) → ((k : ℕ) → get_or bytes k 0 < 256) → Spells first_char (flat_map printed_byte bytes) bytes
 chars_read [] small = refl
 chars_read (b ∷ bytes) small =
-    (flat_map shown bytes, char_read b (flat_map shown bytes) (small 0), chars_read bytes (λ k. small (suc k)))
+    (flat_map printed_byte bytes, char_read b (flat_map printed_byte bytes) (small 0), chars_read bytes (λ k. small (suc k)))
 
 -- and those printed as hex digits
 pub digits_read : (bytes : List ℕ) → ((k : ℕ) → get_or bytes k 0 < 256) → Spells first_hex (flat_map in_hex bytes) bytes

@@ -7,7 +7,7 @@ use Rattle.std.proofs.lemmas.Bool.Decides.{nat_tests}
 use Rattle.std.proofs.lemmas.List.Elements.{filter-append}
 use Rattle.lines.specs.declared.pieces.Nesting.{Nesting}
 use Rattle.lines.specs.declared.pieces.Quotes.TheVariants.{Escaped}
-use Rattle.lines.specs.Pieces.{ArePlain, behind, outside, is_word, with_word, AreWords}
+use Rattle.lines.specs.Pieces.{ArePlain, nesting_after, outside, is_word, with_word, AreWords}
 use Rattle.lines.proofs.Cutting.{IsCut, cut_none, cut_within, cut_here, cut_all}
 
 -- the text is cut up to i, and these are the words so far
@@ -27,7 +27,7 @@ words_none text words nesting none e = record { pieces = []; cut = cut_none 32 t
 
 -- a byte more of a piece
 pub words_within : (start i : ℕ) (text : List ℕ) (words : List (Bor (List ℕ))) (n m : Nesting) → IsCutToWords start i text words n → i < length text
-    → (get_or text i 0 ≡ 32 → Some n ≢ outside) → behind (Some n) (get_or text i 0) ≡ Some m → IsCutToWords start (i + 1) text words m
+    → (get_or text i 0 ≡ 32 → Some n ≢ outside) → nesting_after (Some n) (get_or text i 0) ≡ Some m → IsCutToWords start (i + 1) text words m
 words_within start i text words n m c h here e = record { pieces = c.pieces; cut = cut_within 32 start i text c.pieces n m c.cut h here e; words_are = c.words_are }
 
 -- the text is cut at a blank
@@ -46,8 +46,8 @@ words_all start text words longer n p c e now long =
     (c.pieces ++ p ∷ [], cut_all 32 start text c.pieces (c.pieces ++ p ∷ []) n p c.cut e now refl, word_more words longer c.pieces p c.words_are long)
 
 -- a letter or a digit changes nothing but behind a backslash
-plain_within : (n : Nesting) (b : ℕ) → is_ascii_alphanumeric b ≡ true → n.quotes ≢ Escaped → behind (Some n) b ≡ Some n
-unfolding behind
+plain_within : (n : Nesting) (b : ℕ) → is_ascii_alphanumeric b ≡ true → n.quotes ≢ Escaped → nesting_after (Some n) b ≡ Some n
+unfolding nesting_after
 plain_within n b plain free = grind (arith, nat_tests)
 
 -- letters and digits more, so many

@@ -66,12 +66,12 @@ abbrev pub is_plain : ℕ → Bool
 is_plain b = nat_lt 31 b && nat_lt b 127 && not (b == 34) && not (b == 92)
 
 -- a byte between quotes, as it is printed
-unfoldable pub shown : ℕ → List ℕ
-shown b = if is_plain b then b ∷ [] else 92 ∷ 120 ∷ in_hex b
+unfoldable pub printed_byte : ℕ → List ℕ
+printed_byte b = if is_plain b then b ∷ [] else 92 ∷ 120 ∷ in_hex b
 
 -- bytes in quotes, as they are printed
 abbrev pub quoted : List ℕ → List ℕ
-quoted bytes = 34 ∷ (flat_map shown bytes ++ 34 ∷ [])
+quoted bytes = 34 ∷ (flat_map printed_byte bytes ++ 34 ∷ [])
 
 -- bytes as hex digits, as they are printed
 abbrev pub hexed : List ℕ → List ℕ

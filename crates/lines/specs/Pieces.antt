@@ -35,9 +35,9 @@ nested None quotes = None
 nested (Some n) quotes = Some (record { brackets = n; quotes = quotes })
 
 -- in which brackets and quotes a place behind the byte is
-unfoldable pub behind : Option Nesting → ℕ → Option Nesting
-behind None b = None
-behind (Some n) b = nested (brackets_behind n.quotes n.brackets b) (quotes_behind n.quotes b)
+unfoldable pub nesting_after : Option Nesting → ℕ → Option Nesting
+nesting_after None b = None
+nesting_after (Some n) b = nested (brackets_behind n.quotes n.brackets b) (quotes_behind n.quotes b)
 
 -- in no brackets, and in no quotes
 abbrev pub outside : Option Nesting
@@ -45,7 +45,7 @@ outside = Some (record { brackets = 0; quotes = Outside })
 
 -- in which brackets and quotes the end of the text is
 abbrev pub place : List ℕ → Option Nesting
-place text = fold behind outside text
+place text = fold nesting_after outside text
 
 -- each separator in the text stands in brackets or in quotes
 abbrev pub IsUncut : ℕ → List ℕ → Type 0
@@ -69,8 +69,8 @@ ArePieces separator text pieces =
     × (text ++ separator ∷ [] ≡ flat_map (λ p. p.now ++ separator ∷ []) pieces)
 
 -- the texts of pieces
-abbrev pub texts : List (Bor (List ℕ)) → List (List ℕ)
-texts pieces = map (λ p. p.now) pieces
+abbrev pub piece_texts : List (Bor (List ℕ)) → List (List ℕ)
+piece_texts pieces = map (λ p. p.now) pieces
 
 -- whether there is anything of a piece
 abbrev pub is_word : Bor (List ℕ) → Bool

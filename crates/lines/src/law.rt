@@ -4,7 +4,7 @@ ghost use Rattle.std.specs.Str.Parse.{digits_value};
 ghost use Rattle.std.specs.Prelude.{◌≡◌, ℕ, List};
 ghost use Rattle.std.specs.Borrow.{Bor};
 ghost use Rattle.lines.specs.Atoms.{IsAtom, IsNumber, hexed, quoted};
-ghost use Rattle.lines.specs.Pieces.{ArePieces, AreWords, texts};
+ghost use Rattle.lines.specs.Pieces.{ArePieces, AreWords, piece_texts};
 
 /// A law, which does nothing: a byte string, as it is printed in either way, is an atom of just its bytes.
 pub fn is_read_back(_bytes: &[u8])
@@ -21,7 +21,7 @@ pub fn is_number_read_back(_number: u64)
 /// A law, which does nothing: a text determines its pieces at a separator, and its words.
 pub fn is_cut_one_way(_text: &[u8], _separator: u8)
     ensures pieces { (some others : List (Bor (List ℕ))) → ArePieces _separator _text.now some
-        → ArePieces _separator _text.now others → texts some ≡ texts others }
+        → ArePieces _separator _text.now others → piece_texts some ≡ piece_texts others }
     ensures words { (some others : List (Bor (List ℕ))) → AreWords _text.now some
-        → AreWords _text.now others → texts some ≡ texts others }
+        → AreWords _text.now others → piece_texts some ≡ piece_texts others }
 {}

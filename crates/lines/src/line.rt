@@ -3,7 +3,7 @@ ghost use Rattle.std.specs.Prelude.{◌≡◌, ◌++◌, ◌<◌, [], ◌∷◌,
 ghost use Rattle.std.specs.Char.{digit_char};
 ghost use Rattle.std.specs.Fmt.{decimal};
 ghost use Rattle.std.specs.List.{flat_map};
-ghost use Rattle.lines.specs.Atoms.{in_hex, shown, quoted, hexed};
+ghost use Rattle.lines.specs.Atoms.{in_hex, printed_byte, quoted, hexed};
 
 use std::alloc::{AllocError, Global};
 use std::marker::Model;
@@ -117,9 +117,9 @@ impl Line {
     }
 
     /// Writes a byte as it stands between quotes.
-    #[tactic(auto, unfolding(crate::specs::Atoms::shown))]
+    #[tactic(auto, unfolding(crate::specs::Atoms::printed_byte))]
     fn shown(&mut self, byte: u8) -> Result<(), AllocError>
-        ensures { OnOk result (self.new ≡ self.old ++ shown byte) }
+        ensures { OnOk result (self.new ≡ self.old ++ printed_byte byte) }
     {
         if byte > 31 && byte < 127 && byte != b'"' && byte != b'\\' {
             return self.ascii(byte);

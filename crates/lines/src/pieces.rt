@@ -4,7 +4,7 @@ ghost use Rattle.lines.specs.declared.pieces.Charset.TheVariants.{Ascii};
 ghost use Rattle.lines.specs.declared.pieces.Quotes.TheVariants.{Escaped};
 ghost use Rattle.wire.specs.declared.fault.Fault.TheVariants.{Malformed};
 ghost use Rattle.lines.specs.Readings.{Blames};
-ghost use Rattle.lines.specs.Pieces.{ArePieces, AreWords, AreWordsWithin, ArePlain, IsWithin, behind, outside, place, with_word};
+ghost use Rattle.lines.specs.Pieces.{ArePieces, AreWords, AreWordsWithin, ArePlain, IsWithin, nesting_after, outside, place, with_word};
 
 use std::alloc::{AllocError, Global};
 use wire::Fault;
@@ -37,10 +37,11 @@ impl Nesting {
     }
 
     /// The nesting behind one byte more; nothing where it closes a bracket that wasn't opened.
-    #[tactic(auto, unfolding(crate::specs::Pieces::behind))]
+    #[tactic(auto, unfolding(crate::specs::Pieces::nesting_after))]
     fn behind(self, byte: u8) -> Option<Nesting>
-        ensures some { IfSome result (λ after. behind (Some self) byte ≡ Some after) }
-        ensures none { IfNone result (self.brackets < 2 ^ 64 - 1 → behind (Some self) byte ≡ None) }
+        ensures some { IfSome result (λ after. nesting_after (Some self) byte ≡ Some after) }
+        ensures none { IfNone result (self.brackets < 2 ^ 64 - 1 → nesting_after (Some self) byte
+            ≡ None) }
     {
         // Most bytes are letters and digits, which change nothing but behind a backslash.
         if byte.is_ascii_alphanumeric() && self.quotes != Quotes::Escaped {
@@ -106,7 +107,7 @@ impl Charset {
 /// aren't closed has none.
 #[tactic(auto, using(crate::proofs::Cutting::cut_none, crate::proofs::Cutting::cut_within, crate::proofs::Cutting::cut_here, crate::proofs::Cutting::cut_all))]
 pub fn pieces<'a>(alloc: Global, text: &'a [u8], separator: u8) -> Result<Vec<&'a [u8]>, Fault>
-    requires { behind outside separator ≡ outside }
+    requires { nesting_after outside separator ≡ outside }
     ensures pieces { IfOk result (λ pieces. ArePieces separator text.now pieces.items) }
     ensures unclosed { IfErr result (λ fault. fault ≡ Malformed → place text.now ≢ outside) }
 {

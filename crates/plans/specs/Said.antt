@@ -3,7 +3,7 @@ use Rattle.std.specs.Prelude.{◌≡◌, ◌⊎◌, ℕ, List, string_bytes}
 use Rattle.std.specs.List.{AllZip}
 use Rattle.std.proofs.Common.{Global}
 use Rattle.std.specs.declared.string.String.{String}
-use Rattle.requests.specs.Lines.{Reads}
+use Rattle.requests.specs.Lines.{IsRequestLine}
 use Rattle.requests.specs.declared.request.Call.TheVariants as call
 use Rattle.requests.specs.declared.request.Request.TheVariants as request
 use Rattle.vm_types.specs.declared.steps.Step.{Step}
@@ -13,8 +13,8 @@ use Rattle.plans.specs.Planned.{planned_step}
 
 -- the line asks for the call that this step is, which may be a run
 abbrev pub SaysStep : List ℕ → Step → Type 0
-SaysStep line said = Reads line (request.Call (call.Step said))
-    ⊎ ((name : List ℕ) × Reads line (request.Call (call.Run name)) × (said ≡ step.Run name))
+SaysStep line said = IsRequestLine line (request.Call (call.Step said))
+    ⊎ ((name : List ℕ) × IsRequestLine line (request.Call (call.Run name)) × (said ≡ step.Run name))
 
 -- the lines say these steps, one each
 abbrev pub AreSaid : List (String Global) → List Planned → Type 0

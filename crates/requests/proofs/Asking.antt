@@ -12,7 +12,7 @@ use Rattle.line_parts.specs.Trees.{SpellsFuture}
 use Rattle.line_parts.proofs.Places.{word_at}
 use Rattle.requests.specs.Lines.{AskNothing, AsksNothing, HasNoWords, HasWords}
 use Rattle.requests.specs.Verbs.{IsAwaited, IsLine, verb_name, verb_named}
-use Rattle.line_parts.specs.Words.{behind, text_at}
+use Rattle.line_parts.specs.Words.{words_after_first, text_at}
 
 -- no word
 nothing_named : verb_named [] ≡ None
@@ -31,9 +31,9 @@ some_once : (a b : Verb) → Some a ≡ Some b → a ≡ b
 some_once a b e = search e
 
 -- arguments that aren't those of the call
-pub blamed_ask : (words : List (Bor (List ℕ))) (named : Verb) (fault : Fault) → verb_named (text_at 0 words) ≡ Some named → Blames (IsLine named (behind words)) fault → fault ≡ Malformed → AskNothing words
+pub blamed_ask : (words : List (Bor (List ℕ))) (named : Verb) (fault : Fault) → verb_named (text_at 0 words) ≡ Some named → Blames (IsLine named (words_after_first words)) fault → fault ≡ Malformed → AskNothing words
 blamed_ask words named fault e blames bad = record {
-  nothing = λ call asked. blames.nothing bad call (subst (λ v. IsLine v (behind words) call) (sym (some_once named asked.named (sym e ∙ asked.names))) asked.line);
+  nothing = λ call asked. blames.nothing bad call (subst (λ v. IsLine v (words_after_first words) call) (sym (some_once named asked.named (sym e ∙ asked.names))) asked.line);
 }
 
 -- a line of ASCII is UTF-8

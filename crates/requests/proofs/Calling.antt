@@ -10,10 +10,10 @@ use Rattle.vm_types.specs.declared.steps.Step.TheVariants as step
 use Rattle.vm_types.specs.declared.values.Target.{Target}
 use Rattle.requests.specs.declared.request.Call.TheVariants as call
 use Rattle.requests.specs.declared.verb.Verb.TheVariants as verb
-use Rattle.line_parts.specs.Fields.{IsOptional, are_named, texts}
+use Rattle.line_parts.specs.Fields.{IsOptional, are_named, texts_named}
 use Rattle.line_parts.specs.Targets.{AreCallOptions, AreSendOptions, HasCallOptions, call_names}
-use Rattle.line_parts.specs.Values.{HasFlag, IsTime, without}
-use Rattle.requests.specs.Verbs.{HasCallee, IsCall, IsDeadlineCall, IsLine, IsSend, NamesCall}
+use Rattle.line_parts.specs.Values.{HasFlag, IsTime, words_without}
+use Rattle.requests.specs.Verbs.{HasCallee, IsCall, IsDeadlineCall, IsLine, IsSend, NamesTarget}
 use Rattle.line_parts.specs.Words.{text_at}
 
 pub is_call : (words rest : List (Bor (List ℕ))) (service handler input : List ℕ) (target : Target) (name : Option (List ℕ)) (options : PayloadOptions) → HasCallee words (service, handler, input)
@@ -40,15 +40,15 @@ is_deadline_call words rest service handler input target until name options call
 }
 
 pub is_send : (words rest others : List (Bor (List ℕ))) (service handler input : List ℕ) (target : Target) (time : Option Duration) (name : Option (List ℕ)) (options : PayloadOptions) → HasCallee words (service, handler, input)
-    → target.service ≡ service → target.handler ≡ handler → rest ≡ drop 3 words → others ≡ without (codes "unstable") rest → HasFlag (codes "unstable") rest options.unstable_serialization
-    → IsOptional IsTime (texts (codes "at=") others) time → HasCallOptions others (target, name) → are_named (codes "at=" ∷ call_names) others ≡ true → IsLine verb.Send words (call.Step (step.Send target input time name options))
+    → target.service ≡ service → target.handler ≡ handler → rest ≡ drop 3 words → others ≡ words_without (codes "unstable") rest → HasFlag (codes "unstable") rest options.unstable_serialization
+    → IsOptional IsTime (texts_named (codes "at=") others) time → HasCallOptions others (target, name) → are_named (codes "at=" ∷ call_names) others ≡ true → IsLine verb.Send words (call.Step (step.Send target input time name options))
 is_send words rest others service handler input target time name options callee s h behind but flag at has only = record {
   first = (target, input, time, name, options);
   is_first = record {
     callee = rw (s, h) callee;
     options = subst (λ ws. AreSendOptions ws target time name options) behind (record {
       named = subst (λ ws. HasCallOptions ws (target, name)) but has;
-      timed = subst (λ ws. IsOptional IsTime (texts (codes "at=") ws) time) but at;
+      timed = subst (λ ws. IsOptional IsTime (texts_named (codes "at=") ws) time) but at;
       unstable = flag;
       only = subst (λ ws. are_named (codes "at=" ∷ call_names) ws ≡ true) but only;
     });
@@ -70,22 +70,22 @@ input_blamed words fault blames = record { nothing = λ bad callee has. blames.n
 pub callee_blamed : (words : List (Bor (List ℕ))) (fault : Fault) → Blames (HasCallee words) fault → Blames (IsCall words) fault
 callee_blamed words fault blames = record { nothing = λ bad call is. blames.nothing bad (call.0.service, call.0.handler, call.1) is.callee }
 
-pub flag_blamed : (words : List (Bor (List ℕ))) (fault : Fault) → Blames (HasFlag (codes "unstable") words) fault → Blames (NamesCall words) fault
+pub flag_blamed : (words : List (Bor (List ℕ))) (fault : Fault) → Blames (HasFlag (codes "unstable") words) fault → Blames (NamesTarget words) fault
 flag_blamed words fault blames = record { nothing = λ bad named is. blames.nothing bad named.2.unstable_serialization is.unstable }
 
-pub others_blamed : (words others : List (Bor (List ℕ))) (fault : Fault) → others ≡ without (codes "unstable") words → are_named call_names others ≡ false → Blames (NamesCall words) fault
+pub others_blamed : (words others : List (Bor (List ℕ))) (fault : Fault) → others ≡ words_without (codes "unstable") words → are_named call_names others ≡ false → Blames (NamesTarget words) fault
 others_blamed words others fault but other = record {
   nothing = λ bad named is. absurd (cc (sym other ∙ subst (λ ws. are_named call_names ws ≡ true) (sym but) is.only));
 }
 
-pub options_blamed : (words others : List (Bor (List ℕ))) (fault : Fault) → others ≡ without (codes "unstable") words → Blames (HasCallOptions others) fault → Blames (NamesCall words) fault
+pub options_blamed : (words others : List (Bor (List ℕ))) (fault : Fault) → others ≡ words_without (codes "unstable") words → Blames (HasCallOptions others) fault → Blames (NamesTarget words) fault
 options_blamed words others fault but blames = record {
   nothing = λ bad named is. blames.nothing bad (named.0, named.1) (subst (λ ws. HasCallOptions ws (named.0, named.1)) (sym but) is.named);
 }
 
-pub named_blamed : (words rest : List (Bor (List ℕ))) (fault : Fault) → rest ≡ drop 3 words → Blames (NamesCall rest) fault → Blames (IsCall words) fault
+pub named_blamed : (words rest : List (Bor (List ℕ))) (fault : Fault) → rest ≡ drop 3 words → Blames (NamesTarget rest) fault → Blames (IsCall words) fault
 named_blamed words rest fault behind blames = record {
-  nothing = λ bad call is. blames.nothing bad (call.0, call.2, call.3) (subst (λ ws. NamesCall ws (call.0, call.2, call.3)) (sym behind) is.options);
+  nothing = λ bad call is. blames.nothing bad (call.0, call.2, call.3) (subst (λ ws. NamesTarget ws (call.0, call.2, call.3)) (sym behind) is.options);
 }
 
 pub deadline_callee_blamed : (words : List (Bor (List ℕ))) (fault : Fault) → Blames (HasCallee words) fault → Blames (IsDeadlineCall words) fault
@@ -94,9 +94,9 @@ deadline_callee_blamed words fault blames = record { nothing = λ bad call is. b
 pub until_blamed : (words : List (Bor (List ℕ))) (fault : Fault) → Blames (IsTime (text_at 3 words)) fault → Blames (IsDeadlineCall words) fault
 until_blamed words fault blames = record { nothing = λ bad call is. blames.nothing bad call.2 is.until }
 
-pub deadline_named_blamed : (words rest : List (Bor (List ℕ))) (fault : Fault) → rest ≡ drop 4 words → Blames (NamesCall rest) fault → Blames (IsDeadlineCall words) fault
+pub deadline_named_blamed : (words rest : List (Bor (List ℕ))) (fault : Fault) → rest ≡ drop 4 words → Blames (NamesTarget rest) fault → Blames (IsDeadlineCall words) fault
 deadline_named_blamed words rest fault behind blames = record {
-  nothing = λ bad call is. blames.nothing bad (call.0, call.3, call.4) (subst (λ ws. NamesCall ws (call.0, call.3, call.4)) (sym behind) is.options);
+  nothing = λ bad call is. blames.nothing bad (call.0, call.3, call.4) (subst (λ ws. NamesTarget ws (call.0, call.3, call.4)) (sym behind) is.options);
 }
 
 pub send_callee_blamed : (words : List (Bor (List ℕ))) (fault : Fault) → Blames (HasCallee words) fault → Blames (IsSend words) fault
@@ -107,20 +107,20 @@ send_flag_blamed words rest fault e blames = record {
   nothing = λ bad send is. blames.nothing bad send.4.unstable_serialization (subst (λ ws. HasFlag (codes "unstable") ws send.4.unstable_serialization) (sym e) is.options.unstable);
 }
 
-pub send_others_blamed : (words rest others : List (Bor (List ℕ))) (fault : Fault) → rest ≡ drop 3 words → others ≡ without (codes "unstable") rest → are_named (codes "at=" ∷ call_names) others ≡ false → Blames (IsSend words) fault
+pub send_others_blamed : (words rest others : List (Bor (List ℕ))) (fault : Fault) → rest ≡ drop 3 words → others ≡ words_without (codes "unstable") rest → are_named (codes "at=" ∷ call_names) others ≡ false → Blames (IsSend words) fault
 send_others_blamed words rest others fault behind but other = record {
   nothing = λ bad send is.
-      absurd (cc (sym other ∙ subst (λ ws. are_named (codes "at=" ∷ call_names) ws ≡ true) (sym but) (subst (λ ws. are_named (codes "at=" ∷ call_names) (without (codes "unstable") ws) ≡ true) (sym behind) is.options.only)));
+      absurd (cc (sym other ∙ subst (λ ws. are_named (codes "at=" ∷ call_names) ws ≡ true) (sym but) (subst (λ ws. are_named (codes "at=" ∷ call_names) (words_without (codes "unstable") ws) ≡ true) (sym behind) is.options.only)));
 }
 
-pub time_blamed : (words rest others : List (Bor (List ℕ))) (fault : Fault) → rest ≡ drop 3 words → others ≡ without (codes "unstable") rest → Blames (IsOptional IsTime (texts (codes "at=") others)) fault → Blames (IsSend words) fault
+pub time_blamed : (words rest others : List (Bor (List ℕ))) (fault : Fault) → rest ≡ drop 3 words → others ≡ words_without (codes "unstable") rest → Blames (IsOptional IsTime (texts_named (codes "at=") others)) fault → Blames (IsSend words) fault
 time_blamed words rest others fault behind but blames = record {
   nothing = λ bad send is.
-      blames.nothing bad send.2 (subst (λ ws. IsOptional IsTime (texts (codes "at=") ws) send.2) (sym but) (subst (λ ws. IsOptional IsTime (texts (codes "at=") (without (codes "unstable") ws)) send.2) (sym behind) is.options.timed));
+      blames.nothing bad send.2 (subst (λ ws. IsOptional IsTime (texts_named (codes "at=") ws) send.2) (sym but) (subst (λ ws. IsOptional IsTime (texts_named (codes "at=") (words_without (codes "unstable") ws)) send.2) (sym behind) is.options.timed));
 }
 
-pub send_options_blamed : (words rest others : List (Bor (List ℕ))) (fault : Fault) → rest ≡ drop 3 words → others ≡ without (codes "unstable") rest → Blames (HasCallOptions others) fault → Blames (IsSend words) fault
+pub send_options_blamed : (words rest others : List (Bor (List ℕ))) (fault : Fault) → rest ≡ drop 3 words → others ≡ words_without (codes "unstable") rest → Blames (HasCallOptions others) fault → Blames (IsSend words) fault
 send_options_blamed words rest others fault behind but blames = record {
   nothing = λ bad send is.
-      blames.nothing bad (send.0, send.3) (subst (λ ws. HasCallOptions ws (send.0, send.3)) (sym but) (subst (λ ws. HasCallOptions (without (codes "unstable") ws) (send.0, send.3)) (sym behind) is.options.named));
+      blames.nothing bad (send.0, send.3) (subst (λ ws. HasCallOptions ws (send.0, send.3)) (sym but) (subst (λ ws. HasCallOptions (words_without (codes "unstable") ws) (send.0, send.3)) (sym behind) is.options.named));
 }

@@ -5,9 +5,10 @@ use Rattle.requests.specs.declared.content_type.ContentType.{ContentType}
 use Rattle.requests.specs.declared.content_type.ContentType.TheVariants.{Absent, Unreadable, Named}
 
 -- what stands under a name in the request's headers
-abbrev pub found : ContentType → List ℕ → Option (Option (List ℕ))
-found Absent name = Some None
-found Unreadable name = if pointwise nat_eq name (codes "content-type") then None else Some None
-found (Named text) name =
+abbrev pub header_under : ContentType → List ℕ → Option (Option (List ℕ))
+header_under Absent name = Some None
+header_under Unreadable name =
+    if pointwise nat_eq name (codes "content-type") then None else Some None
+header_under (Named text) name =
     if pointwise nat_eq name (codes "content-type") then Some (Some (string_bytes text))
     else Some None

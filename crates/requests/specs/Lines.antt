@@ -73,17 +73,17 @@ AsksNothing text =
 
 -- What a line without blanks at its ends asks for. One that begins with `vm` makes a VM, and any
 -- other is a call. It is bad where it has no words, and where its words make or ask for nothing.
-abbrev pub Asks : List ℕ → Request → Type 0
-Asks text request.Nothing = says_nothing text ≡ true
-Asks text request.Bad =
+abbrev pub MakesRequest : List ℕ → Request → Type 0
+MakesRequest text request.Nothing = says_nothing text ≡ true
+MakesRequest text request.Bad =
     (says_nothing text ≡ false) × (begins_with_vm text ≡ false) × AsksNothing text
-Asks text request.BadMake =
+MakesRequest text request.BadMake =
     (says_nothing text ≡ false) × (begins_with_vm text ≡ true) × MakesNothing text
-Asks text (request.Make content_type options) = (says_nothing text ≡ false)
+MakesRequest text (request.Make content_type options) = (says_nothing text ≡ false)
     × (begins_with_vm text ≡ true) × MakesWith text content_type options
-Asks text (request.Call call) = (says_nothing text ≡ false) × (begins_with_vm text ≡ false)
+MakesRequest text (request.Call call) = (says_nothing text ≡ false) × (begins_with_vm text ≡ false)
     × AsksCall text call
 
 -- what a line asks for; blanks at its ends don't count
-abbrev pub Reads : List ℕ → Request → Type 0
-Reads line asked = (text : List ℕ) × IsTrimAscii line text × Asks text asked
+abbrev pub IsRequestLine : List ℕ → Request → Type 0
+IsRequestLine line asked = (text : List ℕ) × IsTrimAscii line text × MakesRequest text asked

@@ -18,7 +18,7 @@ use Rattle.line_parts.specs.Results.{IsProposal}
 use Rattle.line_parts.specs.Targets.{AreCallOptions, AreSendOptions, NamesInvocation}
 use Rattle.line_parts.specs.Trees.{SpellsFuture}
 use Rattle.line_parts.specs.Values.{HasExtras, HasName, HasNow, HasValue, IsTime, IsValue}
-use Rattle.line_parts.specs.Words.{IsEphemeralId, IsHandle, IsOneAtom, IsOneText, behind, text_at}
+use Rattle.line_parts.specs.Words.{IsEphemeralId, IsHandle, IsOneAtom, IsOneText, words_after_first, text_at}
 
 -- the word that names a call
 unfoldable pub verb_name : Verb → List ℕ
@@ -85,8 +85,8 @@ HasCallee words callee = IsText (text_at 0 words) callee.0 × IsText (text_at 1 
     × IsAtom (text_at 2 words) callee.2
 
 -- the words name this target's options, this name and these options of a call
-abbrev pub NamesCall : List (Bor (List ℕ)) → Target × Option (List ℕ) × PayloadOptions → Type 0
-NamesCall words named = AreCallOptions words named.0 named.1 named.2
+abbrev pub NamesTarget : List (Bor (List ℕ)) → Target × Option (List ℕ) × PayloadOptions → Type 0
+NamesTarget words named = AreCallOptions words named.0 named.1 named.2
 
 -- what is called, with which input, name and options
 pub record IsCall (words : List (Bor (List ℕ))) (call : Target × List ℕ × Option (List ℕ) × PayloadOptions) : Type 0 where
@@ -167,4 +167,4 @@ IsLine verb.TakeEphemeral words = One (IsEphemeralId words) call.TakeEphemeral
 pub record IsAsked (words : List (Bor (List ℕ))) (call : Call) : Type 0 where
   pub named : Verb
   pub names : verb_named (text_at 0 words) ≡ Some named
-  pub line : IsLine named (behind words) call
+  pub line : IsLine named (words_after_first words) call

@@ -2,9 +2,9 @@
 ghost use Rattle.std.specs.Prelude.{◌≡◌, ◌∷◌, IfErr, IfOk, codes, drop};
 ghost use Rattle.lines.specs.Readings.{Blames};
 ghost use Rattle.requests.specs.declared.verb.Verb.TheVariants as verb;
-ghost use Rattle.line_parts.specs.Fields.{are_named, texts};
+ghost use Rattle.line_parts.specs.Fields.{are_named, texts_named};
 ghost use Rattle.line_parts.specs.Targets.{AreCallOptions, AreHeaders, HasCallOptions, call_names};
-ghost use Rattle.requests.specs.Verbs.{HasCallee, IsLine, NamesCall};
+ghost use Rattle.requests.specs.Verbs.{HasCallee, IsLine, NamesTarget};
 
 use crate::request::Call;
 use bytes::Bytes;
@@ -28,8 +28,8 @@ struct Callee {
 /// `[header={T T}]..`, among other words.
 #[tactic(auto, using(line_parts::proofs::Pairs::headers_blamed))]
 fn headers_of(alloc: Global, words: &[&[u8]]) -> Result<Items<Header>, Fault>
-    ensures value { IfOk result (AreHeaders (texts (codes "header=") words.now)) }
-    ensures none { IfErr result (Blames (AreHeaders (texts (codes "header=") words.now))) }
+    ensures value { IfOk result (AreHeaders (texts_named (codes "header=") words.now)) }
+    ensures none { IfErr result (Blames (AreHeaders (texts_named (codes "header=") words.now))) }
 {
     let mut headers = Items::new(alloc);
     for word in words {
@@ -128,7 +128,7 @@ fn called_with(
     ensures service { IfOk result (λ found. found.0.service ≡ service) }
     ensures handler { IfOk result (λ found. found.0.handler ≡ handler) }
     ensures options { IfOk result (λ found. AreCallOptions words.now found.0 found.1 found.2) }
-    ensures none { IfErr result (Blames (NamesCall words.now)) }
+    ensures none { IfErr result (Blames (NamesTarget words.now)) }
 {
     let (others, options) = without_unstable(alloc, words)?;
     if !are_call_options(others.as_slice()) {

@@ -18,9 +18,9 @@ pub struct UnreadableHeader;
 impl HeaderMap for ContentType {
     type Error = UnreadableHeader;
 
-    ghost use Rattle.requests.specs.ContentTypes.{found};
+    ghost use Rattle.requests.specs.ContentTypes.{header_under};
 
-    ghost found = { λ headers name. found headers name };
+    ghost found = { λ headers name. header_under headers name };
 
     fn extract(&self, name: &str) -> Result<Option<&str>, UnreadableHeader> {
         if name != "content-type" {

@@ -2,7 +2,7 @@
 ghost use Rattle.std.specs.Prelude.{◌≡◌, IfErr, IfOk, Ok, true, false, length};
 ghost use Rattle.requests.specs.declared.request.Call.{Call};
 ghost use Rattle.requests.specs.declared.verb.Verb.TheVariants as verb;
-ghost use Rattle.requests.specs.Lines.{Asks, AsksCall, AskNothing, AsksNothing, HasNoWords, HasWords, IsContentType, IsMade, MakesNothing, MakesWith, Reads, begins_with_vm, says_nothing};
+ghost use Rattle.requests.specs.Lines.{MakesRequest, AsksCall, AskNothing, AsksNothing, HasNoWords, HasWords, IsContentType, IsMade, MakesNothing, MakesWith, IsRequestLine, begins_with_vm, says_nothing};
 ghost use Rattle.lines.specs.Readings.{Blames};
 ghost use Rattle.wire.specs.declared.fault.Fault.TheVariants.{Malformed};
 ghost use Rattle.requests.specs.Verbs.{IsAsked, IsAwaited, IsBare, IsLine};
@@ -497,7 +497,7 @@ fn parse_make<'a>(
 ) -> Result<Request, AllocError>
     requires silent { says_nothing line.now ≡ false }
     requires makes { begins_with_vm line.now ≡ true }
-    ensures value { IfOk result (Asks line.now) }
+    ensures value { IfOk result (MakesRequest line.now) }
 {
     match make_of(alloc, words, line) {
         Ok((content_type, options)) => Ok(Request::Make(content_type, options)),
@@ -514,7 +514,7 @@ fn parse_call<'a>(
 ) -> Result<Request, AllocError>
     requires silent { says_nothing line.now ≡ false }
     requires makes { begins_with_vm line.now ≡ false }
-    ensures value { IfOk result (Asks line.now) }
+    ensures value { IfOk result (MakesRequest line.now) }
 {
     match row_of(alloc, words, line) {
         Ok(call) => Ok(Request::Call(call)),
@@ -529,7 +529,7 @@ pub fn parse<'a>(
     words: &mut Vec<&'a [u8]>,
     line: &'a [u8],
 ) -> Result<Request, AllocError>
-    ensures value { IfOk result (Reads line.now) }
+    ensures value { IfOk result (IsRequestLine line.now) }
 {
     let line = line.trim_ascii();
     if is_silent(line) {

@@ -6,12 +6,12 @@ use Rattle.round_reports.specs.declared.run_end.RunEnd.TheVariants.{UnknownHandl
 -- 0: all rounds have run and are reported; 1: a fault stopped them, reading or writing failed,
 -- memory was lacking, or the content type is none; 2: the handler is unknown, or a line has no
 -- meaning
-abbrev pub code_of : RunEnd → ℕ
-code_of UnknownHandler = 2
-code_of UnknownContentType = 1
-code_of (ReadFailed e) = 1
-code_of (NoMeaning line) = 2
-code_of NoMemory = 1
-code_of (WriteFailed e) = 1
-code_of (Stopped fault) = 1
-code_of Reported = 0
+abbrev pub rounds_exit_code : RunEnd → ℕ
+rounds_exit_code UnknownHandler = 2
+rounds_exit_code UnknownContentType = 1
+rounds_exit_code (ReadFailed e) = 1
+rounds_exit_code (NoMeaning line) = 2
+rounds_exit_code NoMemory = 1
+rounds_exit_code (WriteFailed e) = 1
+rounds_exit_code (Stopped fault) = 1
+rounds_exit_code Reported = 0

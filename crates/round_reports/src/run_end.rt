@@ -1,6 +1,6 @@
 //! How a run ends, and the exit status of each end.
 ghost use Rattle.std.specs.Prelude.{◌≡◌};
-ghost use Rattle.round_reports.specs.Statuses.{code_of};
+ghost use Rattle.round_reports.specs.Statuses.{rounds_exit_code};
 
 use std::io;
 use vm_rounds::RoundFault;
@@ -29,7 +29,7 @@ pub enum RunEnd {
 impl RunEnd {
     /// The status of the process.
     pub fn code(&self) -> u8
-        ensures { result ≡ code_of self.now }
+        ensures { result ≡ rounds_exit_code self.now }
     {
         match self {
             RunEnd::Reported => 0,

@@ -9,29 +9,29 @@ use Rattle.wire.specs.declared.fault.Fault.{Fault}
 use Rattle.lines.specs.Atoms.{IsText}
 use Rattle.lines.specs.Readings.{Blames}
 use Rattle.line_parts.specs.Durations.{IsDuration}
-use Rattle.line_parts.specs.Fields.{IsSet, are_named, text_behind, texts}
-use Rattle.line_parts.specs.Values.{HasFlag, IsTime, without}
+use Rattle.line_parts.specs.Fields.{IsSet, are_named, text_behind, texts_named}
+use Rattle.line_parts.specs.Values.{HasFlag, IsTime, words_without}
 use Rattle.line_parts.specs.Words.{IsNumberOf}
 use Rattle.round_scripts.specs.Rounds.{AreKeys, IsWholeMilliseconds, SaysRound, round_names}
 
 -- ---- keys
 
 -- a text that is no key, behind other words
-behind_first : (name : List ℕ) (w : Bor (List ℕ)) (words : List (Bor (List ℕ))) (found : Option (List ℕ)) → text_behind name w.now ≡ found → ((keys : List (List ℕ)) → AreKeys (texts name words) keys → ⊥)
-    → (keys : List (List ℕ)) → AreKeys (texts name (w ∷ words)) keys → ⊥
+behind_first : (name : List ℕ) (w : Bor (List ℕ)) (words : List (Bor (List ℕ))) (found : Option (List ℕ)) → text_behind name w.now ≡ found → ((keys : List (List ℕ)) → AreKeys (texts_named name words) keys → ⊥)
+    → (keys : List (List ℕ)) → AreKeys (texts_named name (w ∷ words)) keys → ⊥
 behind_first name w words None at none keys are = none keys (rw at at are)
 behind_first name w words (Some t) at none [] are = rw at at are
 behind_first name w words (Some t) at none (x ∷ keys) are = let both = rw at at are in none keys both.1
 
 no_keys : (name : List ℕ) (words : List (Bor (List ℕ))) (i : ℕ) (d : Bor (List ℕ)) (text : List ℕ) → i < length words → text_behind name (get_or words i d).now ≡ Some text → ((key : List ℕ) → IsText text key → ⊥)
-    → (keys : List (List ℕ)) → AreKeys (texts name words) keys → ⊥
+    → (keys : List (List ℕ)) → AreKeys (texts_named name words) keys → ⊥
 no_keys name [] i d text h e none keys are = absurd (omega arith)
 no_keys name (w ∷ words) zero d text h e none [] are = rw e at are
 no_keys name (w ∷ words) zero d text h e none (x ∷ keys) are = let both = rw e at are in none x both.0
 no_keys name (w ∷ words) (suc i) d text h e none keys are =
     behind_first name w words (text_behind name w.now) refl (λ others them. no_keys name words i d text (omega arith) e none others them) keys are
 
-pub keys_blamed : (name : List ℕ) (words : List (Bor (List ℕ))) (i : ℕ) (d : Bor (List ℕ)) (text : List ℕ) (fault : Fault) → i < length words → text_behind name (get_or words i d).now ≡ Some text → Blames (IsText text) fault → Blames (AreKeys (texts name words)) fault
+pub keys_blamed : (name : List ℕ) (words : List (Bor (List ℕ))) (i : ℕ) (d : Bor (List ℕ)) (text : List ℕ) (fault : Fault) → i < length words → text_behind name (get_or words i d).now ≡ Some text → Blames (IsText text) fault → Blames (AreKeys (texts_named name words)) fault
 keys_blamed name words i d text fault h e blames = record { nothing = λ bad keys are. no_keys name words i d text h e (blames.nothing bad) keys are }
 
 -- ---- durations
@@ -70,20 +70,20 @@ too_long text time fault is long = record {
 pub flag_blamed : (words : List (Bor (List ℕ))) (fault : Fault) → Blames (HasFlag (codes "partial") words) fault → Blames (SaysRound words) fault
 flag_blamed words fault blames = record { nothing = λ bad round is. blames.nothing bad round.partial is.partial }
 
-pub others_blamed : (words others : List (Bor (List ℕ))) (fault : Fault) → others ≡ without (codes "partial") words → are_named round_names others ≡ false → Blames (SaysRound words) fault
+pub others_blamed : (words others : List (Bor (List ℕ))) (fault : Fault) → others ≡ words_without (codes "partial") words → are_named round_names others ≡ false → Blames (SaysRound words) fault
 others_blamed words others fault e other = record { nothing = λ bad round is. absurd (cc (sym other ∙ subst (λ ws. are_named round_names ws ≡ true) (sym e) is.only)) }
 
-pub retry_blamed : (words others : List (Bor (List ℕ))) (fault : Fault) → others ≡ without (codes "partial") words → Blames (IsSet (IsNumberOf 32) 0 (texts (codes "retry=") others)) fault → Blames (SaysRound words) fault
+pub retry_blamed : (words others : List (Bor (List ℕ))) (fault : Fault) → others ≡ words_without (codes "partial") words → Blames (IsSet (IsNumberOf 32) 0 (texts_named (codes "retry=") others)) fault → Blames (SaysRound words) fault
 retry_blamed words others fault e blames = record {
-  nothing = λ bad round is. blames.nothing bad round.retry_count (subst (λ ws. IsSet (IsNumberOf 32) 0 (texts (codes "retry=") ws) round.retry_count) (sym e) is.retry_count);
+  nothing = λ bad round is. blames.nothing bad round.retry_count (subst (λ ws. IsSet (IsNumberOf 32) 0 (texts_named (codes "retry=") ws) round.retry_count) (sym e) is.retry_count);
 }
 
-pub duration_blamed : (words others : List (Bor (List ℕ))) (fault : Fault) → others ≡ without (codes "partial") words → Blames (IsSet IsWholeMilliseconds 0 (texts (codes "duration=") others)) fault → Blames (SaysRound words) fault
+pub duration_blamed : (words others : List (Bor (List ℕ))) (fault : Fault) → others ≡ words_without (codes "partial") words → Blames (IsSet IsWholeMilliseconds 0 (texts_named (codes "duration=") others)) fault → Blames (SaysRound words) fault
 duration_blamed words others fault e blames = record {
-  nothing = λ bad round is. blames.nothing bad round.duration (subst (λ ws. IsSet IsWholeMilliseconds 0 (texts (codes "duration=") ws) round.duration) (sym e) is.duration);
+  nothing = λ bad round is. blames.nothing bad round.duration (subst (λ ws. IsSet IsWholeMilliseconds 0 (texts_named (codes "duration=") ws) round.duration) (sym e) is.duration);
 }
 
-pub round_keys_blamed : (words others : List (Bor (List ℕ))) (fault : Fault) → others ≡ without (codes "partial") words → Blames (AreKeys (texts (codes "key=") others)) fault → Blames (SaysRound words) fault
+pub round_keys_blamed : (words others : List (Bor (List ℕ))) (fault : Fault) → others ≡ words_without (codes "partial") words → Blames (AreKeys (texts_named (codes "key=") others)) fault → Blames (SaysRound words) fault
 round_keys_blamed words others fault e blames = record {
-  nothing = λ bad round is. blames.nothing bad round.keys (subst (λ ws. AreKeys (texts (codes "key=") ws) round.keys) (sym e) is.keys);
+  nothing = λ bad round is. blames.nothing bad round.keys (subst (λ ws. AreKeys (texts_named (codes "key=") ws) round.keys) (sym e) is.keys);
 }

@@ -7,7 +7,7 @@ use Rattle.lines.specs.Atoms.{IsAtom}
 use Rattle.lines.specs.Pieces.{AreWords, outside, place}
 use Rattle.lines.specs.Readings.{Blames}
 use Rattle.line_parts.specs.Results.{IsProposal}
-use Rattle.line_parts.specs.Words.{IsNumberOf, behind, text_at}
+use Rattle.line_parts.specs.Words.{IsNumberOf, words_after_first, text_at}
 use Rattle.line_parts.proofs.Places.{word_at}
 use Rattle.vm_store.specs.declared.types.Event.{Event}
 use Rattle.vm_store.specs.declared.types.Event.TheVariants as event
@@ -214,14 +214,14 @@ no_words [] h = record { nothing = λ other said is. go said is }
     go (line.Event happens) is = (no_row [] [] Malformed (differs (codes "piece") (omega arith)) (differs (codes "close") (omega arith)) (differs (codes "step") (omega arith)) (differs (codes "arrive") (omega arith)) (differs (codes "store") (omega arith)) (differs (codes "run_result") (omega arith))).nothing refl happens is
 no_words (w ∷ words) h = absurd (omega arith)
 
-pub words_say_nothing : (words others : List (Bor (List ℕ))) (d : Bor (List ℕ)) (fault : Fault) → 0 < length words → others ≡ behind words → (is_frame (get_or words 0 d).now others ≡ false → Blames (SaysBehind (get_or words 0 d).now others) fault) → fault ≡ Malformed
+pub words_say_nothing : (words others : List (Bor (List ℕ))) (d : Bor (List ℕ)) (fault : Fault) → 0 < length words → others ≡ words_after_first words → (is_frame (get_or words 0 d).now others ≡ false → Blames (SaysBehind (get_or words 0 d).now others) fault) → fault ≡ Malformed
     → SayNothing words
 words_say_nothing words others d fault some e blames bad = record { nothing = λ other said is. go other said is }
   where
     same : (get_or words 0 d).now ≡ text_at 0 words
     same = word_at words 0 d some
 
-    go : is_frame (text_at 0 words) (behind words) ≡ false → (said : ScriptLine) → SaysWords words said → ⊥
+    go : is_frame (text_at 0 words) (words_after_first words) ≡ false → (said : ScriptLine) → SaysWords words said → ⊥
     go other said is =
         (blames (subst (λ w. is_frame w others ≡ false) (sym same) (subst (λ ws. is_frame (text_at 0 words) ws ≡ false) (sym e) other))).nothing bad said (subst (λ w. SaysBehind w others said) (sym same) (subst (λ ws. SaysBehind (text_at 0 words) ws said) (sym e) is))
 

@@ -4,9 +4,9 @@ use Rattle.std.specs.Borrow.{Bor}
 use Rattle.wire.specs.declared.fault.Fault.{Fault}
 use Rattle.lines.specs.Atoms.{IsAtom}
 use Rattle.lines.specs.Readings.{Blames}
-use Rattle.line_parts.specs.Fields.{IsSet, are_named, texts}
+use Rattle.line_parts.specs.Fields.{IsSet, are_named, texts_named}
 use Rattle.line_parts.specs.VmOptions.{ArePolicies}
-use Rattle.round_scripts.specs.Worlds.{ArePairs, SaysIdentity, SaysWorld, world_names}
+use Rattle.round_scripts.specs.Worlds.{AreStateTexts, SaysIdentity, SaysWorld, world_names}
 
 pub others_blamed : (words : List (Bor (List ℕ))) (fault : Fault) → are_named world_names words ≡ false → Blames (SaysWorld words) fault
 others_blamed words fault other = record { nothing = λ bad given is. absurd (cc (sym other ∙ is.only)) }
@@ -17,8 +17,8 @@ options_blamed words fault blames = record { nothing = λ bad given is. blames.n
 pub identity_blamed : (words : List (Bor (List ℕ))) (fault : Fault) → Blames (SaysIdentity words) fault → Blames (SaysWorld words) fault
 identity_blamed words fault blames = record { nothing = λ bad given is. blames.nothing bad given.identity is.identity }
 
-pub input_blamed : (words : List (Bor (List ℕ))) (fault : Fault) → Blames (IsSet IsAtom [] (texts (codes "input=") words)) fault → Blames (SaysWorld words) fault
+pub input_blamed : (words : List (Bor (List ℕ))) (fault : Fault) → Blames (IsSet IsAtom [] (texts_named (codes "input=") words)) fault → Blames (SaysWorld words) fault
 input_blamed words fault blames = record { nothing = λ bad given is. blames.nothing bad given.input is.input }
 
-pub state_blamed : (words : List (Bor (List ℕ))) (fault : Fault) → Blames (ArePairs (texts (codes "state=") words)) fault → Blames (SaysWorld words) fault
+pub state_blamed : (words : List (Bor (List ℕ))) (fault : Fault) → Blames (AreStateTexts (texts_named (codes "state=") words)) fault → Blames (SaysWorld words) fault
 state_blamed words fault blames = record { nothing = λ bad given is. blames.nothing bad given.state.items is.state }

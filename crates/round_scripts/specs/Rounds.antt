@@ -5,8 +5,8 @@ use Rattle.std.specs.Duration.{as_nanos}
 use Rattle.std.specs.List.{AllZip}
 use Rattle.std.specs.declared.time.Duration.{Duration}
 use Rattle.lines.specs.Atoms.{IsText}
-use Rattle.line_parts.specs.Fields.{IsSet, are_named, texts}
-use Rattle.line_parts.specs.Values.{HasFlag, IsTime, without}
+use Rattle.line_parts.specs.Fields.{IsSet, are_named, texts_named}
+use Rattle.line_parts.specs.Values.{HasFlag, IsTime, words_without}
 use Rattle.line_parts.specs.Words.{IsNumberOf}
 use Rattle.vm_store.specs.declared.types.Round.{Round}
 
@@ -26,10 +26,10 @@ round_names = codes "key=" ∷ codes "retry=" ∷ codes "duration=" ∷ []
 -- the words say this of a round, in which nothing happens yet
 pub record SaysRound (words : List (Bor (List ℕ))) (round : Round) : Type 0 where
   pub partial : HasFlag (codes "partial") words round.partial
-  pub keys : AreKeys (texts (codes "key=") (without (codes "partial") words)) round.keys
+  pub keys : AreKeys (texts_named (codes "key=") (words_without (codes "partial") words)) round.keys
   pub retry_count : IsSet (IsNumberOf 32) 0
-      (texts (codes "retry=") (without (codes "partial") words)) round.retry_count
+      (texts_named (codes "retry=") (words_without (codes "partial") words)) round.retry_count
   pub duration : IsSet IsWholeMilliseconds 0
-      (texts (codes "duration=") (without (codes "partial") words)) round.duration
+      (texts_named (codes "duration=") (words_without (codes "partial") words)) round.duration
   pub events : round.events ≡ []
-  pub only : are_named round_names (without (codes "partial") words) ≡ true
+  pub only : are_named round_names (words_without (codes "partial") words) ≡ true

@@ -10,7 +10,7 @@ use Rattle.lines.specs.Pieces.{AreWords, outside, place}
 use Rattle.frame_lines.specs.FrameLines.{Shows}
 use Rattle.requests.specs.Lines.{says_nothing}
 use Rattle.line_parts.specs.Results.{IsProposal}
-use Rattle.line_parts.specs.Words.{IsNumberOf, behind, text_at}
+use Rattle.line_parts.specs.Words.{IsNumberOf, words_after_first, text_at}
 use Rattle.vm_store.specs.declared.types.Event.{Event}
 use Rattle.vm_store.specs.declared.types.Event.TheVariants as event
 use Rattle.round_scripts.specs.declared.script_line.ScriptLine.{ScriptLine}
@@ -66,18 +66,18 @@ SaysBehind word others (line.Event e) = SaysEvent word others e
 
 -- the words of a line say this
 abbrev pub SaysWords : List (Bor (List ℕ)) → ScriptLine → Type 0
-SaysWords words said = SaysBehind (text_at 0 words) (behind words) said
+SaysWords words said = SaysBehind (text_at 0 words) (words_after_first words) said
 
 -- what a line without blanks at its ends says
-abbrev pub Says : List ℕ → ScriptLine → Type 0
-Says text line.Nothing = says_nothing text ≡ true
-Says text said = (says_nothing text ≡ false)
+abbrev pub IsScriptLine : List ℕ → ScriptLine → Type 0
+IsScriptLine text line.Nothing = says_nothing text ≡ true
+IsScriptLine text said = (says_nothing text ≡ false)
     × ((words : List (Bor (List ℕ))) × AreWords text words × SaysWords words said)
 
 -- what a line says, which is UTF-8; blanks at its ends don't count
 abbrev pub SaysLine : List ℕ → ScriptLine → Type 0
 SaysLine text said =
-    (trimmed : List ℕ) × IsTrimAscii text trimmed × IsUtf8 trimmed × Says trimmed said
+    (trimmed : List ℕ) × IsTrimAscii text trimmed × IsUtf8 trimmed × IsScriptLine trimmed said
 
 -- ---- lines without a meaning
 
@@ -93,7 +93,7 @@ is_frame word others = (pointwise nat_eq word (codes "arrive")
 -- words that say nothing, unless they are an arrival or an entry that is a frame: which fields make
 -- a message isn't said
 pub record SayNothing (words : List (Bor (List ℕ))) : Type 0 where
-  pub nothing : is_frame (text_at 0 words) (behind words) ≡ false → (said : ScriptLine)
+  pub nothing : is_frame (text_at 0 words) (words_after_first words) ≡ false → (said : ScriptLine)
       → SaysWords words said → ⊥
 
 -- why a line that isn't empty says nothing: it isn't UTF-8, its quotes or brackets aren't closed,

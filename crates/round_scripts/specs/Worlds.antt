@@ -6,7 +6,7 @@ use Rattle.std.specs.List.{AllZip}
 use Rattle.std.specs.declared.string.String.{String}
 use Rattle.lines.specs.Atoms.{IsAtom, IsText}
 use Rattle.lines.specs.Pieces.{AreWordsWithin}
-use Rattle.line_parts.specs.Fields.{IsOptional, IsSet, are_named, texts}
+use Rattle.line_parts.specs.Fields.{IsOptional, IsSet, are_named, texts_named}
 use Rattle.line_parts.specs.VmOptions.{ArePolicies}
 use Rattle.line_parts.specs.Words.{IsNumberOf, text_at}
 use Rattle.vm_types.specs.Options.{default_options}
@@ -34,18 +34,20 @@ pub record IsDefault (given : Given) : Type 0 where
 
 -- the words say this of the invocation
 pub record SaysIdentity (words : List (Bor (List ℕ))) (identity : Identity) : Type 0 where
-  pub id : IsSet IsAtom default_identity.id (texts (codes "id=") words) identity.id
-  pub debug_id : IsSet IsText default_identity.debug_id (texts (codes "debug_id=") words)
+  pub id : IsSet IsAtom default_identity.id (texts_named (codes "id=") words) identity.id
+  pub debug_id : IsSet IsText default_identity.debug_id (texts_named (codes "debug_id=") words)
       identity.debug_id
-  pub key : IsSet IsText default_identity.key (texts (codes "key=") words) identity.key
-  pub random_seed : IsSet (IsNumberOf 64) default_identity.random_seed (texts (codes "seed=") words)
+  pub key : IsSet IsText default_identity.key (texts_named (codes "key=") words) identity.key
+  pub random_seed : IsSet (IsNumberOf 64) default_identity.random_seed
+      (texts_named (codes "seed=") words)
       identity.random_seed
-  pub scope : IsOptional IsText (texts (codes "scope=") words) identity.scope
-  pub limit_key : IsOptional IsText (texts (codes "limit=") words) identity.limit_key
-  pub idempotency_key : IsOptional IsText (texts (codes "idem=") words) identity.idempotency_key
+  pub scope : IsOptional IsText (texts_named (codes "scope=") words) identity.scope
+  pub limit_key : IsOptional IsText (texts_named (codes "limit=") words) identity.limit_key
+  pub idempotency_key : IsOptional IsText (texts_named (codes "idem=") words)
+      identity.idempotency_key
 
 -- a key and its value, in braces
-pub record IsPair (text : List ℕ) (entry : List ℕ × List ℕ) : Type 0 where
+pub record IsStateText (text : List ℕ) (entry : List ℕ × List ℕ) : Type 0 where
   pub words : List (Bor (List ℕ))
   pub are_words : AreWordsWithin 123 125 text words
   pub two : length words ≡ 2
@@ -53,9 +55,9 @@ pub record IsPair (text : List ℕ) (entry : List ℕ × List ℕ) : Type 0 wher
   pub is_value : IsAtom (text_at 1 words) entry.1
 
 -- texts that are these keys with their values
-abbrev pub ArePairs : List (List ℕ) → List (String Global × List ℕ) → Type 0
-ArePairs found entries =
-    AllZip (λ text entry. IsPair text (string_bytes entry.0, entry.1)) found entries
+abbrev pub AreStateTexts : List (List ℕ) → List (String Global × List ℕ) → Type 0
+AreStateTexts found entries =
+    AllZip (λ text entry. IsStateText text (string_bytes entry.0, entry.1)) found entries
 
 -- what may be said of a world
 abbrev pub world_names : List (List ℕ)
@@ -69,6 +71,6 @@ pub record SaysWorld (words : List (Bor (List ℕ))) (given : Given) : Type 0 wh
   pub identity : SaysIdentity words given.identity
   pub options : ArePolicies words given.options
   pub seed : given.options.fallback_random_seed ≡ default_options.fallback_random_seed
-  pub input : IsSet IsAtom [] (texts (codes "input=") words) given.input
-  pub state : ArePairs (texts (codes "state=") words) given.state.items
+  pub input : IsSet IsAtom [] (texts_named (codes "input=") words) given.input
+  pub state : AreStateTexts (texts_named (codes "state=") words) given.state.items
   pub only : are_named world_names words ≡ true

@@ -2,8 +2,8 @@
 ghost use Rattle.std.specs.Prelude.{◌≡◌, IfErr, IfOk, codes, string_bytes};
 ghost use Rattle.lines.specs.Atoms.{IsAtom, IsText};
 ghost use Rattle.lines.specs.Readings.{Blames};
-ghost use Rattle.line_parts.specs.Fields.{IsSet, are_named, texts};
-ghost use Rattle.round_scripts.specs.Worlds.{ArePairs, IsDefault, IsPair, SaysIdentity, SaysWorld, default_identity, world_names};
+ghost use Rattle.line_parts.specs.Fields.{IsSet, are_named, texts_named};
+ghost use Rattle.round_scripts.specs.Worlds.{AreStateTexts, IsDefault, IsStateText, SaysIdentity, SaysWorld, default_identity, world_names};
 
 use bytes::Bytes;
 use line_parts::arguments::optional_text;
@@ -60,8 +60,8 @@ fn bytes_or(
     name: &str,
     default: &'static [u8],
 ) -> Result<Bytes, Fault>
-    ensures value { IfOk result (IsSet IsAtom default.now (texts name.now words.now)) }
-    ensures none { IfErr result (Blames (IsSet IsAtom default.now (texts name.now words.now))) }
+    ensures value { IfOk result (IsSet IsAtom default.now (texts_named name.now words.now)) }
+    ensures none { IfErr result (Blames (IsSet IsAtom default.now (texts_named name.now words.now))) }
 {
     match field_of(words, name)? {
         Some(text) => shared_of(alloc, text),
@@ -72,8 +72,8 @@ fn bytes_or(
 /// `[NAME=T]`, or the default.
 #[tactic(auto, using(line_parts::proofs::Missing::set_blamed, line_parts::proofs::Missing::twice_set))]
 fn text_or(alloc: Global, words: &[&[u8]], name: &str, default: &str) -> Result<Text, Fault>
-    ensures value { IfOk result (IsSet IsText default.now (texts name.now words.now)) }
-    ensures none { IfErr result (Blames (IsSet IsText default.now (texts name.now words.now))) }
+    ensures value { IfOk result (IsSet IsText default.now (texts_named name.now words.now)) }
+    ensures none { IfErr result (Blames (IsSet IsText default.now (texts_named name.now words.now))) }
 {
     match field_of(words, name)? {
         Some(text) => text_of(alloc, text),
@@ -107,8 +107,8 @@ fn identity_in(alloc: Global, words: &[&[u8]]) -> Result<Identity, Fault>
 /// `{T B}`.
 #[tactic(auto, using(crate::proofs::Pairing::unbraced_blamed, crate::proofs::Pairing::count_blamed, crate::proofs::Pairing::key_blamed, crate::proofs::Pairing::value_blamed))]
 fn pair_of(alloc: Global, text: &[u8]) -> Result<(String, Bytes), Fault>
-    ensures value { IfOk result (λ pair. IsPair text.now (string_bytes pair.0, pair.1)) }
-    ensures none { IfErr result (Blames (IsPair text.now)) }
+    ensures value { IfOk result (λ pair. IsStateText text.now (string_bytes pair.0, pair.1)) }
+    ensures none { IfErr result (Blames (IsStateText text.now)) }
 {
     let pair = words_within(alloc, text, b'{', b'}')?;
     let [key, value] = pair.as_slice() else {
@@ -122,8 +122,9 @@ fn pair_of(alloc: Global, text: &[u8]) -> Result<(String, Bytes), Fault>
 /// `[state={T B}]..`, among other words.
 #[tactic(auto, using(crate::proofs::Pairing::state_blamed))]
 fn state_in(alloc: Global, words: &[&[u8]]) -> Result<Vec<(String, Bytes)>, Fault>
-    ensures value { IfOk result (λ state. ArePairs (texts (codes "state=") words.now) state.items) }
-    ensures none { IfErr result (Blames (ArePairs (texts (codes "state=") words.now))) }
+    ensures value { IfOk result
+        (λ state. AreStateTexts (texts_named (codes "state=") words.now) state.items) }
+    ensures none { IfErr result (Blames (AreStateTexts (texts_named (codes "state=") words.now))) }
 {
     let mut state = Vec::new(alloc);
     for word in words {

@@ -1,7 +1,7 @@
 //! The line `round`: with what a round begins.
 ghost use Rattle.std.specs.Prelude.{◌≡◌, IfErr, IfOk, codes};
 ghost use Rattle.lines.specs.Readings.{Blames};
-ghost use Rattle.line_parts.specs.Fields.{IsSet, are_named, texts};
+ghost use Rattle.line_parts.specs.Fields.{IsSet, are_named, texts_named};
 ghost use Rattle.line_parts.specs.Words.{IsNumberOf};
 ghost use Rattle.round_scripts.specs.Rounds.{AreKeys, IsWholeMilliseconds, SaysRound, round_names};
 
@@ -15,8 +15,8 @@ use wire::{Fault, Items, Text};
 /// `[key=T]..`, among other words.
 #[tactic(auto, using(crate::proofs::Beginning::keys_blamed))]
 fn keys_in(alloc: Global, words: &[&[u8]]) -> Result<Items<Text>, Fault>
-    ensures value { IfOk result (AreKeys (texts (codes "key=") words.now)) }
-    ensures none { IfErr result (Blames (AreKeys (texts (codes "key=") words.now))) }
+    ensures value { IfOk result (AreKeys (texts_named (codes "key=") words.now)) }
+    ensures none { IfErr result (Blames (AreKeys (texts_named (codes "key=") words.now))) }
 {
     let mut keys = Items::new(alloc);
     for word in words {
@@ -30,9 +30,9 @@ fn keys_in(alloc: Global, words: &[&[u8]]) -> Result<Items<Text>, Fault>
 /// `[retry=N]`, by default 0.
 #[tactic(auto, using(line_parts::proofs::Missing::set_blamed, line_parts::proofs::Missing::twice_set))]
 fn retry_count_in(words: &[&[u8]]) -> Result<u32, Fault>
-    ensures value { IfOk result (IsSet (IsNumberOf 32) 0 (texts (codes "retry=") words.now)) }
+    ensures value { IfOk result (IsSet (IsNumberOf 32) 0 (texts_named (codes "retry=") words.now)) }
     ensures none { IfErr result
-        (Blames (IsSet (IsNumberOf 32) 0 (texts (codes "retry=") words.now))) }
+        (Blames (IsSet (IsNumberOf 32) 0 (texts_named (codes "retry=") words.now))) }
 {
     match field_of(words, "retry=")? {
         Some(text) => u32_of(text),
@@ -53,9 +53,10 @@ fn milliseconds_of(text: &[u8]) -> Result<u64, Fault>
 /// `[duration=D]` in whole milliseconds, rounded down; by default 0.
 #[tactic(auto, using(line_parts::proofs::Missing::set_blamed, line_parts::proofs::Missing::twice_set))]
 fn milliseconds_in(words: &[&[u8]]) -> Result<u64, Fault>
-    ensures value { IfOk result (IsSet IsWholeMilliseconds 0 (texts (codes "duration=") words.now)) }
+    ensures value { IfOk result
+        (IsSet IsWholeMilliseconds 0 (texts_named (codes "duration=") words.now)) }
     ensures none { IfErr result
-        (Blames (IsSet IsWholeMilliseconds 0 (texts (codes "duration=") words.now))) }
+        (Blames (IsSet IsWholeMilliseconds 0 (texts_named (codes "duration=") words.now))) }
 {
     match field_of(words, "duration=")? {
         Some(text) => milliseconds_of(text),

@@ -3,7 +3,7 @@ ghost use Rattle.std.specs.Prelude.{◌≡◌, false, codes, IfErr, IfOk};
 ghost use Rattle.lines.specs.Readings.{Blames};
 ghost use Rattle.requests.specs.Lines.{says_nothing};
 ghost use Rattle.wire.specs.declared.fault.Fault.TheVariants.{Malformed};
-ghost use Rattle.round_scripts.specs.Said.{AreSteps, IsCount, IsOneCount, IsUnread, SaysLine, SayNothing, Says, SaysBehind, SaysEvent, SaysNothing, SaysWords, ShowsBytes, are_bytes, are_frame, are_rest, is_frame};
+ghost use Rattle.round_scripts.specs.Said.{AreSteps, IsCount, IsOneCount, IsUnread, SaysLine, SayNothing, IsScriptLine, SaysBehind, SaysEvent, SaysNothing, SaysWords, ShowsBytes, are_bytes, are_frame, are_rest, is_frame};
 
 use crate::given::given_of;
 use crate::opening::round_of;
@@ -192,7 +192,7 @@ fn said_of(alloc: Global, words: &[&[u8]]) -> Result<ScriptLine, Fault>
 #[tactic(auto, using(crate::proofs::Nothing::unclosed_says_nothing, crate::proofs::Nothing::line_says_nothing))]
 fn row_of(alloc: Global, line: &[u8]) -> Result<ScriptLine, Fault>
     requires { says_nothing line.now ≡ false }
-    ensures value { IfOk result (Says line.now) }
+    ensures value { IfOk result (IsScriptLine line.now) }
     ensures none { IfErr result (λ fault. fault ≡ Malformed → SaysNothing line.now) }
 {
     let words = words(alloc, line)?;

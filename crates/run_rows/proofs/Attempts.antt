@@ -13,7 +13,7 @@ use Rattle.journal_values.specs.declared.notification.NotificationId.TheVariants
 use Rattle.journal_values.specs.declared.notification.NotificationResult.TheVariants as came
 use Rattle.journal_attempt.specs.declared.start.Start.{Start}
 use Rattle.journal_errors.specs.declared.version.Version.TheVariants.{V7}
-use Rattle.journal_attempt.specs.Encoding.{input as input_body, sleep, start}
+use Rattle.journal_attempt.specs.Encoding.{input as input_body, sleep_body, start_body}
 use Rattle.journal_values.specs.Encoding.{notification}
 use Rattle.journal_messages.specs.Message.{IsWhole}
 use Rattle.wire.specs.Format.{bytes, flag, list, option, read_byte, read_bytes, read_pair, read_text, read_u16, read_u32, read_u64, u16s, u32s, u64s}
@@ -55,7 +55,7 @@ abbrev void : Notification
 void = record { id = CompletionId 1; result = came.Void }
 
 start_is_whole : IsWhole (message.Start first)
-unfolding start u32s u64s bytes list option flag lib.Utf8.encode
+unfolding start_body u32s u64s bytes list option flag lib.Utf8.encode
 start_is_whole = ((lit< tt, ((lit< tt, (codes "abc", (refl, refl))), ((lit< tt, ([], (refl, refl))), (lit< tt, ((lit< tt, tt), (tt, (lit< tt, (lit< tt, (lit< tt, (tt, (tt, tt))))))))))), lit< tt)
 
 input_is_whole : IsWhole (message.Input input)
@@ -63,7 +63,7 @@ unfolding input_body u32s u64s bytes list
 input_is_whole = (((lit< tt, tt), lit< tt), lit< tt)
 
 slept_is_whole : IsWhole slept
-unfolding sleep u32s u64s bytes
+unfolding sleep_body u32s u64s bytes
 slept_is_whole = ((lit< tt, (lit< tt, (lit< tt, ([], (refl, refl))))), lit< tt)
 
 void_is_whole : IsWhole (message.Notification void)
@@ -98,7 +98,7 @@ no_state = record { entries = []; coverage = Partial }
 
 -- the journal is a history of it: the input, its sleep, and the sleep's completion
 is_history : History setup sleeper no_state journal
-unfolding sleeper point_in is_utf8 chars header_equal message_in body_as sleep read_value bytes read_byte read_bytes read_text read_pair read_u16 read_u32 read_u64 u16s u32s u64s
+unfolding sleeper point_in is_utf8 chars header_equal message_in body_as sleep_body read_value bytes read_byte read_bytes read_text read_pair read_u16 read_u32 read_u64 u16s u32s u64s
 is_history = record {
   first = stored_form (message.Input input);
   input = input;
@@ -123,7 +123,7 @@ comes_once id = by_test (same_id (CompletionId 1) (CompletionId id))
     by_test false = omega arith
 
 is_carried_once : AreCarried (void ∷ []) (stored_form slept ∷ [])
-unfolding message_in body_as sleep read_value bytes read_byte read_bytes read_text read_pair read_u16 read_u32 read_u64 u16s u32s u64s is_utf8 chars
+unfolding message_in body_as sleep_body read_value bytes read_byte read_bytes read_text read_pair read_u16 read_u32 read_u64 u16s u32s u64s is_utf8 chars
 is_carried_once id = by_test (1 == id)
   where
     by_test : (b : Bool) → ((b || false) || false) ≡ false → cond b (came.Void ∷ []) [] ≡ []
@@ -144,7 +144,7 @@ none_two h =
 
 -- behind its sleep it ends
 then_ends : (i : InputCommand) (p : Point) → next setup sleeper (began setup i (void ∷ []) (stored_form slept ∷ [])) ≡ Some p → sleeper p.answers ≡ step.End
-unfolding sleeper is_utf8 chars header_equal message_in body_as sleep read_value bytes read_byte read_bytes read_text read_pair read_u16 read_u32 read_u64 u16s u32s u64s
+unfolding sleeper is_utf8 chars header_equal message_in body_as sleep_body read_value bytes read_byte read_bytes read_text read_pair read_u16 read_u32 read_u64 u16s u32s u64s
 then_ends i p e = ap (λ (z : Point). sleeper z.answers) (sym (same_Some _ p e))
 
 -- so it makes no command
@@ -158,7 +158,7 @@ makes_none i (suc (suc n)) made p (state, r, rest, knows, is, goes, (state', r',
 
 -- no result is one of an invocation's id
 none_named : (id : ℕ) → is_for_invocation id (stored_form slept ∷ []) ≡ false
-unfolding message_in body_as sleep read_value bytes read_byte read_bytes read_text read_pair read_u16 read_u32 read_u64 u16s u32s u64s is_utf8 chars
+unfolding message_in body_as sleep_body read_value bytes read_byte read_bytes read_text read_pair read_u16 read_u32 read_u64 u16s u32s u64s is_utf8 chars
 none_named id = refl
 
 rightly_kinded : (h : History setup sleeper no_state journal) (n : ℕ) (made : List RawMessage) (p : Point) → Made setup sleeper (Handed all_state) n (began setup h.input (void ∷ []) h.rest) made p → AreOfTheirKind (void ∷ []) (h.rest ++ made)

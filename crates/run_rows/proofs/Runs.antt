@@ -20,7 +20,7 @@ use Rattle.journal_state.specs.Encoding.{clear_state, get_eager_state}
 use Rattle.journal_calls.specs.Choices.{read_signal, read_signal_result}
 use Rattle.journal_calls.specs.Encoding.{send_signal}
 use Rattle.journal_values.specs.Encoding.{failure}
-use Rattle.journal_attempt.specs.Encoding.{output, sleep}
+use Rattle.journal_attempt.specs.Encoding.{output_body, sleep_body}
 use Rattle.journal_values.specs.Parts.{read_value}
 use Rattle.vm_types.specs.declared.steps.Answer.{Answer}
 use Rattle.vm_types.specs.declared.steps.Answer.TheVariants as answer
@@ -103,7 +103,7 @@ asleep = point_in (after setup sleeper 1 (start setup input (void 1 ∷ []) (sle
 
 -- the calls behind the input go through both recorded commands and the arrival
 told_two : told_by sleeper 5 (void 1 ∷ []) (slept ∷ done ∷ []) ≡ Some (told ∷ answer.Handle (handle 17) ∷ answer.Awake ∷ answer.Taken (Some value.Void) ∷ answer.Unit ∷ [], [])
-unfolding told_by point_in asleep slept done setup sleeper void told handle is_utf8 chars header_equal message_in body_as sleep output read_value bytes read_byte read_bytes read_text read_pair read_u16 read_u32 read_u64 u16s u32s u64s
+unfolding told_by point_in asleep slept done setup sleeper void told handle is_utf8 chars header_equal message_in body_as sleep_body output_body read_value bytes read_byte read_bytes read_text read_pair read_u16 read_u32 read_u64 u16s u32s u64s
 told_two = ap (option_map (λ p. (p.answers, p.left))) (awaits_one sleeper (handle 17) asleep (void 1) [] 2 refl refl refl refl refl refl)
 
 cleared : RawMessage
@@ -138,7 +138,7 @@ refused : RawMessage
 refused = stored_form (message.Output (record { result = given.Failure (record { code = 409; message = codes "no"; metadata = [] }) }))
 
 failed : option_map (λ a. a.1) (told_by chooser 5 (sent (came.Failure (record { code = 65945; message = codes "no"; metadata = [] })) ∷ []) (refused ∷ [])) ≡ Some []
-unfolding told_by point_in waiting setup chooser sent refused is_utf8 chars header_equal message_in body_as output failure list option read_value read_items read_list bytes read_byte read_bytes read_text read_pair read_u16 read_u32 read_u64 u16s u32s u64s lib.Utf8.encode
+unfolding told_by point_in waiting setup chooser sent refused is_utf8 chars header_equal message_in body_as output_body failure list option read_value read_items read_list bytes read_byte read_bytes read_text read_pair read_u16 read_u32 read_u64 u16s u32s u64s lib.Utf8.encode
 failed = ap (λ o. option_map (λ (a : List Answer × List RawMessage). a.1) (option_map (λ (p : Point). (p.answers, p.left)) o)) (awaits_one chooser (record { 0 = 17 }) (waiting (came.Failure (record { code = 65945; message = codes "no"; metadata = [] })) (refused ∷ [])) (sent (came.Failure (record { code = 65945; message = codes "no"; metadata = [] }))) [] 2 refl refl refl refl refl refl)
 
 -- it reads a key, takes the result at once and ends

@@ -8,7 +8,7 @@ use Rattle.vm_types.specs.Options.{default_options}
 use Rattle.vm_types.specs.declared.options.VMOptions.{VMOptions}
 use Rattle.invocation_vm.specs.Making.{made}
 use Rattle.vm_steps.specs.Record.{AttemptView, Record}
-use Rattle.vm_steps.specs.Stepping.{Meaning, MakesAttempt, StepDoes, fresh_record}
+use Rattle.vm_steps.specs.Stepping.{StepFunction, MakesAttempt, StepDoes, fresh_record}
 use Rattle.vm_steps.specs.declared.progress.Progress.{Progress}
 use Rattle.vm_steps.specs.declared.progress.Progress.TheVariants as progress
 use Rattle.vm_attempt.specs.Told.{IsKeptUnder}
@@ -29,15 +29,15 @@ goes_on (Ok (progress.Waiting input run)) e = absurd cc
 goes_on (Ok (progress.ExecuteRun run)) e = absurd cc
 goes_on (Err x) e = absurd cc
 
-pub stepped_more : (meaning : Meaning) (n : ℕ) (first before now : Record) (last : Result Progress Error) → Stepped meaning n first before → StepDoes meaning before last now → None ≡ end_after last → Stepped meaning (n + 1) first now
+pub stepped_more : (meaning : StepFunction) (n : ℕ) (first before now : Record) (last : Result Progress Error) → Stepped meaning n first before → StepDoes meaning before last now → None ≡ end_after last → Stepped meaning (n + 1) first now
 stepped_more meaning n first before now last h s e =
     let k : suc n ≡ n + 1 = omega arith in
     subst (λ m. Stepped meaning m first now) k (before, h, subst (λ l. StepDoes meaning before l now) (goes_on last e) s)
 
-pub drives_to : (meaning : Meaning) (n : ℕ) (first before now : Record) (last : Result Progress Error) (ending : AttemptEnd) → Stepped meaning n first before → StepDoes meaning before last now → end_after last ≡ Some ending → Drives meaning first ending now
+pub drives_to : (meaning : StepFunction) (n : ℕ) (first before now : Record) (last : Result Progress Error) (ending : AttemptEnd) → Stepped meaning n first before → StepDoes meaning before last now → end_after last ≡ Some ending → Drives meaning first ending now
 drives_to meaning n first before now last ending h s e = inl (n, before, last, h, s, e)
 
-pub drives_out : (meaning : Meaning) (n : ℕ) (first now : Record) → n ≡ 2 ^ 64 - 1 → Stepped meaning n first now → Drives meaning first attempt_end.Stalled now
+pub drives_out : (meaning : StepFunction) (n : ℕ) (first now : Record) → n ≡ 2 ^ 64 - 1 → Stepped meaning n first now → Drives meaning first attempt_end.Stalled now
 drives_out meaning n first now e h = inr (subst (λ m. Stepped meaning m first now) e h, refl)
 
 -- all that was left to be read is the input
@@ -62,7 +62,7 @@ run_keeps fixed input first fed now ending k (between, a, b) d =
     drive_keeps fixed fed now ending (close_under fixed between b.0 fed (feed_under fixed input first a.0 between k a.1) b.1) d
 
 -- a run of the attempt that was made
-pub run_served : {H : Type 0} (mean : H → Meaning) (alloc : Global) (options : VMOptions) (handler : H) (version : Result Version Error) (a : AttemptView H) (input output : List ℕ) (ending : AttemptEnd) → options ≡ default_options → MakesAttempt alloc options handler version (Ok a) → IsDriven SendsWhole (mean a.handler) a.record_of input ending output
+pub run_served : {H : Type 0} (mean : H → StepFunction) (alloc : Global) (options : VMOptions) (handler : H) (version : Result Version Error) (a : AttemptView H) (input output : List ℕ) (ending : AttemptEnd) → options ≡ default_options → MakesAttempt alloc options handler version (Ok a) → IsDriven SendsWhole (mean a.handler) a.record_of input ending output
     → ServesAnew alloc version (mean handler) (Some input) (λ written. written ≡ output) ending
 run_served mean alloc options handler (Err x) a input output ending o m s = absurd m
 run_served {H} mean alloc options handler (Ok v) a input output ending o m s =
@@ -75,14 +75,14 @@ run_served {H} mean alloc options handler (Ok v) a input output ending o m s =
     (input, output, refl, (u.0, u.1, u.2, u.3, u.4, told), refl)
 
 -- the same of what a call answers
-pub served_anew : {H : Type 0} (mean : H → Meaning) (alloc : Global) (options : VMOptions) (handler : H) (version : Result Version Error) (a : AttemptView H) (items input : List ℕ) (r : Result (AttemptEnd × List ℕ) AllocError) → input ≡ items → options ≡ default_options → MakesAttempt alloc options handler version (Ok a) → IfOk r (λ served. IsDriven SendsWhole (mean a.handler) a.record_of input served.0 served.1)
+pub served_anew : {H : Type 0} (mean : H → StepFunction) (alloc : Global) (options : VMOptions) (handler : H) (version : Result Version Error) (a : AttemptView H) (items input : List ℕ) (r : Result (AttemptEnd × List ℕ) AllocError) → input ≡ items → options ≡ default_options → MakesAttempt alloc options handler version (Ok a) → IfOk r (λ served. IsDriven SendsWhole (mean a.handler) a.record_of input served.0 served.1)
     → IfOk r (λ served. ServesAnew alloc version (mean handler) (Some items) (λ written. written ≡ served.1) served.0)
 served_anew mean alloc options handler version a items input (Err e) is o m s = tt
 served_anew mean alloc options handler version a items input (Ok served) is o m s =
     subst (λ bytes. ServesAnew alloc version (mean handler) (Some bytes) (λ written. written ≡ served.1) served.0) is (run_served mean alloc options handler version a input served.1 served.0 o m s)
 
 -- the same of all that a reader had left, and of what was written of the output
-pub served_of : (alloc : Global) (version : Result Version Error) (meaning : Meaning) (left : Option (List ℕ)) (written : List ℕ → Type 0) (input output : List ℕ) (ending : AttemptEnd) → IfSome left (λ bytes. input ≡ bytes) → written output → ServesAnew alloc version meaning (Some input) (λ bytes. bytes ≡ output) ending
+pub served_of : (alloc : Global) (version : Result Version Error) (meaning : StepFunction) (left : Option (List ℕ)) (written : List ℕ → Type 0) (input output : List ℕ) (ending : AttemptEnd) → IfSome left (λ bytes. input ≡ bytes) → written output → ServesAnew alloc version meaning (Some input) (λ bytes. bytes ≡ output) ending
     → ServesAnew alloc version meaning left written ending
 served_of alloc (Err x) meaning left written input output ending l w s = absurd s
 served_of alloc (Ok v) meaning left written input output ending l w (i, o, same, runs, is) =

@@ -12,7 +12,7 @@ use Rattle.vm_types.specs.Options.{default_options}
 use Rattle.vm_parts.specs.Outboxes.{WholeFrames}
 use Rattle.invocation_vm.specs.Making.{made}
 use Rattle.vm_steps.specs.Record.{Record, heard}
-use Rattle.vm_steps.specs.Stepping.{Meaning, fresh_record, FeedDoes, CloseDoes, StepDoes}
+use Rattle.vm_steps.specs.Stepping.{StepFunction, fresh_record, FeedDoes, CloseDoes, StepDoes}
 use Rattle.vm_attempt.specs.Told.{AnswersAreTold, NoneHasTwo}
 use Rattle.vm_steps.specs.declared.progress.Progress.{Progress}
 use Rattle.vm_steps.specs.declared.progress.Progress.TheVariants as progress
@@ -24,7 +24,7 @@ use Rattle.runner.specs.declared.run_end.RunEnd.TheVariants.{UnknownHandler, Ref
 use Rattle.vm_attempt.specs.Fixed.{fixed_by}
 
 -- so many steps, each of which gave the handler one answer
-abbrev pub Stepped : Meaning → ℕ → Record → Record → Type 0
+abbrev pub Stepped : StepFunction → ℕ → Record → Record → Type 0
 Stepped meaning zero first now = now ≡ first
 Stepped meaning (suc n) first now = (before : Record) × Stepped meaning n first before
     × StepDoes meaning before (Ok progress.Stepped) now
@@ -41,7 +41,7 @@ end_after (Err e) = Some (attempt_end.Failed e)
 
 -- Steps are made until one gives the handler no answer. An attempt that gave 2 ^ 64 - 1 answers is
 -- stalled.
-abbrev pub Drives : Meaning → Record → AttemptEnd → Record → Type 0
+abbrev pub Drives : StepFunction → Record → AttemptEnd → Record → Type 0
 Drives meaning first ending now =
     ((n : ℕ) × (before : Record) × (last : Result Progress Error) × Stepped meaning n first before
     × StepDoes meaning before last now × (end_after last ≡ Some ending))
@@ -55,7 +55,8 @@ IsFed input first now =
     × ((fits : Result Unit AllocError) × CloseDoes between.starved between fits now)
 
 -- The attempt is fed the bytes, it is driven, this is all its output, and this holds of it then.
-abbrev pub IsDriven : (Record → Type 0) → Meaning → Record → List ℕ → AttemptEnd → List ℕ → Type 0
+abbrev pub IsDriven : (Record → Type 0) → StepFunction → Record → List ℕ → AttemptEnd → List ℕ
+    → Type 0
 IsDriven holds_then meaning fresh input ending output =
     (fed : Record) × (driven : Record) × IsFed input fresh fed × Drives meaning fed ending driven
     × (output ≡ concat driven.vm.machine.output) × holds_then driven
@@ -65,7 +66,7 @@ abbrev pub SendsWhole : Record → Type 0
 SendsWhole r = WholeFrames r.vm.machine.output
 
 -- The input is all that the reader had left, where this is known, and this holds of the output.
-abbrev pub Serves : (Record → Type 0) → Meaning → Record → Option (List ℕ) → (List ℕ → Type 0)
+abbrev pub Serves : (Record → Type 0) → StepFunction → Record → Option (List ℕ) → (List ℕ → Type 0)
     → AttemptEnd → Type 0
 Serves holds_then meaning fresh left written ending =
     (input : List ℕ) × (output : List ℕ) × IfSome left (λ bytes. input ≡ bytes)
@@ -73,13 +74,13 @@ Serves holds_then meaning fresh left written ending =
 
 -- Where no completion has two results, the answers of an attempt with the options by default are
 -- told by the journal that it was fed and what it wrote.
-abbrev pub IsTold : Meaning → Version → Record → Type 0
+abbrev pub IsTold : StepFunction → Version → Record → Type 0
 IsTold meaning version r = NoneHasTwo (fixed_by meaning version default_options) (heard version r)
     → (r.answers ≡ []) ⊎ AnswersAreTold (fixed_by meaning version default_options) r
 
 -- the same of a new attempt with the options by default, for the version that was asked for: its
 -- answers are told
-abbrev pub ServesAnew : Global → Result Version Error → Meaning → Option (List ℕ)
+abbrev pub ServesAnew : Global → Result Version Error → StepFunction → Option (List ℕ)
     → (List ℕ → Type 0) → AttemptEnd → Type 0
 ServesAnew alloc (Ok version) meaning left written ending = Serves (IsTold meaning version) meaning
     (fresh_record (made alloc default_options version)) left written ending

@@ -1,6 +1,6 @@
 //! The exit statuses of the program.
 ghost use Rattle.std.specs.Prelude.{◌≡◌};
-ghost use Rattle.runner.specs.Statuses.{code_of};
+ghost use Rattle.runner.specs.Statuses.{runner_exit_code};
 
 #[derive(Clone, Copy, Debug, PartialEq, Eq)]
 pub enum ExitStatus {
@@ -17,7 +17,7 @@ pub enum ExitStatus {
 impl ExitStatus {
     /// The status of the process.
     pub fn code(&self) -> u8
-        ensures { result ≡ code_of self.now }
+        ensures { result ≡ runner_exit_code self.now }
     {
         match self {
             ExitStatus::Ended => 0,

@@ -1,6 +1,6 @@
 //! How a run ends, and the exit status of each end.
 ghost use Rattle.std.specs.Prelude.{◌≡◌};
-ghost use Rattle.runner.specs.Statuses.{status_of};
+ghost use Rattle.runner.specs.Statuses.{status_of_run};
 
 use crate::exit_status::ExitStatus;
 use invocation_vm::Error;
@@ -55,7 +55,7 @@ impl Drop for RunEnd {
 impl RunEnd {
     /// The program's exit status.
     pub fn status(&self) -> ExitStatus
-        ensures { result ≡ status_of self.now }
+        ensures { result ≡ status_of_run self.now }
     {
         match self {
             RunEnd::UnknownHandler => ExitStatus::Usage,

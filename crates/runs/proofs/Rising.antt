@@ -17,7 +17,7 @@ use Rattle.std.specs.Ordering.{is_lt, nat_cmp}
 use Rattle.std.specs.declared.cmp.Ordering.TheVariants.{Less}
 use Rattle.std.proofs.lemmas.Map.Keys.{sorted_head, sorted_tail}
 use Rattle.runs.specs.Firsts.{with_first}
-use Rattle.runs.specs.Pending.{has_handle, is_one_of, waits, may_execute, lesser, handle_of, started}
+use Rattle.runs.specs.Pending.{has_handle, is_one_of, is_waiting_run, may_execute, lesser_handle, handle_of, run_started}
 use Rattle.runs.proofs.Entries.{Above, SayTheSame, found}
 
 -- each handle is above k
@@ -100,19 +100,19 @@ abbrev first_of : List ℕ → List PendingRun → Option ℕ
 first_of any runs = option_map (λ (run : PendingRun). run.handle) (find (may_execute any) runs)
 
 module _ (hs : List ℕ) (h : ℕ) where
-  lesser_above : (runs : List PendingRun) (k : ℕ) → AllAbove k runs → h ≡ k → lesser (first_of hs runs) h ≡ k
+  lesser_above : (runs : List PendingRun) (k : ℕ) → AllAbove k runs → h ≡ k → lesser_handle (first_of hs runs) h ≡ k
   lesser_above runs k a e = at (find (may_execute hs) runs) refl
     where
-      at : (o : Option PendingRun) → find (may_execute hs) runs ≡ o → lesser (option_map (λ (run : PendingRun). run.handle) o) h ≡ k
+      at : (o : Option PendingRun) → find (may_execute hs) runs ≡ o → lesser_handle (option_map (λ (run : PendingRun). run.handle) o) h ≡ k
       at None found = e
       at (Some run) found = let above = found_above k (may_execute hs) runs run a found in omega (arith, above, e)
 
   -- one handle more
-  pub first_more : (runs : List PendingRun) → Rise runs → first_of (hs ++ h ∷ []) runs ≡ cond (list_any (may_execute (h ∷ [])) runs) (Some (lesser (first_of hs runs) h)) (first_of hs runs)
+  pub first_more : (runs : List PendingRun) → Rise runs → first_of (hs ++ h ∷ []) runs ≡ cond (list_any (may_execute (h ∷ [])) runs) (Some (lesser_handle (first_of hs runs) h)) (first_of hs runs)
   first_more [] rise = refl
   first_more (r ∷ runs) rise =
-      ap (λ b. option_map (λ (run : PendingRun). run.handle) (cond (waits r.execution && b) (Some r) (find (may_execute (hs ++ h ∷ [])) runs))) (list_any-append (λ other. other == r.handle) hs (h ∷ []))
-      ∙ at (waits r.execution) (is_one_of hs r.handle) (h == r.handle) refl (first_more runs rise.1)
+      ap (λ b. option_map (λ (run : PendingRun). run.handle) (cond (is_waiting_run r.execution && b) (Some r) (find (may_execute (hs ++ h ∷ [])) runs))) (list_any-append (λ other. other == r.handle) hs (h ∷ []))
+      ∙ at (is_waiting_run r.execution) (is_one_of hs r.handle) (h == r.handle) refl (first_more runs rise.1)
     where
       same : (h == r.handle) ≡ true → h ≡ r.handle
       same e = grind (arith, nat_tests)
@@ -121,12 +121,12 @@ module _ (hs : List ℕ) (h : ℕ) where
       min_left a b l = omega (arith, l)
 
       kept : (a : Bool) → list_any (may_execute (h ∷ [])) runs ≡ a → Some r.handle ≡ cond a (Some (min r.handle h)) (Some r.handle)
-      kept true e = ap Some (sym (min_left r.handle h (let above = any_above waits h runs r.handle rise.0 e in omega (arith, above))))
+      kept true e = ap Some (sym (min_left r.handle h (let above = any_above is_waiting_run h runs r.handle rise.0 e in omega (arith, above))))
       kept false e = refl
 
-      at : (w b t : Bool) → (h == r.handle) ≡ t → first_of (hs ++ h ∷ []) runs ≡ cond (list_any (may_execute (h ∷ [])) runs) (Some (lesser (first_of hs runs) h)) (first_of hs runs)
+      at : (w b t : Bool) → (h == r.handle) ≡ t → first_of (hs ++ h ∷ []) runs ≡ cond (list_any (may_execute (h ∷ [])) runs) (Some (lesser_handle (first_of hs runs) h)) (first_of hs runs)
           → option_map (λ (run : PendingRun). run.handle) (cond (w && (b || (t || false))) (Some r) (find (may_execute (hs ++ h ∷ [])) runs))
-          ≡ cond ((w && (t || false)) || list_any (may_execute (h ∷ [])) runs) (Some (lesser (option_map (λ (run : PendingRun). run.handle) (cond (w && b) (Some r) (find (may_execute hs) runs))) h)) (option_map (λ (run : PendingRun). run.handle) (cond (w && b) (Some r) (find (may_execute hs) runs)))
+          ≡ cond ((w && (t || false)) || list_any (may_execute (h ∷ [])) runs) (Some (lesser_handle (option_map (λ (run : PendingRun). run.handle) (cond (w && b) (Some r) (find (may_execute hs) runs))) h)) (option_map (λ (run : PendingRun). run.handle) (cond (w && b) (Some r) (find (may_execute hs) runs)))
       at false b t e rest = rest
       at true true true e rest = ap Some (sym (min_left r.handle h (let is = same e in omega (arith, is))))
       at true true false e rest = kept (list_any (may_execute (h ∷ [])) runs) refl
@@ -255,10 +255,10 @@ so_found so h es at sorted o e =
 
 -- of one handle more, by whether its run waits
 pub taken_more : (handles : List ℕ) (i : ℕ) (runs : List PendingRun) → Rise runs → i < length handles → (b : Bool) → b ≡ list_any (may_execute (get_or handles i 0 ∷ [])) runs
-    → (least : Option ℕ) → least ≡ first_of (take i handles) runs → cond b (Some (lesser least (get_or handles i 0))) least ≡ first_of (take (i + 1) handles) runs
+    → (least : Option ℕ) → least ≡ first_of (take i handles) runs → cond b (Some (lesser_handle least (get_or handles i 0))) least ≡ first_of (take (i + 1) handles) runs
 taken_more handles i runs rise within b e least is =
-    ap (λ b. cond b (Some (lesser least (get_or handles i 0))) least) e
-    ∙ ap (λ o. cond (list_any (may_execute (get_or handles i 0 ∷ [])) runs) (Some (lesser o (get_or handles i 0))) o) is
+    ap (λ b. cond b (Some (lesser_handle least (get_or handles i 0))) least) e
+    ∙ ap (λ o. cond (list_any (may_execute (get_or handles i 0 ∷ [])) runs) (Some (lesser_handle o (get_or handles i 0))) o) is
     ∙ sym (first_more (take i handles) (get_or handles i 0) runs rise)
     ∙ ap (λ hs. first_of hs runs) (sym (take_more handles i 0 within))
 
@@ -271,32 +271,32 @@ module _ (any : List ℕ) where
   chosen (Some run) h e = ap (option_map as_handle) e
 
   pub chosen_changes : (runs : List PendingRun) → Rise runs → (o : Option PendingRun) → find (may_execute any) runs ≡ o → (h : ℕ) → Some h ≡ option_map (λ (run : PendingRun). run.handle) o
-      → with_first (has_handle (record { 0 = h })) started runs ≡ with_first (may_execute any) started runs
+      → with_first (has_handle (record { 0 = h })) run_started runs ≡ with_first (may_execute any) run_started runs
   chosen_changes runs rise None found h e = absurd (none e)
     where
       none : Some h ≡ None → ⊥
       none e = cc
-  chosen_changes runs rise (Some run) found h e = ap (λ h. with_first (has_handle (record { 0 = h })) started runs) (same e) ∙ sym (changed_at (may_execute any) started runs run rise found)
+  chosen_changes runs rise (Some run) found h e = ap (λ h. with_first (has_handle (record { 0 = h })) run_started runs) (same e) ∙ sym (changed_at (may_execute any) run_started runs run rise found)
     where
       same : Some h ≡ Some run.handle → h ≡ run.handle
       same e = cc
 
-  pub none_changes : (runs : List PendingRun) → None ≡ first_of any runs → runs ≡ with_first (may_execute any) started runs
+  pub none_changes : (runs : List PendingRun) → None ≡ first_of any runs → runs ≡ with_first (may_execute any) run_started runs
   none_changes [] e = refl
   none_changes (r ∷ runs) e = at (may_execute any r) (none_changes runs) e
     where
       none : None ≡ Some r.handle → ⊥
       none e = cc
 
-      at : (b : Bool) → (None ≡ first_of any runs → runs ≡ with_first (may_execute any) started runs) → None ≡ option_map (λ (run : PendingRun). run.handle) (cond b (Some r) (find (may_execute any) runs))
-          → r ∷ runs ≡ cond b (started r ∷ runs) (r ∷ with_first (may_execute any) started runs)
+      at : (b : Bool) → (None ≡ first_of any runs → runs ≡ with_first (may_execute any) run_started runs) → None ≡ option_map (λ (run : PendingRun). run.handle) (cond b (Some r) (find (may_execute any) runs))
+          → r ∷ runs ≡ cond b (run_started r ∷ runs) (r ∷ with_first (may_execute any) run_started runs)
       at true rest e = absurd (none e)
       at false rest e = ap (λ l. r ∷ l) (rest e)
 
 -- of no handles
 pub none_taken : (runs : List PendingRun) → None ≡ first_of [] runs
 none_taken [] = refl
-none_taken (r ∷ runs) = none_taken runs ∙ at (waits r.execution)
+none_taken (r ∷ runs) = none_taken runs ∙ at (is_waiting_run r.execution)
   where
     at : (b : Bool) → first_of [] runs ≡ option_map (λ (run : PendingRun). run.handle) (cond (b && false) (Some r) (find (may_execute []) runs))
     at true = refl

@@ -21,8 +21,8 @@ abbrev pub handle_of : PendingRun → NotificationHandle
 handle_of run = record { 0 = run.handle }
 
 -- the index and the name of its command
-abbrev pub info_of : PendingRun → ℕ × List ℕ
-info_of run = (run.command_index, run.name)
+abbrev pub run_info : PendingRun → ℕ × List ℕ
+run_info run = (run.command_index, run.name)
 
 abbrev pub has_handle : NotificationHandle → PendingRun → Bool
 has_handle handle run = run.handle == handle.0
@@ -31,9 +31,9 @@ has_handle handle run = run.handle == handle.0
 abbrev pub is_one_of : List ℕ → ℕ → Bool
 is_one_of any handle = list_any (λ other. other == handle) any
 
-abbrev pub waits : RunExecution → Bool
-waits Waiting = true
-waits Executing = false
+abbrev pub is_waiting_run : RunExecution → Bool
+is_waiting_run Waiting = true
+is_waiting_run Executing = false
 
 abbrev pub executes : RunExecution → Bool
 executes Waiting = false
@@ -48,13 +48,13 @@ is_executing_in any run = is_executing run && is_one_of any run.handle
 
 -- it waits, and is one of these
 abbrev pub may_execute : List ℕ → PendingRun → Bool
-may_execute any run = waits run.execution && is_one_of any run.handle
+may_execute any run = is_waiting_run run.execution && is_one_of any run.handle
 
 -- the run from when it is executed
-abbrev pub started : PendingRun → PendingRun
-started run = record run { execution = Executing }
+abbrev pub run_started : PendingRun → PendingRun
+run_started run = record run { execution = Executing }
 
 -- the less of two handles, if there is another
-abbrev pub lesser : Option ℕ → ℕ → ℕ
-lesser None handle = handle
-lesser (Some other) handle = min other handle
+abbrev pub lesser_handle : Option ℕ → ℕ → ℕ
+lesser_handle None handle = handle
+lesser_handle (Some other) handle = min other handle

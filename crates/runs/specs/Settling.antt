@@ -19,15 +19,15 @@ use Rattle.runs.specs.declared.types.RunExitResult.TheVariants as exit
 use Rattle.runs.specs.declared.settling.Settlement.{Settlement}
 use Rattle.runs.specs.declared.settling.Settlement.TheVariants as settlement
 
-abbrev pub is_empty : {A : Type 0} → List A → Bool
-is_empty [] = true
-is_empty (x ∷ xs) = false
+abbrev pub has_no_items : {A : Type 0} → List A → Bool
+has_no_items [] = true
+has_no_items (x ∷ xs) = false
 
 -- a failure with metadata
-abbrev pub has_metadata : RunExitResult → Bool
-has_metadata (exit.Success bytes) = false
-has_metadata (exit.TerminalFailure f) = not (is_empty f.metadata)
-has_metadata (exit.RetryableFailure duration e) = false
+abbrev pub exit_has_metadata : RunExitResult → Bool
+exit_has_metadata (exit.Success bytes) = false
+exit_has_metadata (exit.TerminalFailure f) = not (has_no_items f.metadata)
+exit_has_metadata (exit.RetryableFailure duration e) = false
 
 -- ---- how often, and for how long
 
@@ -53,12 +53,12 @@ nanos_with start wrote attempt = min (earlier_nanos start wrote + as_nanos attem
 -- ---- what becomes of it
 
 -- the run's command
-abbrev pub run_command : PendingRun → RelatedCommand
-run_command run = record { index = run.command_index; ty = type.RunCommand; name = run.name }
+abbrev pub run_as_related : PendingRun → RelatedCommand
+run_as_related run = record { index = run.command_index; ty = type.RunCommand; name = run.name }
 
 -- an error as a failure that isn't retried: its code and text, without metadata
-abbrev pub terminal : Error → Failure
-terminal e = record { code = e.code; message = e.message; metadata = [] }
+abbrev pub as_terminal_failure : Error → Failure
+as_terminal_failure e = record { code = e.code; message = e.message; metadata = [] }
 
 -- A failure that is retried fails the attempt, with the delay of the policy, also where that is
 -- none; a pause keeps the error's own delay. Each relates to the run's command. Else the failure is
@@ -67,21 +67,21 @@ abbrev pub FailsAs : PendingRun → Error → Verdict → Settlement → Type 0
 FailsAs run e (retried nanos) s =
     (delay : Option Duration) × (option_map as_nanos delay ≡ nanos)
     × (s ≡ settlement.Failed
-    (record e { next_retry_delay = delay; related_command = Some (run_command run) }))
+    (record e { next_retry_delay = delay; related_command = Some (run_as_related run) }))
 FailsAs run e paused s = s
     ≡ settlement.Failed (record e {
       behavior = behavior.Pause;
-      related_command = Some (run_command run);
+      related_command = Some (run_as_related run);
     })
-FailsAs run e failed s = s ≡ settlement.Proposed (proposed.Failure (terminal e))
+FailsAs run e failed s = s ≡ settlement.Proposed (proposed.Failure (as_terminal_failure e))
 
 -- A result and a terminal failure are proposed. What becomes of another failure the policy says, by
 -- all the run's failures.
-abbrev pub Becomes : PendingRun → RunExitResult → RetryPolicy → StartInfo → Bool → Settlement
+abbrev pub SettlesRun : PendingRun → RunExitResult → RetryPolicy → StartInfo → Bool → Settlement
     → Type 0
-Becomes run (exit.Success bytes) policy start wrote s = s
+SettlesRun run (exit.Success bytes) policy start wrote s = s
     ≡ settlement.Proposed (proposed.Value bytes)
-Becomes run (exit.TerminalFailure f) policy start wrote s = s
+SettlesRun run (exit.TerminalFailure f) policy start wrote s = s
     ≡ settlement.Proposed (proposed.Failure (failure_message f))
-Becomes run (exit.RetryableFailure attempt e) policy start wrote s = FailsAs run e
+SettlesRun run (exit.RetryableFailure attempt e) policy start wrote s = FailsAs run e
     (next_retry policy (count_with start wrote) (nanos_with start wrote attempt)) s

@@ -3,7 +3,7 @@ ghost use Rattle.std.specs.Prelude.{◌≡◌, ◌<◌, [], ◌∷◌, ◌++◌,
 ghost use Rattle.std.specs.List.{AllByRecursion, list_any};
 ghost use Rattle.std.specs.Option.{option_map};
 ghost use Rattle.runs.specs.Firsts.{with_first, without_first};
-ghost use Rattle.runs.specs.Pending.{executes, handle_of, has_handle, info_of, is_executing, is_executing_in, lesser, may_execute, started, waits};
+ghost use Rattle.runs.specs.Pending.{executes, handle_of, has_handle, run_info, is_executing, is_executing_in, lesser_handle, may_execute, run_started, is_waiting_run};
 
 use std::alloc::{AllocError, Global};
 use std::collections::BTreeMap;
@@ -35,7 +35,7 @@ impl Model for OrderedRuns {
 
 /// The less of two handles.
 fn lesser(least: Option<u32>, handle: u32) -> u32
-    ensures { result ≡ lesser least handle }
+    ensures { result ≡ lesser_handle least handle }
 {
     match least {
         Some(other) => other.min(handle),
@@ -44,7 +44,7 @@ fn lesser(least: Option<u32>, handle: u32) -> u32
 }
 
 fn waits(execution: RunExecution) -> bool
-    ensures { result ≡ waits execution }
+    ensures { result ≡ is_waiting_run execution }
 {
     match execution {
         RunExecution::Waiting => true,
@@ -121,7 +121,7 @@ impl OrderedRuns {
 
     /// The run of this handle is executed from now on.
     fn execute(&mut self, handle: u32)
-        ensures { self.new ≡ with_first (has_handle (record { 0 = handle })) started self.old }
+        ensures { self.new ≡ with_first (has_handle (record { 0 = handle })) run_started self.old }
     {
         let Some(run) = self.by_handle.get_mut(&handle) else {
             return;
@@ -132,7 +132,7 @@ impl OrderedRuns {
     /// Of the runs that wait and have one of these handles the first is executed from now on.
     pub fn try_execute_run(&mut self, any_handle: &[u32]) -> Option<NotificationHandle>
         ensures run { result ≡ option_map handle_of (find (may_execute any_handle.now) self.old) }
-        ensures rest { self.new ≡ with_first (may_execute any_handle.now) started self.old }
+        ensures rest { self.new ≡ with_first (may_execute any_handle.now) run_started self.old }
     {
         let _ = &self.by_handle;
         let handle = self.handle_to_execute(any_handle)?;
@@ -143,7 +143,7 @@ impl OrderedRuns {
     /// The index and the name of the run's command.
     pub fn get_run_info(&self, handle: &NotificationHandle) -> Option<(u32, &str)>
         ensures { option_map (λ info. (info.0, info.1.now)) result
-            ≡ option_map info_of (find (has_handle handle.now) self.now) }
+            ≡ option_map run_info (find (has_handle handle.now) self.now) }
     {
         let run = self.by_handle.get(&handle.0)?;
         Some((run.command_index, run.name.as_str()))

@@ -3,7 +3,7 @@ ghost use Rattle.std.specs.Prelude.{◌≡◌, [], ◌∷◌, ◌++◌, OnOk, On
 ghost use Rattle.std.specs.List.{list_any};
 ghost use Rattle.std.specs.Option.{option_map};
 ghost use Rattle.runs.specs.Firsts.{with_first, without_first};
-ghost use Rattle.runs.specs.Pending.{handle_of, has_handle, info_of, is_executing, is_executing_in, is_one_of, may_execute, started, to_execute};
+ghost use Rattle.runs.specs.Pending.{handle_of, has_handle, run_info, is_executing, is_executing_in, is_one_of, may_execute, run_started, to_execute};
 
 use crate::ordered_runs::OrderedRuns;
 use std::alloc::{AllocError, Global};
@@ -75,7 +75,7 @@ impl LateRuns {
 
     fn try_execute_run(&mut self, any_handle: &[u32]) -> Option<NotificationHandle>
         ensures run { result ≡ option_map handle_of (find (may_execute any_handle.now) self.old) }
-        ensures rest { self.new ≡ with_first (may_execute any_handle.now) started self.old }
+        ensures rest { self.new ≡ with_first (may_execute any_handle.now) run_started self.old }
     {
         let at = self.place_to_execute(any_handle)?;
         let run = &mut self.pending[at];
@@ -85,7 +85,7 @@ impl LateRuns {
 
     fn get_run_info(&self, handle: &NotificationHandle) -> Option<(u32, &str)>
         ensures { option_map (λ info. (info.0, info.1.now)) result
-            ≡ option_map info_of (find (has_handle handle.now) self.now) }
+            ≡ option_map run_info (find (has_handle handle.now) self.now) }
     {
         let run = self.pending.iter().find(|run| run.handle == handle.0)?;
         Some((run.command_index, run.name.as_str()))
@@ -180,7 +180,7 @@ impl RunState {
     /// Of the runs that wait and have one of these handles the first is executed from now on.
     pub fn try_execute_run(&mut self, any_handle: &[u32]) -> Option<NotificationHandle>
         ensures run { result ≡ option_map handle_of (find (may_execute any_handle.now) self.old) }
-        ensures rest { self.new ≡ with_first (may_execute any_handle.now) started self.old }
+        ensures rest { self.new ≡ with_first (may_execute any_handle.now) run_started self.old }
     {
         match self.ordered.try_execute_run(any_handle) {
             Some(handle) => Some(handle),
@@ -191,7 +191,7 @@ impl RunState {
     /// The index and the name of the run's command.
     pub fn get_run_info(&self, handle: &NotificationHandle) -> Option<(u32, &str)>
         ensures { option_map (λ info. (info.0, info.1.now)) result
-            ≡ option_map info_of (find (has_handle handle.now) self.now) }
+            ≡ option_map run_info (find (has_handle handle.now) self.now) }
     {
         match self.ordered.get_run_info(handle) {
             Some(info) => Some(info),

@@ -3,7 +3,7 @@ ghost use Rattle.std.specs.Prelude.{◌≡◌, ◌∷◌, IfOk, Some};
 ghost use Rattle.std.specs.Duration.{as_nanos};
 ghost use Rattle.journal_errors.specs.declared.error.ErrorBehavior.TheVariants as behavior;
 ghost use Rattle.retries.specs.Policies.{in_nanos};
-ghost use Rattle.runs.specs.Settling.{Becomes, FailsAs, count_with, nanos_with, run_command, terminal};
+ghost use Rattle.runs.specs.Settling.{SettlesRun, FailsAs, count_with, nanos_with, run_as_related, as_terminal_failure};
 
 use crate::types::RunExitResult;
 use journal_errors::{Error, ErrorBehavior, MessageType, RelatedCommand};
@@ -26,7 +26,7 @@ pub enum Settlement {
 
 /// The command that the run's errors relate to.
 fn run_command(run: PendingRun) -> RelatedCommand
-    ensures { result ≡ run_command run }
+    ensures { result ≡ run_as_related run }
 {
     RelatedCommand {
         index: run.command_index,
@@ -38,7 +38,7 @@ fn run_command(run: PendingRun) -> RelatedCommand
 fn retried(mut error: Error, delay: Option<Duration>, run: PendingRun) -> Error
     ensures { result ≡ record error {
       next_retry_delay = delay;
-      related_command = Some (run_command run);
+      related_command = Some (run_as_related run);
     } }
 {
     error.next_retry_delay = delay;
@@ -49,7 +49,7 @@ fn retried(mut error: Error, delay: Option<Duration>, run: PendingRun) -> Error
 fn paused(mut error: Error, run: PendingRun) -> Error
     ensures { result ≡ record error {
       behavior = behavior.Pause;
-      related_command = Some (run_command run);
+      related_command = Some (run_as_related run);
     } }
 {
     error.behavior = ErrorBehavior::Pause;
@@ -59,7 +59,7 @@ fn paused(mut error: Error, run: PendingRun) -> Error
 
 /// The error as a failure that isn't retried.
 fn terminal(alloc: Global, error: &Error) -> Result<Failure, AllocError>
-    ensures { IfOk result (λ failure. failure ≡ terminal error.now) }
+    ensures { IfOk result (λ failure. failure ≡ as_terminal_failure error.now) }
 {
     Ok(Failure {
         code: u32::from(error.code()),
@@ -117,7 +117,7 @@ pub fn settle(
     start: &StartInfo,
     wrote_command: bool,
 ) -> Result<Settlement, AllocError>
-    ensures { IfOk result (Becomes run exit policy.now start.now wrote_command) }
+    ensures { IfOk result (SettlesRun run exit policy.now start.now wrote_command) }
 {
     match exit {
         RunExitResult::Success(value) => {

@@ -1,6 +1,6 @@
 //! The handle of a run, and the result of executing it.
 ghost use Rattle.std.specs.Prelude.{◌≡◌};
-ghost use Rattle.runs.specs.Settling.{has_metadata};
+ghost use Rattle.runs.specs.Settling.{exit_has_metadata};
 
 use bytes::Bytes;
 use journal_errors::Error;
@@ -30,7 +30,7 @@ pub enum RunExitResult {
 impl RunExitResult {
     /// Whether it is a failure with metadata.
     pub fn has_metadata(&self) -> bool
-        ensures { result ≡ has_metadata self.now }
+        ensures { result ≡ exit_has_metadata self.now }
     {
         match self {
             RunExitResult::TerminalFailure(failure) => !failure.metadata.is_empty(),

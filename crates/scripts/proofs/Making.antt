@@ -8,8 +8,8 @@ use Rattle.invocation_vm.specs.Making.{Makes}
 use Rattle.invocation_vm.specs.Seen.{seen}
 use Rattle.invocation_vm.specs.Views.{View}
 use Rattle.replies.specs.declared.reply.Reply.TheVariants as reply
-use Rattle.scripts.specs.Performed.{Made}
+use Rattle.scripts.specs.Performed.{VmIsMade}
 
-pub made_as_asked : (alloc : Global) (options : VMOptions) (wanted : Result Version Error) (vm : CoreVM) (named : Version) → Makes alloc options wanted seen (Ok vm) → named ≡ (seen vm).machine.version → Made alloc options wanted (reply.Made named) (Some vm)
+pub made_as_asked : (alloc : Global) (options : VMOptions) (wanted : Result Version Error) (vm : CoreVM) (named : Version) → Makes alloc options wanted seen (Ok vm) → named ≡ (seen vm).machine.version → VmIsMade alloc options wanted (reply.Made named) (Some vm)
 made_as_asked alloc options (Ok version) vm named is at = (at ∙ ap (λ (v : View). v.machine.version) is, is)
 made_as_asked alloc options (Err refusal) vm named is at = absurd is

@@ -21,36 +21,36 @@ use Rattle.invocation_vm.specs.Views.{View, Leaves, TakesOutput}
 use Rattle.replies.specs.declared.reply.Reply.{Reply}
 use Rattle.replies.specs.declared.reply.Reply.TheVariants as reply
 use Rattle.requests.specs.declared.request.Request.{Request}
-use Rattle.requests.specs.Lines.{Reads}
+use Rattle.requests.specs.Lines.{IsRequestLine}
 use Rattle.scripts.specs.Performed.{Performed}
 use Rattle.replies.specs.Replies.{reply_text}
 use Rattle.scripts.specs.Transcripts.{IsUnanswered, Transcribes}
-use Rattle.scripts.specs.Called.{Answers, Feeds, Drains, Tells, reply_of, reply_or_memory}
+use Rattle.scripts.specs.Called.{Answers, FeedsVm, Drains, RepliesWith, reply_of, reply_or_memory}
 
 pub answers : {A : Type 0} (f : A → Reply) (step : Machine → Outcome A) (given : Result A Error) (answer : Reply) (old new : View) → Does (called (step old.machine) old.machine) given old.machine new.machine → new.undecoded ≡ old.undecoded → answer ≡ reply_of f given → Answers f step answer old new
 answers f step given answer old new does undecoded told = record { given = given; calls = (does, undecoded); told = told }
 
-pub awaits : (future : UnresolvedFuture) (given : Result AwaitResponse Error) (answer : Reply) (old new : View) → CallsFlatAwait future given old new → answer ≡ reply_of reply.Awaited given → Tells reply.Awaited (CallsFlatAwait future) answer old new
+pub awaits : (future : UnresolvedFuture) (given : Result AwaitResponse Error) (answer : Reply) (old new : View) → CallsFlatAwait future given old new → answer ≡ reply_of reply.Awaited given → RepliesWith reply.Awaited (CallsFlatAwait future) answer old new
 awaits future given answer old new calls told = record { given = given; calls = calls; told = told }
 
-pub tells_all : (kind : AnswerKind) (c : Command) (cs : List Command) (given : Result NotificationHandle Error) (said : Reply) (old new : View) → CallsAll c cs given old new → said ≡ reply_of (λ handle. reply.Answer (answer_by kind handle)) given → Tells (λ handle. reply.Answer (answer_by kind handle)) (CallsAll c cs) said old new
+pub tells_all : (kind : AnswerKind) (c : Command) (cs : List Command) (given : Result NotificationHandle Error) (said : Reply) (old new : View) → CallsAll c cs given old new → said ≡ reply_of (λ handle. reply.Answer (answer_by kind handle)) given → RepliesWith (λ handle. reply.Answer (answer_by kind handle)) (CallsAll c cs) said old new
 tells_all kind c cs given said old new calls told = record { given = given; calls = calls; told = told }
 
-pub runs : (name : List ℕ) (given : Result RunHandle Error) (answer : Reply) (old new : View) → CallsRun name given old new → answer ≡ reply_of reply.Run given → Tells reply.Run (CallsRun name) answer old new
+pub runs : (name : List ℕ) (given : Result RunHandle Error) (answer : Reply) (old new : View) → CallsRun name given old new → answer ≡ reply_of reply.Run given → RepliesWith reply.Run (CallsRun name) answer old new
 runs name given answer old new calls told = record { given = given; calls = calls; told = told }
 
-pub proposes : (handle : NotificationHandle) (exit : RunExitResult) (policy : RetryPolicy) (given : Result Unit Error) (said : Reply) (old new : View) → CallsProposal handle exit policy given old new → said ≡ reply_of (λ _. reply.Answer answer.Unit) given → Tells (λ _. reply.Answer answer.Unit) (CallsProposal handle exit policy) said old new
+pub proposes : (handle : NotificationHandle) (exit : RunExitResult) (policy : RetryPolicy) (given : Result Unit Error) (said : Reply) (old new : View) → CallsProposal handle exit policy given old new → said ≡ reply_of (λ _. reply.Answer answer.Unit) given → RepliesWith (λ _. reply.Answer answer.Unit) (CallsProposal handle exit policy) said old new
 proposes handle exit policy given said old new calls told = record { given = given; calls = calls; told = told }
 
-pub feeds : (raws : List RawMessage) (after : View) (given : Result Unit AllocError) (answer : Reply) (old new : View) → Leaves raws after given old new → answer ≡ reply_or_memory (λ _. reply.Done) given → Feeds raws after answer old new
+pub feeds : (raws : List RawMessage) (after : View) (given : Result Unit AllocError) (answer : Reply) (old new : View) → Leaves raws after given old new → answer ≡ reply_or_memory (λ _. reply.Done) given → FeedsVm raws after answer old new
 feeds raws after given answer old new leaves told = record { given = given; leaves = leaves; told = told }
 
 pub drains : (given : Result (List ℕ) AllocError) (answer : Reply) (old new : View) → TakesOutput given old new → answer ≡ reply_or_memory reply.Output given → Drains answer old new
 drains given answer old new takes told = record { given = given; takes = takes; told = told }
 
-pub transcribes : (alloc : Global) (old new : Option CoreVM) (line answer : List ℕ) (request : Request) (reply : Reply) → Reads line request → Performed alloc request old reply new → answer ≡ reply_text reply → Transcribes alloc old new line answer
+pub transcribes : (alloc : Global) (old new : Option CoreVM) (line answer : List ℕ) (request : Request) (reply : Reply) → IsRequestLine line request → Performed alloc request old reply new → answer ≡ reply_text reply → Transcribes alloc old new line answer
 transcribes alloc old new line answer request reply reads performed printed = record { request = request; reply = reply; reads = reads; performed = performed; printed = printed }
 
 -- what the line asks for was done, and its answer found no memory
-pub unanswered : (alloc : Global) (old new : Option CoreVM) (line : List ℕ) (request : Request) (reply : Reply) → Reads line request → Performed alloc request old reply new → IsUnanswered alloc old new line
+pub unanswered : (alloc : Global) (old new : Option CoreVM) (line : List ℕ) (request : Request) (reply : Reply) → IsRequestLine line request → Performed alloc request old reply new → IsUnanswered alloc old new line
 unanswered alloc old new line request reply reads performed = inr (request, reply, reads, performed)

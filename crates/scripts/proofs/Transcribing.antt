@@ -2,7 +2,7 @@
 use Rattle.std.proofs.Common.{◌≡◌, ◌≢◌, ◌++◌, ℕ, List, [], ◌∷◌, Option, Some, None, Global, ap, refl, sym, ◌∙◌, subst, append_assoc}
 use Rattle.std.specs.Io.KnownBytes.{Appends}
 use Rattle.invocation_vm.specs.declared.core_vm.CoreVM.{CoreVM}
-use Rattle.scripts.specs.Transcripts.{Transcribes, IsFirstLine, AreFirstLines, AreAnswered, IsWritten}
+use Rattle.scripts.specs.Transcripts.{Transcribes, IsFirstLine, AreFirstLines, AreAnswered, TranscriptIsWritten}
 
 -- more is written
 appends_more : (held now then : Option (List ℕ)) (xs ys : List ℕ) → Appends held now xs → Appends now then ys → Appends held then (xs ++ ys)
@@ -33,8 +33,8 @@ answers_more alloc (l ∷ lines) line old now new transcript answer (next, first
 
 -- the script up to a line more
 pub written_more : (alloc : Global) (script rest line behind : List ℕ) (old now new : Option CoreVM) (answer ended : List ℕ) (before between after : Option (List ℕ))
-    → IsWritten alloc script rest old now before between → rest ≢ [] → IsFirstLine rest line behind → Transcribes alloc now new line answer
-    → ended ≡ answer ++ 10 ∷ [] → Appends between after ended → IsWritten alloc script behind old new before after
+    → TranscriptIsWritten alloc script rest old now before between → rest ≢ [] → IsFirstLine rest line behind → Transcribes alloc now new line answer
+    → ended ≡ answer ++ 10 ∷ [] → Appends between after ended → TranscriptIsWritten alloc script behind old new before after
 written_more alloc script rest line behind old now new answer ended before between after so_far some first told is appended =
     let front = so_far.transcript in
     let same : front ++ ended ≡ front ++ (answer ++ 10 ∷ []) = ap (λ l. front ++ l) is in record {

@@ -23,7 +23,7 @@ use Rattle.vm_machine.specs.Reads.{read_step}
 use Rattle.vm_machine.specs.Signals.{signal_step}
 use Rattle.invocation_vm.specs.Calls.{CallsAll, CallsFlatAwait, CallsProposal, CallsRun, new_awakeable_step}
 use Rattle.invocation_vm.specs.Making.{response_head}
-use Rattle.invocation_vm.specs.Views.{View, Calls, Leaves, TakesOutput, after_closing, after_error, after_input, brought}
+use Rattle.invocation_vm.specs.Views.{View, Calls, Leaves, TakesOutput, after_closing, after_error, after_input, messages_in_bytes}
 use Rattle.requests.specs.declared.request.Call.{Call}
 use Rattle.requests.specs.declared.request.Call.TheVariants as call
 use Rattle.replies.specs.declared.reply.Reply.{Reply}
@@ -46,13 +46,13 @@ pub record Answers {A : Type 0} (f : A → Reply) (step : Machine → Outcome A)
   pub told : answer ≡ reply_of f given
 
 -- any other call of the VM, of which is said what it does: the reply tells its result
-pub record Tells {A : Type 0} (f : A → Reply) (Done : Result A Error → View → View → Type 0) (answer : Reply) (old new : View) : Type 0 where
+pub record RepliesWith {A : Type 0} (f : A → Reply) (Done : Result A Error → View → View → Type 0) (answer : Reply) (old new : View) : Type 0 where
   pub given : Result A Error
   pub calls : Done given old new
   pub told : answer ≡ reply_of f given
 
 -- what comes in: nothing is told but want of memory
-pub record Feeds (raws : List RawMessage) (after : View) (answer : Reply) (old new : View) : Type 0 where
+pub record FeedsVm (raws : List RawMessage) (after : View) (answer : Reply) (old new : View) : Type 0 where
   pub given : Result Unit AllocError
   pub leaves : Leaves raws after given old new
   pub told : answer ≡ reply_or_memory (λ _. reply.Done) given
@@ -79,7 +79,7 @@ pub record TellsReady (machine : Machine) (answer : Reply) : Type 0 where
 abbrev pub DoneAsAsked : Ask → Reply → View → View → Type 0
 DoneAsAsked (ask.Command c) told old new = Answers
     (λ handle. reply.Answer (command_answer c.message handle)) (commanded c) told old new
-DoneAsAsked (ask.Commands kind first second) told old new = Tells
+DoneAsAsked (ask.Commands kind first second) told old new = RepliesWith
     (λ handle. reply.Answer (answer_by kind handle)) (CallsAll first (second ∷ [])) told old new
 DoneAsAsked ask.Awakeable told old new =
     Answers (λ made. reply.Answer (answer.Awakeable made)) new_awakeable_step told old new
@@ -87,7 +87,8 @@ DoneAsAsked (ask.Read r) told old new = Answers (λ handle. reply.Answer (answer
     (read_step r) told old new
 DoneAsAsked (ask.Signal name) told old new = Answers (λ handle. reply.Answer (answer.Handle handle))
     (signal_step name) told old new
-DoneAsAsked (ask.Await future) told old new = Tells reply.Awaited (CallsFlatAwait future) told old
+DoneAsAsked (ask.Await future) told old new = RepliesWith reply.Awaited (CallsFlatAwait future) told
+    old
     new
 DoneAsAsked (ask.Take handle) told old new = Answers (λ value. reply.Answer (answer.Taken value))
     (take_step handle.0) told old new
@@ -102,20 +103,22 @@ StepDone step told old new = DoneAsAsked (ask_of old.machine.version step) told 
 -- what a line's call does
 abbrev pub Called : Call → Reply → View → View → Type 0
 Called call.Head told old new = TellsHead old.machine.version told × (new ≡ old)
-Called (call.Input bytes) told old new = Feeds (brought old bytes) (after_input old bytes) told old
+Called (call.Input bytes) told old new = FeedsVm (messages_in_bytes old bytes)
+    (after_input old bytes) told old
     new
-Called call.Close told old new = Feeds [] (after_closing old) told old new
+Called call.Close told old new = FeedsVm [] (after_closing old) told old new
 Called call.Output told old new = Drains told old new
 Called call.Ready told old new = TellsReady old.machine told × (new ≡ old)
 Called call.State told old new = (told ≡ reply.State (state_of old.machine)) × (new ≡ old)
 Called call.Index told old new =
     (told ≡ reply.Index (last_index old.machine.counters.command)) × (new ≡ old)
-Called (call.Error error relationship) told old new = Feeds [] (after_error old error relationship)
+Called (call.Error error relationship) told old new = FeedsVm []
+    (after_error old error relationship)
     told old new
 Called call.SysInput told old new =
     Answers (λ input. reply.Answer (answer.Input input)) input_step told old new
-Called (call.Run name) told old new = Tells reply.Run (CallsRun name) told old new
-Called (call.Propose handle exit policy) told old new = Tells (λ _. reply.Answer answer.Unit)
+Called (call.Run name) told old new = RepliesWith reply.Run (CallsRun name) told old new
+Called (call.Propose handle exit policy) told old new = RepliesWith (λ _. reply.Answer answer.Unit)
     (CallsProposal handle exit policy) told old new
 Called (call.EphemeralGet key) told old new = Answers reply.Ephemeral (ephemeral_step key) told old
     new

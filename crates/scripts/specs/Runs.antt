@@ -3,15 +3,15 @@ use Rattle.std.specs.Prelude.{◌≢◌, ◌≡◌, ℕ, List, [], Option, None,
 use Rattle.std.proofs.Common.{Global}
 use Rattle.std.specs.declared.io.Error.{Error as IoError}
 use Rattle.invocation_vm.specs.declared.core_vm.CoreVM.{CoreVM}
-use Rattle.scripts.specs.Transcripts.{IsWritten, IsBegun}
+use Rattle.scripts.specs.Transcripts.{TranscriptIsWritten, IsBegun}
 use Rattle.scripts.specs.declared.run_end.RunEnd.{RunEnd}
 use Rattle.scripts.specs.declared.run_end.RunEnd.TheVariants.{ReadFailed, NoMemory, WriteFailed, Done}
 
 -- Memory was lacking for a line: what is written are the answers of the lines before it.
-pub record IsStarved (alloc : Global) (script : List ℕ) (old : Option CoreVM) (before after : Option (List ℕ)) : Type 0 where
+pub record IsOutOfMemoryAt (alloc : Global) (script : List ℕ) (old : Option CoreVM) (before after : Option (List ℕ)) : Type 0 where
   pub rest : List ℕ
   pub last : Option CoreVM
-  pub is_written : IsWritten alloc script rest old last before after
+  pub is_written : TranscriptIsWritten alloc script rest old last before after
   pub is_left : rest ≢ []
 
 -- An answer was cut: what is written are the answers before it, and a beginning of it.
@@ -19,31 +19,32 @@ pub record IsCut (alloc : Global) (script : List ℕ) (old : Option CoreVM) (bef
   pub rest : List ℕ
   pub last : Option CoreVM
   pub between : Option (List ℕ)
-  pub is_written : IsWritten alloc script rest old last before between
+  pub is_written : TranscriptIsWritten alloc script rest old last before between
   pub is_left : rest ≢ []
   pub is_begun : IsBegun alloc rest last between after
 
 -- what is written of a script's answers, where they have ended so
-abbrev pub Ends : Global → List ℕ → Option CoreVM → Option (List ℕ) → Option (List ℕ)
+abbrev pub EndsScript : Global → List ℕ → Option CoreVM → Option (List ℕ) → Option (List ℕ)
     → (IoError → Type 0) → RunEnd → Type 0
-Ends alloc script old before after write_fails (ReadFailed e) = ⊥
-Ends alloc script old before after write_fails NoMemory = IsStarved alloc script old before after
-Ends alloc script old before after write_fails (WriteFailed e) = write_fails e
+EndsScript alloc script old before after write_fails (ReadFailed e) = ⊥
+EndsScript alloc script old before after write_fails NoMemory =
+    IsOutOfMemoryAt alloc script old before after
+EndsScript alloc script old before after write_fails (WriteFailed e) = write_fails e
     × IsCut alloc script old before after
-Ends alloc script old before after write_fails Done =
-    (last : Option CoreVM) × IsWritten alloc script [] old last before after
+EndsScript alloc script old before after write_fails Done =
+    (last : Option CoreVM) × TranscriptIsWritten alloc script [] old last before after
 
 -- The script is all that the reader had left, where this is known, and its lines are answered from
 -- no VM on.
 pub record IsRun (alloc : Global) (remaining before after : Option (List ℕ)) (write_fails : IoError → Type 0) (end : RunEnd) : Type 0 where
   pub script : List ℕ
   pub read : IfSome remaining (λ bytes. script ≡ bytes)
-  pub ends : Ends alloc script None before after write_fails end
+  pub ends : EndsScript alloc script None before after write_fails end
 
 -- What each end of a run says. `runs` says that a script was answered up to that end; `read` that
 -- all was read, and `unwritten` that nothing was written.
-abbrev pub Tells : (RunEnd → Type 0) → (IoError → Type 0) → Type 0 → Type 0 → RunEnd → Type 0
-Tells runs read_fails read unwritten (ReadFailed e) = read_fails e × unwritten
-Tells runs read_fails read unwritten NoMemory = read × runs NoMemory
-Tells runs read_fails read unwritten (WriteFailed e) = read × runs (WriteFailed e)
-Tells runs read_fails read unwritten Done = read × runs Done
+abbrev pub IsRunEnd : (RunEnd → Type 0) → (IoError → Type 0) → Type 0 → Type 0 → RunEnd → Type 0
+IsRunEnd runs read_fails read unwritten (ReadFailed e) = read_fails e × unwritten
+IsRunEnd runs read_fails read unwritten NoMemory = read × runs NoMemory
+IsRunEnd runs read_fails read unwritten (WriteFailed e) = read × runs (WriteFailed e)
+IsRunEnd runs read_fails read unwritten Done = read × runs Done

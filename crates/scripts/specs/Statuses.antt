@@ -7,14 +7,14 @@ use Rattle.scripts.specs.declared.run_end.RunEnd.TheVariants.{ReadFailed, NoMemo
 
 -- 0: each line of the script is answered; 1: reading or writing failed, or memory was refused; 2:
 -- there was an argument
-abbrev pub code_of : ExitStatus → ℕ
-code_of status.Done = 0
-code_of status.Failed = 1
-code_of status.Usage = 2
+abbrev pub script_exit_code : ExitStatus → ℕ
+script_exit_code status.Done = 0
+script_exit_code status.Failed = 1
+script_exit_code status.Usage = 2
 
 -- the status of a run that ended so
-abbrev pub status_of : RunEnd → ExitStatus
-status_of (ReadFailed e) = status.Failed
-status_of NoMemory = status.Failed
-status_of (WriteFailed e) = status.Failed
-status_of Done = status.Done
+abbrev pub status_of_script : RunEnd → ExitStatus
+status_of_script (ReadFailed e) = status.Failed
+status_of_script NoMemory = status.Failed
+status_of_script (WriteFailed e) = status.Failed
+status_of_script Done = status.Done

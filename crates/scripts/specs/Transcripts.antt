@@ -6,7 +6,7 @@ use Rattle.streams.specs.Streams.{AppendsSome}
 use Rattle.invocation_vm.specs.declared.core_vm.CoreVM.{CoreVM}
 use Rattle.requests.specs.declared.request.Request.{Request}
 use Rattle.replies.specs.declared.reply.Reply.{Reply}
-use Rattle.requests.specs.Lines.{Reads}
+use Rattle.requests.specs.Lines.{IsRequestLine}
 use Rattle.replies.specs.Replies.{reply_text}
 use Rattle.scripts.specs.Performed.{Performed}
 
@@ -14,7 +14,7 @@ use Rattle.scripts.specs.Performed.{Performed}
 pub record Transcribes (alloc : Global) (old new : Option CoreVM) (line answer : List ℕ) : Type 0 where
   pub request : Request
   pub reply : Reply
-  pub reads : Reads line request
+  pub reads : IsRequestLine line request
   pub performed : Performed alloc request old reply new
   pub printed : answer ≡ reply_text reply
 
@@ -22,7 +22,7 @@ pub record Transcribes (alloc : Global) (old new : Option CoreVM) (line answer :
 -- the text of its reply.
 abbrev pub IsUnanswered : Global → Option CoreVM → Option CoreVM → List ℕ → Type 0
 IsUnanswered alloc old new line = (new ≡ old)
-    ⊎ ((request : Request) × (reply : Reply) × Reads line request
+    ⊎ ((request : Request) × (reply : Reply) × IsRequestLine line request
     × Performed alloc request old reply new)
 
 -- the script's first line, without its end, and what follows it; the last line may have no end
@@ -51,7 +51,7 @@ pub record IsTranscript (alloc : Global) (script rest : List ℕ) (old new : Opt
   pub are_answered : AreAnswered alloc lines old new transcript
 
 -- their transcript is written behind what was there before
-pub record IsWritten (alloc : Global) (script rest : List ℕ) (old new : Option CoreVM) (before after : Option (List ℕ)) : Type 0 where
+pub record TranscriptIsWritten (alloc : Global) (script rest : List ℕ) (old new : Option CoreVM) (before after : Option (List ℕ)) : Type 0 where
   pub transcript : List ℕ
   pub is_transcript : IsTranscript alloc script rest old new transcript
   pub appended : Appends before after transcript

@@ -1,6 +1,6 @@
 //! How a run of the program ends.
 ghost use Rattle.std.specs.Prelude.{◌≡◌};
-ghost use Rattle.scripts.specs.Statuses.{code_of};
+ghost use Rattle.scripts.specs.Statuses.{script_exit_code};
 
 #[derive(Clone, Copy, Debug, PartialEq, Eq)]
 pub enum ExitStatus {
@@ -15,7 +15,7 @@ pub enum ExitStatus {
 impl ExitStatus {
     /// The status of the process.
     pub fn code(&self) -> u8
-        ensures { result ≡ code_of self.now }
+        ensures { result ≡ script_exit_code self.now }
     {
         match self {
             ExitStatus::Done => 0,

@@ -6,10 +6,10 @@ ghost use Rattle.vm_types.specs.declared.steps.Answer.TheVariants as answer;
 ghost use Rattle.invocation_vm.specs.Calls.{CallsAll};
 ghost use Rattle.invocation_vm.specs.Making.{version_in};
 ghost use Rattle.invocation_vm.specs.Seen.{seen};
-ghost use Rattle.scripts.specs.Called.{Answers, Called, DoneAsAsked, StepDone, Tells, reply_of, reply_or_memory};
-ghost use Rattle.requests.specs.ContentTypes.{found};
+ghost use Rattle.scripts.specs.Called.{Answers, Called, DoneAsAsked, StepDone, RepliesWith, reply_of, reply_or_memory};
+ghost use Rattle.requests.specs.ContentTypes.{header_under};
 ghost use Rattle.replies.specs.declared.reply.Reply.TheVariants as reply;
-ghost use Rattle.scripts.specs.Performed.{Made, Performed};
+ghost use Rattle.scripts.specs.Performed.{VmIsMade, Performed};
 
 use bytes::Bytes;
 use invocation_vm::{
@@ -150,7 +150,8 @@ fn carry(vm: &mut CoreVM, command: Command) -> Reply
 #[tactic(auto, using(crate::proofs::Told::tells_all, vm_machine::proofs::Answering::several_fit))]
 fn carry_both(vm: &mut CoreVM, kind: AnswerKind, first: Command, second: Command) -> Reply
     requires { AnswerTakes kind (all_ids first (second ∷ [])) }
-    ensures { Tells (λ handle. reply.Answer (answer_by kind handle)) (CallsAll first (second ∷ []))
+    ensures { RepliesWith (λ handle. reply.Answer (answer_by kind handle))
+        (CallsAll first (second ∷ []))
         result (seen vm.old) (seen vm.new) }
 {
     match vm.commands(first, second) {
@@ -253,7 +254,8 @@ fn replace(vm: &mut Option<CoreVM>, new: Option<CoreVM>)
 /// Makes a new VM, and says which or why not.
 #[tactic(auto, using(crate::proofs::Making::made_as_asked))]
 fn make(alloc: Global, content_type: ContentType, options: VMOptions) -> (Reply, Option<CoreVM>)
-    ensures { Made alloc options (version_in (found content_type (codes "content-type"))) result.0
+    ensures { VmIsMade alloc options (version_in (header_under content_type (codes "content-type")))
+        result.0
         result.1 }
 {
     match CoreVM::new(alloc, content_type, options) {
@@ -272,7 +274,8 @@ pub fn make_anew(
     content_type: ContentType,
     options: VMOptions,
 ) -> Reply
-    ensures { Made alloc options (version_in (found content_type (codes "content-type"))) result
+    ensures { VmIsMade alloc options (version_in (header_under content_type (codes "content-type")))
+        result
         vm.new }
 {
     replace(vm, None);

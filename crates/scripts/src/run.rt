@@ -1,7 +1,7 @@
 //! A run of the program: what a reader gives is a script, and its answers go to a writer.
 ghost use Rattle.std.specs.Prelude.{◌≡◌, ◌<◌, ◌++◌, ◌∷◌, [], ℕ, List, length, IfOk, OnErr, None};
 ghost use Rattle.std.specs.Io.KnownBytes.{IsAtEnd};
-ghost use Rattle.scripts.specs.Runs.{Ends, IsRun, Tells};
+ghost use Rattle.scripts.specs.Runs.{EndsScript, IsRun, IsRunEnd};
 ghost use Rattle.scripts.specs.Transcripts.{IsFirstLine, IsUnanswered, Transcribes};
 
 use crate::perform::perform;
@@ -109,7 +109,7 @@ fn answer_all<W: Sink>(
     script: &[u8],
     writer: &mut W,
 ) -> RunEnd
-    ensures { Ends alloc script.now vm.old (W.contents writer.old) (W.contents writer.new)
+    ensures { EndsScript alloc script.now vm.old (W.contents writer.old) (W.contents writer.new)
         (W.fails writer.old) result }
 {
     let mut room = Room::new(alloc);
@@ -129,7 +129,7 @@ fn answer_all<W: Sink>(
 
 /// Answers a script from no VM on.
 fn drive<W: Sink>(alloc: Global, script: &[u8], writer: &mut W) -> RunEnd
-    ensures { Ends alloc script.now None (W.contents writer.old) (W.contents writer.new)
+    ensures { EndsScript alloc script.now None (W.contents writer.old) (W.contents writer.new)
         (W.fails writer.old) result }
 {
     let mut vm = None;
@@ -143,7 +143,7 @@ pub fn run<R: Source, W: Sink>(alloc: Global, reader: &mut R, writer: &mut W) ->
     // Reading has failed, and nothing is written. Each other run has read all that there was as a script, and has answered its
     // first lines, whose answers are written: all of them; or those before a line for which memory was lacking; or those before
     // an answer whose writing has failed, and a beginning of it.
-    ensures { Tells (IsRun alloc (R.remaining reader.old) (W.contents writer.old)
+    ensures { IsRunEnd (IsRun alloc (R.remaining reader.old) (W.contents writer.old)
         (W.contents writer.new) (W.fails writer.old)) (R.fails reader.old)
         (IsAtEnd (R.remaining reader.new)) (writer.new ≡ writer.old) result }
 {

@@ -1,6 +1,6 @@
 //! How a run ends, and the exit status of each end.
 ghost use Rattle.std.specs.Prelude.{◌≡◌};
-ghost use Rattle.scripts.specs.Statuses.{status_of};
+ghost use Rattle.scripts.specs.Statuses.{status_of_script};
 
 use crate::exit_status::ExitStatus;
 use std::io;
@@ -21,7 +21,7 @@ pub enum RunEnd {
 impl RunEnd {
     /// The program's exit status.
     pub fn status(&self) -> ExitStatus
-        ensures { result ≡ status_of self.now }
+        ensures { result ≡ status_of_script self.now }
     {
         match self {
             RunEnd::Done => ExitStatus::Done,

@@ -4,7 +4,7 @@ use Rattle.std.proofs.Common.{Global}
 use Rattle.journal_errors.specs.declared.error.Error.{Error}
 use Rattle.journal_errors.specs.declared.version.Version.{Version}
 use Rattle.vm_types.specs.declared.options.VMOptions.{VMOptions}
-use Rattle.scripts.specs.Performed.{Made}
+use Rattle.scripts.specs.Performed.{VmIsMade}
 use Rattle.invocation_vm.specs.declared.core_vm.CoreVM.{CoreVM}
 use Rattle.invocation_vm.specs.Seen.{seen}
 use Rattle.invocation_vm.specs.Views.{View}
@@ -60,7 +60,7 @@ CalledFromC does told old new = ⊥
 abbrev pub MadeFromC : Global → VMOptions → Result Version Error → Replied → Option Session
     → Option Session → Type 0
 MadeFromC alloc options wanted told (Some old) (Some new) =
-    Made alloc options wanted new.reply new.vm × (told ≡ summary new.reply)
+    VmIsMade alloc options wanted new.reply new.vm × (told ≡ summary new.reply)
     × (new.answer ≡ old.answer)
 MadeFromC alloc options wanted told None None = told ≡ kept_told status.NoSession
 MadeFromC alloc options wanted told old new = ⊥

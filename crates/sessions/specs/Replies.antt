@@ -71,8 +71,8 @@ version_code version.V7 = 7
 version_code version.V8 = 8
 
 -- a reply of this kind, with these three numbers
-abbrev pub numbered : Kind → ℕ → ℕ → ℕ → Replied
-numbered kind first second third = record {
+abbrev pub numbered_reply : Kind → ℕ → ℕ → ℕ → Replied
+numbered_reply kind first second third = record {
   status = 0;
   kind = kind_code kind;
   first = first;
@@ -133,66 +133,70 @@ error_told e = related_told e.code e.related_command
 
 -- a result: a failure's code, and how many keys or pairs there are
 abbrev pub value_told : Value → Replied
-value_told value.Void = numbered kind.Void 0 0 0
-value_told (value.Success bytes) = numbered kind.Value 0 0 0
+value_told value.Void = numbered_reply kind.Void 0 0 0
+value_told (value.Success bytes) = numbered_reply kind.Value 0 0 0
 value_told (value.Failure failure) = with_rows kind.Failure failure.code (length failure.metadata)
 value_told (value.StateKeys keys) = with_rows kind.Keys 0 (length keys)
-value_told (value.InvocationId id) = numbered kind.InvocationId 0 0 0
+value_told (value.InvocationId id) = numbered_reply kind.InvocationId 0 0 0
 
 -- a handle's result, if it has one
 abbrev pub taken_told : Option Value → Replied
 taken_told (Some value) = value_told value
-taken_told None = numbered kind.Nothing 0 0 0
+taken_told None = numbered_reply kind.Nothing 0 0 0
 
 -- what an await answers: which run is to be executed, which ephemeral read's value is there, what
 -- is waited for
 abbrev pub response_told : AwaitResponse → Replied
-response_told response.AnyCompleted = numbered kind.Awake 0 0 0
-response_told (response.WaitingExternalProgress input run) = numbered kind.Waiting (flag_code input)
+response_told response.AnyCompleted = numbered_reply kind.Awake 0 0 0
+response_told (response.WaitingExternalProgress input run) = numbered_reply kind.Waiting
+    (flag_code input)
     (flag_code run) 0
-response_told (response.ExecuteRun handle) = numbered kind.ExecuteRun handle.0 0 0
-response_told response.CancelSignalReceived = numbered kind.Cancelled 0 0 0
-response_told (response.EphemeralNotificationReady id) = numbered kind.Ephemeral id.0 0 0
+response_told (response.ExecuteRun handle) = numbered_reply kind.ExecuteRun handle.0 0 0
+response_told response.CancelSignalReceived = numbered_reply kind.Cancelled 0 0 0
+response_told (response.EphemeralNotificationReady id) = numbered_reply kind.Ephemeral id.0 0 0
 
 -- what a handler's call answers: its handles in the order in which they are handed out
 abbrev pub handles_told : Answer → Replied
 handles_told (answer.Input input) = with_rows kind.Input input.random_seed (length input.headers)
-handles_told (answer.Handle handle) = numbered kind.Handle handle.0 0 0
-handles_told (answer.Call call) = numbered kind.Handle call.invocation_id_notification_handle.0
+handles_told (answer.Handle handle) = numbered_reply kind.Handle handle.0 0 0
+handles_told (answer.Call call) = numbered_reply kind.Handle
+    call.invocation_id_notification_handle.0
     call.call_notification_handle.0 0
 handles_told (answer.CallWithDeadline call) =
-    numbered kind.Handle call.invocation_id_notification_handle.0 call.call_notification_handle.0
+    numbered_reply kind.Handle call.invocation_id_notification_handle.0
+    call.call_notification_handle.0
     call.deadline_notification_handle.0
-handles_told (answer.Send send) = numbered kind.Handle send.invocation_id_notification_handle.0 0 0
-handles_told (answer.Awakeable made) = numbered kind.Awakeable made.handle.0 0 0
-handles_told answer.Unit = numbered kind.Nothing 0 0 0
-handles_told answer.Awake = numbered kind.Awake 0 0 0
-handles_told answer.Cancelled = numbered kind.Cancelled 0 0 0
+handles_told (answer.Send send) = numbered_reply kind.Handle
+    send.invocation_id_notification_handle.0 0 0
+handles_told (answer.Awakeable made) = numbered_reply kind.Awakeable made.handle.0 0 0
+handles_told answer.Unit = numbered_reply kind.Nothing 0 0 0
+handles_told answer.Awake = numbered_reply kind.Awake 0 0 0
+handles_told answer.Cancelled = numbered_reply kind.Cancelled 0 0 0
 handles_told (answer.Taken taken) = taken_told taken
-handles_told (answer.Completed is) = numbered kind.Flag (flag_code is) 0 0
+handles_told (answer.Completed is) = numbered_reply kind.Flag (flag_code is) 0 0
 
 -- the index of the last command, if there is one
 abbrev pub number_told : ℤ → Replied
 number_told (pos index) = with_rows kind.Index index 0
-number_told (negsuc below) = numbered kind.Nothing 0 0 0
+number_told (negsuc below) = numbered_reply kind.Nothing 0 0 0
 
 -- the numbers of a reply
 abbrev pub told_of : Reply → Replied
 told_of (reply.Refused e) = error_told e
-told_of (reply.Made version) = numbered kind.Version (version_code version) 0 0
+told_of (reply.Made version) = numbered_reply kind.Version (version_code version) 0 0
 told_of (reply.Head head) = with_rows kind.Head head.status_code (length head.headers)
-told_of (reply.Output bytes) = numbered kind.Output 0 0 0
-told_of (reply.Ready is_ready) = numbered kind.Flag (flag_code is_ready) 0 0
-told_of (reply.State state) = numbered kind.State (state_code state) 0 0
+told_of (reply.Output bytes) = numbered_reply kind.Output 0 0 0
+told_of (reply.Ready is_ready) = numbered_reply kind.Flag (flag_code is_ready) 0 0
+told_of (reply.State state) = numbered_reply kind.State (state_code state) 0 0
 told_of (reply.Index index) = number_told index
 told_of (reply.Awaited response) = response_told response
-told_of (reply.Run run) = numbered kind.Run run.handle.0 (flag_code run.replayed) 0
-told_of (reply.Ephemeral id) = numbered kind.Ephemeral id.0 0 0
+told_of (reply.Run run) = numbered_reply kind.Run run.handle.0 (flag_code run.replayed) 0
+told_of (reply.Ephemeral id) = numbered_reply kind.Ephemeral id.0 0 0
 told_of (reply.Answer answer) = handles_told answer
-told_of reply.Nothing = numbered kind.Nothing 0 0 0
-told_of reply.Bad = numbered kind.Nothing 0 0 0
-told_of reply.NoVm = numbered kind.Nothing 0 0 0
-told_of reply.Done = numbered kind.Nothing 0 0 0
+told_of reply.Nothing = numbered_reply kind.Nothing 0 0 0
+told_of reply.Bad = numbered_reply kind.Nothing 0 0 0
+told_of reply.NoVm = numbered_reply kind.Nothing 0 0 0
+told_of reply.Done = numbered_reply kind.Nothing 0 0 0
 
 -- ---- parts
 
@@ -251,16 +255,16 @@ in_answer (answer.Taken taken) at = in_taken taken at
 in_answer other at = None
 
 -- the name of a command, if there is one
-abbrev pub related_name : Option RelatedCommand → Option (List ℕ)
-related_name (Some command) = Some command.name
-related_name None = None
+abbrev pub name_of_command : Option RelatedCommand → Option (List ℕ)
+name_of_command (Some command) = Some command.name
+name_of_command None = None
 
 -- of an error: its text, its stack trace, and the name of the command that it relates to
 abbrev pub in_error : Error → ℕ → Option (List ℕ)
 in_error e at =
     if at == 0 then Some e.message
     else if at == 1 then Some e.stacktrace
-    else if at == 2 then related_name e.related_command
+    else if at == 2 then name_of_command e.related_command
     else None
 
 -- a part of a reply, a text or bytes, if there are so many

@@ -5,7 +5,7 @@ use Rattle.std.proofs.Common.{Global}
 use Rattle.vm_parts.specs.Outboxes.{len_of}
 use Rattle.invocation_vm.specs.declared.core_vm.CoreVM.{CoreVM}
 use Rattle.invocation_vm.specs.Seen.{seen}
-use Rattle.invocation_vm.specs.Views.{StarvesAmong, TakesOutput, after_input, brought}
+use Rattle.invocation_vm.specs.Views.{StarvesAmong, TakesOutput, after_input, messages_in_bytes}
 use Rattle.scripts.specs.Transcripts.{IsUnanswered, Transcribes}
 use Rattle.replies.specs.declared.reply.Reply.TheVariants as reply
 use Rattle.sessions.specs.declared.session.Session.{Session}
@@ -52,7 +52,8 @@ AnswerRead told len before after s = ⊥
 abbrev pub Fed : List ℕ → Status → Option CoreVM → Option CoreVM → Type 0
 Fed bytes status.Done (Some old) (Some new) = seen new ≡ after_input (seen old) bytes
 Fed bytes status.NoMemory (Some old) (Some new) =
-    (new ≡ old) ⊎ StarvesAmong (brought (seen old) bytes) (seen old).machine (seen new).machine
+    (new ≡ old) ⊎ StarvesAmong (messages_in_bytes (seen old) bytes) (seen old).machine
+    (seen new).machine
 Fed bytes status.NoVm None None = Unit {0}
 Fed bytes told old new = ⊥
 

@@ -1,6 +1,6 @@
 //! What C is told of a reply at once: numbers.
 ghost use Rattle.std.specs.Prelude.{◌≡◌};
-ghost use Rattle.sessions.specs.Replies.{with_rows, error_told, error_numbers, flag_code, handles_told, kept_told, number_told, response_told, state_code, taken_told, numbered, told_of, value_told, version_code};
+ghost use Rattle.sessions.specs.Replies.{with_rows, error_told, error_numbers, flag_code, handles_told, kept_told, number_told, response_told, state_code, taken_told, numbered_reply, told_of, value_told, version_code};
 
 use crate::kind::Kind;
 use crate::status::Status;
@@ -25,7 +25,7 @@ pub struct Replied {
 
 /// Of a reply with these three numbers.
 pub(crate) fn numbered(kind: Kind, first: u32, second: u32, third: u32) -> Replied
-    ensures { result ≡ numbered kind first second third }
+    ensures { result ≡ numbered_reply kind first second third }
 {
     Replied {
         status: 0,

@@ -1,8 +1,8 @@
 //! One VM, its last answer to a line, and its last reply to a call.
 ghost use Rattle.std.specs.Prelude.{◌≡◌, Some, codes};
 ghost use Rattle.invocation_vm.specs.Making.{version_in};
-ghost use Rattle.requests.specs.ContentTypes.{found};
-ghost use Rattle.scripts.specs.Performed.{Made};
+ghost use Rattle.requests.specs.ContentTypes.{header_under};
+ghost use Rattle.scripts.specs.Performed.{VmIsMade};
 ghost use Rattle.sessions.specs.Calls.{OnVm, Written, part_read};
 ghost use Rattle.sessions.specs.Replies.{part_of, summary};
 ghost use Rattle.sessions.specs.Sessions.{AnswerRead, Drained, Fed, IsEmpty, LineDone};
@@ -121,7 +121,8 @@ impl Session {
     /// Puts a new VM in the place of the last, and tells which, or why there is none.
     pub fn make(&mut self, alloc: Global, content_type: ContentType, options: VMOptions) -> Replied
         ensures answer { self.new.answer ≡ self.old.answer }
-        ensures made { Made alloc options (version_in (found content_type (codes "content-type")))
+        ensures made { VmIsMade alloc options
+            (version_in (header_under content_type (codes "content-type")))
             self.new.reply self.new.vm }
         ensures told { result ≡ summary self.new.reply }
     {

@@ -1,7 +1,7 @@
 //! Calls of a session's VM from C, whichever they are.
 ghost use Rattle.std.specs.Prelude.{◌≡◌, ◌≤◌, codes};
 ghost use Rattle.invocation_vm.specs.Making.{version_in};
-ghost use Rattle.requests.specs.ContentTypes.{found};
+ghost use Rattle.requests.specs.ContentTypes.{header_under};
 ghost use Rattle.sessions.specs.Calls.{CalledFromC, MadeFromC, PartRead};
 ghost use Rattle.sessions.specs.Statuses.{status_named};
 
@@ -48,7 +48,8 @@ pub fn call<C: VmCall>(alloc: Global, vm: &mut Vm, call: C) -> Replied
 
 /// Puts a new VM into the session in the place of the last, and tells which, or why there is none.
 pub fn make(alloc: Global, vm: &mut Vm, content_type: ContentType, options: VMOptions) -> Replied
-    ensures { MadeFromC alloc options (version_in (found content_type (codes "content-type")))
+    ensures { MadeFromC alloc options
+        (version_in (header_under content_type (codes "content-type")))
         result vm.old.value vm.new.value }
 {
     match take(alloc, vm) {

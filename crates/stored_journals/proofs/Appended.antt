@@ -22,9 +22,9 @@ use Rattle.vm_store.specs.Given.{as_given, frame_fault, framed_fault, given_faul
 use Rattle.vm_store.proofs.Framing.{note_no_command, notes_append}
 use Rattle.stored_journals.specs.declared.frames.Part.{Part}
 use Rattle.stored_journals.specs.Ids.{Seen, known_now}
-use Rattle.stored_journals.specs.Journals.{Appends, Holds, View, arriving_fault, completes_read, done_read, given_fault, given_note_fault, known_fault, known_given, note_of, noted_fault, proposing_fault, room_at, said_of}
+use Rattle.stored_journals.specs.Journals.{Appends, Holds, JournalView, arriving_fault, completes_read, done_read, loaded_fault, loaded_note_fault, known_fault, known_given, note_of_part, optional_note_fault, proposing_fault, room_at, command_of_part}
 use Rattle.stored_journals.specs.Journals as by
-use Rattle.stored_journals.specs.Known.{Says, with_called, with_result}
+use Rattle.stored_journals.specs.Known.{IsKnownAs, with_called, with_result_id}
 
 -- ---- one entry more
 
@@ -61,7 +61,7 @@ completed_read id ns None = ap (completes_id id) (append-nil ns)
 completed_read id ns (Some n) = completed_more id ns n
 
 -- an entry is appended to the journal and to what is known of it
-pub appended : (journal : List (List ℕ)) (x : List ℕ) (old new : View) → Holds old journal → Appends (said_at x) (note_in x) old new → Holds new (journal ++ x ∷ [])
+pub appended : (journal : List (List ℕ)) (x : List ℕ) (old new : JournalView) → Holds old journal → Appends (said_at x) (note_in x) old new → Holds new (journal ++ x ∷ [])
 appended journal x old new h a = record {
   ids = λ id.
       let kind : completes_among id (said_in (journal ++ x ∷ [])) None ≡ completes_read id (said_at x) (completes_among id (said_in journal) None)
@@ -74,27 +74,27 @@ appended journal x old new h a = record {
 }
 
 -- a command is appended to what is known
-pub commanded : (m : Message) (called : Option ℕ) (result : Option (ℕ × Completes)) (a b c : Seen) (n k : ℕ) (old : View) → record { ids = a; entries = n; kept = k } ≡ old
-    → ((id : ℕ) (before : Option Completes) → completes_by id m before ≡ with_result id result (with_called id called before))
-    → ((id : ℕ) (before : Option Completes) (done : Bool) → Says before done (known_now a id) → Says (with_called id called before) done (known_now b id))
-    → ((id : ℕ) (before : Option Completes) (done : Bool) → Says before done (known_now b id) → Says (with_result id result before) done (known_now c id))
+pub commanded : (m : Message) (called : Option ℕ) (result : Option (ℕ × Completes)) (a b c : Seen) (n k : ℕ) (old : JournalView) → record { ids = a; entries = n; kept = k } ≡ old
+    → ((id : ℕ) (before : Option Completes) → completes_by id m before ≡ with_result_id id result (with_called id called before))
+    → ((id : ℕ) (before : Option Completes) (done : Bool) → IsKnownAs before done (known_now a id) → IsKnownAs (with_called id called before) done (known_now b id))
+    → ((id : ℕ) (before : Option Completes) (done : Bool) → IsKnownAs before done (known_now b id) → IsKnownAs (with_result_id id result before) done (known_now c id))
     → Appends (Some m) None old (record { ids = c; entries = n + 1; kept = k })
 commanded m called result a b c n k old is carries first second =
-    subst (λ (v : View). Appends (Some m) None v (record { ids = c; entries = n + 1; kept = k })) is
+    subst (λ (v : JournalView). Appends (Some m) None v (record { ids = c; entries = n + 1; kept = k })) is
     (record {
-      ids = λ id before done s. subst (λ (o : Option Completes). Says o done (known_now c id)) (sym (carries id before)) (second id (with_called id called before) done (first id before done s));
+      ids = λ id before done s. subst (λ (o : Option Completes). IsKnownAs o done (known_now c id)) (sym (carries id before)) (second id (with_called id called before) done (first id before done s));
       count = refl;
     })
 
 -- a notification is
-pub noted : (note : Notification) (a b : Seen) (n k : ℕ) (old : View) → record { ids = a; entries = n; kept = k } ≡ old
-    → ((id : ℕ) (before : Option Completes) (done : Bool) → Says before done (known_now a id) → Says before (done || is_of id note.id) (known_now b id))
+pub noted : (note : Notification) (a b : Seen) (n k : ℕ) (old : JournalView) → record { ids = a; entries = n; kept = k } ≡ old
+    → ((id : ℕ) (before : Option Completes) (done : Bool) → IsKnownAs before done (known_now a id) → IsKnownAs before (done || is_of id note.id) (known_now b id))
     → Appends None (Some note) old (record { ids = b; entries = n + 1; kept = k })
-noted note a b n k old is first = subst (λ (v : View). Appends None (Some note) v (record { ids = b; entries = n + 1; kept = k })) is (record { ids = first; count = refl })
+noted note a b n k old is first = subst (λ (v : JournalView). Appends None (Some note) v (record { ids = b; entries = n + 1; kept = k })) is (record { ids = first; count = refl })
 
 -- ---- faults
 
-module _ (view : View) (journal : List (List ℕ)) (h : Holds view journal) where
+module _ (view : JournalView) (journal : List (List ℕ)) (h : Holds view journal) where
   pub room_is : room_at view.entries ≡ room_fault journal
   room_is = ap room_at h.count
 
@@ -103,26 +103,26 @@ module _ (view : View) (journal : List (List ℕ)) (h : Holds view journal) wher
   arriving_is (SignalId id) brings = room_is
   arriving_is (SignalName name) brings = room_is
 
-  given_note_is : (id : NotificationId) (brings : NotificationResult) → given_note_fault id brings view ≡ note_given id brings journal
+  given_note_is : (id : NotificationId) (brings : NotificationResult) → loaded_note_fault id brings view ≡ note_given id brings journal
   given_note_is (CompletionId id) brings = λ i. completion_fault (as_given ((h.ids id).kind i)) ((h.ids id).done i) brings (room_is i)
   given_note_is (SignalId id) brings = room_is
   given_note_is (SignalName name) brings = room_is
 
-  noted_is : (o : Option Notification) → noted_fault o view ≡ noted_given o journal
+  noted_is : (o : Option Notification) → optional_note_fault o view ≡ noted_given o journal
   noted_is None = refl
   noted_is (Some n) = given_note_is n.id n.result
 
   pub proposing_is : (id : ℕ) → proposing_fault id view ≡ stored_proposal_fault id journal
   proposing_is id = λ i. proposed_fault ((h.ids id).kind i) ((h.ids id).done i) (room_is i)
 
-  may_is : (b : Bool) (raw : RawMessage) (read : Part) → said_of read ≡ said_by raw → note_of read ≡ note_by raw → by.may_be_given b raw read ≡ Rattle.vm_store.specs.Given.may_be_given b raw
+  may_is : (b : Bool) (raw : RawMessage) (read : Part) → command_of_part read ≡ said_by raw → note_of_part read ≡ note_by raw → by.may_be_loaded b raw read ≡ Rattle.vm_store.specs.Given.may_be_given b raw
   may_is true raw read said note = refl
   may_is false raw read said note = λ i. is_some (said i) || is_some (note i)
 
-  pub given_is : (raw : RawMessage) (read : Part) → said_of read ≡ said_by raw → note_of read ≡ note_by raw → given_fault raw read view ≡ frame_fault raw journal
+  pub given_is : (raw : RawMessage) (read : Part) → command_of_part read ≡ said_by raw → note_of_part read ≡ note_by raw → loaded_fault raw read view ≡ frame_fault raw journal
   given_is raw read said note =
-      (λ i. option_or (noted_fault (note i) view) (option_or (room_at view.entries) (place_fault (by.may_be_given (view.entries == 0) raw read))))
-      ∙ (λ i. option_or (noted_is (note_by raw) i) (option_or (room_is i) (place_fault (by.may_be_given (h.count i == 0) raw read))))
+      (λ i. option_or (optional_note_fault (note i) view) (option_or (room_at view.entries) (place_fault (by.may_be_loaded (view.entries == 0) raw read))))
+      ∙ (λ i. option_or (noted_is (note_by raw) i) (option_or (room_is i) (place_fault (by.may_be_loaded (h.count i == 0) raw read))))
       ∙ (λ i. option_or (noted_given (note_by raw) journal) (option_or (room_fault journal) (place_fault (may_is (length journal == 0) raw read said note i))))
 
 -- ---- room
@@ -145,7 +145,7 @@ completion_room (Some completes.InvocationId) false brings room e = kind_room (i
 completion_room (Some completes.Proposal) false brings room e = absurd (cc)
 completion_room (Some completes.AnyResult) false brings room e = e
 
-pub arriving_room : (id : NotificationId) (brings : NotificationResult) (view : View) → view.entries ≤ most_entries → arriving_fault id brings view ≡ None → view.entries < most_entries
+pub arriving_room : (id : NotificationId) (brings : NotificationResult) (view : JournalView) → view.entries ≤ most_entries → arriving_fault id brings view ≡ None → view.entries < most_entries
 arriving_room (CompletionId id) brings view l e = not_full view.entries l (completion_room (known_now view.ids id).kind (known_now view.ids id).done brings (room_at view.entries) e)
 arriving_room (SignalId id) brings view l e = not_full view.entries l e
 arriving_room (SignalName name) brings view l e = not_full view.entries l e
@@ -154,10 +154,10 @@ neither : {A : Type 0} (x y : Option A) → option_or x y ≡ None → (x ≡ No
 neither None y h = (refl, h)
 neither (Some x) y h = absurd (cc)
 
-pub given_room : (raw : RawMessage) (read : Part) (view : View) → view.entries ≤ most_entries → given_fault raw read view ≡ None → view.entries < most_entries
+pub given_room : (raw : RawMessage) (read : Part) (view : JournalView) → view.entries ≤ most_entries → loaded_fault raw read view ≡ None → view.entries < most_entries
 given_room raw read view l e =
-    let place = place_fault (by.may_be_given (view.entries == 0) raw read) in
-    not_full view.entries l (neither (room_at view.entries) place (neither (noted_fault (note_of read) view) (option_or (room_at view.entries) place) e).1).0
+    let place = place_fault (by.may_be_loaded (view.entries == 0) raw read) in
+    not_full view.entries l (neither (room_at view.entries) place (neither (optional_note_fault (note_of_part read) view) (option_or (room_at view.entries) place) e).1).0
 
 proposed_room : (kind : Option Completes) (done : Bool) (room : Option RoundFault) → proposed_fault kind done room ≡ None → room ≡ None
 proposed_room None done room e = absurd (cc)
@@ -166,7 +166,7 @@ proposed_room (Some completes.InvocationId) false room e = absurd (cc)
 proposed_room (Some completes.Proposal) false room e = e
 proposed_room (Some completes.AnyResult) false room e = e
 
-pub proposing_room : (id : ℕ) (view : View) → view.entries ≤ most_entries → proposing_fault id view ≡ None → view.entries < most_entries
+pub proposing_room : (id : ℕ) (view : JournalView) → view.entries ≤ most_entries → proposing_fault id view ≡ None → view.entries < most_entries
 proposing_room id view l e = not_full view.entries l (proposed_room (known_now view.ids id).kind (known_now view.ids id).done (room_at view.entries) e)
 
 -- ---- an entry that has no fault
@@ -180,7 +180,7 @@ note_says_nothing (Some raw) n e = by_test (is_notification raw) refl e
     by_test true t h = ap (λ c. cond c (message_in raw.ty raw.body) None) (note_no_command raw t)
     by_test false t h = absurd (cc)
 
-pub arrived : (x : List ℕ) (n : Notification) (old new : View) → note_in x ≡ Some n → arriving_fault n.id n.result old ≡ None → Appends None (Some n) old new
+pub arrived : (x : List ℕ) (n : Notification) (old new : JournalView) → note_in x ≡ Some n → arriving_fault n.id n.result old ≡ None → Appends None (Some n) old new
     → (journal : List (List ℕ)) → Holds old journal → (arrival_fault x journal ≡ None) × Holds new (journal ++ x ∷ [])
 arrived x n old new is none a journal h =
     let said : said_at x ≡ None = note_says_nothing (frame_in x) n is in (
@@ -188,7 +188,7 @@ arrived x n old new is none a journal h =
       appended journal x old new h (subst (λ (p : Option Message × Option Notification). Appends p.0 p.1 old new) (λ i. (sym said i, sym is i)) a),
     )
 
-pub entered : (x : List ℕ) (raw : RawMessage) (old new : View) → frame_in x ≡ Some raw
+pub entered : (x : List ℕ) (raw : RawMessage) (old new : JournalView) → frame_in x ≡ Some raw
     → ((journal : List (List ℕ)) → Holds old journal → (frame_fault raw journal ≡ None) × Appends (said_by raw) (note_by raw) old new)
     → (journal : List (List ℕ)) → Holds old journal → (fault_given x journal ≡ None) × Holds new (journal ++ x ∷ [])
 entered x raw old new is all journal h =

@@ -5,10 +5,10 @@ use Rattle.journal_errors.specs.declared.version.Version.{Version}
 use Rattle.vm_store.specs.declared.types.RoundFault.{RoundFault}
 use Rattle.vm_store.specs.declared.types.RoundFault.TheVariants as round_fault
 use Rattle.vm_store.specs.Storing.{FirstFault, written_from}
-use Rattle.stored_journals.specs.Journals.{Holds, View}
+use Rattle.stored_journals.specs.Journals.{Holds, JournalView}
 use Rattle.stored_journals.specs.Stored.{IsStoringFault}
 
-pub fault_here : (version : Version) (n : ℕ) (unstored : List ℕ) (view : View) (entries : List (List ℕ)) (result : Result Unit RoundFault) → Holds view entries → IfErr result (λ f. IsStoringFault version n unstored view entries f)
+pub fault_here : (version : Version) (n : ℕ) (unstored : List ℕ) (view : JournalView) (entries : List (List ℕ)) (result : Result Unit RoundFault) → Holds view entries → IfErr result (λ f. IsStoringFault version n unstored view entries f)
     → IfErr result (λ f. (f ≡ round_fault.Memory) ⊎ FirstFault version (take n (written_from unstored)) entries f)
 fault_here version n unstored view entries (Ok u) h e = tt
 fault_here version n unstored view entries (Err f) h e =

@@ -13,7 +13,7 @@ use Rattle.vm_store.specs.declared.completions.Completes.{Completes}
 use Rattle.vm_store.specs.Arrivals.{if_same}
 use Rattle.stored_journals.specs.declared.known.Known.{Known}
 use Rattle.stored_journals.specs.Ids.{Changes, Seen, known_kept, known_now}
-use Rattle.stored_journals.specs.Known.{Says, carried_as, completed, nothing_known}
+use Rattle.stored_journals.specs.Known.{IsKnownAs, carried_as, as_completed, nothing_known}
 
 -- ---- one id
 
@@ -40,13 +40,13 @@ changes k change v kept m n is h q =
 
 -- ---- what is said of it
 
-carried_here : (b : Bool) (kind : Completes) (before : Option Completes) (done : Bool) (known new : Known) → new ≡ (if b then carried_as kind known else known) → Says before done known
-    → Says (if_same b kind before) done new
+carried_here : (b : Bool) (kind : Completes) (before : Option Completes) (done : Bool) (known new : Known) → new ≡ (if b then carried_as kind known else known) → IsKnownAs before done known
+    → IsKnownAs (if_same b kind before) done new
 carried_here true kind before done known new e s = record { kind = ap (λ (k : Known). k.kind) e; done = ap (λ (k : Known). k.done) e ∙ s.done }
 carried_here false kind before done known new e s = record { kind = ap (λ (k : Known). k.kind) e ∙ s.kind; done = ap (λ (k : Known). k.done) e ∙ s.done }
 
-pub carried_says : (k : ℕ) (kind : Completes) (old new : Seen) → Changes k (carried_as kind) old new → (id : ℕ) (before : Option Completes) (done : Bool) → Says before done (known_now old id)
-    → Says (if_same (k == id) kind before) done (known_now new id)
+pub carried_says : (k : ℕ) (kind : Completes) (old new : Seen) → Changes k (carried_as kind) old new → (id : ℕ) (before : Option Completes) (done : Bool) → IsKnownAs before done (known_now old id)
+    → IsKnownAs (if_same (k == id) kind before) done (known_now new id)
 carried_says k kind old new h id before done s = carried_here (k == id) kind before done (known_now old id) (known_now new id) (h id) s
 
 or_true : (b : Bool) → (b || true) ≡ true
@@ -57,16 +57,16 @@ or_false : (b : Bool) → (b || false) ≡ b
 or_false true = refl
 or_false false = refl
 
-completed_here : (b : Bool) (before : Option Completes) (done : Bool) (known new : Known) → new ≡ (if b then completed known else known) → Says before done known → Says before (done || b) new
+completed_here : (b : Bool) (before : Option Completes) (done : Bool) (known new : Known) → new ≡ (if b then as_completed known else known) → IsKnownAs before done known → IsKnownAs before (done || b) new
 completed_here true before done known new e s = record { kind = ap (λ (k : Known). k.kind) e ∙ s.kind; done = ap (λ (k : Known). k.done) e ∙ sym (or_true done) }
 completed_here false before done known new e s = record { kind = ap (λ (k : Known). k.kind) e ∙ s.kind; done = ap (λ (k : Known). k.done) e ∙ s.done ∙ sym (or_false done) }
 
-pub completed_says : (k : ℕ) (old new : Seen) → Changes k completed old new → (id : ℕ) (before : Option Completes) (done : Bool) → Says before done (known_now old id)
-    → Says before (done || (k == id)) (known_now new id)
+pub completed_says : (k : ℕ) (old new : Seen) → Changes k as_completed old new → (id : ℕ) (before : Option Completes) (done : Bool) → IsKnownAs before done (known_now old id)
+    → IsKnownAs before (done || (k == id)) (known_now new id)
 completed_says k old new h id before done s = completed_here (k == id) before done (known_now old id) (known_now new id) (h id) s
 
-pub same_says : (old new : Seen) → new ≡ old → (id : ℕ) (before : Option Completes) (done : Bool) → Says before done (known_now old id) → Says before (done || false) (known_now new id)
-same_says old new e id before done s = subst (λ (w : Seen). Says before (done || false) (known_now w id)) (sym e) (record { kind = s.kind; done = s.done ∙ sym (or_false done) })
+pub same_says : (old new : Seen) → new ≡ old → (id : ℕ) (before : Option Completes) (done : Bool) → IsKnownAs before done (known_now old id) → IsKnownAs before (done || false) (known_now new id)
+same_says old new e id before done s = subst (λ (w : Seen). IsKnownAs before (done || false) (known_now w id)) (sym e) (record { kind = s.kind; done = s.done ∙ sym (or_false done) })
 
 -- ---- all of them
 

@@ -12,7 +12,7 @@ use Rattle.journal_streams.proofs.Alone.{read_back}
 use Rattle.journal_streams.proofs.Cuts.{whole_shorter}
 use Rattle.journal_values.specs.declared.notification.Notification.{Notification}
 use Rattle.vm_parts.specs.declared.run_state.KeptProposal.{KeptProposal}
-use Rattle.vm_machine.specs.Inputs.{completion_of}
+use Rattle.vm_machine.specs.Inputs.{acknowledged_completion}
 use Rattle.vm_model.specs.Journal.{stored_form}
 use Rattle.vm_attempt.specs.Journals.{is_command_frame}
 use Rattle.vm_store.specs.declared.storing.Written.{Written}
@@ -23,7 +23,7 @@ use Rattle.vm_store.specs.NextFrames.{HasFault, NextFaults, StoresItem, StoresOn
 use Rattle.vm_store.specs.Storing.{FirstFault, Stores, completion_message, proposal_of, stored_as, storing_fault, written_as, written_from}
 use Rattle.vm_store.proofs.Framing.{frame_back}
 use Rattle.vm_store.proofs.Scanned.{Stands, stands_done, stands_fault, stands_first, stands_over, then_next}
-use Rattle.stored_journals.specs.Journals.{Appends, Holds, IsSameKept, View}
+use Rattle.stored_journals.specs.Journals.{Appends, Holds, IsSameKept, JournalView}
 use Rattle.stored_journals.specs.Stored.{NextFaultsBy, StoresBy, StoresOneBy, StoresRawBy, fits_in, storing_by}
 use Rattle.stored_journals.proofs.Appended.{appended, proposing_is, room_is}
 
@@ -50,10 +50,10 @@ note_read n whole = ap (read_from note_by) (frame_back (stored_form (message.Not
 note_said : (n : Notification) → IsWhole (message.Notification n) → said_at (encoding (message.Notification n)) ≡ None
 note_said n whole = ap (read_from said_by) (frame_back (stored_form (message.Notification n)) whole.1)
 
-pub completion_appends : (p : KeptProposal) (old new : View) → IsWhole (completion_message p) → Appends None (Some (completion_of p.completion_id p)) old new
+pub completion_appends : (p : KeptProposal) (old new : JournalView) → IsWhole (completion_message p) → Appends None (Some (acknowledged_completion p.completion_id p)) old new
     → Appends (said_at (encoding (completion_message p))) (note_in (encoding (completion_message p))) old new
 completion_appends p old new whole a =
-    let n = completion_of p.completion_id p in
+    let n = acknowledged_completion p.completion_id p in
     subst (λ (o : Option Message). Appends o (note_in (encoding (completion_message p))) old new) (sym (note_said n whole)) (subst (λ (o : Option Notification). Appends None o old new) (sym (note_read n whole)) a)
 
 -- ---- one item
@@ -68,12 +68,12 @@ fits_by false raw (Some p) (Proposal q) e l = tt
 pub item_fits : (raw : RawMessage) (w : Written) → written_as raw ≡ Some w → length raw.body < 2 ^ 64 → fits_in w
 item_fits raw w e l = fits_by (is_command_frame raw) raw (proposal_of raw) w e l
 
-module _ (view : View) (journal : List (List ℕ)) (h : Holds view journal) where
+module _ (view : JournalView) (journal : List (List ℕ)) (h : Holds view journal) where
   pub storing_is : (w : Written) → storing_by w view ≡ storing_fault w journal
   storing_is (Command raw) = room_is view journal h
   storing_is (Proposal p) = proposing_is view journal h p.completion_id
 
-module _ (version : Version) (before : List (List ℕ)) (old : View) (entries : List (List ℕ)) (feed : List ℕ) (new : View) (entries' : List (List ℕ)) (feed' : List ℕ) (h : Holds old (before ++ entries)) where
+module _ (version : Version) (before : List (List ℕ)) (old : JournalView) (entries : List (List ℕ)) (feed : List ℕ) (new : JournalView) (entries' : List (List ℕ)) (feed' : List ℕ) (h : Holds old (before ++ entries)) where
   abbrev J : List (List ℕ)
   J = before ++ entries
 
@@ -88,7 +88,7 @@ module _ (version : Version) (before : List (List ℕ)) (old : View) (entries : 
       )
 
   same_holds : new ≡ old → entries' ≡ entries → Holds new J'
-  same_holds e l = subst (λ (x : View × List (List ℕ)). Holds x.0 (before ++ x.1)) (λ i. (sym e i, sym l i)) h
+  same_holds e l = subst (λ (x : JournalView × List (List ℕ)). Holds x.0 (before ++ x.1)) (λ i. (sym e i, sym l i)) h
 
   raw_stored : (raw : RawMessage) (b : Bool) → StoresRawBy version raw b old entries feed new entries' feed' → StoresRaw version raw b J feed J' feed' × Holds new J'
   raw_stored raw false (none, same, list, fed) = ((none, ap (λ l. before ++ l) list, fed), same_holds same list)
@@ -101,22 +101,22 @@ module _ (version : Version) (before : List (List ℕ)) (old : View) (entries : 
 -- ---- one after another
 
 -- for each journal that is known so far, so many items are left to be stored, and the journal that they make is known
-pub record Going (version : Version) (n : ℕ) (u : List ℕ) (first : View) (es : List (List ℕ)) (fed : List ℕ) (left : ℕ) (now : View) (entries : List (List ℕ)) (feed : List ℕ) (rest : List ℕ) : Type 0 where
+pub record Going (version : Version) (n : ℕ) (u : List ℕ) (first : JournalView) (es : List (List ℕ)) (fed : List ℕ) (left : ℕ) (now : JournalView) (entries : List (List ℕ)) (feed : List ℕ) (rest : List ℕ) : Type 0 where
   pub stands : (before : List (List ℕ)) → Holds first (before ++ es) → Stands version n u (before ++ es) fed left (before ++ entries) feed rest
   pub holds : (before : List (List ℕ)) → Holds first (before ++ es) → Holds now (before ++ entries)
 
-pub going_first : (version : Version) (n : ℕ) (u : List ℕ) (first : View) (es : List (List ℕ)) (fed : List ℕ) → Going version n u first es fed n first es fed u
+pub going_first : (version : Version) (n : ℕ) (u : List ℕ) (first : JournalView) (es : List (List ℕ)) (fed : List ℕ) → Going version n u first es fed n first es fed u
 going_first version n u first es fed = record { stands = λ before h. stands_first version n u (before ++ es) fed; holds = λ before h. h }
 
-module _ (version : Version) (n : ℕ) (u : List ℕ) (first : View) (es : List (List ℕ)) (fed : List ℕ) (left : ℕ) (now : View) (entries : List (List ℕ)) (feed : List ℕ) (rest : List ℕ) (g : Going version n u first es fed left now entries feed rest) where
-  pub going_next : (o : Option Bool) (stored b : Bool) (now' : View) (entries' : List (List ℕ)) (feed' rest' : List ℕ) → o ≡ Some stored → stored ≡ b → StoresOneBy version rest o rest' now entries feed now' entries' feed' → 0 < left
+module _ (version : Version) (n : ℕ) (u : List ℕ) (first : JournalView) (es : List (List ℕ)) (fed : List ℕ) (left : ℕ) (now : JournalView) (entries : List (List ℕ)) (feed : List ℕ) (rest : List ℕ) (g : Going version n u first es fed left now entries feed rest) where
+  pub going_next : (o : Option Bool) (stored b : Bool) (now' : JournalView) (entries' : List (List ℕ)) (feed' rest' : List ℕ) → o ≡ Some stored → stored ≡ b → StoresOneBy version rest o rest' now entries feed now' entries' feed' → 0 < left
       → Going version n u first es fed (if b then left - 1 else left) now' entries' feed' rest'
   going_next o stored b now' entries' feed' rest' is is' s some = record {
     stands = λ before h. then_next version n u (before ++ es) fed left (before ++ entries) feed rest (g.stands before h) o stored b (before ++ entries') feed' rest' is is' (one_stored version before now entries feed now' entries' feed' (g.holds before h) rest rest' o s).0 some;
     holds = λ before h. (one_stored version before now entries feed now' entries' feed' (g.holds before h) rest rest' o s).1;
   }
 
-  pub going_over : (o : Option Bool) (now' : View) (entries' : List (List ℕ)) (feed' rest' : List ℕ) → o ≡ None → StoresOneBy version rest o rest' now entries feed now' entries' feed'
+  pub going_over : (o : Option Bool) (now' : JournalView) (entries' : List (List ℕ)) (feed' rest' : List ℕ) → o ≡ None → StoresOneBy version rest o rest' now entries feed now' entries' feed'
       → (before : List (List ℕ)) → Holds first (before ++ es) → Stores version n u (before ++ es) fed (before ++ entries') feed' rest' × Holds now' (before ++ entries')
   going_over o now' entries' feed' rest' is s before h =
       let t = one_stored version before now entries feed now' entries' feed' (g.holds before h) rest rest' o s in
@@ -131,10 +131,10 @@ module _ (version : Version) (n : ℕ) (u : List ℕ) (first : View) (es : List 
       let next : NextFaults rest (before ++ entries) f = record { raw = h.raw; rest = h.rest; next = h.next; has = has } in
       stands_fault version n u (before ++ es) fed left (before ++ entries) feed rest (g.stands before begun) f next some
 
-pub same_kept : (a b c : View) → IsSameKept a b → IsSameKept b c → IsSameKept a c
+pub same_kept : (a b c : JournalView) → IsSameKept a b → IsSameKept b c → IsSameKept a c
 same_kept a b c x y = record { ids = y.ids ∙ x.ids; count = y.count ∙ x.count }
 
 -- the bytes that weren't looked at are fewer
-pub one_shorter : (version : Version) (u : List ℕ) (o : Option Bool) (b : Bool) (u' : List ℕ) (old : View) (entries : List (List ℕ)) (feed : List ℕ) (new : View) (entries' : List (List ℕ)) (feed' : List ℕ) → o ≡ Some b → StoresOneBy version u o u' old entries feed new entries' feed' → length u' < length u
+pub one_shorter : (version : Version) (u : List ℕ) (o : Option Bool) (b : Bool) (u' : List ℕ) (old : JournalView) (entries : List (List ℕ)) (feed : List ℕ) (new : JournalView) (entries' : List (List ℕ)) (feed' : List ℕ) → o ≡ Some b → StoresOneBy version u o u' old entries feed new entries' feed' → length u' < length u
 one_shorter version u None b u' old entries feed new entries' feed' is h = absurd (cc)
 one_shorter version u (Some c) b u' old entries feed new entries' feed' is (raw, next, fits, stores) = omega (arith, whole_shorter u raw u' next)

@@ -6,7 +6,7 @@ use Rattle.std.specs.Map.{lookup}
 use Rattle.std.specs.BTreeMap.{is_at}
 use Rattle.vm_store.specs.declared.completions.Completes.{Completes}
 use Rattle.stored_journals.specs.declared.known.Known.{Known}
-use Rattle.stored_journals.specs.Known.{Says, nothing_known}
+use Rattle.stored_journals.specs.Known.{IsKnownAs, nothing_known}
 
 -- Both in the order of the ids; what is known since replaces what was known.
 pub record Seen : Type 0 where
@@ -30,5 +30,5 @@ Changes id change old new =
 abbrev pub SaysWith : (ℕ → Option Completes → Option Completes) → (ℕ → Bool → Bool) → Seen → Seen
     → Type 0
 SaysWith kinds dones old new =
-    (id : ℕ) (before : Option Completes) (done : Bool) → Says before done (known_now old id)
-    → Says (kinds id before) (dones id done) (known_now new id)
+    (id : ℕ) (before : Option Completes) (done : Bool) → IsKnownAs before done (known_now old id)
+    → IsKnownAs (kinds id before) (dones id done) (known_now new id)

@@ -21,23 +21,23 @@ use Rattle.stored_journals.specs.Ids.{SaysWith, Seen, known_kept, known_now}
 use Rattle.stored_journals.specs.Known.{IsKnown}
 
 -- the ids, how many entries there are, and how many there were at the last commit
-pub record View : Type 0 where
+pub record JournalView : Type 0 where
   pub ids : Seen
   pub entries : ℕ
   pub kept : ℕ
 
 -- the object knows of this journal what there is to know
-pub record Holds (view : View) (journal : List (List ℕ)) : Type 0 where
+pub record Holds (view : JournalView) (journal : List (List ℕ)) : Type 0 where
   pub ids : (id : ℕ) → IsKnown journal id (known_now view.ids id)
   pub count : view.entries ≡ length journal
 
 -- the same of the journal at the last commit
-pub record Kept (view : View) (journal : List (List ℕ)) : Type 0 where
+pub record Kept (view : JournalView) (journal : List (List ℕ)) : Type 0 where
   pub ids : (id : ℕ) → IsKnown journal id (known_kept view.ids id)
   pub count : view.kept ≡ length journal
 
 -- what was known at the last commit is known as it was
-pub record IsSameKept (old : View) (new : View) : Type 0 where
+pub record IsSameKept (old : JournalView) (new : JournalView) : Type 0 where
   pub ids : new.ids.kept ≡ old.ids.kept
   pub count : new.kept ≡ old.kept
 
@@ -55,7 +55,7 @@ done_read id (Some note) done = done || is_of id note.id
 
 -- an entry is appended that says this, if it is a command, or that is this notification, if it is
 -- one
-pub record Appends (said : Option Message) (note : Option Notification) (old : View) (new : View) : Type 0 where
+pub record Appends (said : Option Message) (note : Option Notification) (old : JournalView) (new : JournalView) : Type 0 where
   pub ids : SaysWith (λ id before. completes_read id said before)
       (λ id done. done_read id note done) old.ids new.ids
   pub count : new.entries ≡ old.entries + 1
@@ -63,19 +63,20 @@ pub record Appends (said : Option Message) (note : Option Notification) (old : V
 -- ---- what comes of an entry
 
 -- behind each journal that is known the entry has no fault, and with it the journal is known
-abbrev pub Enters : (List (List ℕ) → Option RoundFault) → List ℕ → View → View → Type 0
+abbrev pub Enters : (List (List ℕ) → Option RoundFault) → List ℕ → JournalView → JournalView
+    → Type 0
 Enters fault entry old new =
     (journal : List (List ℕ)) → Holds old journal → (fault journal ≡ None)
     × Holds new (journal ++ entry ∷ [])
 
 -- it is out of memory, or the fault behind each journal that is known
-abbrev pub IsFault : (List (List ℕ) → Option RoundFault) → View → RoundFault → Type 0
+abbrev pub IsFault : (List (List ℕ) → Option RoundFault) → JournalView → RoundFault → Type 0
 IsFault fault view f =
     (f ≡ round_fault.Memory)
     ⊎ ((journal : List (List ℕ)) → Holds view journal → fault journal ≡ Some f)
 
 -- behind each journal that is known the frame has no fault, and it is appended
-abbrev pub Loads : RawMessage → View → View → Type 0
+abbrev pub Loads : RawMessage → JournalView → JournalView → Type 0
 Loads raw old new =
     (journal : List (List ℕ)) → Holds old journal
     → (frame_fault raw journal ≡ None) × Appends (said_by raw) (note_by raw) old new
@@ -83,16 +84,16 @@ Loads raw old new =
 -- ---- faults, by what is known
 
 -- what a frame says as a command
-abbrev pub said_of : Part → Option Message
-said_of (part.Command command) = Some command
-said_of (part.Arrived note) = None
-said_of part.Other = None
+abbrev pub command_of_part : Part → Option Message
+command_of_part (part.Command command) = Some command
+command_of_part (part.Arrived note) = None
+command_of_part part.Other = None
 
 -- the notification that a frame is
-abbrev pub note_of : Part → Option Notification
-note_of (part.Command command) = None
-note_of (part.Arrived note) = Some note
-note_of part.Other = None
+abbrev pub note_of_part : Part → Option Notification
+note_of_part (part.Command command) = None
+note_of_part (part.Arrived note) = Some note
+note_of_part part.Other = None
 
 -- the fault of a journal that is full
 abbrev pub room_at : ℕ → Option RoundFault
@@ -109,35 +110,35 @@ known_given known brings room =
     completion_fault (as_given known.kind) known.done brings room
 
 -- the fault of a notification
-abbrev pub arriving_fault : NotificationId → NotificationResult → View → Option RoundFault
+abbrev pub arriving_fault : NotificationId → NotificationResult → JournalView → Option RoundFault
 arriving_fault (CompletionId id) brings view = known_fault (known_now view.ids id) brings
     (room_at view.entries)
 arriving_fault (SignalId id) brings view = room_at view.entries
 arriving_fault (SignalName name) brings view = room_at view.entries
 
 -- the fault of a notification in a journal that is given
-abbrev pub given_note_fault : NotificationId → NotificationResult → View → Option RoundFault
-given_note_fault (CompletionId id) brings view = known_given (known_now view.ids id) brings
+abbrev pub loaded_note_fault : NotificationId → NotificationResult → JournalView → Option RoundFault
+loaded_note_fault (CompletionId id) brings view = known_given (known_now view.ids id) brings
     (room_at view.entries)
-given_note_fault (SignalId id) brings view = room_at view.entries
-given_note_fault (SignalName name) brings view = room_at view.entries
+loaded_note_fault (SignalId id) brings view = room_at view.entries
+loaded_note_fault (SignalName name) brings view = room_at view.entries
 
 -- the fault of a notification in a journal that is given, if it is one
-abbrev pub noted_fault : Option Notification → View → Option RoundFault
-noted_fault None view = None
-noted_fault (Some note) view = given_note_fault note.id note.result view
+abbrev pub optional_note_fault : Option Notification → JournalView → Option RoundFault
+optional_note_fault None view = None
+optional_note_fault (Some note) view = loaded_note_fault note.id note.result view
 
 -- whether a frame may stand as an entry, the first of a journal or another
-abbrev pub may_be_given : Bool → RawMessage → Part → Bool
-may_be_given true raw read = is_some (input_read_from raw)
-may_be_given false raw read = is_some (said_of read) || is_some (note_of read)
+abbrev pub may_be_loaded : Bool → RawMessage → Part → Bool
+may_be_loaded true raw read = is_some (input_read_from raw)
+may_be_loaded false raw read = is_some (command_of_part read) || is_some (note_of_part read)
 
 -- the fault of a frame in a journal that is given, and of what was read from it
-abbrev pub given_fault : RawMessage → Part → View → Option RoundFault
-given_fault raw read view = option_or (noted_fault (note_of read) view)
-    (option_or (room_at view.entries) (place_fault (may_be_given (view.entries == 0) raw read)))
+abbrev pub loaded_fault : RawMessage → Part → JournalView → Option RoundFault
+loaded_fault raw read view = option_or (optional_note_fault (note_of_part read) view)
+    (option_or (room_at view.entries) (place_fault (may_be_loaded (view.entries == 0) raw read)))
 
 -- the fault of a proposal
-abbrev pub proposing_fault : ℕ → View → Option RoundFault
+abbrev pub proposing_fault : ℕ → JournalView → Option RoundFault
 proposing_fault id view = proposed_fault (known_now view.ids id).kind
     (known_now view.ids id).done (room_at view.entries)

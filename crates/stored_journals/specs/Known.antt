@@ -8,14 +8,14 @@ use Rattle.vm_store.specs.Entries.{notes_in, said_in}
 use Rattle.stored_journals.specs.declared.known.Known.{Known}
 
 -- this is what completes an id, and whether it was completed
-pub record Says (what : Option Completes) (whether : Bool) (known : Known) : Type 0 where
+pub record IsKnownAs (what : Option Completes) (whether : Bool) (known : Known) : Type 0 where
   pub kind : known.kind ≡ what
   pub done : known.done ≡ whether
 
 -- this is what a journal says of an id
 abbrev pub IsKnown : List (List ℕ) → ℕ → Known → Type 0
 IsKnown journal id known =
-    Says (completes_among id (said_in journal) None) (completes_id id (notes_in journal)) known
+    IsKnownAs (completes_among id (said_in journal) None) (completes_id id (notes_in journal)) known
 
 -- no command carries the id, and nothing completed it
 abbrev pub nothing_known : Known
@@ -26,8 +26,8 @@ abbrev pub carried_as : Completes → Known → Known
 carried_as kind known = record { kind = Some kind; done = known.done }
 
 -- the id is completed
-abbrev pub completed : Known → Known
-completed known = record { kind = known.kind; done = true }
+abbrev pub as_completed : Known → Known
+as_completed known = record { kind = known.kind; done = true }
 
 -- ---- what a command carries
 
@@ -37,6 +37,6 @@ with_called id None before = before
 with_called id (Some called) before = if_same (called == id) completes.InvocationId before
 
 -- the id of a result, if there is one, is carried
-abbrev pub with_result : ℕ → Option (ℕ × Completes) → Option Completes → Option Completes
-with_result id None before = before
-with_result id (Some p) before = if_same (p.0 == id) p.1 before
+abbrev pub with_result_id : ℕ → Option (ℕ × Completes) → Option Completes → Option Completes
+with_result_id id None before = before
+with_result_id id (Some p) before = if_same (p.0 == id) p.1 before

@@ -10,7 +10,7 @@ use Rattle.vm_store.specs.declared.types.RoundFault.TheVariants as round_fault
 use Rattle.vm_store.specs.Entries.{note_in, said_at}
 use Rattle.vm_store.specs.NextFrames.{IsWholeItem}
 use Rattle.vm_store.specs.Storing.{FirstFault, Stores, stored_as, waits_behind, written_as, written_from}
-use Rattle.stored_journals.specs.Journals.{Appends, Holds, View, proposing_fault, room_at}
+use Rattle.stored_journals.specs.Journals.{Appends, Holds, JournalView, proposing_fault, room_at}
 
 -- a command's body is not too long
 abbrev pub fits_in : Written → Type 0
@@ -18,12 +18,12 @@ fits_in (Command raw) = length raw.body < 2 ^ 64
 fits_in (Proposal p) = Unit {0}
 
 -- the fault of storing it
-abbrev pub storing_by : Written → View → Option RoundFault
+abbrev pub storing_by : Written → JournalView → Option RoundFault
 storing_by (Command raw) view = room_at view.entries
 storing_by (Proposal p) view = proposing_fault p.completion_id view
 
 -- it is the next entry, and what answers it is fed
-pub record StoresBy (version : Version) (w : Written) (old : View) (entries : List (List ℕ)) (feed : List ℕ) (new : View) (entries' : List (List ℕ)) (feed' : List ℕ) : Type 0 where
+pub record StoresBy (version : Version) (w : Written) (old : JournalView) (entries : List (List ℕ)) (feed : List ℕ) (new : JournalView) (entries' : List (List ℕ)) (feed' : List ℕ) : Type 0 where
   pub faultless : storing_by w old ≡ None
   pub stored : entries' ≡ entries ++ stored_as w ∷ []
   pub waits : feed' ≡ feed ++ waits_behind version w
@@ -31,7 +31,8 @@ pub record StoresBy (version : Version) (w : Written) (old : View) (entries : Li
   pub appends : Appends (said_at (stored_as w)) (note_in (stored_as w)) old new
 
 -- a frame was stored, or there is nothing to be stored of it
-abbrev pub StoresRawBy : Version → RawMessage → Bool → View → List (List ℕ) → List ℕ → View
+abbrev pub StoresRawBy : Version → RawMessage → Bool → JournalView → List (List ℕ) → List ℕ
+    → JournalView
     → List (List ℕ) → List ℕ → Type 0
 StoresRawBy version raw false old entries feed new entries' feed' =
     (written_as raw ≡ None) × (new ≡ old) × (entries' ≡ entries) × (feed' ≡ feed)
@@ -40,8 +41,9 @@ StoresRawBy version raw true old entries feed new entries' feed' = (w : Written)
 
 -- the next frame was looked at, and stored where there is something to be stored of it; or none is
 -- whole
-abbrev pub StoresOneBy : Version → List ℕ → Option Bool → List ℕ → View → List (List ℕ) → List ℕ
-    → View → List (List ℕ) → List ℕ → Type 0
+abbrev pub StoresOneBy : Version → List ℕ → Option Bool → List ℕ → JournalView → List (List ℕ)
+    → List ℕ
+    → JournalView → List (List ℕ) → List ℕ → Type 0
 StoresOneBy version unstored None unstored' old entries feed new entries' feed' =
     ((next_of unstored ≡ Partial) ⊎ (next_of unstored ≡ Malformed)) × (unstored' ≡ unstored)
     × (new ≡ old) × (entries' ≡ entries) × (feed' ≡ feed)
@@ -50,13 +52,13 @@ StoresOneBy version unstored (Some b) unstored' old entries feed new entries' fe
     × StoresRawBy version raw b old entries feed new entries' feed'
 
 -- what is stored of a frame has this fault
-pub record FaultsBy (raw : RawMessage) (view : View) (f : RoundFault) : Type 0 where
+pub record FaultsBy (raw : RawMessage) (view : JournalView) (f : RoundFault) : Type 0 where
   pub item : Written
   pub is : written_as raw ≡ Some item
   pub fault : storing_by item view ≡ Some f
 
 -- what is stored of the next frame has this fault
-pub record NextFaultsBy (unstored : List ℕ) (view : View) (f : RoundFault) : Type 0 where
+pub record NextFaultsBy (unstored : List ℕ) (view : JournalView) (f : RoundFault) : Type 0 where
   pub raw : RawMessage
   pub rest : List ℕ
   pub next : next_of unstored ≡ Whole raw rest
@@ -64,7 +66,8 @@ pub record NextFaultsBy (unstored : List ℕ) (view : View) (f : RoundFault) : T
 
 -- For each journal that is known and ends with these entries, the next n commands and proposals are
 -- stored, or all if there are fewer; and the journal with their entries is known.
-abbrev pub StoresNext : Version → ℕ → List ℕ → List ℕ → View → List (List ℕ) → List ℕ → View
+abbrev pub StoresNext : Version → ℕ → List ℕ → List ℕ → JournalView → List (List ℕ) → List ℕ
+    → JournalView
     → List (List ℕ) → List ℕ → Type 0
 StoresNext version n unstored unstored' old entries feed new entries' feed' =
     (before : List (List ℕ)) → Holds old (before ++ entries)
@@ -73,7 +76,7 @@ StoresNext version n unstored unstored' old entries feed new entries' feed' =
 
 -- it is out of memory, or the fault of the first that has one, behind each journal that is known
 -- and ends with these entries
-abbrev pub IsStoringFault : Version → ℕ → List ℕ → View → List (List ℕ) → RoundFault → Type 0
+abbrev pub IsStoringFault : Version → ℕ → List ℕ → JournalView → List (List ℕ) → RoundFault → Type 0
 IsStoringFault version n unstored old entries f =
     (f ≡ round_fault.Memory)
     ⊎ ((before : List (List ℕ)) → Holds old (before ++ entries)

@@ -3,7 +3,7 @@ ghost use Rattle.std.specs.Prelude.{◌≡◌, ℕ, Option};
 ghost use Rattle.vm_store.specs.declared.completions.Completes.{Completes};
 ghost use Rattle.vm_store.specs.declared.completions.Completes.TheVariants as completes;
 ghost use Rattle.vm_store.specs.Arrivals.{completes_by};
-ghost use Rattle.stored_journals.specs.Known.{with_called, with_result};
+ghost use Rattle.stored_journals.specs.Known.{with_called, with_result_id};
 
 use journal_messages::Message;
 use vm_store::completions::Completes;
@@ -30,7 +30,7 @@ fn one(id: u32) -> Carried
 /// The completion ids that a command carries.
 pub(crate) fn ids_in(command: &Message) -> Carried
     ensures { (id : ℕ) (before : Option Completes) → completes_by id command.now before
-        ≡ with_result id result.result (with_called id result.called before) }
+        ≡ with_result_id id result.result (with_called id result.called before) }
 {
     match command {
         Message::Sleep(c) => one(c.result_completion_id),

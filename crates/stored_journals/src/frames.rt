@@ -2,7 +2,7 @@
 ghost use Rattle.std.specs.Prelude.{◌≡◌, IfOk, None, true};
 ghost use Rattle.vm_attempt.specs.Journals.{is_command_frame, is_notification};
 ghost use Rattle.vm_store.specs.Entries.{note_of as note_by, said_by};
-ghost use Rattle.stored_journals.specs.Journals.{note_of, said_of};
+ghost use Rattle.stored_journals.specs.Journals.{note_of_part, command_of_part};
 
 use journal_messages::{Message, RawMessage};
 use journal_values::Notification;
@@ -34,8 +34,8 @@ impl Drop for Part {
 /// What a frame of a command is.
 fn command_part(alloc: Global, raw: &RawMessage) -> Result<Part, AllocError>
     requires { is_command_frame raw.now ≡ true }
-    ensures said { IfOk result (λ part. said_of part ≡ said_by raw.now) }
-    ensures note { IfOk result (λ part. note_of part ≡ None) }
+    ensures said { IfOk result (λ part. command_of_part part ≡ said_by raw.now) }
+    ensures note { IfOk result (λ part. note_of_part part ≡ None) }
 {
     match raw.read(alloc) {
         Ok(command) => Ok(Part::Command(command)),
@@ -47,8 +47,8 @@ fn command_part(alloc: Global, raw: &RawMessage) -> Result<Part, AllocError>
 /// What a frame of a notification is.
 fn note_part(alloc: Global, raw: &RawMessage) -> Result<Part, AllocError>
     requires { is_notification raw.now ≡ true }
-    ensures said { IfOk result (λ part. said_of part ≡ None) }
-    ensures note { IfOk result (λ part. note_of part ≡ note_by raw.now) }
+    ensures said { IfOk result (λ part. command_of_part part ≡ None) }
+    ensures note { IfOk result (λ part. note_of_part part ≡ note_by raw.now) }
 {
     match raw.read_notification(alloc) {
         Ok(note) => Ok(Part::Arrived(note)),
@@ -60,8 +60,8 @@ fn note_part(alloc: Global, raw: &RawMessage) -> Result<Part, AllocError>
 /// What a frame is to a journal.
 #[tactic(auto, using(vm_store::proofs::Framing::command_no_note, vm_store::proofs::Framing::note_no_command))]
 pub(crate) fn part_of(alloc: Global, raw: &RawMessage) -> Result<Part, AllocError>
-    ensures said { IfOk result (λ part. said_of part ≡ said_by raw.now) }
-    ensures note { IfOk result (λ part. note_of part ≡ note_by raw.now) }
+    ensures said { IfOk result (λ part. command_of_part part ≡ said_by raw.now) }
+    ensures note { IfOk result (λ part. note_of_part part ≡ note_by raw.now) }
 {
     if is_command_frame(raw) {
         return command_part(alloc, raw);

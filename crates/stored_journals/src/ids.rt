@@ -2,7 +2,7 @@
 ghost use Rattle.std.specs.Prelude.{◌≡◌, ◌||◌, OnOk, [], ℕ};
 ghost use Rattle.vm_store.specs.Arrivals.{is_of};
 ghost use Rattle.stored_journals.specs.Ids.{Changes, SaysWith, known_kept, known_now};
-ghost use Rattle.stored_journals.specs.Known.{carried_as, completed, with_called, with_result};
+ghost use Rattle.stored_journals.specs.Known.{carried_as, as_completed, with_called, with_result_id};
 
 use crate::known::Known;
 use journal_values::NotificationId;
@@ -79,7 +79,7 @@ impl Ids {
 
     /// An id is completed.
     pub(crate) fn complete(&mut self, id: u32) -> Result<(), AllocError>
-        ensures ok { OnOk result (Changes id completed self.old self.new) }
+        ensures ok { OnOk result (Changes id as_completed self.old self.new) }
         ensures kept { self.new.kept ≡ self.old.kept }
     {
         let known = self.known(id);
@@ -112,7 +112,7 @@ impl Ids {
         carried: Option<(u32, Completes)>,
     ) -> Result<(), AllocError>
         ensures ok { OnOk result
-            (SaysWith (λ id before. with_result id carried before) (λ id done. done)
+            (SaysWith (λ id before. with_result_id id carried before) (λ id done. done)
             self.old self.new) }
         ensures kept { self.new.kept ≡ self.old.kept }
     {

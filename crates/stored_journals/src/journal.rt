@@ -3,7 +3,7 @@ ghost use Rattle.std.specs.Prelude.{◌≡◌, ◌⊎◌, ◌<◌, ◌≤◌, �
 ghost use Rattle.vm_store.specs.Arrivals.{arrival_fault, most_entries};
 ghost use Rattle.vm_store.specs.Given.{frame_fault, given_fault as fault_given};
 ghost use Rattle.vm_store.specs.declared.types.RoundFault.TheVariants as round_fault;
-ghost use Rattle.stored_journals.specs.Journals.{Appends, Enters, Holds, IsFault, IsSameKept, Kept, Loads, arriving_fault, given_fault, given_note_fault, may_be_given, note_of, noted_fault, proposing_fault, room_at, said_of};
+ghost use Rattle.stored_journals.specs.Journals.{Appends, Enters, Holds, IsFault, IsSameKept, Kept, Loads, arriving_fault, loaded_fault, loaded_note_fault, may_be_loaded, note_of_part, optional_note_fault, proposing_fault, room_at, command_of_part};
 
 use crate::carried::{Carried, ids_in};
 use crate::frames::{Part, part_of};
@@ -27,9 +27,9 @@ pub struct StoredJournal {
 }
 
 impl Model for StoredJournal {
-    ghost use Rattle.stored_journals.specs.Journals.{View};
+    ghost use Rattle.stored_journals.specs.Journals.{JournalView};
 
-    ghost Value = { View };
+    ghost Value = { JournalView };
 
     ghost view = { λ j. record { ids = j.ids; entries = j.entries; kept = j.kept } };
 }
@@ -84,7 +84,7 @@ impl StoredJournal {
 
     /// The fault of a notification in a journal that is given.
     fn given_note_fault(&self, note: &Notification) -> Option<RoundFault>
-        ensures { result ≡ given_note_fault note.now.id note.now.result self.now }
+        ensures { result ≡ loaded_note_fault note.now.id note.now.result self.now }
     {
         match &note.id {
             NotificationId::CompletionId(id) => {
@@ -97,7 +97,7 @@ impl StoredJournal {
 
     /// The fault of a notification in a journal that is given, if it is one.
     fn noted_fault(&self, read: &Part) -> Option<RoundFault>
-        ensures { result ≡ noted_fault (note_of read.now) self.now }
+        ensures { result ≡ optional_note_fault (note_of_part read.now) self.now }
     {
         match read {
             Part::Arrived(note) => self.given_note_fault(note),
@@ -108,7 +108,8 @@ impl StoredJournal {
 
     /// Whether a frame may stand as an entry.
     fn may_be_given(&self, alloc: Global, raw: &RawMessage, read: &Part) -> Result<bool, AllocError>
-        ensures { IfOk result (λ may. may ≡ may_be_given (self.now.entries == 0) raw.now read.now) }
+        ensures { IfOk result (λ may. may
+            ≡ may_be_loaded (self.now.entries == 0) raw.now read.now) }
     {
         if self.entries == 0 {
             return is_input(alloc, raw);
@@ -127,7 +128,7 @@ impl StoredJournal {
         raw: &RawMessage,
         read: &Part,
     ) -> Result<Option<RoundFault>, AllocError>
-        ensures fault { IfOk result (λ fault. fault ≡ given_fault raw.now read.now self.now) }
+        ensures fault { IfOk result (λ fault. fault ≡ loaded_fault raw.now read.now self.now) }
         ensures small { self.now.entries ≤ most_entries }
     {
         let room = self.room();
@@ -179,7 +180,8 @@ impl StoredJournal {
     /// A frame is appended.
     pub(crate) fn append(&mut self, read: &Part) -> Result<(), AllocError>
         requires { self.old.entries < most_entries }
-        ensures ok { OnOk result (Appends (said_of read.now) (note_of read.now) self.old self.new) }
+        ensures ok { OnOk result
+            (Appends (command_of_part read.now) (note_of_part read.now) self.old self.new) }
         ensures kept { IsSameKept self.old self.new }
     {
         match read {
@@ -224,10 +226,10 @@ impl StoredJournal {
 
     /// A frame is the next entry of a journal that is loaded, if it has no fault.
     fn load(&mut self, alloc: Global, raw: &RawMessage, read: &Part) -> Result<(), RoundFault>
-        ensures ok { OnOk result ((given_fault raw.now read.now self.old ≡ None)
-            × Appends (said_of read.now) (note_of read.now) self.old self.new) }
+        ensures ok { OnOk result ((loaded_fault raw.now read.now self.old ≡ None)
+            × Appends (command_of_part read.now) (note_of_part read.now) self.old self.new) }
         ensures err { IfErr result (λ f. (f ≡ round_fault.Memory)
-            ⊎ (given_fault raw.now read.now self.old ≡ Some f)) }
+            ⊎ (loaded_fault raw.now read.now self.old ≡ Some f)) }
         ensures kept { IsSameKept self.old self.new }
     {
         match self.given_fault(alloc, raw, read) {

@@ -3,7 +3,7 @@ ghost use Rattle.std.specs.Prelude.{◌≡◌, ◌⊎◌, ◌∷◌, ◌++◌, �
 ghost use Rattle.journal_errors.specs.Versions.{is_from_v7};
 ghost use Rattle.journal_messages.specs.Message.{IsWhole, encoding};
 ghost use Rattle.journal_messages.specs.declared.message.Message.TheVariants as message;
-ghost use Rattle.vm_machine.specs.Inputs.{completion_of};
+ghost use Rattle.vm_machine.specs.Inputs.{acknowledged_completion};
 ghost use Rattle.vm_store.specs.Entries.{frame_of, note_in, note_of as note_by, said_at, said_by};
 ghost use Rattle.vm_store.specs.Storing.{acknowledgement, answer_to, completion_message, proposal_of, written_as};
 ghost use Rattle.vm_store.specs.declared.storing.Written.TheVariants as written;
@@ -27,7 +27,7 @@ use vm_store::types::RoundFault;
 
 /// The completion with the proposed result.
 fn completion_of(proposal: KeptProposal) -> Notification
-    ensures { result ≡ completion_of proposal.completion_id proposal }
+    ensures { result ≡ acknowledged_completion proposal.completion_id proposal }
 {
     Notification {
         id: NotificationId::CompletionId(proposal.completion_id),
@@ -127,7 +127,7 @@ fn settle(
         ++ encoding (completion_message proposal) ∷ []) }
     ensures waits { OnOk result (feed.new.items ≡ feed.old.items ++ answer_to version proposal) }
     ensures appended { OnOk result
-        (Appends None (Some (completion_of proposal.completion_id proposal)) journal.old
+        (Appends None (Some (acknowledged_completion proposal.completion_id proposal)) journal.old
         journal.new) }
     ensures whole { OnOk result (IsWhole (completion_message proposal)
         × (is_from_v7 version ≡ true → IsWhole (acknowledgement proposal.completion_id))) }

@@ -4,7 +4,7 @@ use Rattle.std.proofs.Common.{Global}
 use Rattle.std.specs.Prelude.{Option, Some, codes}
 use Rattle.vm_types.specs.declared.options.VMOptions.{VMOptions}
 use Rattle.invocation_vm.specs.Making.{version_in}
-use Rattle.requests.specs.ContentTypes.{found}
+use Rattle.requests.specs.ContentTypes.{header_under}
 use Rattle.requests.specs.declared.content_type.ContentType.{ContentType}
 use Rattle.sessions.specs.Calls.{MadeFromC}
 use Rattle.sessions.specs.Replies.{kept_told}
@@ -21,6 +21,6 @@ pub is_kept : (alloc : Global) (given : MayLend) (by : GivenOptions) (told : Rep
 is_kept alloc given by told vm why misfits is = inl (record { why = why; misfits = misfits; told_why = is; kept = refl })
 
 -- a VM is made, or C is told why not
-pub is_made : (alloc : Global) (given : MayLend) (by : GivenOptions) (told : Replied) (old new : Option Session) (options : VMOptions) (content_type : ContentType) → AreOptionsOf by options → IsFoundOf given content_type → MadeFromC alloc options (version_in (found content_type (codes "content-type"))) told old new → MakesAsGiven alloc given by told old new
+pub is_made : (alloc : Global) (given : MayLend) (by : GivenOptions) (told : Replied) (old new : Option Session) (options : VMOptions) (content_type : ContentType) → AreOptionsOf by options → IsFoundOf given content_type → MadeFromC alloc options (version_in (header_under content_type (codes "content-type"))) told old new → MakesAsGiven alloc given by told old new
 is_made alloc given by told old new options content_type are is made =
     inr (record { options = options; are = are; made = subst (λ it. MadeFromC alloc options (version_in it) told old new) is made })

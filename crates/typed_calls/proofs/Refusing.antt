@@ -7,7 +7,7 @@ use Rattle.sessions.specs.declared.status.Status.TheVariants as status
 use Rattle.typed_calls.specs.declared.given.Pair.{Pair}
 use Rattle.typed_calls.specs.declared.reports.GivenCommand.{GivenCommand}
 use Rattle.typed_calls.specs.Given.{IsWhy, Misfits, CannotCopy, SomeIsNoText, lent_texts, texts_of_pair}
-use Rattle.typed_calls.specs.Reports.{NamesNoCommand, has_type, type_at}
+use Rattle.typed_calls.specs.Reports.{NamesNoCommand, has_type, command_type_at}
 
 pub no_memory : (texts : List (List ℕ)) → CannotCopy texts status.NoMemory
 no_memory texts = record { why = tt }
@@ -91,9 +91,9 @@ pub misfit_last : (xs ys : List (List ℕ)) (A B : Type 0) (s : Status) → Misf
 misfit_last xs ys A B s why = misfit_of ys (xs ++ ys) B (A ⊎ B) (some_last xs ys) (λ b. inr b) s why
 
 -- no type of a command is named
-pub misfit_type : (given : GivenCommand) (s : Status) → has_type given.kind ≡ true → Misfits (lent_texts given.name) (type_at given.ty ≡ None) s → Misfits (lent_texts given.name) (NamesNoCommand given) s
+pub misfit_type : (given : GivenCommand) (s : Status) → has_type given.kind ≡ true → Misfits (lent_texts given.name) (command_type_at given.ty ≡ None) s → Misfits (lent_texts given.name) (NamesNoCommand given) s
 misfit_type given s kind why =
-    misfit_of (lent_texts given.name) (lent_texts given.name) (type_at given.ty ≡ None) (NamesNoCommand given) (λ some. some) (λ ty. inr (kind, ty)) s why
+    misfit_of (lent_texts given.name) (lent_texts given.name) (command_type_at given.ty ≡ None) (NamesNoCommand given) (λ some. some) (λ ty. inr (kind, ty)) s why
 
 pub misfit_more : (xs : List (List ℕ)) (A B : Type 0) (s : Status) → Misfits xs A s → Misfits xs (A ⊎ B) s
 misfit_more xs A B s why = misfit_of xs xs A (A ⊎ B) (λ some. some) (λ a. inl a) s why

@@ -20,8 +20,8 @@ use Rattle.invocation_vm.specs.Calls.{CallsAllFor, CallsCommand, CallsFlatAwait,
 use Rattle.invocation_vm.specs.Views.{View, after_closing, after_error}
 use Rattle.replies.specs.declared.reply.Reply.{Reply}
 use Rattle.replies.specs.declared.reply.Reply.TheVariants as reply
-use Rattle.line_parts.specs.Results.{settled}
-use Rattle.scripts.specs.Called.{Answers, Drains, Feeds, Tells, TellsHead, TellsReady}
+use Rattle.line_parts.specs.Results.{exit_of_value}
+use Rattle.scripts.specs.Called.{Answers, Drains, FeedsVm, RepliesWith, TellsHead, TellsReady}
 use Rattle.sessions.specs.declared.status.Status.{Status}
 use Rattle.typed_calls.specs.declared.callees.GivenTarget.{GivenTarget}
 use Rattle.typed_calls.specs.declared.nodes.Node.{Node}
@@ -35,7 +35,7 @@ use Rattle.typed_calls.specs.Invocations.{invocation_of, texts_of_invocation}
 use Rattle.typed_calls.specs.Policies.{IsNoPolicy, IsPolicyOf}
 use Rattle.typed_calls.specs.Reports.{IsErrorOf, IsRelatedOf, NamesNoCommand, behavior_at, texts_of_error}
 use Rattle.typed_calls.specs.Callees.{given_target, texts_of_call}
-use Rattle.typed_calls.specs.Makes.{IsCalled, MadeUnless, MadeWith, all_handles, awakeable, handle, call_handles_told, input_told, unit_told, sent, taken_told_of}
+use Rattle.typed_calls.specs.Makes.{MakesCall, MadeUnless, MadeWith, all_handles, awakeable_reply, handle, call_handles_told, input_told, unit_told, sent, taken_told_of}
 use Rattle.typed_calls.specs.Nodes.{AwaitsTree, FailsAsTree}
 use Rattle.typed_calls.specs.Values.{texts_of_value, given_value}
 
@@ -46,11 +46,11 @@ Call = Result Reply Status → View → View → Type 0
 -- a sleep to a time in milliseconds
 abbrev pub CallsSleep : List ℕ → ℕ → Call
 CallsSleep name millis =
-    MadeWith (name ∷ []) (Tells handle (CallsCommand (sleep_command millis name)))
+    MadeWith (name ∷ []) (RepliesWith handle (CallsCommand (sleep_command millis name)))
 
 -- an awakeable
 abbrev pub MakesAwakeable : Call
-MakesAwakeable = IsCalled (Answers awakeable new_awakeable_step)
+MakesAwakeable = MakesCall (Answers awakeable_reply new_awakeable_step)
 
 -- a handle of the signal of a name
 abbrev pub MakesSignal : List ℕ → Call
@@ -58,17 +58,18 @@ MakesSignal name = MadeWith (name ∷ []) (Answers handle (signal_step name))
 
 -- a promise is awaited
 abbrev pub GetsPromise : List ℕ → Call
-GetsPromise key = MadeWith (key ∷ []) (Tells handle (CallsCommand (get_promise_command key)))
+GetsPromise key = MadeWith (key ∷ []) (RepliesWith handle (CallsCommand (get_promise_command key)))
 
 -- whether a promise is completed
 abbrev pub PeeksPromise : List ℕ → Call
-PeeksPromise key = MadeWith (key ∷ []) (Tells handle (CallsCommand (peek_promise_command key)))
+PeeksPromise key =
+    MadeWith (key ∷ []) (RepliesWith handle (CallsCommand (peek_promise_command key)))
 
 -- a promise is completed
 abbrev pub CompletesPromise : List ℕ → GivenValue → Bool → Call
 CompletesPromise key value unstable outcome old new =
     MadeWith (key ∷ texts_of_value value)
-    (Tells handle (CallsCommand
+    (RepliesWith handle (CallsCommand
     (complete_promise_command key (given_value value)
     (record { unstable_serialization = unstable }) old.machine.version))) outcome old new
 
@@ -76,7 +77,7 @@ CompletesPromise key value unstable outcome old new =
 abbrev pub CompletesAwakeable : List ℕ → GivenValue → Bool → Call
 CompletesAwakeable id value unstable outcome old new =
     MadeWith (id ∷ texts_of_value value)
-    (Tells unit_told (CallsUnit
+    (RepliesWith unit_told (CallsUnit
     (complete_awakeable_command id (given_value value)
     (record { unstable_serialization = unstable }) old.machine.version))) outcome old new
 
@@ -84,51 +85,52 @@ CompletesAwakeable id value unstable outcome old new =
 abbrev pub CompletesSignal : List ℕ → List ℕ → GivenValue → Call
 CompletesSignal target name value outcome old new =
     MadeWith (target ∷ name ∷ texts_of_value value)
-    (Tells unit_told (CallsUnit
+    (RepliesWith unit_told (CallsUnit
     (complete_signal_command target name (given_value value) old.machine.version))) outcome old
     new
 
 -- another invocation is cancelled
 abbrev pub CancelsInvocation : List ℕ → Call
 CancelsInvocation target =
-    MadeWith (target ∷ []) (Tells unit_told (CallsUnit (cancel_invocation_command target)))
+    MadeWith (target ∷ []) (RepliesWith unit_told (CallsUnit (cancel_invocation_command target)))
 
 -- the handler's result
 abbrev pub WritesOutput : GivenValue → Bool → Call
 WritesOutput value unstable outcome old new =
     MadeWith (texts_of_value value)
-    (Tells unit_told (CallsUnit
+    (RepliesWith unit_told (CallsUnit
     (output_command (given_value value) (record { unstable_serialization = unstable })
     old.machine.version))) outcome old new
 
 -- the handler ends
 abbrev pub EndsHandler : Call
-EndsHandler = IsCalled (Answers unit_told end_step)
+EndsHandler = MakesCall (Answers unit_told end_step)
 
 -- a key is given a value
 abbrev pub SetsState : List ℕ → List ℕ → List ℕ → Bool → Call
 SetsState key value name unstable =
     MadeWith (key ∷ name ∷ [])
-    (Tells unit_told (CallsUnit
+    (RepliesWith unit_told (CallsUnit
     (set_state_command key value name (record { unstable_serialization = unstable }))))
 
 -- a key's value is taken away
 abbrev pub ClearsState : List ℕ → List ℕ → Call
 ClearsState key name =
-    MadeWith (key ∷ name ∷ []) (Tells unit_told (CallsUnit (clear_state_command key name)))
+    MadeWith (key ∷ name ∷ []) (RepliesWith unit_told (CallsUnit (clear_state_command key name)))
 
 -- each key's value is taken away
 abbrev pub ClearsAllState : List ℕ → Call
 ClearsAllState name =
-    MadeWith (name ∷ []) (Tells unit_told (CallsUnit (clear_all_state_command name)))
+    MadeWith (name ∷ []) (RepliesWith unit_told (CallsUnit (clear_all_state_command name)))
 
 -- a key's value is read
 abbrev pub ReadsState : List ℕ → List ℕ → Call
-ReadsState key name = MadeWith (key ∷ name ∷ []) (Tells handle (CallsRead (reads.Value key name)))
+ReadsState key name =
+    MadeWith (key ∷ name ∷ []) (RepliesWith handle (CallsRead (reads.Value key name)))
 
 -- the keys that have a value are read
 abbrev pub ReadsKeys : List ℕ → Call
-ReadsKeys name = MadeWith (name ∷ []) (Tells handle (CallsRead (reads.Keys name)))
+ReadsKeys name = MadeWith (name ∷ []) (RepliesWith handle (CallsRead (reads.Keys name)))
 
 -- a key's value is read, and nothing of it is left in the journal
 abbrev pub ReadsEphemerally : List ℕ → Call
@@ -136,12 +138,12 @@ ReadsEphemerally key = MadeWith (key ∷ []) (Answers reply.Ephemeral (ephemeral
 
 -- the value of an ephemeral read is taken
 abbrev pub TakesEphemeral : ℕ → Call
-TakesEphemeral id = IsCalled (Answers taken_told_of (take_ephemeral_step id))
+TakesEphemeral id = MakesCall (Answers taken_told_of (take_ephemeral_step id))
 
 -- a handle is awaited
 abbrev pub AwaitsHandle : ℕ → Call
 AwaitsHandle awaited =
-    IsCalled (Tells reply.Awaited (CallsFlatAwait (Single (record { 0 = awaited }))))
+    MakesCall (RepliesWith reply.Awaited (CallsFlatAwait (Single (record { 0 = awaited }))))
 
 -- the tree that nodes are is awaited
 abbrev pub AwaitsNodes : List Node → Call
@@ -149,53 +151,53 @@ AwaitsNodes nodes = MadeUnless (FailsAsTree nodes) (AwaitsTree nodes)
 
 -- the result of a handle is taken
 abbrev pub TakesResult : ℕ → Call
-TakesResult of = IsCalled (Answers taken_told_of (take_step of))
+TakesResult of = MakesCall (Answers taken_told_of (take_step of))
 
 -- the head of the response
 abbrev pub ReadsHead : Call
-ReadsHead = IsCalled (λ told old new. TellsHead old.machine.version told × (new ≡ old))
+ReadsHead = MakesCall (λ told old new. TellsHead old.machine.version told × (new ≡ old))
 
 -- no more input comes
 abbrev pub ClosesInput : Call
-ClosesInput = IsCalled (λ told old new. Feeds [] (after_closing old) told old new)
+ClosesInput = MakesCall (λ told old new. FeedsVm [] (after_closing old) told old new)
 
 -- the bytes that wait to be sent are taken
 abbrev pub TakesOutputOf : Call
-TakesOutputOf = IsCalled Drains
+TakesOutputOf = MakesCall Drains
 
 -- whether the handler may be run
 abbrev pub AsksReady : Call
-AsksReady = IsCalled (λ told old new. TellsReady old.machine told × (new ≡ old))
+AsksReady = MakesCall (λ told old new. TellsReady old.machine told × (new ≡ old))
 
 -- whether a handle has a result
 abbrev pub AsksCompleted : ℕ → Call
 AsksCompleted of =
-    IsCalled (λ told old new. (told ≡ reply.Answer (answer.Completed (is_completed of old.machine))) × (new ≡ old))
+    MakesCall (λ told old new. (told ≡ reply.Answer (answer.Completed (is_completed of old.machine))) × (new ≡ old))
 
 -- the state
 abbrev pub AsksState : Call
-AsksState = IsCalled (λ told old new. (told ≡ reply.State (state_of old.machine)) × (new ≡ old))
+AsksState = MakesCall (λ told old new. (told ≡ reply.State (state_of old.machine)) × (new ≡ old))
 
 -- the index of the last command
 abbrev pub AsksIndex : Call
 AsksIndex =
-    IsCalled (λ told old new. (told ≡ reply.Index (last_index old.machine.counters.command))
+    MakesCall (λ told old new. (told ≡ reply.Index (last_index old.machine.counters.command))
     × (new ≡ old))
 
 -- what the handler was called with
 abbrev pub ReadsInput : Call
-ReadsInput = IsCalled (Answers input_told input_step)
+ReadsInput = MakesCall (Answers input_told input_step)
 
 -- a run is called
 abbrev pub CallsARun : List ℕ → Call
-CallsARun name = MadeWith (name ∷ []) (Tells reply.Run (CallsRun name))
+CallsARun name = MadeWith (name ∷ []) (RepliesWith reply.Run (CallsRun name))
 
 -- the result of a run, under a policy
 abbrev pub ProposesResult : ℕ → GivenValue → GivenPolicy → Call
 ProposesResult of value given =
     MadeUnless (Misfits (texts_of_value value) (IsNoPolicy given)) (λ told old new.
     (policy : RetryPolicy) × IsPolicyOf given policy
-    × Tells unit_told (CallsProposal (record { 0 = of }) (settled (given_value value)) policy) told old new)
+    × RepliesWith unit_told (CallsProposal (record { 0 = of }) (exit_of_value (given_value value)) policy) told old new)
 
 -- a run's error after so many milliseconds, of which its policy says what comes
 abbrev pub ProposesRetryable : ℕ → ℕ → GivenError → GivenPolicy → Call
@@ -204,7 +206,7 @@ ProposesRetryable of millis given by =
     ⊎ IsNoPolicy by)) (λ told old new.
     (span : Duration) × (e : Error) × (policy : RetryPolicy)
     × IsSpan millis span × IsErrorOf given e × IsPolicyOf by policy
-    × Tells unit_told (CallsProposal (record { 0 = of }) (exit.RetryableFailure span e) policy) told old new)
+    × RepliesWith unit_told (CallsProposal (record { 0 = of }) (exit.RetryableFailure span e) policy) told old new)
 
 -- the handler failed by an error of its own, which relates to a command or to none
 abbrev pub ReportsError : GivenError → GivenCommand → Call
@@ -214,14 +216,15 @@ ReportsError given command =
     (λ told old new.
     (e : Error) × (related : Option CommandRelationship)
     × IsErrorOf given e × IsRelatedOf command related
-    × Feeds [] (after_error old e related) told old new)
+    × FeedsVm [] (after_error old e related) told old new)
 
 -- the handler attaches to another invocation
 abbrev pub AttachesTo : GivenInvocation → Call
 AttachesTo given =
     MadeUnless (Misfits (texts_of_invocation given) (invocation_of given ≡ None)) (λ told old new.
     (target : InvocationTarget) × (invocation_of given ≡ Some target)
-    × Tells handle (CallsCommand (attach_invocation_command target old.machine.version)) told old
+    × RepliesWith handle (CallsCommand (attach_invocation_command target old.machine.version)) told
+    old
     new)
 
 -- another invocation's output is asked for
@@ -229,14 +232,15 @@ abbrev pub GetsOutput : GivenInvocation → Call
 GetsOutput given =
     MadeUnless (Misfits (texts_of_invocation given) (invocation_of given ≡ None)) (λ told old new.
     (target : InvocationTarget) × (invocation_of given ≡ Some target)
-    × Tells handle (CallsCommand (get_invocation_output_command target old.machine.version)) told
+    × RepliesWith handle (CallsCommand (get_invocation_output_command target old.machine.version))
+    told
     old new)
 
 -- another handler is called
 abbrev pub CallsHandler : GivenTarget → List ℕ → List ℕ → Bool → Call
 CallsHandler target bytes name unstable outcome old new =
     MadeWith (texts_of_call target name)
-    (Tells call_handles_told
+    (RepliesWith call_handles_told
     (CallsFor call_handles
     (call_command (given_target target) bytes name
     (record { unstable_serialization = unstable }) old.machine.version))) outcome old new
@@ -245,7 +249,7 @@ CallsHandler target bytes name unstable outcome old new =
 abbrev pub CallsWithDeadline : GivenTarget → List ℕ → ℕ → List ℕ → Bool → Call
 CallsWithDeadline target bytes millis name unstable outcome old new =
     MadeWith (texts_of_call target name)
-    (Tells all_handles (CallsAllFor deadline_handles
+    (RepliesWith all_handles (CallsAllFor deadline_handles
     (call_command (given_target target) bytes name
     (record { unstable_serialization = unstable }) old.machine.version)
     (sleep_command millis [] ∷ []))) outcome old new
@@ -255,6 +259,6 @@ CallsWithDeadline target bytes millis name unstable outcome old new =
 abbrev pub SendsTo : GivenTarget → List ℕ → ℕ → List ℕ → Bool → Call
 SendsTo target bytes millis name unstable outcome old new =
     MadeWith (texts_of_call target name)
-    (Tells sent (CallsFor send_handle
+    (RepliesWith sent (CallsFor send_handle
     (send_command (given_target target) bytes millis name
     (record { unstable_serialization = unstable }) old.machine.version))) outcome old new

@@ -28,9 +28,9 @@ abbrev pub MadeWith : List (List ℕ) → (Reply → View → View → Type 0) �
 MadeWith texts makes outcome old new = MadeUnless (CannotCopy texts) makes outcome old new
 
 -- A call is made, whatever C gave for it.
-abbrev pub IsCalled : (Reply → View → View → Type 0) → Result Reply Status → View → View → Type 0
-IsCalled makes (Ok reply) old new = makes reply old new
-IsCalled makes (Err status) old new = ⊥
+abbrev pub MakesCall : (Reply → View → View → Type 0) → Result Reply Status → View → View → Type 0
+MakesCall makes (Ok reply) old new = makes reply old new
+MakesCall makes (Err status) old new = ⊥
 
 -- the reply of a handler's call: its handle, or what it is answered
 abbrev pub handle : NotificationHandle → Reply
@@ -45,8 +45,8 @@ all_handles call = reply.Answer (answer.CallWithDeadline call)
 abbrev pub sent : SendHandle → Reply
 sent send = reply.Answer (answer.Send send)
 
-abbrev pub awakeable : AwakeableHandle → Reply
-awakeable made = reply.Answer (answer.Awakeable made)
+abbrev pub awakeable_reply : AwakeableHandle → Reply
+awakeable_reply made = reply.Answer (answer.Awakeable made)
 
 abbrev pub taken_told_of : Option Value → Reply
 taken_told_of value = reply.Answer (answer.Taken value)

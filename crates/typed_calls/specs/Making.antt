@@ -15,7 +15,7 @@ use Rattle.vm_types.specs.declared.options.NonDeterministicChecksOption.TheVaria
 use Rattle.vm_types.specs.declared.options.SignalDelivery.{SignalDelivery}
 use Rattle.vm_types.specs.declared.options.SignalDelivery.TheVariants as delivery
 use Rattle.invocation_vm.specs.Making.{version_in}
-use Rattle.requests.specs.ContentTypes.{found}
+use Rattle.requests.specs.ContentTypes.{header_under}
 use Rattle.requests.specs.declared.content_type.ContentType.{ContentType}
 use Rattle.sessions.specs.Calls.{MadeFromC}
 use Rattle.sessions.specs.Replies.{kept_told}
@@ -88,7 +88,8 @@ NamesNoOption given =
 
 -- a request's headers with the content type that is given, or without one
 abbrev pub IsFoundOf : MayLend → ContentType → Type 0
-IsFoundOf given content_type = found content_type (codes "content-type") ≡ Some (optional_of given)
+IsFoundOf given content_type =
+    header_under content_type (codes "content-type") ≡ Some (optional_of given)
 
 -- what was given serves for no VM, and nothing is done
 pub record IsKeptAsMisfit (given : MayLend) (by : GivenOptions) (told : Replied) (old new : Option Session) : Type 0 where

@@ -9,7 +9,7 @@ use Rattle.invocation_vm.specs.Calls.{CallsFlatAwait}
 use Rattle.invocation_vm.specs.Views.{View}
 use Rattle.replies.specs.declared.reply.Reply.{Reply}
 use Rattle.replies.specs.declared.reply.Reply.TheVariants as reply
-use Rattle.scripts.specs.Called.{Tells}
+use Rattle.scripts.specs.Called.{RepliesWith}
 use Rattle.sessions.specs.declared.status.Status.{Status}
 use Rattle.sessions.specs.declared.status.Status.TheVariants as status
 use Rattle.typed_calls.specs.declared.nodes.Node.{Node}
@@ -56,7 +56,7 @@ row_of futures = flat_map (λ future. nodes_of (tree_of future)) futures
 -- the tree that is written as these nodes is awaited
 abbrev pub AwaitsTree : List Node → Reply → View → View → Type 0
 AwaitsTree nodes told old new = (future : UnresolvedFuture) × (nodes_of (tree_of future) ≡ nodes)
-    × Tells reply.Awaited (CallsFlatAwait future) told old new
+    × RepliesWith reply.Awaited (CallsFlatAwait future) told old new
 
 -- A node can't stand behind so many trees: no memory is found for it, its kind is none, or it is
 -- over more trees than there are.

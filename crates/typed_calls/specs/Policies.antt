@@ -9,8 +9,8 @@ use Rattle.typed_calls.specs.declared.policies.GivenPolicy.{GivenPolicy}
 use Rattle.typed_calls.specs.Given.{IsSpan, IsSpanIf}
 
 -- the most attempts, if they are given
-abbrev pub attempts_of : GivenPolicy → Option ℕ
-attempts_of given = if given.has_attempts then Some given.attempts else None
+abbrev pub given_attempts : GivenPolicy → Option ℕ
+given_attempts given = if given.has_attempts then Some given.attempts else None
 
 -- the delay, or the longest one; the most attempts; the longest time for them; and what comes of it
 -- there
@@ -18,7 +18,7 @@ abbrev pub AreBoundsOf : GivenPolicy → Option Duration → Option ℕ → Opti
     → Type 0
 AreBoundsOf given interval attempts longest on =
     IsSpanIf given.has_interval given.interval_millis interval
-    × (attempts ≡ attempts_of given)
+    × (attempts ≡ given_attempts given)
     × IsSpanIf given.has_duration given.duration_millis longest
     × (is_pause on ≡ given.pauses)
 

@@ -33,8 +33,8 @@ abbrev pub texts_of_error : GivenError → List (List ℕ)
 texts_of_error given = given.message.bytes.now ∷ given.stacktrace.bytes.now ∷ []
 
 -- the type of a command, by its number
-unfoldable pub type_at : ℕ → Option CommandType
-type_at n =
+unfoldable pub command_type_at : ℕ → Option CommandType
+command_type_at n =
     if n == 0 then Some command.Input
     else if n == 1 then Some command.Output
     else if n == 2 then Some command.GetState
@@ -70,12 +70,13 @@ abbrev pub IsRelatedOf : GivenCommand → Option CommandRelationship → Type 0
 IsRelatedOf given None = given.kind ≡ 0
 IsRelatedOf given (Some relationship.Last) = given.kind ≡ 1
 IsRelatedOf given (Some (relationship.Next ty name)) =
-    (given.kind ≡ 2) × (type_at given.ty ≡ Some ty) × (name ≡ optional_of given.name)
+    (given.kind ≡ 2) × (command_type_at given.ty ≡ Some ty) × (name ≡ optional_of given.name)
 IsRelatedOf given (Some (relationship.Specific index ty name)) =
-    (given.kind ≡ 3) × (index ≡ given.index) × (type_at given.ty ≡ Some ty)
+    (given.kind ≡ 3) × (index ≡ given.index) × (command_type_at given.ty ≡ Some ty)
     × (name ≡ optional_of given.name)
 
 -- a number that names no command, or no type of one
 abbrev pub NamesNoCommand : GivenCommand → Type 0
 NamesNoCommand given =
-    (is_relation given.kind ≡ false) ⊎ ((has_type given.kind ≡ true) × (type_at given.ty ≡ None))
+    (is_relation given.kind ≡ false)
+    ⊎ ((has_type given.kind ≡ true) × (command_type_at given.ty ≡ None))

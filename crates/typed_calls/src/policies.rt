@@ -2,7 +2,7 @@
 ghost use Rattle.std.specs.Prelude.{◌≡◌};
 ghost use Rattle.std.specs.Option.{MatchOption};
 ghost use Rattle.retries.specs.Policies.{is_pause};
-ghost use Rattle.typed_calls.specs.Policies.{IsNoPolicy, IsPolicyOf, attempts_of};
+ghost use Rattle.typed_calls.specs.Policies.{IsNoPolicy, IsPolicyOf, given_attempts};
 
 use crate::given::{optional_span, span_of};
 use retries::{Fraction, OnMaxAttempts, RetryPolicy};
@@ -41,7 +41,7 @@ fn on_max(pauses: bool) -> OnMaxAttempts
 }
 
 fn attempts_of(given: &GivenPolicy) -> Option<u32>
-    ensures { result ≡ attempts_of given.now }
+    ensures { result ≡ given_attempts given.now }
 {
     if given.has_attempts {
         Some(given.attempts)

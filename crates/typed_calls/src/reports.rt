@@ -1,7 +1,7 @@
 //! Errors that C reports, and the commands that they relate to.
 ghost use Rattle.std.specs.Prelude.{◌≡◌, Some, None, IfErr, IfOk, string_bytes};
 ghost use Rattle.typed_calls.specs.Given.{Misfits, optional_of, lent_texts};
-ghost use Rattle.typed_calls.specs.Reports.{IsErrorOf, IsRelatedOf, NamesNoCommand, behavior_at, texts_of_error, type_at};
+ghost use Rattle.typed_calls.specs.Reports.{IsErrorOf, IsRelatedOf, NamesNoCommand, behavior_at, texts_of_error, command_type_at};
 
 use crate::given::{Lent, MayLend, optional_span, optional_text, two_strings};
 use invocation_vm::{CommandRelationship, CommandType, CoreVM, Error, ErrorBehavior, VM};
@@ -87,9 +87,9 @@ pub(crate) fn error_of(alloc: Global, given: &GivenError) -> Result<Error, Statu
 }
 
 /// The type of this number.
-#[tactic(auto, unfolding(crate::specs::Reports::type_at))]
+#[tactic(auto, unfolding(crate::specs::Reports::command_type_at))]
 fn type_of(code: u32) -> Option<CommandType>
-    ensures { result ≡ type_at code }
+    ensures { result ≡ command_type_at code }
 {
     match code {
         0 => Some(CommandType::Input),
@@ -118,9 +118,10 @@ fn type_of(code: u32) -> Option<CommandType>
 /// A command's type, and its name if it is given.
 #[tactic(auto, using(crate::proofs::Refusing::misfit))]
 fn type_and_name(alloc: Global, given: &GivenCommand) -> Result<(CommandType, Option<Text>), Status>
-    ensures ty { IfOk result (λ it. type_at given.now.ty ≡ Some it.0) }
+    ensures ty { IfOk result (λ it. command_type_at given.now.ty ≡ Some it.0) }
     ensures name { IfOk result (λ it. it.1 ≡ optional_of given.now.name) }
-    ensures err { IfErr result (Misfits (lent_texts given.now.name) (type_at given.now.ty ≡ None)) }
+    ensures err { IfErr result
+        (Misfits (lent_texts given.now.name) (command_type_at given.now.ty ≡ None)) }
 {
     let Some(ty) = type_of(given.ty) else {
         return Err(Status::BadNumber);

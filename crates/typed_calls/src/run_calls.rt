@@ -1,6 +1,6 @@
 //! Runs: effects that the caller executes, and their results.
 ghost use Rattle.std.specs.Prelude.{◌≡◌};
-ghost use Rattle.line_parts.specs.Results.{settled};
+ghost use Rattle.line_parts.specs.Results.{exit_of_value};
 
 use crate::given::{Lent, span_of, string_of};
 use crate::policies::{GivenPolicy, policy_of};
@@ -33,7 +33,7 @@ impl<'a> VmCall for RunCall<'a> {
 
 /// The result of a run.
 fn settled(value: NonEmptyValue) -> RunExitResult
-    ensures { result ≡ settled value }
+    ensures { result ≡ exit_of_value value }
 {
     match value {
         NonEmptyValue::Success(bytes) => RunExitResult::Success(bytes),

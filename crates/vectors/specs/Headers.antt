@@ -6,8 +6,8 @@ use Rattle.vectors.specs.declared.headers.Headers.TheVariants.{ContentType, Empt
 
 -- the text under `content-type`, where there is one, and no other header; None where they can't be
 -- read
-abbrev pub found : Headers → List ℕ → Option (Option (List ℕ))
-found (ContentType text) name = if pointwise nat_eq name (codes "content-type")
+abbrev pub test_header : Headers → List ℕ → Option (Option (List ℕ))
+test_header (ContentType text) name = if pointwise nat_eq name (codes "content-type")
     then Some (Some text.now) else Some None
-found Empty name = Some None
-found Unreadable name = None
+test_header Empty name = Some None
+test_header Unreadable name = None

@@ -18,9 +18,9 @@ pub struct Unread;
 impl HeaderMap for Headers {
     type Error = Unread;
 
-    ghost use Rattle.vectors.specs.Headers.{found};
+    ghost use Rattle.vectors.specs.Headers.{test_header};
 
-    ghost found = { found };
+    ghost found = { test_header };
 
     fn extract(&self, name: &str) -> Result<Option<&str>, Unread> {
         match self {

@@ -18,7 +18,7 @@ use Rattle.journal_errors.specs.Types.{type_number}
 use Rattle.vm_parts.specs.declared.context.Known.{Known}
 use Rattle.vm_parts.specs.declared.context.Known.TheVariants.{Unknown, Empty, Value}
 use Rattle.vm_parts.specs.declared.context.StateMap.{StateMap}
-use Rattle.vm_parts.specs.States.{known, known_keys}
+use Rattle.vm_parts.specs.States.{value_known, known_keys}
 use Rattle.vm_asks.specs.declared.state_read.StateRead.{StateRead}
 use Rattle.vm_asks.specs.declared.state_read.StateRead.TheVariants as reads
 
@@ -70,7 +70,7 @@ keys_form name id (Some keys) = message.GetEagerStateKeys
 
 -- The command of a read, by what is known of the state.
 abbrev pub own_form : StateRead → ℕ → StateMap → Message
-own_form (reads.Value key name) id state = value_form key name id (known key state)
+own_form (reads.Value key name) id state = value_form key name id (value_known key state)
 own_form (reads.Keys name) id state = keys_form name id (known_keys state)
 
 -- what stands under a key, as a result
@@ -108,14 +108,15 @@ form_of r id raw =
     else None
 
 -- a recorded command that has to have a form
-abbrev pub read_as : Option Message → Option Message → Result (Option NotificationResult) NamedFault
-read_as None recorded = Err fault.CommandTypeMismatch
-read_as (Some form) recorded = read_by form recorded
+abbrev pub read_in_form : Option Message → Option Message
+    → Result (Option NotificationResult) NamedFault
+read_in_form None recorded = Err fault.CommandTypeMismatch
+read_in_form (Some form) recorded = read_by form recorded
 
 -- A recorded command in the place of a read with this completion id: what it brings, or why it
 -- doesn't fit. Its form decides.
 abbrev pub recorded_as : StateRead → ℕ → RawMessage → Result (Option NotificationResult) NamedFault
-recorded_as r id raw = read_as (form_of r id raw) (message_in raw.ty raw.body)
+recorded_as r id raw = read_in_form (form_of r id raw) (message_in raw.ty raw.body)
 
 -- the type that an error shows of a read in replay: that of the recorded form, or the eager one's
 abbrev pub recorded_type : StateRead → RawMessage → MessageType

@@ -19,7 +19,7 @@ use Rattle.vm_types.specs.declared.steps.Answer.{Answer}
 use Rattle.vm_types.specs.declared.steps.Answer.TheVariants as answer
 use Rattle.await_trees.specs.declared.tree.UnresolvedFuture.{UnresolvedFuture}
 use Rattle.vm_types.specs.declared.values.Input.{Input}
-use Rattle.vm_parts.specs.Counting.{missing as lacking}
+use Rattle.vm_parts.specs.Counting.{missing_number as lacking}
 use Rattle.vm_machine.specs.declared.machine.Machine.{Machine}
 use Rattle.vm_machine.specs.declared.phase.Phase.{Phase}
 use Rattle.vm_machine.specs.declared.phase.Phase.TheVariants.{WaitingStart, WaitingReplayEntries, Replaying, Processing, Closed}
@@ -56,7 +56,7 @@ use Rattle.vm_steps.specs.declared.progress.Progress.TheVariants as progress
 use Rattle.vm_attempt.specs.Agreement.{Agrees, Aside}
 use Rattle.vm_attempt.specs.Journals.{BeginsOrFails, HasAll, StillWaits, commands_among, machine_fed, with_missing, notifications_among, setup_for, AcknowledgesNothing}
 use Rattle.vm_steps.specs.Record.{Record, heard}
-use Rattle.vm_steps.specs.Stepping.{Advances, Asks, IfWaits, IsReplaying, LacksMemory, Reads, StepAt, StepDoes, StepFrom, StepUnless, fresh_record}
+use Rattle.vm_steps.specs.Stepping.{Advances, MakesStep, IfWaits, IsReplaying, LacksMemory, InputIsRead, StepAt, StepDoes, StepFrom, StepUnless, fresh_record}
 use Rattle.vm_parts.specs.Outboxes.{WholeFrames}
 use Rattle.vm_attempt.specs.Told.{AnswersAreTold, BeforeInput, Begun, Comes, IsAsleep, IsKept, IsLive, NothingWakes, Premises, Quiet, AnswersInReplay, HandlerRuns, AwaitWaits, StillAwaits, ToldBy, Wrote, arrivals, bytes_fed, frames_fed, start_state}
 use Rattle.vm_attempt.proofs.Beginning.{input_begins}
@@ -246,11 +246,11 @@ runs_answered fixed fed answers before taken v k none =
 -- what was fed.
 module _ (R : Reading) (P : Heard → Type 0) (l : Lasts R) (fixed : Fixed) (reads : (fed : Heard) (waiting : Option UnresolvedFuture) (taken : List (List ℕ)) (v w : View) (i : Input) → P fed → fed.proposed ≡ [] → Comes fixed fed v.machine → input_step v.machine ≡ Done i w.machine → waiting ≡ None → Wrote taken v.machine.output [] → (frames_of (bytes_fed fed)).1 ≡ Rest w.undecoded → R fed (answer.Input i ∷ []) waiting taken w)
     (answered : (fed : Heard) (answers : List Answer) (waiting : Option UnresolvedFuture) (taken : List (List ℕ)) (v : View) → R fed answers waiting taken v → answers ≢ [])
-    (asks : (old : Record) (result : Result Progress Error) (new : Record) → P (heard fixed.version old) → R (heard fixed.version old) old.answers old.waiting old.taken old.vm → IsLive old.vm.machine → Asks fixed.handler old result new → KeptBy R fixed new) where
+    (asks : (old : Record) (result : Result Progress Error) (new : Record) → P (heard fixed.version old) → R (heard fixed.version old) old.answers old.waiting old.taken old.vm → IsLive old.vm.machine → MakesStep fixed.handler old result new → KeptBy R fixed new) where
   abbrev Kept : Record → Type 0
   Kept = KeptBy R fixed
 
-  reads_keep : (old : Record) (result : Result Progress Error) (new : Record) → P (heard fixed.version old) → BeforeInput fixed (heard fixed.version old) old.answers old.waiting old.taken old.vm → old.vm.machine.failure ≡ None → Reads old result new → Kept new
+  reads_keep : (old : Record) (result : Result Progress Error) (new : Record) → P (heard fixed.version old) → BeforeInput fixed (heard fixed.version old) old.answers old.waiting old.taken old.vm → old.vm.machine.failure ≡ None → InputIsRead old result new → Kept new
   reads_keep old (Ok progress) new under b live (stepped, (i, w, does, is)) =
       subst Kept (sym is) (inr (reads (heard fixed.version old) old.waiting old.taken old.vm w i under b.none_proposed (b.comes live) (done_of old.vm.machine (input_step old.vm.machine) i w.machine live does.0) b.waits_not b.wrote (b.tail live ∙ ap Rest (sym does.1))))
   reads_keep old (Err e) new under b live (w, does, is) =
@@ -266,14 +266,14 @@ module _ (R : Reading) (P : Heard → Type 0) (l : Lasts R) (fixed : Fixed) (rea
   advances_keep old result new under k live =
       ⊎_elim
       (λ (x : LacksMemory old result new). subst Kept (sym x.1) k)
-      (λ (o : ((old.answers ≡ []) × Reads old result new) ⊎ ((old.answers ≢ []) × Asks fixed.handler old result new)).
+      (λ (o : ((old.answers ≡ []) × InputIsRead old result new) ⊎ ((old.answers ≢ []) × MakesStep fixed.handler old result new)).
       ⊎_elim
-      (λ (x : (old.answers ≡ []) × Reads old result new).
+      (λ (x : (old.answers ≡ []) × InputIsRead old result new).
       ⊎_elim
       (λ (b : BeforeInput fixed (heard fixed.version old) old.answers old.waiting old.taken old.vm). reads_keep old result new under b live.failure x.1)
       (λ (b : R (heard fixed.version old) old.answers old.waiting old.taken old.vm). absurd (answered (heard fixed.version old) old.answers old.waiting old.taken old.vm b x.0))
       k)
-      (λ (x : (old.answers ≢ []) × Asks fixed.handler old result new).
+      (λ (x : (old.answers ≢ []) × MakesStep fixed.handler old result new).
       ⊎_elim
       (λ (b : BeforeInput fixed (heard fixed.version old) old.answers old.waiting old.taken old.vm). absurd (x.0 b.answers))
       (λ (b : R (heard fixed.version old) old.answers old.waiting old.taken old.vm). asks old result new under b live x.1)
@@ -305,7 +305,7 @@ step_keeps fixed = steps_keep (HandlerRuns fixed) (Premises fixed) (runs_last fi
 
 -- ---- a step that waits
 
-reads_wait : (P : Type 0) (old : Record) (result : Result Progress Error) (new : Record) → Reads old result new → IfWaits result P
+reads_wait : (P : Type 0) (old : Record) (result : Result Progress Error) (new : Record) → InputIsRead old result new → IfWaits result P
 reads_wait P old (Ok progress) new (stepped, further) = subst (λ z. IfWaits (Ok z) P) (sym stepped) tt
 reads_wait P old (Err e) new d = tt
 
@@ -325,10 +325,10 @@ advances_wait fixed old result new under k live =
     let P = AwaitWaits fixed (heard fixed.version new) new.answers new.taken new.vm in
     ⊎_elim
     (λ (x : LacksMemory old result new). error_waits P result _ x.0)
-    (λ (o : ((old.answers ≡ []) × Reads old result new) ⊎ ((old.answers ≢ []) × Asks fixed.handler old result new)).
+    (λ (o : ((old.answers ≡ []) × InputIsRead old result new) ⊎ ((old.answers ≢ []) × MakesStep fixed.handler old result new)).
     ⊎_elim
-    (λ (x : (old.answers ≡ []) × Reads old result new). reads_wait P old result new x.1)
-    (λ (x : (old.answers ≢ []) × Asks fixed.handler old result new).
+    (λ (x : (old.answers ≡ []) × InputIsRead old result new). reads_wait P old result new x.1)
+    (λ (x : (old.answers ≢ []) × MakesStep fixed.handler old result new).
     let run = runs_of fixed old k x.0 in
     asks_wait fixed old result new under.queues run (under.once run.journal run.moves run.written run.at run.run) live x.1)
     o)
@@ -368,10 +368,10 @@ pub step_replays : (fixed : Fixed) (old : Record) (result : Result Progress Erro
 step_replays fixed old result new queues k two is does =
     ⊎_elim
     (λ (x : LacksMemory old result new). lacks_replay fixed old result new x)
-    (λ (o : ((old.answers ≡ []) × Reads old result new) ⊎ ((old.answers ≢ []) × Asks fixed.handler old result new)).
+    (λ (o : ((old.answers ≡ []) × InputIsRead old result new) ⊎ ((old.answers ≢ []) × MakesStep fixed.handler old result new)).
     ⊎_elim
-    (λ (x : (old.answers ≡ []) × Reads old result new). absurd (is.runs x.0))
-    (λ (x : (old.answers ≢ []) × Asks fixed.handler old result new). asks_replay fixed old result new queues k two (record { failure = is.failure; phase = ap is_running is.phase }) is.phase x.1)
+    (λ (x : (old.answers ≡ []) × InputIsRead old result new). absurd (is.runs x.0))
+    (λ (x : (old.answers ≢ []) × MakesStep fixed.handler old result new). asks_replay fixed old result new queues k two (record { failure = is.failure; phase = ap is_running is.phase }) is.phase x.1)
     o)
     (replays_advance fixed.handler old result new is does)
 

@@ -9,7 +9,7 @@ use Rattle.await_trees.specs.declared.handle.NotificationHandle.{NotificationHan
 use Rattle.journal_messages.specs.declared.message.Message.{Message}
 use Rattle.journal_messages.specs.declared.message.Message.TheVariants as message
 use Rattle.runs.specs.Firsts.{with_first, without_first}
-use Rattle.runs.specs.Pending.{handle_of, has_handle, is_one_of, may_execute, started, to_execute, waits}
+use Rattle.runs.specs.Pending.{handle_of, has_handle, is_one_of, may_execute, run_started, to_execute, is_waiting_run}
 use Rattle.vm_parts.specs.declared.run_state.PendingRun.{PendingRun}
 use Rattle.vm_parts.specs.Counting.{next_index}
 use Rattle.vm_machine.specs.declared.machine.Machine.{Machine}
@@ -20,7 +20,7 @@ use Rattle.vm_asks.specs.Requests.{ids_of}
 
 -- a run of this handle waits to be executed
 abbrev waits_as : NotificationHandle → PendingRun → Bool
-waits_as handle run = waits run.execution && has_handle handle run
+waits_as handle run = is_waiting_run run.execution && has_handle handle run
 
 -- how many of these runs do
 abbrev waiting_of : NotificationHandle → List PendingRun → ℕ
@@ -106,21 +106,21 @@ prepared_fewer m v handle = calls_fewer handle m v.counters.handle v.counters.co
 -- ---- a run is executed
 
 waits_here : (any : List ℕ) (run : PendingRun) → may_execute any run ≡ true → waits_as (handle_of run) run ≡ true
-waits_here any run may = both (waits run.execution) (is_one_of any run.handle) (run.handle == run.handle) may (eq-eqb run.handle run.handle refl)
+waits_here any run may = both (is_waiting_run run.execution) (is_one_of any run.handle) (run.handle == run.handle) may (eq-eqb run.handle run.handle refl)
   where
     both : (a b c : Bool) → a && b ≡ true → c ≡ true → a && c ≡ true
     both true b c e f = f
     both false b c e f = e
 
-starts_fewer : (handle : NotificationHandle) (any : List ℕ) (runs : List PendingRun) → waiting_of handle (with_first (may_execute any) started runs) ≤ waiting_of handle runs
+starts_fewer : (handle : NotificationHandle) (any : List ℕ) (runs : List PendingRun) → waiting_of handle (with_first (may_execute any) run_started runs) ≤ waiting_of handle runs
 starts_fewer handle any [] = omega arith
 starts_fewer handle any (x ∷ runs) = by_test (may_execute any x) (starts_fewer handle any runs)
   where
-    by_test : (b : Bool) → waiting_of handle (with_first (may_execute any) started runs) ≤ waiting_of handle runs → waiting_of handle (if b then started x ∷ runs else x ∷ with_first (may_execute any) started runs) ≤ cond (waits_as handle x) 1 0 + waiting_of handle runs
+    by_test : (b : Bool) → waiting_of handle (with_first (may_execute any) run_started runs) ≤ waiting_of handle runs → waiting_of handle (if b then run_started x ∷ runs else x ∷ with_first (may_execute any) run_started runs) ≤ cond (waits_as handle x) 1 0 + waiting_of handle runs
     by_test true fewer = omega arith
     by_test false fewer = omega (arith, fewer)
 
-starts_one : (any : List ℕ) (runs : List PendingRun) (run : PendingRun) → find (may_execute any) runs ≡ Some run → suc (waiting_of (handle_of run) (with_first (may_execute any) started runs)) ≤ waiting_of (handle_of run) runs
+starts_one : (any : List ℕ) (runs : List PendingRun) (run : PendingRun) → find (may_execute any) runs ≡ Some run → suc (waiting_of (handle_of run) (with_first (may_execute any) run_started runs)) ≤ waiting_of (handle_of run) runs
 starts_one any [] run found = absurd (cc)
 starts_one any (x ∷ runs) run found = by_test (may_execute any x) refl (starts_one any runs run) found
   where
@@ -128,8 +128,8 @@ starts_one any (x ∷ runs) run found = by_test (may_execute any x) refl (starts
     one_less true n e = omega arith
     one_less false n e = absurd (cc)
 
-    by_test : (b : Bool) → may_execute any x ≡ b → (find (may_execute any) runs ≡ Some run → suc (waiting_of (handle_of run) (with_first (may_execute any) started runs)) ≤ waiting_of (handle_of run) runs) → cond b (Some x) (find (may_execute any) runs) ≡ Some run
-        → suc (waiting_of (handle_of run) (if b then started x ∷ runs else x ∷ with_first (may_execute any) started runs)) ≤ cond (waits_as (handle_of run) x) 1 0 + waiting_of (handle_of run) runs
+    by_test : (b : Bool) → may_execute any x ≡ b → (find (may_execute any) runs ≡ Some run → suc (waiting_of (handle_of run) (with_first (may_execute any) run_started runs)) ≤ waiting_of (handle_of run) runs) → cond b (Some x) (find (may_execute any) runs) ≡ Some run
+        → suc (waiting_of (handle_of run) (if b then run_started x ∷ runs else x ∷ with_first (may_execute any) run_started runs)) ≤ cond (waits_as (handle_of run) x) 1 0 + waiting_of (handle_of run) runs
     by_test true may more is = one_less (waits_as (handle_of run) x) (waiting_of (handle_of run) runs) (subst (λ r. waits_as (handle_of r) x ≡ true) (same_Some x run is) (waits_here any x may))
     by_test false may more is = omega (arith, more is)
 

@@ -22,7 +22,7 @@ use Rattle.vm_parts.specs.declared.context.StateMap.{StateMap}
 use Rattle.vm_machine.specs.declared.machine.Machine.{Machine}
 use Rattle.vm_machine.specs.declared.phase.Phase.{Phase}
 use Rattle.vm_machine.specs.declared.phase.Phase.TheVariants.{WaitingStart, WaitingReplayEntries, Replaying, Processing, Closed}
-use Rattle.vm_machine.specs.Inputs.{entry_step, message_step, notification_step, queued, start_step, acknowledged, acknowledged_by, acknowledgement_step, completion_of}
+use Rattle.vm_machine.specs.Inputs.{entry_step, message_step, notification_step, queued, start_step, acknowledged, acknowledged_by, acknowledgement_step, acknowledged_completion}
 use Rattle.vm_machine.specs.Outcomes.{Outcome, called, called_at, refused, settled}
 use Rattle.vm_machine.specs.Phases.{is_closed, is_processing, is_running}
 use Rattle.invocation_vm.specs.Views.{all_received, left_by, received}
@@ -111,7 +111,7 @@ module _ (s : Setup) (given : StateMap) (written : List RawMessage) (aside : Asi
   queued_comes (Some n) = inl (record { aside = aside; machine = refl; identity = identity }, refl)
 
   -- what was proposed is one more arrival
-  kept_comes : (id : ℕ) (o : Option KeptProposal) → Comes s given written (left_by (settled (acknowledged id o here))) (notified_by (option_map (completion_of id) o) []) (without_first (is_for id) aside.proposals) p
+  kept_comes : (id : ℕ) (o : Option KeptProposal) → Comes s given written (left_by (settled (acknowledged id o here))) (notified_by (option_map (acknowledged_completion id) o) []) (without_first (is_for id) aside.proposals) p
   kept_comes id None = inr refl
   kept_comes id (Some kept) = inl (record { aside = record aside { proposals = without_first (is_for id) aside.proposals }; machine = refl; identity = identity }, refl)
 

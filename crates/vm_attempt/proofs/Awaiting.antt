@@ -26,10 +26,10 @@ use Rattle.vm_types.specs.declared.types.AwaitResponse.{AwaitResponse}
 use Rattle.vm_types.specs.declared.types.AwaitResponse.TheVariants.{AnyCompleted, CancelSignalReceived, EphemeralNotificationReady, ExecuteRun, WaitingExternalProgress}
 use Rattle.vm_parts.specs.Deliveries.{same_id}
 use Rattle.vm_types.specs.Options.{ends_awaits}
-use Rattle.vm_parts.specs.Tracked.{id_of_result, unresolved, with_next_id}
+use Rattle.vm_parts.specs.Tracked.{id_of_result, unresolved_handles, with_next_id}
 use Rattle.vm_parts.proofs.Tracking.{unresolved-with_next_id}
 use Rattle.vm_machine.specs.declared.machine.Machine.{Machine}
-use Rattle.vm_awaits.specs.Awaits.{AwaitsBy, Behind, EndsBy, Gathers, ReadsId, id_read as read_by_machine, is_cancelled, is_first_of_none, or_cancelled, result_at}
+use Rattle.vm_awaits.specs.Awaits.{AwaitsBy, Behind, EndsBy, Gathers, ReadsId, next_id_known as read_by_machine, is_cancelled, is_first_of_none, or_cancelled, result_at}
 use Rattle.vm_machine.specs.Outcomes.{Outcome, Done, Failed}
 use Rattle.vm_model.specs.Calls.{Derived, Setup, Meaning, awaited, awaiting, call_of, cancelled, id_awaited, id_read, identity_of, is_awake, is_cancelled_in, tree_wakes, leaf_in}
 use Rattle.vm_model.specs.Calls.Usage.{Used}
@@ -122,7 +122,7 @@ module _ (s : Setup) (m : Meaning) (given : StateMap) (written : List RawMessage
     pub reached : Reached p at
     pub machine : w ≡ v at
     pub is_cancelled : is_cancelled_in s at.derived ≡ true
-    pub known : unresolved at.derived.tracked ≡ []
+    pub known : unresolved_handles at.derived.tracked ≡ []
 
   -- what the first part comes to
   abbrev pub PartTo : Point → Outcome (Result AwaitResponse Error) → Type 0
@@ -204,7 +204,7 @@ module _ (s : Setup) (m : Meaning) (given : StateMap) (written : List RawMessage
         let d = arrivals_used (take i p.queue) p.derived in
         let not = none_cancelled never d in (
           move_is p d is ∙ ap (λ b. awaited s b future d) not ∙ ap (λ b. awaiting b d) sleeps,
-          ap (λ b. if b then first_or (unresolved d.tracked) (tree_of future) else if ends_awaits s.options.implicit_cancellation then or_cancelled (tree_of future) else tree_of future) not
+          ap (λ b. if b then first_or (unresolved_handles d.tracked) (tree_of future) else if ends_awaits s.options.implicit_cancellation then or_cancelled (tree_of future) else tree_of future) not
               ∙ ap (λ b. if b then or_cancelled (tree_of future) else tree_of future) never,
         )
 
@@ -228,7 +228,7 @@ module _ (s : Setup) (m : Meaning) (given : StateMap) (written : List RawMessage
     pub reached : Reached p at
     pub machine : w ≡ v at
     pub is_cancelled : is_cancelled_in s at.derived ≡ true
-    pub rest : unresolved at.derived.tracked ≡ handles
+    pub rest : unresolved_handles at.derived.tracked ≡ handles
 
   -- what reading an id comes to
   abbrev ReadTo : List ℕ → Point → Outcome (Result AwaitResponse Error) → Type 0
@@ -250,11 +250,11 @@ module _ (s : Setup) (m : Meaning) (given : StateMap) (written : List RawMessage
   read_behind handles p q a (Failed e w) h = part_behind p q a (Failed e w) h
 
   -- the move of an await whose next id is read
-  reading_is : (p : Point) (d : Derived) (handle : ℕ) (handles : List ℕ) → m p.answers ≡ step.Await future → is_cancelled_in s d ≡ true → unresolved d.tracked ≡ handle ∷ handles → call_of s (m p.answers) d ≡ id_awaited (present_in s handle d) d
+  reading_is : (p : Point) (d : Derived) (handle : ℕ) (handles : List ℕ) → m p.answers ≡ step.Await future → is_cancelled_in s d ≡ true → unresolved_handles d.tracked ≡ handle ∷ handles → call_of s (m p.answers) d ≡ id_awaited (present_in s handle d) d
   reading_is p d handle handles is so rest = move_is p d is ∙ ap (λ b. awaited s b future d) so ∙ ap (λ l. cancelled s l d) rest
 
   -- the result is there: it is an invocation's id, or no id
-  reads_now : (handle : ℕ) (handles : List ℕ) (q : Point) → m q.answers ≡ step.Await future → HasNoTwo q → is_cancelled_in s q.derived ≡ true → unresolved q.derived.tracked ≡ handle ∷ handles → (o : Option NotificationResult) → present_in s handle q.derived ≡ o → is_some o ≡ true → ReadTo handles q (read_by_machine (option_and_then id_of_result o) (v q))
+  reads_now : (handle : ℕ) (handles : List ℕ) (q : Point) → m q.answers ≡ step.Await future → HasNoTwo q → is_cancelled_in s q.derived ≡ true → unresolved_handles q.derived.tracked ≡ handle ∷ handles → (o : Option NotificationResult) → present_in s handle q.derived ≡ o → is_some o ≡ true → ReadTo handles q (read_by_machine (option_and_then id_of_result o) (v q))
   reads_now handle handles q is two so rest None there some = absurd cc
   reads_now handle handles q is two so rest (Some result) there some = by_id (id_of_result result) refl
     where
@@ -292,7 +292,7 @@ module _ (s : Setup) (m : Meaning) (given : StateMap) (written : List RawMessage
             rest = unresolved-with_next_id id q.derived.tracked handle handles rest;
           }
 
-  module _ (handle : ℕ) (handles : List ℕ) (p : Point) (is : m p.answers ≡ step.Await future) (two : HasNoTwo p) (so : is_cancelled_in s p.derived ≡ true) (rest : unresolved p.derived.tracked ≡ handle ∷ handles) where
+  module _ (handle : ℕ) (handles : List ℕ) (p : Point) (is : m p.answers ≡ step.Await future) (two : HasNoTwo p) (so : is_cancelled_in s p.derived ≡ true) (rest : unresolved_handles p.derived.tracked ≡ handle ∷ handles) where
     -- the handler is still cancelled, and the same ids are known
     still : (n : ℕ) → is_cancelled_in s (arrivals_used (take n p.queue) p.derived) ≡ true
     still n = stays_cancelled (take n p.queue) p.derived so
@@ -304,8 +304,8 @@ module _ (s : Setup) (m : Meaning) (given : StateMap) (written : List RawMessage
             by_option true h = handle_stays s 1 ns d h
             by_option false h = absurd cc
 
-    rest_at : (n : ℕ) → unresolved (arrivals_used (take n p.queue) p.derived).tracked ≡ handle ∷ handles
-    rest_at n = ap unresolved (tracked_more (take n p.queue) p.derived) ∙ rest
+    rest_at : (n : ℕ) → unresolved_handles (arrivals_used (take n p.queue) p.derived).tracked ≡ handle ∷ handles
+    rest_at n = ap unresolved_handles (tracked_more (take n p.queue) p.derived) ∙ rest
 
     -- a leaf without a result
     no_result : (o : Option NotificationResult) → is_done (result_outcome o) ≡ false → o ≡ None
@@ -323,7 +323,7 @@ module _ (s : Setup) (m : Meaning) (given : StateMap) (written : List RawMessage
     asks_id i l sleeps =
         let d = arrivals_used (take i p.queue) p.derived in (
           reading_is p d handle handles is (still i) (rest_at i) ∙ ap (λ o. id_awaited o d) (no_result (present_in s handle d) (leaf_asleep d sleeps)),
-          ap (λ b. if b then first_or (unresolved d.tracked) (tree_of future) else if ends_awaits s.options.implicit_cancellation then or_cancelled (tree_of future) else tree_of future) (still i)
+          ap (λ b. if b then first_or (unresolved_handles d.tracked) (tree_of future) else if ends_awaits s.options.implicit_cancellation then or_cancelled (tree_of future) else tree_of future) (still i)
               ∙ ap (λ l. first_or l (tree_of future)) (rest_at i),
         )
 
@@ -351,11 +351,11 @@ module _ (s : Setup) (m : Meaning) (given : StateMap) (written : List RawMessage
     reads_to : (o : Outcome (Result AwaitResponse Error)) → ReadsId handle (v p) o → ReadTo handles p o
     reads_to o (first, tries, on) = read_by first (tries_to s m given written aside p future identity is queued two (leaf handle) asks_id first tries) o on
 
-  gathers_to : (handles : List ℕ) (p : Point) → m p.answers ≡ step.Await future → HasNoTwo p → is_cancelled_in s p.derived ≡ true → unresolved p.derived.tracked ≡ handles → (o : Outcome (Result AwaitResponse Error)) → Gathers handles (v p) o → PartTo p o
+  gathers_to : (handles : List ℕ) (p : Point) → m p.answers ≡ step.Await future → HasNoTwo p → is_cancelled_in s p.derived ≡ true → unresolved_handles p.derived.tracked ≡ handles → (o : Outcome (Result AwaitResponse Error)) → Gathers handles (v p) o → PartTo p o
   gathers_to [] p is two so rest o comes = subst (PartTo p) (sym comes) (record { at = p; reached = stays_there p is two; machine = refl; is_cancelled = so; known = rest })
   gathers_to (handle ∷ handles) p is two so rest o (first, reads, on) = behind (gathers_to handles) first (reads_to handle handles p is two so rest first reads) on
     where
-      behind : ((q : Point) → m q.answers ≡ step.Await future → HasNoTwo q → is_cancelled_in s q.derived ≡ true → unresolved q.derived.tracked ≡ handles → (o : Outcome (Result AwaitResponse Error)) → Gathers handles (v q) o → PartTo q o)
+      behind : ((q : Point) → m q.answers ≡ step.Await future → HasNoTwo q → is_cancelled_in s q.derived ≡ true → unresolved_handles q.derived.tracked ≡ handles → (o : Outcome (Result AwaitResponse Error)) → Gathers handles (v q) o → PartTo q o)
           → (first : Outcome (Result AwaitResponse Error)) → ReadTo handles p first → Behind (Gathers handles) first o → PartTo p o
       behind rest_to (Done (Ok AnyCompleted) w) x on = part_behind p x.at x.reached o (rest_to x.at x.reached.is x.reached.two x.is_cancelled x.rest o (subst (λ (u : Machine). Gathers handles u o) x.machine on))
       behind rest_to (Done (Ok CancelSignalReceived) w) x on = absurd x
@@ -385,13 +385,13 @@ module _ (s : Setup) (m : Meaning) (given : StateMap) (written : List RawMessage
         let never = neither (is_some (present_in s 1 d)) (is_awake s future d) (sym (wakes_is d) ∙ sleeps) in
         let not : is_cancelled_in s d ≡ false = cancelled_is d ∙ never.0 in (
           move_is p d is ∙ ap (λ b. awaited s b future d) not ∙ ap (λ b. awaiting b d) never.1,
-          ap (λ b. if b then first_or (unresolved d.tracked) (tree_of future) else if ends_awaits s.options.implicit_cancellation then or_cancelled (tree_of future) else tree_of future) not
+          ap (λ b. if b then first_or (unresolved_handles d.tracked) (tree_of future) else if ends_awaits s.options.implicit_cancellation then or_cancelled (tree_of future) else tree_of future) not
               ∙ ap (λ b. if b then or_cancelled (tree_of future) else tree_of future) ends,
         )
 
     -- it has woken: by the cancel signal, or by its tree
     ends_to : (q : Point) → m q.answers ≡ step.Await future → HasNoTwo q → tree_wakes s (or_cancelled (tree_of future)) q.derived ≡ true → (b : Bool) → is_some (present_in s 1 q.derived) ≡ b → (o : Outcome (Result AwaitResponse Error)) → EndsBy b (v q) o → PartTo q o
-    ends_to q is two wakes true so o comes = gathers_to (unresolved q.derived.tracked) q is two (cancelled_is q.derived ∙ so) refl o comes
+    ends_to q is two wakes true so o comes = gathers_to (unresolved_handles q.derived.tracked) q is two (cancelled_is q.derived ∙ so) refl o comes
     ends_to q is two wakes false never o comes =
         let awakes : is_awake s future q.derived ≡ true = ap (λ b. b || is_awake s future q.derived) (sym never) ∙ sym (wakes_is q.derived) ∙ wakes in
         subst (PartTo q) (sym comes) (answers_awake q is (cancelled_is q.derived ∙ never) awakes)

@@ -18,13 +18,13 @@ use Rattle.vm_machine.specs.Outcomes.{IsStarved, called, called_at, ruled, ruled
 use Rattle.vm_machine.specs.Making.{fresh}
 use Rattle.invocation_vm.specs.Frames.{Tail, Rest, Garbage, frames_of}
 use Rattle.invocation_vm.specs.Making.{Makes, made}
-use Rattle.invocation_vm.specs.Views.{StarvesAmong, View, after_closing, after_input, all_received, brought, consumed, left_by, left_over, spoiled}
+use Rattle.invocation_vm.specs.Views.{StarvesAmong, View, after_closing, after_input, all_received, messages_in_bytes, consumed, left_by, left_over, spoiled}
 use Rattle.vm_model.specs.Calls.{Meaning}
 use Rattle.vm_steps.specs.Heard.{Heard, and_piece}
 use Rattle.vm_steps.specs.declared.progress.Fed.{Fed}
 use Rattle.vm_steps.specs.declared.progress.Progress.{Progress}
 use Rattle.vm_steps.specs.Record.{Record, Said, all_said, heard}
-use Rattle.vm_steps.specs.Stepping.{CloseDoes, Closes, FeedDoes, Feeds, Takes, fresh_record, kept, kept_at, with_vm}
+use Rattle.vm_steps.specs.Stepping.{CloseDoes, InputIsClosed, FeedDoes, FeedsPiece, Takes, fresh_record, with_piece_kept, kept_at, with_vm}
 use Rattle.vm_attempt.specs.Told.{BeforeInput, JournalCame, HasCome, bytes_fed, frames_fed}
 use Rattle.vm_attempt.specs.Blames.{Blame, BlamedAt, FailsAt, IsBlamed, LacksEntries, Place}
 use Rattle.vm_attempt.specs.Blames.Blame.{Memory, Frame, NoFrame, ClosedEarly, NoInput, NoSkip, Call, RunResult}
@@ -135,12 +135,12 @@ pieces_blamed fixed r piece k b None over None is Replaying at = piece_blamed fi
 pieces_blamed fixed r piece k b None over None is Processing at = piece_blamed fixed r _ k is (b.open_yet over is)
 pieces_blamed fixed r piece k b None over None is Closed at = absurd (b.open_yet over is at)
 
-feeds_blamed : (fixed : Fixed) (piece : List ℕ) (old : Record) (result : Result Unit AllocError) (new : Record) → HasCome fixed old → IsBlamed fixed old → Feeds piece old result new → IsBlamed fixed new
+feeds_blamed : (fixed : Fixed) (piece : List ℕ) (old : Record) (result : Result Unit AllocError) (new : Record) → HasCome fixed old → IsBlamed fixed old → FeedsPiece piece old result new → IsBlamed fixed new
 feeds_blamed fixed piece old (Ok t) new k b does = subst (IsBlamed fixed) (sym does) (pieces_blamed fixed old piece k b old.over refl old.vm.machine.failure refl old.vm.machine.phase refl)
 feeds_blamed fixed piece old (Err e) new k b does =
     ⊎_elim
     (λ (x : new ≡ record old { starved = true }). subst (IsBlamed fixed) (sym x) b)
-    (λ (x : (w : View) × StarvesAmong (brought old.vm piece) old.vm.machine w.machine × (new ≡ with_vm w (kept piece old))).
+    (λ (x : (w : View) × StarvesAmong (messages_in_bytes old.vm piece) old.vm.machine w.machine × (new ≡ with_vm w (with_piece_kept piece old))).
     subst (IsBlamed fixed) (sym x.2) (starved_blamed fixed _ _ _ _ x.1.reached x.0.machine x.1.live x.1.starved))
     does
 
@@ -203,7 +203,7 @@ close_at fixed r k b None over None is Replaying at = subst (BlamedAt fixed r.ov
 close_at fixed r k b None over None is Processing at = subst (BlamedAt fixed r.over (heard fixed.version r) (closed_now (all_said r)) r.answers) (closing_at r.vm is Processing at) (alive_blamed fixed r.over (heard fixed.version r) (closed_now (all_said r)) r.answers _ is (b.open_yet over is))
 close_at fixed r k b None over None is Closed at = absurd (b.open_yet over is at)
 
-closes_blamed : (fixed : Fixed) (old : Record) (result : Result Unit AllocError) (new : Record) → HasCome fixed old → IsBlamed fixed old → Closes old result new → IsBlamed fixed new
+closes_blamed : (fixed : Fixed) (old : Record) (result : Result Unit AllocError) (new : Record) → HasCome fixed old → IsBlamed fixed old → InputIsClosed old result new → IsBlamed fixed new
 closes_blamed fixed old (Ok t) new k b does = subst (IsBlamed fixed) (sym does) (close_at fixed old k b old.over refl old.vm.machine.failure refl old.vm.machine.phase refl)
 closes_blamed fixed old (Err e) new k b does = subst (IsBlamed fixed) (sym does.2) (starved_blamed fixed _ _ _ _ does.1.reached does.0.machine does.1.live does.1.starved)
 

@@ -22,7 +22,7 @@ use Rattle.vm_types.specs.declared.options.VMOptions.{VMOptions}
 use Rattle.vm_machine.specs.declared.machine.Machine.{Machine}
 use Rattle.vm_machine.specs.declared.phase.Phase.{Phase}
 use Rattle.vm_machine.specs.declared.phase.Phase.TheVariants.{WaitingStart, WaitingReplayEntries, Replaying, Processing, Closed}
-use Rattle.vm_machine.specs.Inputs.{counted_entry, coverage_of, entries_in, info_of, queued, started, started_with, acknowledged, acknowledged_by, acknowledgement_step}
+use Rattle.vm_machine.specs.Inputs.{counted_entry, coverage_of, entries_in, start_info_of, queued, start_received, started_with, acknowledged, acknowledged_by, acknowledgement_step}
 use Rattle.vm_machine.specs.Outcomes.{Outcome, Done, refused, ruled, ruled_by, settled}
 use Rattle.invocation_vm.specs.Views.{all_received, left_by, received}
 use Rattle.vm_attempt.specs.Journals.{is_command_frame, is_ephemeral, is_notification, is_acknowledgement}
@@ -51,11 +51,11 @@ start_fits : (st : Start) (o : Option (List (List ℕ × Option (List ℕ)))) (v
 start_fits st None v = refl
 start_fits st (Some entries) v = by_test (st.known_entries == 0)
   where
-    by_test : (b : Bool) → Fits (if b then Some fault.KnownEntriesIsZero else None) v (if b then refused fault.KnownEntriesIsZero v else Done (tt {0}) (record v { start = info_of v.version v.options.fallback_random_seed st; state = record { entries = entries; coverage = coverage_of st.partial }; entries_missing = st.known_entries; phase = WaitingReplayEntries }))
+    by_test : (b : Bool) → Fits (if b then Some fault.KnownEntriesIsZero else None) v (if b then refused fault.KnownEntriesIsZero v else Done (tt {0}) (record v { start = start_info_of v.version v.options.fallback_random_seed st; state = record { entries = entries; coverage = coverage_of st.partial }; entries_missing = st.known_entries; phase = WaitingReplayEntries }))
     by_test true = refl
     by_test false = (_, refl, (refl, (refl, refl)), (refl, refl))
 
-starts_fit : (o : Option Start) (v : Machine) → Fits (start_fault o) v (started o v)
+starts_fit : (o : Option Start) (v : Machine) → Fits (start_fault o) v (start_received o v)
 starts_fit None v = refl
 starts_fit (Some st) v = start_fits st (entries_in st.state) v
 

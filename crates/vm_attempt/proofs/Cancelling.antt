@@ -9,7 +9,7 @@ use Rattle.journal_errors.specs.declared.faults.NamedFault.{NamedFault}
 use Rattle.journal_messages.specs.declared.message.RawMessage.{RawMessage}
 use Rattle.journal_values.specs.declared.notification.NotificationId.{NotificationId}
 use Rattle.journal_values.specs.declared.notification.NotificationResult.{NotificationResult}
-use Rattle.vm_parts.specs.Counting.{missing}
+use Rattle.vm_parts.specs.Counting.{missing_number}
 use Rattle.vm_parts.specs.declared.context.StateMap.{StateMap}
 use Rattle.vm_types.specs.declared.options.SignalDelivery.TheVariants.{Queued}
 use Rattle.vm_parts.specs.declared.run_state.TrackedCall.{TrackedCall}
@@ -17,9 +17,9 @@ use Rattle.vm_types.specs.declared.steps.Answer.TheVariants as answer
 use Rattle.vm_types.specs.declared.steps.Step.TheVariants as step
 use Rattle.vm_types.specs.declared.types.AwaitResponse.{AwaitResponse}
 use Rattle.vm_types.specs.declared.types.AwaitResponse.TheVariants.{AnyCompleted, CancelSignalReceived, EphemeralNotificationReady, ExecuteRun, WaitingExternalProgress}
-use Rattle.vm_parts.specs.Deliveries.{id_at, present_for, taken_by}
+use Rattle.vm_parts.specs.Deliveries.{id_at, present_result_for, taken_by}
 use Rattle.vm_types.specs.Options.{ends_awaits}
-use Rattle.vm_parts.specs.Tracked.{invocation_ids, unresolved, without_first_call}
+use Rattle.vm_parts.specs.Tracked.{invocation_ids, unresolved_handles, without_first_call}
 use Rattle.vm_asks.specs.declared.command.Command.{Command}
 use Rattle.vm_machine.specs.declared.machine.Machine.{Machine}
 use Rattle.vm_asks.specs.Asks.{ask_of, cancel_invocation_command, command_answer}
@@ -68,14 +68,14 @@ err_in d (Err e) = e
 -- ---- one cancel command
 
 -- behind the first of some calls whose ids are known
-others_known : (ts : List TrackedCall) (id : List ℕ) (ids : List (List ℕ)) → unresolved ts ≡ [] → invocation_ids ts ≡ id ∷ ids → (unresolved (without_first_call ts) ≡ []) × (invocation_ids (without_first_call ts) ≡ ids)
+others_known : (ts : List TrackedCall) (id : List ℕ) (ids : List (List ℕ)) → unresolved_handles ts ≡ [] → invocation_ids ts ≡ id ∷ ids → (unresolved_handles (without_first_call ts) ≡ []) × (invocation_ids (without_first_call ts) ≡ ids)
 others_known [] id ids e f = absurd (cc)
 others_known (t ∷ ts) id ids e f = by_id t.invocation_id e f
   where
     call : Option (List ℕ) → TrackedCall
     call o = record { handle = t.handle; invocation_id = o }
 
-    by_id : (o : Option (List ℕ)) → unresolved (record { handle = t.handle; invocation_id = o } ∷ ts) ≡ [] → invocation_ids (record { handle = t.handle; invocation_id = o } ∷ ts) ≡ id ∷ ids → (unresolved ts ≡ []) × (invocation_ids ts ≡ ids)
+    by_id : (o : Option (List ℕ)) → unresolved_handles (record { handle = t.handle; invocation_id = o } ∷ ts) ≡ [] → invocation_ids (record { handle = t.handle; invocation_id = o } ∷ ts) ≡ id ∷ ids → (unresolved_handles ts ≡ []) × (invocation_ids ts ≡ ids)
     by_id None e f = absurd (cc)
     by_id (Some known) e f = (e, cc)
 
@@ -144,7 +144,7 @@ module _ (s : Setup) (m : Meaning) (given : StateMap) (future : UnresolvedFuture
   pub record Cancelling (p : Point) (ids : List (List ℕ)) : Type 0 where
     pub is : m p.answers ≡ step.Await future
     pub is_cancelled : is_cancelled_in s p.derived ≡ true
-    pub known : unresolved p.derived.tracked ≡ []
+    pub known : unresolved_handles p.derived.tracked ≡ []
     pub ids_are : invocation_ids p.derived.tracked ≡ ids
 
   -- one was sent
@@ -169,7 +169,7 @@ module _ (s : Setup) (m : Meaning) (given : StateMap) (future : UnresolvedFuture
     command = cancel_invocation_command id
 
     abbrev lacks : Option NamedFault
-    lacks = missing 0 0 0 p.derived.counters
+    lacks = missing_number 0 0 0 p.derived.counters
 
     abbrev v : Machine
     v = cleared written aside p
@@ -283,9 +283,9 @@ module _ (s : Setup) (m : Meaning) (given : StateMap) (future : UnresolvedFuture
   -- the last: the await is answered, and one result of the cancel handle is taken
   module _ (written : List RawMessage) (aside : Aside) (identity : s.identity ≡ identity_of aside.start) (p : Point) (c : Cancelling p []) where
     abbrev behind : Option NotificationId → Point
-    behind id = record p { answers = p.answers ++ answer.Cancelled ∷ []; derived = model.cancel_taken id (record p.derived { tracked = [] }) }
+    behind id = record p { answers = p.answers ++ answer.Cancelled ∷ []; derived = model.with_cancel_taken id (record p.derived { tracked = [] }) }
 
-    takes_so : (id : Option NotificationId) (o : Option NotificationResult) → id_at 1 p.derived.handles ≡ id → is_some o ≡ true → present_for s.options.signal_delivery id (model.ready_in s p.derived) ≡ o
+    takes_so : (id : Option NotificationId) (o : Option NotificationResult) → id_at 1 p.derived.handles ≡ id → is_some o ≡ true → present_result_for s.options.signal_delivery id (model.ready_in s p.derived) ≡ o
         → record (cleared written aside p) { results = taken_by s.options.signal_delivery 1 id o (cleared written aside p).results } ≡ machine_at s given written aside (behind id)
     takes_so None o at some there = absurd (let z : true ≡ false = sym some ∙ ap is_some (sym there) in cc)
     takes_so (Some id) None at some there = absurd cc
@@ -298,7 +298,7 @@ module _ (s : Setup) (m : Meaning) (given : StateMap) (future : UnresolvedFuture
         by_option true h = h
         by_option false h = absurd cc
 
-    move_is_last : move_at s m p ≡ Answers (answer.Cancelled ∷ []) (model.cancel_taken (id_at 1 p.derived.handles) (record p.derived { tracked = [] }))
+    move_is_last : move_at s m p ≡ Answers (answer.Cancelled ∷ []) (model.with_cancel_taken (id_at 1 p.derived.handles) (record p.derived { tracked = [] }))
     move_is_last = ap (λ st. model.call_of s st p.derived) c.is ∙ ap (λ b. model.awaited s b future p.derived) c.is_cancelled ∙ ap (λ l. cancelled s l p.derived) c.known ∙ ap (λ l. cancelling s l p.derived) c.ids_are
 
     answers_cancelled : (w : Machine) → w ≡ cancel_taken (cleared written aside p) → Answered s m given written p (cleared written aside p) answer.Cancelled w

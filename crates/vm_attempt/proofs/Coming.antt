@@ -14,7 +14,7 @@ use Rattle.vm_steps.specs.declared.progress.Progress.{Progress}
 use Rattle.vm_steps.specs.declared.progress.Reply.{Reply}
 use Rattle.vm_steps.specs.declared.progress.Reply.TheVariants as reply
 use Rattle.vm_steps.specs.Record.{Record, heard}
-use Rattle.vm_steps.specs.Stepping.{Asks, CloseDoes, FeedDoes, StepDoes, Takes, step_asked, fresh_record, future_in, replied}
+use Rattle.vm_steps.specs.Stepping.{MakesStep, CloseDoes, FeedDoes, StepDoes, Takes, step_asked, fresh_record, future_in, replied}
 use Rattle.vm_asks.specs.Carried.{AreBelow, all_carried}
 use Rattle.vm_machine.specs.declared.machine.Machine.{Machine}
 use Rattle.vm_machine.specs.Inputs.{coverage_of, input_step}
@@ -124,7 +124,7 @@ module _ (fixed : Fixed) (fed : Heard) (before : List Answer) (waiting : Option 
     tail = λ _. k.tail live ∙ ap Rest (sym und);
   }
 
-pub asks_come : (fixed : Fixed) (old : Record) (result : Result Progress Error) (new : Record) → CameBy fixed (heard fixed.version old) old.answers old.waiting old.taken old.vm → IsLive old.vm.machine → Asks fixed.handler old result new → KeptBy (CameBy fixed) fixed new
+pub asks_come : (fixed : Fixed) (old : Record) (result : Result Progress Error) (new : Record) → CameBy fixed (heard fixed.version old) old.answers old.waiting old.taken old.vm → IsLive old.vm.machine → MakesStep fixed.handler old result new → KeptBy (CameBy fixed) fixed new
 asks_come fixed old result new k live (x, w, does, is, made) = subst (KeptBy (CameBy fixed) fixed) (sym is) (inr (by_reply x (step_leaves (step_asked fixed.handler old) old.vm.machine live x w.machine does.0.0)))
   where
     on : (answers : List Answer) (waits : Option UnresolvedFuture) → answers ≢ [] → Sends old.vm.machine w.machine → (w.machine.failure ≡ None → w.machine.proposals ≡ old.vm.machine.proposals) → (w.machine.failure ≡ None → old.vm.machine.phase ≡ Processing → is_running w.machine.phase ≡ true → w.machine.phase ≡ Processing) → (w.machine.failure ≡ None → (is_running w.machine.phase ≡ true) ⊎ (w.machine.phase ≡ Closed)) → CameBy fixed (heard fixed.version old) answers waits old.taken w

@@ -14,7 +14,7 @@ use Rattle.vm_parts.specs.declared.context.StateMap.{StateMap}
 use Rattle.vm_machine.specs.declared.machine.Machine.{Machine}
 use Rattle.vm_machine.specs.declared.phase.Phase.{Phase}
 use Rattle.vm_machine.specs.declared.phase.Phase.TheVariants.{WaitingStart, WaitingReplayEntries, Replaying}
-use Rattle.vm_machine.specs.Inputs.{acknowledgement_step, counted_entry, coverage_of, entries_in, entry_step, info_of, message_step, notification_step, queued, start_step, started, started_with}
+use Rattle.vm_machine.specs.Inputs.{acknowledgement_step, counted_entry, coverage_of, entries_in, entry_step, start_info_of, message_step, notification_step, queued, start_step, start_received, started_with}
 use Rattle.vm_machine.specs.Making.{fresh}
 use Rattle.journal_attempt.specs.declared.start.Start.{Start}
 use Rattle.journal_errors.specs.declared.version.Version.{Version}
@@ -191,7 +191,7 @@ entries_come s given aside (suc k) cs ns (raw ∷ raws) =
 -- what Start leaves
 abbrev told_of : Global → Version → VMOptions → Start → List (List ℕ × Option (List ℕ)) → Machine
 told_of alloc version options st entries = record (fresh alloc version options) {
-  start = info_of version options.fallback_random_seed st;
+  start = start_info_of version options.fallback_random_seed st;
   state = record { entries = entries; coverage = coverage_of st.partial };
   entries_missing = st.known_entries;
   phase = WaitingReplayEntries;
@@ -202,7 +202,7 @@ some_missing zero e = absurd (cc)
 some_missing (suc k) e = refl
 
 -- the first frame is a Start that can be read, and the machine waits for the known entries; or it has failed
-starts_with : (alloc : Global) (version : Version) (options : VMOptions) (raw : RawMessage) (o : Option Start) → start_in raw.body ≡ o → StartCame alloc version options raw (left_by (settled (started o (fresh alloc version options))))
+starts_with : (alloc : Global) (version : Version) (options : VMOptions) (raw : RawMessage) (o : Option Start) → start_in raw.body ≡ o → StartCame alloc version options raw (left_by (settled (start_received o (fresh alloc version options))))
 starts_with alloc version options raw None is = inl refl
 starts_with alloc version options raw (Some st) is = by_entries (entries_in st.state) refl
   where

@@ -15,7 +15,7 @@ use Rattle.journal_messages.specs.Reading.{input_in}
 use Rattle.journal_errors.specs.Types.{type_number}
 use Rattle.vm_parts.specs.declared.context.StateMap.{StateMap}
 use Rattle.vm_types.specs.declared.steps.Answer.{Answer}
-use Rattle.vm_parts.specs.Counting.{missing as lacking}
+use Rattle.vm_parts.specs.Counting.{missing_number as lacking}
 use Rattle.vm_machine.specs.declared.machine.Machine.{Machine}
 use Rattle.vm_machine.specs.declared.phase.Phase.{Phase}
 use Rattle.vm_machine.specs.declared.phase.Phase.TheVariants.{WaitingStart, WaitingReplayEntries, Replaying, Processing, Closed}
@@ -45,7 +45,7 @@ use Rattle.vm_attempt.specs.Blames.{Blame, BlamedAt, CannotSkip, IfError, IsBlam
 use Rattle.vm_attempt.specs.Blames.Blame.{Memory, NoInput, NoSkip, Call}
 use Rattle.vm_attempt.specs.Journals.{HasAll, StillWaits, commands_among, machine_fed, with_missing, notifications_among, setup_for}
 use Rattle.vm_steps.specs.Record.{Record, Said, all_said, heard}
-use Rattle.vm_steps.specs.Stepping.{Advances, Asks, LacksMemory, Reads, StepAt, StepDoes, StepFrom, StepUnless, step_asked, future_in, progress_of}
+use Rattle.vm_steps.specs.Stepping.{Advances, MakesStep, LacksMemory, InputIsRead, StepAt, StepDoes, StepFrom, StepUnless, step_asked, future_in, progress_of}
 use Rattle.vm_steps.specs.Stepping as stepping
 use Rattle.vm_steps.specs.Steps.{Performs}
 use Rattle.vm_attempt.specs.Told.{BeforeInput, Begun, JournalCame, Comes, HasCome, IsKeptUnder, IsLive, Premises, HandlerRuns, begun, frames_fed, start_state}
@@ -269,7 +269,7 @@ input_lacks fixed fed v runs d u is e ruling =
     (λ (x : HasAll (setup_for fixed b.start) (record { entries = b.state; coverage = coverage_of b.start.partial }) b.aside b.start.known_entries [] [] b.others v). read_lacks fixed fed v b x d u is e ruling)
     b.waits)
 
-reads_blamed : (fixed : Fixed) (old : Record) (result : Result Progress Error) (new : Record) → BeforeInput fixed (heard fixed.version old) old.answers old.waiting old.taken old.vm → IsLive old.vm.machine → Reads old result new → IsBlamed fixed new
+reads_blamed : (fixed : Fixed) (old : Record) (result : Result Progress Error) (new : Record) → BeforeInput fixed (heard fixed.version old) old.answers old.waiting old.taken old.vm → IsLive old.vm.machine → InputIsRead old result new → IsBlamed fixed new
 reads_blamed fixed old (Ok made) new b live (stepped, (i, w, does, is)) =
     let o = subst (Opens old.vm.machine) (called_done old.vm.machine (input_step old.vm.machine) i w.machine live.failure does.0) (input_opens old.vm.machine) in
     subst (IsBlamed fixed) (sym is) (alive_blamed fixed _ _ _ _ w.machine (o.0 ∙ live.failure) (λ closed. let z : false ≡ true = sym o.1 ∙ ap is_closed closed in absurd (cc)))
@@ -314,7 +314,7 @@ module _ (fixed : Fixed) (r : Record) (under : Premises fixed (heard fixed.versi
       (λ (x : IsCutShort (setup_for fixed k.journal.start) fixed.handler (start_state k.journal) k.at r.vm.machine e w.machine). inl x.error)
       (agreeing_follows (setup_for fixed k.journal.start) fixed.handler (start_state k.journal) k.written r.vm.machine k.at (Failed e w.machine) (λ future _. (under.queues, under.once k.journal k.moves k.written k.at k.run)) (k.rests live) (k.agrees live) (subst (λ q. Performs q r.vm.machine (Failed e w.machine)) same does) (tt {0}))
 
-asks_blamed : (fixed : Fixed) (old : Record) (result : Result Progress Error) (new : Record) → (Premises fixed (heard fixed.version old) → HandlerRuns fixed (heard fixed.version old) old.answers old.waiting old.taken old.vm) → IsLive old.vm.machine → Asks fixed.handler old result new → IsBlamed fixed new
+asks_blamed : (fixed : Fixed) (old : Record) (result : Result Progress Error) (new : Record) → (Premises fixed (heard fixed.version old) → HandlerRuns fixed (heard fixed.version old) old.answers old.waiting old.taken old.vm) → IsLive old.vm.machine → MakesStep fixed.handler old result new → IsBlamed fixed new
 asks_blamed fixed old result new runs live (x, w, does, is, made) = subst (IsBlamed fixed) (sym is) (by_reply x (step_leaves (step_asked fixed.handler old) old.vm.machine live x w.machine does.0.0) does.0.0)
   where
     -- a VM whose handler runs
@@ -340,14 +340,14 @@ advances_blamed : (fixed : Fixed) (old : Record) (result : Result Progress Error
 advances_blamed fixed old result new k u b live =
     ⊎_elim
     (λ (x : LacksMemory old result new). subst (IsBlamed fixed) (sym x.1) b)
-    (λ (o : ((old.answers ≡ []) × Reads old result new) ⊎ ((old.answers ≢ []) × Asks fixed.handler old result new)).
+    (λ (o : ((old.answers ≡ []) × InputIsRead old result new) ⊎ ((old.answers ≢ []) × MakesStep fixed.handler old result new)).
     ⊎_elim
-    (λ (x : (old.answers ≡ []) × Reads old result new).
+    (λ (x : (old.answers ≡ []) × InputIsRead old result new).
     ⊎_elim
     (λ (y : BeforeInput fixed (heard fixed.version old) old.answers old.waiting old.taken old.vm). reads_blamed fixed old result new y live x.1)
     (λ (y : JournalCame fixed (heard fixed.version old) old.answers old.taken old.vm). absurd (y.answered x.0))
     k)
-    (λ (x : (old.answers ≢ []) × Asks fixed.handler old result new). asks_blamed fixed old result new (λ p. runs_of fixed old (u p) x.0) live x.1)
+    (λ (x : (old.answers ≢ []) × MakesStep fixed.handler old result new). asks_blamed fixed old result new (λ p. runs_of fixed old (u p) x.0) live x.1)
     o)
 
 step_at : (fixed : Fixed) (old : Record) (result : Result Progress Error) (new : Record) → HasCome fixed old → IsKeptUnder fixed old → IsBlamed fixed old → old.vm.machine.failure ≡ None → (ph : Phase) → old.vm.machine.phase ≡ ph → StepAt ph fixed.handler old result new → IsBlamed fixed new
@@ -381,7 +381,7 @@ lacks_errs old result new is = subst (λ x. Errs old x new) (sym is) (inl refl)
 made_errs : (old : Record) (made : Progress) (result : Result Progress Error) (new : Record) → result ≡ Ok made → Errs old result new
 made_errs old made result new is = subst (λ x. Errs old x new) (sym is) tt
 
-reads_errs : (old : Record) (result : Result Progress Error) (new : Record) → old.vm.machine.failure ≡ None → Reads old result new → Errs old result new
+reads_errs : (old : Record) (result : Result Progress Error) (new : Record) → old.vm.machine.failure ≡ None → InputIsRead old result new → Errs old result new
 reads_errs old (Ok made) new live d = tt
 reads_errs old (Err e) new live (w, does, is) =
     ⊎_elim
@@ -389,7 +389,7 @@ reads_errs old (Err e) new live (w, does, is) =
     (λ (x : IsStarved old.vm.machine e w.machine). inl x.error)
     does.0
 
-asks_errs : (m : Meaning) (old : Record) (result : Result Progress Error) (new : Record) → IsLive old.vm.machine → Asks m old result new → Errs old result new
+asks_errs : (m : Meaning) (old : Record) (result : Result Progress Error) (new : Record) → IsLive old.vm.machine → MakesStep m old result new → Errs old result new
 asks_errs m old result new live (x, w, does, is, made) = subst (λ z. Errs old z new) (sym made) (by_reply x (step_leaves (step_asked m old) old.vm.machine live x w.machine does.0.0) is)
   where
     by_reply : (x : Result Reply Error) → IsLeft old.vm.machine x w.machine → new ≡ stepping.replied old (future_in (step_asked m old)) x w → Errs old (progress_of x) new
@@ -404,10 +404,10 @@ advances_errs : (m : Meaning) (old : Record) (result : Result Progress Error) (n
 advances_errs m old result new live =
     ⊎_elim
     (λ (x : LacksMemory old result new). lacks_errs old result new x.0)
-    (λ (o : ((old.answers ≡ []) × Reads old result new) ⊎ ((old.answers ≢ []) × Asks m old result new)).
+    (λ (o : ((old.answers ≡ []) × InputIsRead old result new) ⊎ ((old.answers ≢ []) × MakesStep m old result new)).
     ⊎_elim
-    (λ (x : (old.answers ≡ []) × Reads old result new). reads_errs old result new live.failure x.1)
-    (λ (x : (old.answers ≢ []) × Asks m old result new). asks_errs m old result new live x.1)
+    (λ (x : (old.answers ≡ []) × InputIsRead old result new). reads_errs old result new live.failure x.1)
+    (λ (x : (old.answers ≢ []) × MakesStep m old result new). asks_errs m old result new live x.1)
     o)
 
 errs_at : (fixed : Fixed) (old : Record) (result : Result Progress Error) (new : Record) → IsBlamed fixed old → old.over ≡ None → old.vm.machine.failure ≡ None → (ph : Phase) → old.vm.machine.phase ≡ ph → StepAt ph fixed.handler old result new → Errs old result new

@@ -19,7 +19,7 @@ use Rattle.vm_machine.specs.Outcomes.{Failed, IsStarved, Outcome, called, settle
 use Rattle.vm_machine.specs.Phases.{is_running}
 use Rattle.invocation_vm.specs.Frames.{Garbage, Rest, Tail, frames_of}
 use Rattle.invocation_vm.specs.Making.{made}
-use Rattle.invocation_vm.specs.Views.{StarvesAmong, View, after_closing, after_input, all_received, brought, consumed, has_failed, left_by, left_over, received, spoiled}
+use Rattle.invocation_vm.specs.Views.{StarvesAmong, View, after_closing, after_input, all_received, messages_in_bytes, consumed, has_failed, left_by, left_over, received, spoiled}
 use Rattle.vm_model.specs.Calls.{Meaning}
 use Rattle.vm_attempt.specs.Blames.{fault_among}
 use Rattle.vm_attempt.specs.Fixed.{Fixed}
@@ -31,7 +31,7 @@ use Rattle.vm_steps.specs.declared.progress.Progress.TheVariants as progress
 use Rattle.vm_steps.specs.declared.progress.Reply.{Reply}
 use Rattle.vm_steps.specs.declared.progress.Reply.TheVariants as reply
 use Rattle.vm_steps.specs.Record.{Record}
-use Rattle.vm_steps.specs.Stepping.{Advances, Asks, CloseDoes, Closes, FeedDoes, Feeds, LacksMemory, Reads, StepAt, StepDoes, StepFrom, StepUnless, Takes, fresh_record, future_in, kept, progress_of, replied, step_asked, taken_from, with_vm}
+use Rattle.vm_steps.specs.Stepping.{Advances, MakesStep, CloseDoes, InputIsClosed, FeedDoes, FeedsPiece, LacksMemory, InputIsRead, StepAt, StepDoes, StepFrom, StepUnless, Takes, fresh_record, future_in, with_piece_kept, progress_of, replied, step_asked, output_taken, with_vm}
 use Rattle.vm_attempt.specs.Told.{IsLive}
 use Rattle.vm_attempt.proofs.Advanced.{done_of}
 use Rattle.vm_attempt.proofs.Ahead.{HandsOut, LivesOn, ahead, fewer_equal, fewer_same, fewer_then}
@@ -142,12 +142,12 @@ keeps_then a b c k l = record { over = λ o. l.over (k.over o); lives = lives_th
 keeps_going : (old new : Record) → new.over ≡ old.over → LivesOn old.vm.machine new.vm.machine → Keeps old new
 keeps_going old new over lives = record { over = λ o. subst ExecutesNone (sym over) o; lives = lives }
 
-feeds_keep : (piece : List ℕ) (old : Record) (result : Result Unit AllocError) (new : Record) → Feeds piece old result new → LivesOn old.vm.machine new.vm.machine
+feeds_keep : (piece : List ℕ) (old : Record) (result : Result Unit AllocError) (new : Record) → FeedsPiece piece old result new → LivesOn old.vm.machine new.vm.machine
 feeds_keep piece old (Ok t) new does = subst (λ (r : Record). LivesOn old.vm.machine r.vm.machine) (sym does) (input_lives old.vm piece)
 feeds_keep piece old (Err e) new does =
     ⊎_elim
     (λ (x : new ≡ record old { starved = true }). subst (λ (r : Record). LivesOn old.vm.machine r.vm.machine) (sym x) (lives_same old.vm.machine))
-    (λ (x : (w : View) × StarvesAmong (brought old.vm piece) old.vm.machine w.machine × (new ≡ with_vm w (kept piece old))).
+    (λ (x : (w : View) × StarvesAmong (messages_in_bytes old.vm piece) old.vm.machine w.machine × (new ≡ with_vm w (with_piece_kept piece old))).
     subst (λ (r : Record). LivesOn old.vm.machine r.vm.machine) (sym x.2) (starved_lives no_memory x.1.reached old.vm.machine x.0.machine x.1.starved))
     does
 
@@ -158,7 +158,7 @@ feed_keeps piece old result new does = by_test old.starved does
     by_test true d = subst (Keeps old) (sym d.1) (keeps_same old)
     by_test false d = keeps_going old new (feeds_over piece old result new d) (feeds_keep piece old result new d)
 
-closes_keep : (old : Record) (result : Result Unit AllocError) (new : Record) → Closes old result new → LivesOn old.vm.machine new.vm.machine
+closes_keep : (old : Record) (result : Result Unit AllocError) (new : Record) → InputIsClosed old result new → LivesOn old.vm.machine new.vm.machine
 closes_keep old (Ok t) new does = subst (λ (r : Record). LivesOn old.vm.machine r.vm.machine) (sym does) (closing_lives old.vm)
 closes_keep old (Err e) new (w, starves, is) = subst (λ (r : Record). LivesOn old.vm.machine r.vm.machine) (sym is) (starved_lives no_memory starves.reached old.vm.machine w.machine starves.starved)
 
@@ -170,12 +170,12 @@ close_keeps old result new does = by_test old.starved does
     by_test false d = keeps_going old new (closes_over old result new d) (closes_keep old result new d)
 
 take_keeps : (old : Record) (result : Result (List ℕ) AllocError) (new : Record) → Takes old result new → Keeps old new
-take_keeps old (Ok bytes) new does = subst (Keeps old) (sym does.1) (keeps_going old (taken_from old) refl (λ none. (none, fewer_same old.vm.machine)))
+take_keeps old (Ok bytes) new does = subst (Keeps old) (sym does.1) (keeps_going old (output_taken old) refl (λ none. (none, fewer_same old.vm.machine)))
 take_keeps old (Err e) new does = subst (Keeps old) (sym does) (keeps_same old)
 
 -- ---- a step
 
-reads_keep : (old : Record) (result : Result Progress Error) (new : Record) → old.vm.machine.failure ≡ None → Reads old result new → Keeps old new
+reads_keep : (old : Record) (result : Result Progress Error) (new : Record) → old.vm.machine.failure ≡ None → InputIsRead old result new → Keeps old new
 reads_keep old (Ok made) new live (stepped, (input, w, does, is)) =
     let o = subst (Opens old.vm.machine) (done_of old.vm.machine (input_step old.vm.machine) input w.machine live does.0) (input_opens old.vm.machine) in
     keeps_going old new (ap (λ (r : Record). r.over) is) (subst (λ (r : Record). LivesOn old.vm.machine r.vm.machine) (sym is) (λ none. (live, o.2)))
@@ -187,7 +187,7 @@ reads_keep old (Err e) new live (w, does, is) =
     (λ (x : IsStarved old.vm.machine e w.machine). starved_lives e old.vm.machine old.vm.machine w.machine x)
     does.0))
 
-asks_keep : (m : Meaning) (old : Record) (result : Result Progress Error) (new : Record) → IsLive old.vm.machine → Asks m old result new → Keeps old new
+asks_keep : (m : Meaning) (old : Record) (result : Result Progress Error) (new : Record) → IsLive old.vm.machine → MakesStep m old result new → Keeps old new
 asks_keep m old result new live (x, w, does, is, made) = subst (Keeps old) (sym is) (by_reply x (step_leaves (step_asked m old) old.vm.machine live x w.machine does.0.0))
   where
     by_reply : (x : Result Reply Error) → IsLeft old.vm.machine x w.machine → Keeps old (replied old (future_in (step_asked m old)) x w)
@@ -222,11 +222,11 @@ not_ready handle h = absurd (cc)
 same_answer : (p q : Progress) → an_answer p ≡ an_answer q → p ≡ q
 same_answer p q h = cc
 
-reads_hand : (old : Record) (result : Result Progress Error) (new : Record) → old.vm.machine.failure ≡ None → Reads old result new → Hands old result new
+reads_hand : (old : Record) (result : Result Progress Error) (new : Record) → old.vm.machine.failure ≡ None → InputIsRead old result new → Hands old result new
 reads_hand old (Ok made) new live does = record { keeps = reads_keep old (Ok made) new live does; out = λ handle executes _. absurd (let stepped : made ≡ progress.Stepped = does.0 in cc) }
 reads_hand old (Err e) new live does = record { keeps = reads_keep old (Err e) new live does; out = λ handle executes _. absurd (no_error e handle executes) }
 
-asks_hand : (m : Meaning) (old : Record) (result : Result Progress Error) (new : Record) → IsLive old.vm.machine → Asks m old result new → Hands old result new
+asks_hand : (m : Meaning) (old : Record) (result : Result Progress Error) (new : Record) → IsLive old.vm.machine → MakesStep m old result new → Hands old result new
 asks_hand m old result new live (x, w, does, is, made) = record {
   keeps = asks_keep m old result new live (x, w, does, is, made);
   out = λ handle executes _. (live.failure, subst (λ (r : Record). HandsOut handle old.vm.machine r.vm.machine) (sym is) (by_reply x handle (sym made ∙ executes) (step_leaves (step_asked m old) old.vm.machine live x w.machine does.0.0)));
@@ -244,10 +244,10 @@ advances_hand : (m : Meaning) (old : Record) (result : Result Progress Error) (n
 advances_hand m old result new live =
     ⊎_elim
     (λ (x : LacksMemory old result new). hands_none old (Err no_memory) result new (no_error no_memory) x.0 (subst (Keeps old) (sym x.1) (keeps_going old (record old { starved = true }) refl (lives_same old.vm.machine))))
-    (λ (o : ((old.answers ≡ []) × Reads old result new) ⊎ ((old.answers ≢ []) × Asks m old result new)).
+    (λ (o : ((old.answers ≡ []) × InputIsRead old result new) ⊎ ((old.answers ≢ []) × MakesStep m old result new)).
     ⊎_elim
-    (λ (x : (old.answers ≡ []) × Reads old result new). reads_hand old result new live.failure x.1)
-    (λ (x : (old.answers ≢ []) × Asks m old result new). asks_hand m old result new live x.1)
+    (λ (x : (old.answers ≡ []) × InputIsRead old result new). reads_hand old result new live.failure x.1)
+    (λ (x : (old.answers ≢ []) × MakesStep m old result new). asks_hand m old result new live x.1)
     o)
 
 -- an answer that changes nothing

@@ -48,7 +48,7 @@ use Rattle.vm_attempt.specs.Blames.Blame.{Memory, RunResult}
 use Rattle.vm_steps.specs.Heard.{Heard, acknowledged_from, proposals_among, proposals_in, with_pieces}
 use Rattle.vm_attempt.specs.Journals.{HasAll, StillWaits, setup_for}
 use Rattle.vm_steps.specs.Record.{Record, Said, all_heard, all_said, heard}
-use Rattle.vm_steps.specs.Stepping.{FinishDoes, Finishes, Tells, TellsUnless, newly_proposed, noted, noted_at, with_vm}
+use Rattle.vm_steps.specs.Stepping.{FinishDoes, CompletesRun, ReportsRunResult, TellsUnless, newly_proposed, failed_run_noted, noted_at, with_vm}
 use Rattle.vm_attempt.specs.Told.{BeforeInput, Begun, JournalCame, Comes, HasCome, InReplay, IsKept, IsKeptInReplay, IsKeptUnder, IsLive, Journal, Premises, Quiet, ReplayPremises, HandlerRuns, StillSleeps, Wrote, arrivals, frames_fed, start_state}
 use Rattle.vm_attempt.proofs.Advanced.{done_of}
 use Rattle.vm_attempt.proofs.Ahead.{Fewer, LivesOn, ended_fewer, fewer_same}
@@ -263,7 +263,7 @@ module _ (handle : NotificationHandle) (exit : RunExitResult) (policy : RetryPol
       })))
       ends
 
-  by_failure : (f : Option Error) → old.vm.machine.failure ≡ f → (result : Result Unit Error) (new : Record) → Finishes handle exit policy old result new → Cases handle exit policy old new
+  by_failure : (f : Option Error) → old.vm.machine.failure ≡ f → (result : Result Unit Error) (new : Record) → CompletesRun handle exit policy old result new → Cases handle exit policy old new
   by_failure (Some e) dead (Ok t) new (w, does, is) =
       let first = first_proposed handle exit policy (Ok t) e old.vm w dead does in
       absurd (⊎_elim (λ (x : Ok t ≡ Err e). let z : ⊥ = cc in z) (λ (x : Ok t ≡ Err no_memory). let z : ⊥ = cc in z) first.0)
@@ -670,7 +670,7 @@ same_error d e h = cc
 error_is : (handle : NotificationHandle) (exit : RunExitResult) (policy : RetryPolicy) (old : Record) (e : Error) (new : Record) → FinishDoes old.starved handle exit policy old (Err e) new → (e ≡ no_memory) ⊎ (new.vm.machine.failure ≡ Some e)
 error_is handle exit policy old e new does = by_test old.starved does
   where
-    by_failure : (f : Option Error) → old.vm.machine.failure ≡ f → Tells handle exit policy old (Err e) new → (e ≡ no_memory) ⊎ (new.vm.machine.failure ≡ Some e)
+    by_failure : (f : Option Error) → old.vm.machine.failure ≡ f → ReportsRunResult handle exit policy old (Err e) new → (e ≡ no_memory) ⊎ (new.vm.machine.failure ≡ Some e)
     by_failure (Some first) dead (w, does, is) =
         let said = first_proposed handle exit policy (Err e) first old.vm w dead does in
         ⊎_elim
@@ -719,7 +719,7 @@ noted_at_taken : (o : Option Error) (handle : NotificationHandle) (r : Record) �
 noted_at_taken (Some e) handle r = refl
 noted_at_taken None handle r = refl
 
-noted_taken : (result : Result Unit Error) (handle : NotificationHandle) (r : Record) → (noted result handle r).taken ≡ r.taken
+noted_taken : (result : Result Unit Error) (handle : NotificationHandle) (r : Record) → (failed_run_noted result handle r).taken ≡ r.taken
 noted_taken (Ok t) handle r = refl
 noted_taken (Err e) handle r = noted_at_taken r.vm.machine.failure handle r
 
@@ -729,20 +729,20 @@ pub finish_told : (fixed : Fixed) (handle : NotificationHandle) (exit : RunExitR
 finish_told fixed handle exit policy old result new came f g does = by_test old.starved does
   where
     -- what was proposed is read from what was taken and from what waits
-    told_to : (result : Result Unit Error) (w : View) → new ≡ with_vm w (noted result handle old) → all_proposed new ≡ proposals_in (concat old.taken ++ concat w.machine.output)
+    told_to : (result : Result Unit Error) (w : View) → new ≡ with_vm w (failed_run_noted result handle old) → all_proposed new ≡ proposals_in (concat old.taken ++ concat w.machine.output)
     told_to result w is = ap all_proposed is ∙ ap (λ t. proposals_in (concat t ++ concat w.machine.output)) (noted_taken result handle old)
 
     -- the record is noted as the fields are
     noted_err : (w : View) → new ≡ with_vm w (noted_at old.vm.machine.failure handle old) → all_proposed new ≡ all_proposed old → with_proposed (all_proposed new) new ≡ with_vm w (noted_at old.vm.machine.failure handle (with_proposed (all_proposed old) old))
     noted_err w is told = (λ i. with_proposed (told i) (is i)) ∙ ap (with_vm w) (noted_with (all_proposed old) old.vm.machine.failure handle old)
 
-    quiet_told : (result : Result Unit Error) (w : View) → new ≡ with_vm w (noted result handle old) → (ms : List Message) → w.machine.output ≡ old.vm.machine.output ++ map encoding ms → all_proposed new ≡ all_proposed old ++ proposals_among (map stored_form ms)
+    quiet_told : (result : Result Unit Error) (w : View) → new ≡ with_vm w (failed_run_noted result handle old) → (ms : List Message) → w.machine.output ≡ old.vm.machine.output ++ map encoding ms → all_proposed new ≡ all_proposed old ++ proposals_among (map stored_form ms)
     quiet_told result w is ms output =
         let wrote = wrote_of fixed (with_proposed (all_proposed old) old) came in
         told_to result w is
         ∙ proposes_more old.taken old.vm.machine.output w.machine.output wrote.0 wrote.1 f (subst WholeFrames (ap (λ (r : Record). r.vm.machine.output) is) g) ms output
 
-    same_told : (result : Result Unit Error) (w : View) → new ≡ with_vm w (noted result handle old) → w.machine.output ≡ old.vm.machine.output → all_proposed new ≡ all_proposed old
+    same_told : (result : Result Unit Error) (w : View) → new ≡ with_vm w (failed_run_noted result handle old) → w.machine.output ≡ old.vm.machine.output → all_proposed new ≡ all_proposed old
     same_told result w is output = told_to result w is ∙ ap (λ o. proposals_in (concat old.taken ++ concat o)) output
 
     ok_told : (w : View) → new ≡ with_vm w old → (w.machine ≡ old.vm.machine) ⊎ IsProposed handle old.vm.machine w.machine → all_proposed new ≡ all_proposed old ++ newly_proposed old.vm.machine w.machine
@@ -758,7 +758,7 @@ finish_told fixed handle exit policy old result new came f g does = by_test old.
     err_told : (e : Error) (w : View) → new ≡ with_vm w (noted_at old.vm.machine.failure handle old) → Quiet old.vm.machine w.machine → all_proposed new ≡ all_proposed old
     err_told e w is q = quiet_told (Err e) w is q.messages q.output ∙ ap (λ l. all_proposed old ++ l) q.proposals ∙ append-nil (all_proposed old)
 
-    by_failure : (o : Option Error) → old.vm.machine.failure ≡ o → (result : Result Unit Error) → Tells handle exit policy old result new → Finishes handle exit policy (with_proposed (all_proposed old) old) result (with_proposed (all_proposed new) new)
+    by_failure : (o : Option Error) → old.vm.machine.failure ≡ o → (result : Result Unit Error) → ReportsRunResult handle exit policy old result new → CompletesRun handle exit policy (with_proposed (all_proposed old) old) result (with_proposed (all_proposed new) new)
     by_failure (Some e) dead (Ok t) (w, does, is) =
         let first = first_proposed handle exit policy (Ok t) e old.vm w dead does in
         absurd (⊎_elim (λ (x : Ok t ≡ Err e). let z : ⊥ = cc in z) (λ (x : Ok t ≡ Err no_memory). let z : ⊥ = cc in z) first.0)

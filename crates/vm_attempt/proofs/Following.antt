@@ -14,9 +14,9 @@ use Rattle.vm_types.specs.declared.steps.Step.TheVariants as step
 use Rattle.await_trees.specs.declared.handle.NotificationHandle.{NotificationHandle}
 use Rattle.vm_types.specs.declared.values.Value.{Value}
 use Rattle.vm_parts.specs.Counting.{missing_signals}
-use Rattle.vm_parts.specs.Deliveries.{id_at, present_for, taken_by, unmapped}
+use Rattle.vm_parts.specs.Deliveries.{id_at, present_result_for, taken_by, unmapped}
 use Rattle.journal_values.specs.declared.notification.NotificationId.TheVariants.{SignalId, SignalName}
-use Rattle.vm_parts.specs.Tracked.{id_of_value, noted}
+use Rattle.vm_parts.specs.Tracked.{id_of_value, id_noted}
 use Rattle.vm_types.specs.Values.{value_of}
 use Rattle.vm_parts.specs.declared.run_state.TrackedCall.{TrackedCall}
 use Rattle.vm_machine.specs.declared.machine.Machine.{Machine}
@@ -33,7 +33,7 @@ use Rattle.vm_machine.specs.Outcomes.{Outcome, Done, called, refused, ruled}
 use Rattle.vm_machine.specs.Phases.{state_fault}
 use Rattle.vm_machine.specs.Signals.{awakeable_counted, awakeable_id, awakeable_step, signal_counted, signal_step}
 use Rattle.vm_machine.specs.Skips.{skips_replay}
-use Rattle.vm_model.specs.Calls.{Setup, Meaning, Derived, Move, asked, awakeable_made, call_of, making_awakeable, has_result_in, identity_of, ready_in, result_taken, signal_made, taking, value_noted, value_taken}
+use Rattle.vm_model.specs.Calls.{Setup, Meaning, Derived, Move, asked, awakeable_made, call_of, making_awakeable, has_result_in, identity_of, ready_in, take_of_result, signal_made, taking, take_noting_id, take_of_value}
 use Rattle.vm_model.specs.Calls.Usage.{Taken}
 use Rattle.vm_model.specs.Calls.Move.{Ends}
 use Rattle.vm_model.specs.Refusals.{IsRefusedFor}
@@ -44,7 +44,7 @@ use Rattle.vm_model.specs.Moves.{Point, move_at}
 use Rattle.vm_steps.specs.declared.progress.Reply.{Reply}
 use Rattle.vm_steps.specs.declared.progress.Reply.TheVariants as reply
 use Rattle.vm_attempt.specs.Agreement.{Agrees, Aside, CallFollows, machine_at}
-use Rattle.vm_steps.specs.Steps.{IfDone, IsReadable, Performs, PerformsBy, ReadsBack, awakeable_made as made_awakeable, carried, completed, ended, mapped, read_made, signalled, taken}
+use Rattle.vm_steps.specs.Steps.{IfDone, IsReadable, Performs, PerformsBy, ReadsBack, awakeable_reply_step as made_awakeable, commanded_reply, completed_reply, end_reply, mapped, read_made, signalled, taken}
 use Rattle.vm_attempt.proofs.Leading.{error_written, follows_from, no_move, open_after}
 use Rattle.vm_attempt.proofs.Own.{AsksCommand, asks_command}
 use Rattle.vm_attempt.proofs.Reading.{reads_follow}
@@ -61,30 +61,30 @@ abbrev taken_machine : Setup → StateMap → List RawMessage → Aside → Poin
 taken_machine s given written aside p h id result = record (machine_at s given written aside p) { results = taken_by s.options.signal_delivery h.0 (Some id) (Some result) (machine_at s given written aside p).results }
 
 takes_noted : (s : Setup) (given : StateMap) (written : List RawMessage) (aside : Aside) (p : Point) (h : NotificationHandle) (id : NotificationId) (result : NotificationResult) (value : Value) (o : Option (List TrackedCall))
-    → LeadsOn s given written aside p answer.Taken (value_noted h id value o p.derived) (takes.value_noted value o (taken_machine s given written aside p h id result))
+    → LeadsOn s given written aside p answer.Taken (take_noting_id h id value o p.derived) (takes.value_noted value o (taken_machine s given written aside p h id result))
 takes_noted s given written aside p h id result value None = refuses s given written aside p answer.Taken fault.UnexpectedInvocationIdResult (taken_machine s given written aside p h id result) refl refl refl refl
 takes_noted s given written aside p h id result value (Some tracked) = answers s given written aside p answer.Taken (Some value) (record p.derived { handles = cond (h.0 == 1) p.derived.handles (unmapped h.0 p.derived.handles); usage = Taken id ∷ p.derived.usage; tracked = tracked })
 
 takes_value : (s : Setup) (given : StateMap) (written : List RawMessage) (aside : Aside) (p : Point) (h : NotificationHandle) (id : NotificationId) (result : NotificationResult) (o : Option Value)
-    → LeadsOn s given written aside p answer.Taken (value_taken h id o p.derived) (takes.value_taken h.0 o (taken_machine s given written aside p h id result))
+    → LeadsOn s given written aside p answer.Taken (take_of_value h id o p.derived) (takes.value_taken h.0 o (taken_machine s given written aside p h id result))
 takes_value s given written aside p h id result None = refuses s given written aside p answer.Taken fault.StateKeyIsNotUtf8 (taken_machine s given written aside p h id result) refl refl refl refl
-takes_value s given written aside p h id result (Some value) = takes_noted s given written aside p h id result value (noted h.0 (id_of_value value) p.derived.tracked)
+takes_value s given written aside p h id result (Some value) = takes_noted s given written aside p h id result value (id_noted h.0 (id_of_value value) p.derived.tracked)
 
 takes_result : (s : Setup) (given : StateMap) (written : List RawMessage) (aside : Aside) (p : Point) (h : NotificationHandle) (id : Option NotificationId) (o : Option NotificationResult) → (id ≡ None → o ≡ None)
-    → LeadsOn s given written aside p answer.Taken (result_taken h id o p.derived) (takes.result_taken h.0 o (record (machine_at s given written aside p) { results = taken_by s.options.signal_delivery h.0 id o (machine_at s given written aside p).results }))
+    → LeadsOn s given written aside p answer.Taken (take_of_result h id o p.derived) (takes.result_taken h.0 o (record (machine_at s given written aside p) { results = taken_by s.options.signal_delivery h.0 id o (machine_at s given written aside p).results }))
 takes_result s given written aside p h (Some id) (Some result) none = takes_value s given written aside p h id result (value_of result)
 takes_result s given written aside p h (Some id) None none = answers s given written aside p answer.Taken None p.derived
 takes_result s given written aside p h None None none = answers s given written aside p answer.Taken None p.derived
 takes_result s given written aside p h None (Some result) none = absurd (let z : Some result ≡ None = none refl in cc)
 
-none_for : (s : Setup) (id : Option NotificationId) (d : Derived) → id ≡ None → present_for s.options.signal_delivery id (ready_in s d) ≡ None
-none_for s id d e = ap (λ x. present_for s.options.signal_delivery x (ready_in s d)) e
+none_for : (s : Setup) (id : Option NotificationId) (d : Derived) → id ≡ None → present_result_for s.options.signal_delivery id (ready_in s d) ≡ None
+none_for s id d e = ap (λ x. present_result_for s.options.signal_delivery x (ready_in s d)) e
 
 takes_follow : (s : Setup) (given : StateMap) (written : List RawMessage) (aside : Aside) (p : Point) (h : NotificationHandle) → LeadsOn s given written aside p answer.Taken (taking s h (id_at h.0 p.derived.handles) p.derived) (take_step h.0 (machine_at s given written aside p))
 unfolding take_step
 takes_follow s given written aside p h =
     let id = id_at h.0 p.derived.handles in
-    rw (runs_at p.left) (takes_result s given written aside p h id (present_for s.options.signal_delivery id (ready_in s p.derived)) (none_for s id p.derived))
+    rw (runs_at p.left) (takes_result s given written aside p h id (present_result_for s.options.signal_delivery id (ready_in s p.derived)) (none_for s id p.derived))
 
 -- ---- awakeables
 
@@ -139,7 +139,7 @@ ends s m given written aside p is (c ∷ left) e =
 
 -- ---- all calls
 
-completes : (s : Setup) (m : Meaning) (given : StateMap) (written : List RawMessage) (aside : Aside) (p : Point) (h : NotificationHandle) → s.identity ≡ identity_of aside.start → IsOfOne (ask_of s.version (m p.answers)) → move_at s m p ≡ asked s (ask.Completed h) p.derived → CallFollows s m given written p (machine_at s given written aside p) (completed h (machine_at s given written aside p))
+completes : (s : Setup) (m : Meaning) (given : StateMap) (written : List RawMessage) (aside : Aside) (p : Point) (h : NotificationHandle) → s.identity ≡ identity_of aside.start → IsOfOne (ask_of s.version (m p.answers)) → move_at s m p ≡ asked s (ask.Completed h) p.derived → CallFollows s m given written p (machine_at s given written aside p) (completed_reply h (machine_at s given written aside p))
 unfolding called
 completes s m given written aside p h identity one is =
     rw (runs_at p.left) (follows_from s m given written aside p answer.Completed (asked s (ask.Completed h) p.derived) (Done (has_result_in s h p.derived) (machine_at s given written aside p)) identity one is (answers s given written aside p answer.Completed (has_result_in s h p.derived) p.derived))
@@ -165,8 +165,8 @@ IfAwaiting s m p = (future : UnresolvedFuture) → IsAwaiting m p future → (s.
 asked_follows : (s : Setup) (m : Meaning) (given : StateMap) (written : List RawMessage) (aside : Aside) (p : Point) → s.identity ≡ identity_of aside.start → IfAwaiting s m p → p.derived.parts ≡ 0 → (a : Ask) → ask_of s.version (m p.answers) ≡ a → AsksCommand a → (o : Outcome Reply) → PerformsBy a (machine_at s given written aside p) o → IfDone o (IsReadable a (machine_at s given written aside p)) → CallFollows s m given written p (machine_at s given written aside p) o
 asked_follows s m given written aside p identity awaits rests (ask.Command c) is command o does whole =
     let v = machine_at s given written aside p in
-    comes_so s m given written aside p (IsReadable (ask.Command c) v) o (carried c v) does
-    (λ (here : IfDone (carried c v) (IsReadable (ask.Command c) v)). follows_from s m given written aside p (command_answer c.message) _ _ identity (subst IsOfOne (sym is) tt) (ap (λ a. asked s a p.derived) is) (commands_follow s given written aside p c command c.refusal (event_done _ _ s given written aside p _ here))) whole
+    comes_so s m given written aside p (IsReadable (ask.Command c) v) o (commanded_reply c v) does
+    (λ (here : IfDone (commanded_reply c v) (IsReadable (ask.Command c) v)). follows_from s m given written aside p (command_answer c.message) _ _ identity (subst IsOfOne (sym is) tt) (ap (λ a. asked s a p.derived) is) (commands_follow s given written aside p c command c.refusal (event_done _ _ s given written aside p _ here))) whole
 asked_follows s m given written aside p identity awaits rests (ask.Commands kind first second) is command o does whole = several_follow s m given written aside p kind first second identity rests is command o does
 asked_follows s m given written aside p identity awaits rests ask.Awakeable is command o does whole =
     let v = machine_at s given written aside p in
@@ -190,11 +190,11 @@ asked_follows s m given written aside p identity awaits rests (ask.Take h) is co
     (λ _. follows_from s m given written aside p answer.Taken _ _ identity (subst IsOfOne (sym is) tt) (ap (λ a. asked s a p.derived) is) (takes_follow s given written aside p h)) whole
 asked_follows s m given written aside p identity awaits rests (ask.Completed h) is command o does whole =
     let v = machine_at s given written aside p in
-    comes_so s m given written aside p (IsReadable (ask.Completed h) v) o (completed h v) does
+    comes_so s m given written aside p (IsReadable (ask.Completed h) v) o (completed_reply h v) does
     (λ _. completes s m given written aside p h identity (subst IsOfOne (sym is) tt) (ap (λ a. asked s a p.derived) is)) whole
 asked_follows s m given written aside p identity awaits rests ask.End is command o does whole =
     let v = machine_at s given written aside p in
-    comes_so s m given written aside p (IsReadable ask.End v) o (ended v) does
+    comes_so s m given written aside p (IsReadable ask.End v) o (end_reply v) does
     (λ _. ends s m given written aside p (end_asked s.version (m p.answers) is) p.left refl) whole
 
 -- In a machine that agrees with a point, the handler's call does what the moves from there lead to.

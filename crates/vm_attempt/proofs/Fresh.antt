@@ -21,7 +21,7 @@ use Rattle.vm_parts.specs.declared.run_state.KeptProposal.{KeptProposal}
 use Rattle.vm_machine.specs.declared.machine.Machine.{Machine}
 use Rattle.vm_machine.specs.declared.phase.Phase.{Phase}
 use Rattle.vm_machine.specs.declared.phase.Phase.TheVariants.{WaitingStart, WaitingReplayEntries, Replaying, Processing, Closed}
-use Rattle.vm_machine.specs.Inputs.{acknowledged, acknowledged_by, coverage_of, counted_entry, entries_in, info_of, queued, started, started_with}
+use Rattle.vm_machine.specs.Inputs.{acknowledged, acknowledged_by, coverage_of, counted_entry, entries_in, start_info_of, queued, start_received, started_with}
 use Rattle.vm_machine.specs.Outcomes.{Done, Failed, Outcome, refused, settled}
 use Rattle.invocation_vm.specs.Views.{all_received, left_by, received}
 use Rattle.vm_attempt.specs.Journals.{is_acknowledgement, is_command_frame, is_ephemeral, is_notification}
@@ -41,12 +41,12 @@ settled_same : (v : Machine) (o : Outcome Unit) → SameCounters v o → (left_b
 settled_same v (Done t w) same = same
 settled_same v (Failed e w) same = same
 
-started_same : (o : Option Start) (v : Machine) → SameCounters v (started o v)
+started_same : (o : Option Start) (v : Machine) → SameCounters v (start_received o v)
 started_same None v = refl
 started_same (Some st) v = by_entries (entries_in st.state)
   where
     by_test : (entries : List (List ℕ × Option (List ℕ))) (b : Bool)
-        → SameCounters v (if b then refused fault.KnownEntriesIsZero v else Done (tt {0}) (record v { start = info_of v.version v.options.fallback_random_seed st; state = record { entries = entries; coverage = coverage_of st.partial }; entries_missing = st.known_entries; phase = WaitingReplayEntries }))
+        → SameCounters v (if b then refused fault.KnownEntriesIsZero v else Done (tt {0}) (record v { start = start_info_of v.version v.options.fallback_random_seed st; state = record { entries = entries; coverage = coverage_of st.partial }; entries_missing = st.known_entries; phase = WaitingReplayEntries }))
     by_test entries true = refl
     by_test entries false = refl
 

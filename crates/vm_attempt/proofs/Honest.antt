@@ -16,7 +16,7 @@ use Rattle.journal_messages.specs.Message.{IsWhole}
 use Rattle.journal_errors.specs.Types.{type_number}
 use Rattle.vm_machine.specs.declared.phase.Phase.{Phase}
 use Rattle.vm_machine.specs.declared.phase.Phase.TheVariants.{WaitingStart, WaitingReplayEntries, Replaying, Processing, Closed}
-use Rattle.invocation_vm.specs.Frames.{Tail, Rest, Garbage, frames_of, joined}
+use Rattle.invocation_vm.specs.Frames.{Tail, Rest, Garbage, frames_of, frames_joined}
 use Rattle.invocation_vm.proofs.Cuts.{frames_of-append}
 use Rattle.vm_machine.specs.Inputs.{coverage_of, entries_in}
 use Rattle.vm_model.specs.Histories.{Handed, History, Made}
@@ -36,7 +36,7 @@ use Rattle.std.specs.List.{find}
 use Rattle.journal_attempt.specs.declared.runs.ProposeRunCompletionAck.{ProposeRunCompletionAck}
 use Rattle.journal_messages.specs.Reading.{acknowledgement_in}
 use Rattle.runs.specs.Kept.{is_for}
-use Rattle.vm_model.specs.Histories.{behind}
+use Rattle.vm_model.specs.Histories.{after_head}
 use Rattle.vm_parts.specs.declared.run_state.KeptProposal.{KeptProposal}
 use Rattle.vm_attempt.specs.Arrivals.{AllFound, FindsProposal, IsOfKept, arriving, kept_after, kept_behind}
 use Rattle.vm_attempt.specs.Blames.{kept_fault, acknowledgement_body_fault}
@@ -57,7 +57,7 @@ record Begins (F : List RawMessage) (t : Tail) (raws : List RawMessage) : Type 0
   others : List RawMessage
   all : F ++ others ≡ raws
 
-begins_by : (F : List RawMessage) (t : Tail) (unfed : List ℕ) (raws : List RawMessage) → joined (F, t) unfed ≡ (raws, Rest []) → Begins F t raws
+begins_by : (F : List RawMessage) (t : Tail) (unfed : List ℕ) (raws : List RawMessage) → frames_joined (F, t) unfed ≡ (raws, Rest []) → Begins F t raws
 begins_by F (Rest bytes) unfed raws is = record { clean = λ h. absurd (cc); others = (frames_of (bytes ++ unfed)).0; all = ap (λ p. p.0) is }
 begins_by F Garbage unfed raws is = absurd (let z : Garbage ≡ Rest [] = ap (λ p. p.1) is in cc)
 
@@ -274,7 +274,7 @@ module _ (fixed : Fixed) (fed : Heard) (h : FeedsHonestly fixed fed) where
       let quiet = entries_acknowledge h.journal h.journal_is_whole in
       found_append fed.proposed J N (none_found fed.proposed J quiet) (subst (λ ps. AllFound ps N) (sym (kept_all fed.proposed J quiet)) h.found)
 
-  finds : (before : List RawMessage) (raw : RawMessage) (rest : List RawMessage) → S ∷ (J ++ N) ≡ before ++ raw ∷ rest → is_acknowledgement raw ≡ true → acknowledgement_body_fault (kept_after fed.proposed (behind before)) (acknowledgement_in raw.body) ≡ None
+  finds : (before : List RawMessage) (raw : RawMessage) (rest : List RawMessage) → S ∷ (J ++ N) ≡ before ++ raw ∷ rest → is_acknowledgement raw ≡ true → acknowledgement_body_fault (kept_after fed.proposed (after_head before)) (acknowledgement_in raw.body) ≡ None
   finds [] raw rest is acknowledges = absurd (let z : false ≡ true = ap is_acknowledgement (head_same S raw (J ++ N) rest is) ∙ acknowledges in cc)
   finds (b ∷ before) raw rest is acknowledges =
       let tail = tail_same S b (J ++ N) (before ++ raw ∷ rest) is in

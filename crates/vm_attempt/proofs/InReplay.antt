@@ -22,7 +22,7 @@ use Rattle.vm_steps.specs.declared.progress.Progress.{Progress}
 use Rattle.vm_steps.specs.declared.progress.Reply.{Reply}
 use Rattle.vm_steps.specs.declared.progress.Reply.TheVariants as reply
 use Rattle.vm_steps.specs.Record.{Record, heard}
-use Rattle.vm_steps.specs.Stepping.{Asks, CloseDoes, FeedDoes, IsReplaying, StepDoes, Takes, future_in, replied, step_asked}
+use Rattle.vm_steps.specs.Stepping.{MakesStep, CloseDoes, FeedDoes, IsReplaying, StepDoes, Takes, future_in, replied, step_asked}
 use Rattle.vm_attempt.specs.Journals.{setup_for}
 use Rattle.vm_attempt.specs.Told.{AnswersAreTold, BeforeInput, JournalCame, InReplay, IsKeptInReplay, IsLive, ReplayPremises, AnswersInReplay, HandlerRuns, bytes_fed, frames_fed, start_state}
 use Rattle.vm_attempt.proofs.Advanced.{kept_told, reads_done, runs_of, step_replays, steps_keep}
@@ -67,7 +67,7 @@ replay_last fixed =
 abbrev StaysOut : Record → Type 0
 StaysOut r = r.vm.machine.failure ≡ None → is_running r.vm.machine.phase ≡ true → r.vm.machine.phase ≡ Processing
 
-asks_stay : (m : Meaning) (old : Record) (result : Result Progress Error) (new : Record) → IsLive old.vm.machine → old.vm.machine.phase ≡ Processing → Asks m old result new → StaysOut new
+asks_stay : (m : Meaning) (old : Record) (result : Result Progress Error) (new : Record) → IsLive old.vm.machine → old.vm.machine.phase ≡ Processing → MakesStep m old result new → StaysOut new
 asks_stay m old result new live at (x, w, does, is, made) = subst StaysOut (sym is) (by_reply x (step_leaves (step_asked m old) old.vm.machine live x w.machine does.0.0))
   where
     by_reply : (x : Result Reply Error) → IsLeft old.vm.machine x w.machine → StaysOut (replied old (future_in (step_asked m old)) x w)
@@ -85,7 +85,7 @@ module _ (fixed : Fixed) where
       p.once k.journal k.moves k.written k.at k.run
       (λ none. absurd (let z : Replaying ≡ Processing = sym at ∙ ap (λ (v : Machine). v.phase) (k.agrees live).machine ∙ ap phase_after none in cc))
 
-  asks_in_replay : (old : Record) (result : Result Progress Error) (new : Record) → ReplayPremises fixed (heard fixed.version old) → InReplay fixed (heard fixed.version old) old.answers old.waiting old.taken old.vm → IsLive old.vm.machine → Asks fixed.handler old result new → KeptBy (InReplay fixed) fixed new
+  asks_in_replay : (old : Record) (result : Result Progress Error) (new : Record) → ReplayPremises fixed (heard fixed.version old) → InReplay fixed (heard fixed.version old) old.answers old.waiting old.taken old.vm → IsLive old.vm.machine → MakesStep fixed.handler old result new → KeptBy (InReplay fixed) fixed new
   asks_in_replay old result new p k live a =
       ⊎_elim
       (λ (b : BeforeInput fixed (heard fixed.version new) new.answers new.waiting new.taken new.vm). inl b)

@@ -13,12 +13,12 @@ use Rattle.vm_machine.specs.declared.phase.Phase.TheVariants.{WaitingStart, Wait
 use Rattle.journal_errors.specs.Types.{type_number}
 use Rattle.std.specs.Prelude.{◌==◌}
 use Rattle.std.proofs.Common.{Global}
-use Rattle.vm_machine.specs.Inputs.{close_step, closed_at, coverage_of, info_of, malformed_step}
+use Rattle.vm_machine.specs.Inputs.{close_step, closed_at, coverage_of, start_info_of, malformed_step}
 use Rattle.vm_machine.specs.Making.{fresh}
 use Rattle.vm_machine.specs.Outcomes.{called, called_at, settled}
 use Rattle.vm_machine.specs.Phases.{is_running}
 use Rattle.invocation_vm.specs.Frames.{Tail, Rest, Garbage, frames_of}
-use Rattle.invocation_vm.specs.Views.{StarvesAmong, brought, View, after_closing, after_input, all_received, consumed, has_failed, left_by, left_over, received, spoiled}
+use Rattle.invocation_vm.specs.Views.{StarvesAmong, messages_in_bytes, View, after_closing, after_input, all_received, consumed, has_failed, left_by, left_over, received, spoiled}
 use Rattle.invocation_vm.proofs.Feeds.{among_failed, among_output}
 use Rattle.invocation_vm.proofs.Cuts.{frames_of-append}
 use Rattle.vm_steps.specs.Heard.{Heard, and_piece, with_pieces}
@@ -26,7 +26,7 @@ use Rattle.vm_steps.specs.declared.progress.Fed.{Fed}
 use Rattle.vm_attempt.specs.Agreement.{Aside}
 use Rattle.vm_attempt.specs.Journals.{HasAll, StillWaits, is_command_frame, is_ephemeral, is_notification, setup_for, is_acknowledgement}
 use Rattle.vm_steps.specs.Record.{Record, heard}
-use Rattle.vm_steps.specs.Stepping.{CloseDoes, Closes, FeedDoes, Feeds, Takes, emptied, kept, kept_at, with_vm}
+use Rattle.vm_steps.specs.Stepping.{CloseDoes, InputIsClosed, FeedDoes, FeedsPiece, Takes, emptied, with_piece_kept, kept_at, with_vm}
 use Rattle.vm_parts.specs.Outboxes.{WholeFrames}
 use Rattle.vm_attempt.specs.Told.{BeforeInput, Begun, Comes, IsLive, Quiet, bytes_fed, frames_fed}
 use Rattle.vm_attempt.proofs.Arriving.{failed_receives, unknown_step}
@@ -120,7 +120,7 @@ piece_dropped v piece e is = ap (λ o. if is_some o then v else consumed (frames
 -- ---- the output is taken
 
 -- what came, beside something else
-with_aside : (fixed : Fixed) (fed : Heard) (v w : Machine) (b : Begun fixed fed v) (aside : Aside) → aside.start ≡ info_of fixed.version fixed.options.fallback_random_seed b.start
+with_aside : (fixed : Fixed) (fed : Heard) (v w : Machine) (b : Begun fixed fed v) (aside : Aside) → aside.start ≡ start_info_of fixed.version fixed.options.fallback_random_seed b.start
     → StillWaits (setup_for fixed b.start) (record { entries = b.state; coverage = coverage_of b.start.partial }) aside b.start.known_entries [] [] b.others w ⊎ HasAll (setup_for fixed b.start) (record { entries = b.state; coverage = coverage_of b.start.partial }) aside b.start.known_entries [] [] b.others w → Begun fixed fed w
 with_aside fixed fed v w b aside is waits = record {
   first_frame = b.first_frame;
@@ -258,12 +258,12 @@ module _ (R : Reading) (l : Lasts R) (fixed : Fixed) where
   dead_kept r piece w k q dead None Processing = dead_more r _ w k q dead
   dead_kept r piece w k q dead None Closed = dead_same r w k q dead
 
-  feeds_keep : (piece : List ℕ) (old : Record) (result : Result Unit AllocError) (new : Record) → Kept old → Feeds piece old result new → Kept new
+  feeds_keep : (piece : List ℕ) (old : Record) (result : Result Unit AllocError) (new : Record) → Kept old → FeedsPiece piece old result new → Kept new
   feeds_keep piece old (Ok t) new k does = subst Kept (sym does) (piece_comes old piece k old.vm.machine.failure refl old.vm.machine.phase refl)
   feeds_keep piece old (Err e) new k does =
       ⊎_elim
       (λ (x : new ≡ record old { starved = true }). subst Kept (sym x) k)
-      (λ (x : (w : View) × StarvesAmong (brought old.vm piece) old.vm.machine w.machine × (new ≡ with_vm w (kept piece old))).
+      (λ (x : (w : View) × StarvesAmong (messages_in_bytes old.vm piece) old.vm.machine w.machine × (new ≡ with_vm w (with_piece_kept piece old))).
       subst Kept (sym x.2) (dead_kept old piece x.0 k (quiet_same old.vm.machine x.0.machine (among_output _ old.vm.machine x.0.machine x.1)) (among_failed _ old.vm.machine x.0.machine x.1) old.vm.machine.failure old.vm.machine.phase))
       does
 
@@ -302,7 +302,7 @@ module _ (R : Reading) (l : Lasts R) (fixed : Fixed) where
       (λ (b : R (heard fixed.version r) r.answers r.waiting r.taken r.vm). inr (l.closed (heard fixed.version r) r.answers r.waiting r.taken r.vm (after_closing r.vm) b (closing_quiet r.vm) (ap (λ w. w.phase) (sym (closing_notes r.vm is Closed at)) ∙ at)))
       k
 
-  closes_keep : (old : Record) (result : Result Unit AllocError) (new : Record) → Kept old → Closes old result new → Kept new
+  closes_keep : (old : Record) (result : Result Unit AllocError) (new : Record) → Kept old → InputIsClosed old result new → Kept new
   closes_keep old (Ok t) new k does = subst Kept (sym does) (closing_keeps old k old.vm.machine.failure refl old.vm.machine.phase refl)
   closes_keep old (Err e) new k does =
       subst Kept (sym does.2) (dead_same old does.0 k (quiet_same old.vm.machine does.0.machine (among_output [] old.vm.machine does.0.machine does.1)) (among_failed [] old.vm.machine does.0.machine does.1))

@@ -18,7 +18,7 @@ use Rattle.vm_machine.specs.declared.phase.Phase.TheVariants.{WaitingStart, Wait
 use Rattle.vm_machine.specs.Outcomes.{IsStarved, ruled_by}
 use Rattle.vm_machine.specs.Phases.{is_running}
 use Rattle.invocation_vm.specs.Frames.{Tail, Rest, Garbage, frames_of}
-use Rattle.invocation_vm.specs.Views.{StarvesAmong, View, after_closing, after_input, all_received, brought, consumed, left_over}
+use Rattle.invocation_vm.specs.Views.{StarvesAmong, View, after_closing, after_input, all_received, messages_in_bytes, consumed, left_over}
 use Rattle.vm_steps.specs.Heard.{Heard, and_piece, with_pieces}
 use Rattle.vm_steps.specs.declared.progress.Fed.{Fed}
 use Rattle.vm_steps.specs.declared.progress.Progress.{Progress}
@@ -28,7 +28,7 @@ use Rattle.vm_attempt.specs.Blames.{BadFrame, Began, BehindEnd, Blame, FailsAt, 
 use Rattle.vm_attempt.specs.Blames.Blame.{Memory, Frame, NoFrame}
 use Rattle.vm_attempt.specs.Journals.{is_command_frame, is_ephemeral, is_notification, is_acknowledgement}
 use Rattle.vm_steps.specs.Record.{Record, Said, heard, all_heard, all_said}
-use Rattle.vm_steps.specs.Stepping.{Advances, Asks, CloseDoes, Closes, FeedDoes, Feeds, LacksMemory, Reads, StepAt, StepDoes, StepFrom, StepUnless, Takes, fed_now, future_in, kept, kept_at, replied, step_asked, taken_from, with_vm}
+use Rattle.vm_steps.specs.Stepping.{Advances, MakesStep, CloseDoes, InputIsClosed, FeedDoes, FeedsPiece, LacksMemory, InputIsRead, StepAt, StepDoes, StepFrom, StepUnless, Takes, fed_now, future_in, with_piece_kept, kept_at, replied, step_asked, output_taken, with_vm}
 use Rattle.vm_attempt.specs.Told.{BeforeInput, JournalCame, HasCome, IsKeptUnder, IsLive, bytes_fed, frames_fed}
 use Rattle.vm_attempt.proofs.Blamed.{closed_blame, closed_now, closing_at, closing_not, none_some, spoils, spoils_not}
 use Rattle.vm_attempt.proofs.Blaming.{frames_fit}
@@ -171,29 +171,29 @@ late_at fixed r piece k None is Closed at =
     subst (λ l. BehindEnd fixed (with_pieces l (heard fixed.version r)) (all_said r) r.answers (after_input r.vm piece)) (append_assoc r.fed r.late (fed_now piece r ∷ [])) (late_piece fixed (all_heard fixed.version r) (all_said r) r.answers r.vm (fed_now piece r) k is)
 
 -- the same where no memory was found
-late_starved : (fixed : Fixed) (r : Record) (piece : List ℕ) (w : View) → StarvesAmong (brought r.vm piece) r.vm.machine w.machine → (let k = kept piece r in BehindEnd fixed (all_heard fixed.version k) (all_said k) k.answers w)
+late_starved : (fixed : Fixed) (r : Record) (piece : List ℕ) (w : View) → StarvesAmong (messages_in_bytes r.vm piece) r.vm.machine w.machine → (let k = with_piece_kept piece r in BehindEnd fixed (all_heard fixed.version k) (all_said k) k.answers w)
 late_starved fixed r piece w s = starved_behind fixed _ _ _ s.reached w s.live s.starved
 
-feeds_late : (fixed : Fixed) (piece : List ℕ) (old : Record) (result : Result Unit AllocError) (new : Record) → IsBlamed fixed old → (over : Option Progress) → old.over ≡ over → LateBy over fixed old → Feeds piece old result new → LateBy over fixed new
+feeds_late : (fixed : Fixed) (piece : List ℕ) (old : Record) (result : Result Unit AllocError) (new : Record) → IsBlamed fixed old → (over : Option Progress) → old.over ≡ over → LateBy over fixed old → FeedsPiece piece old result new → LateBy over fixed new
 feeds_late fixed piece old (Ok t) new b None going k does = subst (LateBy None fixed) (sym does) (kept_late old.vm.machine.failure old.vm.machine.phase piece old (b.open_yet going) k)
 feeds_late fixed piece old (Err e) new b None going k does =
     ⊎_elim
     (λ (x : new ≡ record old { starved = true }). subst (LateBy None fixed) (sym x) k)
-    (λ (x : (w : View) × StarvesAmong (brought old.vm piece) old.vm.machine w.machine × (new ≡ with_vm w (kept piece old))). subst (LateBy None fixed) (sym x.2) (kept_late old.vm.machine.failure old.vm.machine.phase piece old (b.open_yet going) k))
+    (λ (x : (w : View) × StarvesAmong (messages_in_bytes old.vm piece) old.vm.machine w.machine × (new ≡ with_vm w (with_piece_kept piece old))). subst (LateBy None fixed) (sym x.2) (kept_late old.vm.machine.failure old.vm.machine.phase piece old (b.open_yet going) k))
     does
 feeds_late fixed piece old (Ok t) new b (Some p) over k does = subst (LateBy (Some p) fixed) (sym does) (late_at fixed old piece k old.vm.machine.failure refl old.vm.machine.phase refl)
 feeds_late fixed piece old (Err e) new b (Some p) over k does =
     ⊎_elim
     (λ (x : new ≡ record old { starved = true }). subst (LateBy (Some p) fixed) (sym x) k)
-    (λ (x : (w : View) × StarvesAmong (brought old.vm piece) old.vm.machine w.machine × (new ≡ with_vm w (kept piece old))). subst (LateBy (Some p) fixed) (sym x.2) (late_starved fixed old piece x.0 x.1))
+    (λ (x : (w : View) × StarvesAmong (messages_in_bytes old.vm piece) old.vm.machine w.machine × (new ≡ with_vm w (with_piece_kept piece old))). subst (LateBy (Some p) fixed) (sym x.2) (late_starved fixed old piece x.0 x.1))
     does
 
-pub feeds_over : (piece : List ℕ) (old : Record) (result : Result Unit AllocError) (new : Record) → Feeds piece old result new → new.over ≡ old.over
+pub feeds_over : (piece : List ℕ) (old : Record) (result : Result Unit AllocError) (new : Record) → FeedsPiece piece old result new → new.over ≡ old.over
 feeds_over piece old (Ok t) new does = ap (λ (r : Record). r.over) does ∙ kept_over old.vm.machine.failure old.vm.machine.phase piece old
 feeds_over piece old (Err e) new does =
     ⊎_elim
     (λ (x : new ≡ record old { starved = true }). ap (λ (r : Record). r.over) x)
-    (λ (x : (w : View) × StarvesAmong (brought old.vm piece) old.vm.machine w.machine × (new ≡ with_vm w (kept piece old))). ap (λ (r : Record). r.over) x.2 ∙ kept_over old.vm.machine.failure old.vm.machine.phase piece old)
+    (λ (x : (w : View) × StarvesAmong (messages_in_bytes old.vm piece) old.vm.machine w.machine × (new ≡ with_vm w (with_piece_kept piece old))). ap (λ (r : Record). r.over) x.2 ∙ kept_over old.vm.machine.failure old.vm.machine.phase piece old)
     does
 
 pub feed_late : (fixed : Fixed) (piece : List ℕ) (old : Record) (result : Result Unit AllocError) (new : Record) → IsBlamed fixed old → IsLate fixed old → FeedDoes old.starved piece old result new → IsLate fixed new
@@ -213,13 +213,13 @@ closes_behind fixed r k None is =
     subst (λ w. BehindEnd fixed (all_heard fixed.version r) (closed_now (all_said r)) r.answers (record r.vm { machine = w })) (closing_at r.vm is Closed (k.phase is))
     (record { phase = λ _. k.phase is; place = λ _. k.place is; made_for = λ _. k.made_for is; tail = λ _. k.tail is; blame = λ d some. none_some d (sym is ∙ some) })
 
-closes_late : (fixed : Fixed) (old : Record) (result : Result Unit AllocError) (new : Record) → (over : Option Progress) → LateBy over fixed old → Closes old result new → LateBy over fixed new
+closes_late : (fixed : Fixed) (old : Record) (result : Result Unit AllocError) (new : Record) → (over : Option Progress) → LateBy over fixed old → InputIsClosed old result new → LateBy over fixed new
 closes_late fixed old (Ok t) new None k does = subst (LateBy None fixed) (sym does) k
 closes_late fixed old (Err e) new None k does = subst (LateBy None fixed) (sym does.2) k
 closes_late fixed old (Ok t) new (Some p) k does = subst (LateBy (Some p) fixed) (sym does) (closes_behind fixed old k old.vm.machine.failure refl)
 closes_late fixed old (Err e) new (Some p) k does = subst (LateBy (Some p) fixed) (sym does.2) (starved_behind fixed _ _ _ does.1.reached does.0 does.1.live does.1.starved)
 
-pub closes_over : (old : Record) (result : Result Unit AllocError) (new : Record) → Closes old result new → new.over ≡ old.over
+pub closes_over : (old : Record) (result : Result Unit AllocError) (new : Record) → InputIsClosed old result new → new.over ≡ old.over
 closes_over old (Ok t) new does = ap (λ (r : Record). r.over) does
 closes_over old (Err e) new does = ap (λ (r : Record). r.over) does.2
 
@@ -232,7 +232,7 @@ close_late fixed old result new k does = by_test old.starved does
 
 -- ---- the output
 
-takes_late : (fixed : Fixed) (r : Record) → (over : Option Progress) → LateBy over fixed r → LateBy over fixed (taken_from r)
+takes_late : (fixed : Fixed) (r : Record) → (over : Option Progress) → LateBy over fixed r → LateBy over fixed (output_taken r)
 takes_late fixed r None k = k
 takes_late fixed r (Some p) k = record { phase = k.phase; place = k.place; made_for = k.made_for; tail = k.tail; blame = k.blame }
 
@@ -260,7 +260,7 @@ ends_behind fixed r w c live none und failure at ver opt =
     enough : (a c n known : ℕ) → a ≡ known → n ≡ a + c → known ≤ n
     enough a c n known e f = omega (arith, e, f)
 
-asks_late : (fixed : Fixed) (old : Record) (result : Result Progress Error) (new : Record) → JournalCame fixed (heard fixed.version old) old.answers old.taken old.vm → IsLive old.vm.machine → old.over ≡ None → old.late ≡ [] → Asks fixed.handler old result new → IsLate fixed new
+asks_late : (fixed : Fixed) (old : Record) (result : Result Progress Error) (new : Record) → JournalCame fixed (heard fixed.version old) old.answers old.taken old.vm → IsLive old.vm.machine → old.over ≡ None → old.late ≡ [] → MakesStep fixed.handler old result new → IsLate fixed new
 asks_late fixed old result new c live going none (x, w, does, is, made) = subst (IsLate fixed) (sym is) (by_reply x (step_leaves (step_asked fixed.handler old) old.vm.machine live x w.machine does.0.0))
   where
     on : (r : Record) → r.over ≡ old.over → r.late ≡ old.late → IsLate fixed r
@@ -274,7 +274,7 @@ asks_late fixed old result new c live going none (x, w, does, is, made) = subst 
     by_reply (Ok reply.Ended) h = ends_behind fixed old w c live none does.0.1 h.failure h.left h.sends.version h.sends.options
     by_reply (Err e) h = on (replied old (future_in (step_asked fixed.handler old)) (Err e) w) refl refl
 
-reads_late : (fixed : Fixed) (old : Record) (result : Result Progress Error) (new : Record) → old.over ≡ None → old.late ≡ [] → Reads old result new → IsLate fixed new
+reads_late : (fixed : Fixed) (old : Record) (result : Result Progress Error) (new : Record) → old.over ≡ None → old.late ≡ [] → InputIsRead old result new → IsLate fixed new
 reads_late fixed old (Ok made) new going none does = subst (IsLate fixed) (sym does.1.3) (subst (λ o. LateBy o fixed (record old { answers = answer.Input does.1.0 ∷ []; vm = does.1.1 })) (sym going) none)
 reads_late fixed old (Err e) new going none does = subst (IsLate fixed) (sym does.2) (subst (λ o. LateBy o fixed (record old { vm = does.0 })) (sym going) none)
 
@@ -282,10 +282,10 @@ advances_late : (fixed : Fixed) (old : Record) (result : Result Progress Error) 
 advances_late fixed old result new k live going l none =
     ⊎_elim
     (λ (x : LacksMemory old result new). subst (IsLate fixed) (sym x.1) (subst (λ o. LateBy o fixed (record old { starved = true })) (sym going) none))
-    (λ (o : ((old.answers ≡ []) × Reads old result new) ⊎ ((old.answers ≢ []) × Asks fixed.handler old result new)).
+    (λ (o : ((old.answers ≡ []) × InputIsRead old result new) ⊎ ((old.answers ≢ []) × MakesStep fixed.handler old result new)).
     ⊎_elim
-    (λ (x : (old.answers ≡ []) × Reads old result new). reads_late fixed old result new going none x.1)
-    (λ (x : (old.answers ≢ []) × Asks fixed.handler old result new).
+    (λ (x : (old.answers ≡ []) × InputIsRead old result new). reads_late fixed old result new going none x.1)
+    (λ (x : (old.answers ≢ []) × MakesStep fixed.handler old result new).
     ⊎_elim
     (λ (y : BeforeInput fixed (heard fixed.version old) old.answers old.waiting old.taken old.vm). absurd (x.0 y.answers))
     (λ (y : JournalCame fixed (heard fixed.version old) old.answers old.taken old.vm). asks_late fixed old result new y live going none x.1)

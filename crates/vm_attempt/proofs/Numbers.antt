@@ -39,10 +39,10 @@ use Rattle.vm_parts.specs.declared.context.Known.TheVariants.{Unknown, Empty, Va
 use Rattle.vm_parts.specs.declared.context.StateMap.{StateMap}
 use Rattle.vm_parts.specs.declared.run_state.PendingRun.{PendingRun}
 use Rattle.vm_parts.specs.declared.run_state.TrackedCall.{TrackedCall}
-use Rattle.vm_parts.specs.Counting.{missing, missing_signals}
-use Rattle.vm_parts.specs.Deliveries.{id_at, present_for, taken_by}
-use Rattle.vm_parts.specs.States.{known, known_keys}
-use Rattle.vm_parts.specs.Tracked.{id_of_result, id_of_value, invocation_ids, noted, unresolved, with_next_id}
+use Rattle.vm_parts.specs.Counting.{missing_number, missing_signals}
+use Rattle.vm_parts.specs.Deliveries.{id_at, present_result_for, taken_by}
+use Rattle.vm_parts.specs.States.{value_known, known_keys}
+use Rattle.vm_parts.specs.Tracked.{id_of_result, id_of_value, invocation_ids, id_noted, unresolved_handles, with_next_id}
 use Rattle.vm_asks.specs.declared.asks.Ask.{Ask}
 use Rattle.vm_asks.specs.declared.asks.AnswerKind.{AnswerKind}
 use Rattle.vm_asks.specs.declared.command.Command.{Command}
@@ -57,17 +57,17 @@ use Rattle.vm_parts.specs.Ephemerals.{any_in_flight}
 use Rattle.vm_machine.specs.declared.machine.Machine.{Machine}
 use Rattle.vm_machine.specs.declared.phase.Phase.{Phase}
 use Rattle.vm_machine.specs.declared.phase.Phase.TheVariants.{WaitingStart, WaitingReplayEntries, Replaying, Processing, Closed}
-use Rattle.vm_machine.specs.Commands.{CanBeRead, about_next, carried_out, commanded, commanded_unless, compared, counted, entered, handed_out, ignores_payloads, issued, phase_after, popped, popped_from, prepared, replayed, written}
+use Rattle.vm_machine.specs.Commands.{CanBeRead, about_next, carried_out, commanded, commanded_unless, compared, command_if_counted, entered, handed_out, ignores_payloads, issued, phase_after, popped, popped_from, prepared, replayed, written}
 use Rattle.vm_machine.specs.Inputs.{end_at, end_step}
 use Rattle.vm_machine.specs.Outcomes.{CalledBy, Does, DoesBy, IsStarved, Outcome, Done, Failed, ◌>>=◌, about_last, called, called_at, failed, refused, ruled, settled}
 use Rattle.vm_machine.specs.Phases.{is_closed, is_processing, is_replaying, is_running, state_fault}
-use Rattle.vm_machine.specs.Reads.{own_result, read_back as read_again, read_counted, read_numbered, read_popped, read_step, read_written, with_result}
+use Rattle.vm_machine.specs.Reads.{own_result, read_back as read_again, read_counted, read_numbered, read_popped, read_step, read_written, with_read_ready}
 use Rattle.vm_machine.specs.Signals.{awakeable_counted, awakeable_step, name_handed_out, signal_counted, signal_handed_out, signal_step}
 use Rattle.vm_machine.specs.Several.{BehindFirst, MakesAll, MakesOne, commanded_before, foreseen, foreseen_unless, missing_for, numbers_left}
 use Rattle.vm_machine.specs.Skips.{skips_replay}
 use Rattle.vm_machine.specs.Takes.{result_taken, take_step, taken_at, value_noted, value_taken}
 use Rattle.vm_machine.proofs.Calling.{answers_first, called_from}
-use Rattle.vm_awaits.specs.Awaits.{Awaits, AwaitsAt, AwaitsBy, Behind, Ends, EndsBy, Gathers, ReadsId, StaysPending, Tries, executed, id_read, is_cancelled, or_cancelled, pending_in_replay, pending_on, result_at, said_waiting, says_so, suspended, waiting, waits_by, waits_on, with_used}
+use Rattle.vm_awaits.specs.Awaits.{Awaits, AwaitsAt, AwaitsBy, Behind, AwaitCompletes, EndsBy, Gathers, ReadsId, StaysPending, Tries, executed, next_id_known, is_cancelled, or_cancelled, pending_in_replay, pending_on, result_at, said_waiting, says_so, suspended, waiting, waits_by, waits_on, with_used}
 use Rattle.vm_awaits.specs.Cancels.{AwaitsWhole, Cancels, FinishesIf, Onward, SendsCancel, cancel_taken, sends_cancels}
 use Rattle.vm_awaits.proofs.Cancelling.{read_known, woken_used}
 use Rattle.invocation_vm.specs.Calls.{new_awakeable_step}
@@ -224,7 +224,7 @@ module _ (W : Type 0) (v : Machine) (handle : NotificationHandle) (m : Message) 
 abbrev Told : Type 0 → Message → Machine → Type 0
 Told W m v = W → is_processing v.phase ≡ true → AreFrom v.counters.completion (all_carried (commands_of (with_ids v.counters.completion m ∷ [])))
 
-counts : (W : Type 0) (o : Option NamedFault) (m : Message) (unstable : Bool) (v : Machine) → Told W m v → Happens W v (counted o m unstable v)
+counts : (W : Type 0) (o : Option NamedFault) (m : Message) (unstable : Bool) (v : Machine) → Told W m v → Happens W v (command_if_counted o m unstable v)
 counts W (Some name) m unstable v from = alike v
 counts W None m unstable v from = carries W v (record { 0 = v.counters.handle }) (with_ids v.counters.completion m) (ignores_payloads v.options.non_determinism_checks unstable) (prepared m v) (refl, more_number v.counters.completion (ids_of m)) from
 
@@ -232,8 +232,8 @@ issues : (W : Type 0) (m : Message) (unstable : Bool) (v : Machine) → Told W m
 unfolding issued
 issues W m unstable v from = by_test (is_running v.phase)
   where
-    by_test : (b : Bool) → Happens W v (if b then counted (missing (ids_of m) 0 (ids_of m) v.counters) m unstable v else (let w = entered (shown_type m) (name_of m) v in Failed (about_last (state_fault v.phase) w) w))
-    by_test true = counts W (missing (ids_of m) 0 (ids_of m) v.counters) m unstable v from
+    by_test : (b : Bool) → Happens W v (if b then command_if_counted (missing_number (ids_of m) 0 (ids_of m) v.counters) m unstable v else (let w = entered (shown_type m) (name_of m) v in Failed (about_last (state_fault v.phase) w) w))
+    by_test true = counts W (missing_number (ids_of m) 0 (ids_of m) v.counters) m unstable v from
     by_test false = alike v
 
 commands : (W : Type 0) (refusal : Option NamedFault) (m : Message) (unstable : Bool) (v : Machine) → Told W m v → Happens W v (commanded_unless refusal m unstable v)
@@ -252,10 +252,10 @@ keys_from name id None = (same_number id, tt)
 keys_from name id (Some keys) = tt
 
 own_from : (r : StateRead) (id : ℕ) (state : StateMap) → AreFrom id (carried (own_form r id state))
-own_from (reads.Value key name) id state = value_from key name id (known key state)
+own_from (reads.Value key name) id state = value_from key name id (value_known key state)
 own_from (reads.Keys name) id state = keys_from name id (known_keys state)
 
-put_numbers : (id : ℕ) (o : Option NotificationResult) (v w : Machine) → Numbers v w → Numbers v (with_result id o w)
+put_numbers : (id : ℕ) (o : Option NotificationResult) (v w : Machine) → Numbers v w → Numbers v (with_read_ready id o w)
 put_numbers id None v w h = h
 put_numbers id (Some result) v w h = record { messages = h.messages; output = h.output; from = h.from; counter = h.counter }
 
@@ -291,8 +291,8 @@ state_reads : (r : StateRead) (v : Machine) → Happens (ReadsWhole r v) v (read
 unfolding read_step
 state_reads r v = by_test (is_running v.phase)
   where
-    by_test : (b : Bool) → Happens (ReadsWhole r v) v (if b then read_counted (missing 1 0 1 v.counters) r v else Failed (about_next (state_fault v.phase) (lazy_type r) [] v) v)
-    by_test true = reads_counted (missing 1 0 1 v.counters) r v
+    by_test : (b : Bool) → Happens (ReadsWhole r v) v (if b then read_counted (missing_number 1 0 1 v.counters) r v else Failed (about_next (state_fault v.phase) (lazy_type r) [] v) v)
+    by_test true = reads_counted (missing_number 1 0 1 v.counters) r v
     by_test false = alike v
 
 -- ---- calls without a command
@@ -338,7 +338,7 @@ noted_values value (Some tracked) v u s = plainly v (record u { tracked = tracke
 
 values : (handle : ℕ) (o : Option Value) (v u : Machine) → Stays v u → Happens Plain v (value_taken handle o u)
 values handle None v u s = s
-values handle (Some value) v u s = noted_values value (noted handle (id_of_value value) u.tracked) v u s
+values handle (Some value) v u s = noted_values value (id_noted handle (id_of_value value) u.tracked) v u s
 
 results : (handle : ℕ) (o : Option NotificationResult) (v u : Machine) → Stays v u → Happens Plain v (result_taken handle o u)
 results handle None v u s = plainly v u s
@@ -350,7 +350,7 @@ takes handle v = by_test (is_running v.phase)
   where
     by_test : (b : Bool) → Happens Plain v (if b then taken_at handle (id_at handle v.results.handles) v else refused (state_fault v.phase) v)
     by_test true =
-        let found = present_for v.options.signal_delivery (id_at handle v.results.handles) v.results.ready in
+        let found = present_result_for v.options.signal_delivery (id_at handle v.results.handles) v.results.ready in
         results handle found v (record v { results = taken_by v.options.signal_delivery handle (id_at handle v.results.handles) found v.results }) (alike v)
     by_test false = alike v
 
@@ -399,7 +399,7 @@ module _ (left : Tree) (v u : Machine) (same : Stays v u) where
 
 tries : (t : Tree) (v : Machine) (x : Outcome (Result AwaitResponse Error)) → Tries t v x → Happens Plain v x
 tries t v x = ⊎_elim
-    (λ (y : Ends t v x). subst (Happens Plain v) (sym y.2) (plainly v (with_used y.0 v) (alike v)))
+    (λ (y : AwaitCompletes t v x). subst (Happens Plain v) (sym y.2) (plainly v (with_used y.0 v) (alike v)))
     (λ (y : StaysPending t v x). subst (Happens Plain v) (sym y.2) (pends y.0 v (with_used (length v.results.queued) v) (alike v)))
 
 woken_stays : (t : Tree) (v w : Machine) → Tries t v (Done (Ok AnyCompleted) w) → Stays v w
@@ -423,13 +423,13 @@ behind v Next (Done (Ok (EphemeralNotificationReady id)) w) o h f on = subst (Ha
 behind v Next (Done (Err e) w) o h f on = subst (Happens Plain v) (sym on) h
 behind v Next (Failed e w) o h f on = subst (Happens Plain v) (sym on) h
 
-id_reads : (id : Option (List ℕ)) (v : Machine) → Happens Plain v (id_read id v)
+id_reads : (id : Option (List ℕ)) (v : Machine) → Happens Plain v (next_id_known id v)
 id_reads None v = alike v
 id_reads (Some id) v = plainly v (record v { tracked = with_next_id id v.tracked }) (alike v)
 
 reads_id : (handle : ℕ) (v : Machine) (o : Outcome (Result AwaitResponse Error)) → ReadsId handle v o → Happens Plain v o
 reads_id handle v o (first, tried, on) =
-    behind v (λ w p. p ≡ id_read (option_and_then id_of_result (result_at handle w)) w) first o (tries (leaf handle) v first tried)
+    behind v (λ w p. p ≡ next_id_known (option_and_then id_of_result (result_at handle w)) w) first o (tries (leaf handle) v first tried)
     (λ w is next. happens_behind v w o (woken_stays (leaf handle) v w (subst (Tries (leaf handle) v) is tried)) (subst (Happens Plain w) (sym next) (id_reads (option_and_then id_of_result (result_at handle w)) w))) on
 
 gathers : (handles : List ℕ) (v : Machine) (o : Outcome (Result AwaitResponse Error)) → Gathers handles v o → Happens Plain v o
@@ -439,7 +439,7 @@ gathers (handle ∷ handles) v o (first, reads, on) =
     (λ w is next. happens_behind v w o (read_stays handle v w (subst (ReadsId handle v) is reads)) (gathers handles w o next)) on
 
 ends_by : (b : Bool) (v : Machine) (o : Outcome (Result AwaitResponse Error)) → EndsBy b v o → Happens Plain v o
-ends_by true v o comes = gathers (unresolved v.tracked) v o comes
+ends_by true v o comes = gathers (unresolved_handles v.tracked) v o comes
 ends_by false v o comes = subst (Happens Plain v) (sym comes) (plainly v v (alike v))
 
 awaits_by : (b : Bool) (t : Tree) (v : Machine) (o : Outcome (Result AwaitResponse Error)) → AwaitsBy b t v o → Happens Plain v o

@@ -27,7 +27,7 @@ use Rattle.vm_asks.specs.StateReads.{keys_form, own_form, value_form}
 use Rattle.vm_parts.specs.declared.context.Known.{Known}
 use Rattle.vm_parts.specs.declared.context.Known.TheVariants.{Unknown, Empty, Value}
 use Rattle.vm_parts.specs.declared.context.StateMap.{StateMap}
-use Rattle.vm_parts.specs.States.{known, known_keys}
+use Rattle.vm_parts.specs.States.{value_known, known_keys}
 
 number_same : (n : ℕ) → (n == n) ≡ true
 number_same n = eq-eqb n n refl
@@ -70,5 +70,5 @@ keys_are name id (Some keys) = refl
 
 -- what a read writes is a command
 pub own_is : (r : StateRead) (id : ℕ) (state : StateMap) → IsCommand (own_form r id state)
-own_is (reads.Value key name) id state = value_is key name id (known key state)
+own_is (reads.Value key name) id state = value_is key name id (value_known key state)
 own_is (reads.Keys name) id state = keys_are name id (known_keys state)

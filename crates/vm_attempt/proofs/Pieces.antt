@@ -11,7 +11,7 @@ use Rattle.vm_machine.specs.declared.machine.Machine.{Machine}
 use Rattle.vm_machine.specs.Inputs.{coverage_of}
 use Rattle.vm_machine.specs.Making.{fresh}
 use Rattle.vm_machine.specs.Phases.{is_running}
-use Rattle.invocation_vm.specs.Frames.{Tail, Rest, Garbage, frames_of, joined}
+use Rattle.invocation_vm.specs.Frames.{Tail, Rest, Garbage, frames_of, frames_joined}
 use Rattle.invocation_vm.specs.Views.{View, after_input, all_received, consumed, left_over}
 use Rattle.invocation_vm.proofs.Cuts.{frames_of-append, spoiled_fails}
 use Rattle.vm_model.specs.Calls.{Setup, Meaning}
@@ -56,7 +56,7 @@ none_append [] ys a b = b
 none_append (x ∷ xs) ys a b = (a.0, none_append xs ys a.1 b)
 
 -- the frames of a longer input are those from before and others
-pub more_frames : (P : List RawMessage × Tail) (piece : List ℕ) → (G : List RawMessage) × ((joined P piece).0 ≡ P.0 ++ G)
+pub more_frames : (P : List RawMessage × Tail) (piece : List ℕ) → (G : List RawMessage) × ((frames_joined P piece).0 ≡ P.0 ++ G)
 more_frames (frames, Rest bytes) piece = ((frames_of (bytes ++ piece)).0, refl)
 more_frames (frames, Garbage) piece = ([], sym (append-nil frames))
 
@@ -119,7 +119,7 @@ has_more s given aside k raws more m h =
 pub fed_frames : (fed : Heard) (f : Fed) (v : View) → (frames_of (bytes_fed fed)).1 ≡ Rest v.undecoded → frames_of (bytes_fed (and_piece fed f)) ≡ (frames_fed fed ++ (frames_of (v.undecoded ++ f.piece)).0, (frames_of (v.undecoded ++ f.piece)).1)
 fed_frames fed f v tail =
     ap frames_of (bytes_behind fed f) ∙ frames_of-append (bytes_fed fed) f.piece
-    ∙ ap (λ t. joined (frames_fed fed, t) f.piece) tail
+    ∙ ap (λ t. frames_joined (frames_fed fed, t) f.piece) tail
 
 pub not_failed : {A : Type 0} (m : Machine) → IsSome m.failure → m.failure ≡ None → A
 not_failed m some none = absurd (let z : false ≡ true = ap is_some (sym none) ∙ some in cc)

@@ -24,7 +24,7 @@ use Rattle.vm_types.specs.declared.options.VMOptions.{VMOptions}
 use Rattle.vm_machine.specs.declared.machine.Machine.{Machine}
 use Rattle.vm_machine.specs.declared.phase.Phase.{Phase}
 use Rattle.vm_machine.specs.declared.phase.Phase.TheVariants.{WaitingStart, WaitingReplayEntries, Replaying, Processing, Closed}
-use Rattle.vm_machine.specs.Inputs.{counted_entry, coverage_of, entries_in, info_of, queued, started, started_with, acknowledged, acknowledged_by}
+use Rattle.vm_machine.specs.Inputs.{counted_entry, coverage_of, entries_in, start_info_of, queued, start_received, started_with, acknowledged, acknowledged_by}
 use Rattle.vm_machine.specs.Making.{fresh}
 use Rattle.vm_machine.specs.Outcomes.{Done, refused, ruled, ruled_by, settled}
 use Rattle.vm_machine.specs.Phases.{is_running}
@@ -33,7 +33,7 @@ use Rattle.vm_steps.specs.Heard.{Heard, with_pieces}
 use Rattle.vm_attempt.specs.Journals.{HasAll, StillWaits, is_command_frame, is_ephemeral, is_notification, setup_for, is_acknowledgement}
 use Rattle.vm_steps.specs.Record.{Record, heard}
 use Rattle.vm_steps.specs.declared.progress.Fed.{Fed}
-use Rattle.vm_model.specs.Histories.{behind}
+use Rattle.vm_model.specs.Histories.{after_head}
 use Rattle.vm_attempt.specs.Arrivals.{kept_after}
 use Rattle.vm_attempt.specs.Told.{BeforeInput, Begun, JournalCame, Comes, HasCome, IsLive, ProposesLate, frames_fed}
 use Rattle.vm_attempt.specs.Blames.{BadFrame, Began, FailsAt, Place, fault_among}
@@ -79,12 +79,12 @@ some_known : (k : ℕ) → (k == 0) ≡ false → 0 < k
 some_known zero e = absurd (cc)
 some_known (suc k) e = omega arith
 
-starts : (F : List RawMessage) (raw : RawMessage) (v : Machine) → F ≡ [] → (o : Option Start) → start_in raw.body ≡ o → Stands (F ++ raw ∷ []) (left_by (settled (started o v)))
+starts : (F : List RawMessage) (raw : RawMessage) (v : Machine) → F ≡ [] → (o : Option Start) → start_in raw.body ≡ o → Stands (F ++ raw ∷ []) (left_by (settled (start_received o v)))
 starts F raw v none None reads = λ h. no_failure _ h
 starts F raw v none (Some st) reads = by_entries (entries_in st.state)
   where
     by_known : (entries : List (List ℕ × Option (List ℕ))) (b : Bool) → (st.known_entries == 0) ≡ b
-        → Stands (F ++ raw ∷ []) (left_by (settled (if b then refused fault.KnownEntriesIsZero v else Done (tt {0}) (record v { start = info_of v.version v.options.fallback_random_seed st; state = record { entries = entries; coverage = coverage_of st.partial }; entries_missing = st.known_entries; phase = WaitingReplayEntries }))))
+        → Stands (F ++ raw ∷ []) (left_by (settled (if b then refused fault.KnownEntriesIsZero v else Done (tt {0}) (record v { start = start_info_of v.version v.options.fallback_random_seed st; state = record { entries = entries; coverage = coverage_of st.partial }; entries_missing = st.known_entries; phase = WaitingReplayEntries }))))
     by_known entries true e h = no_failure _ h
     by_known entries false e h = record { first = raw; others = []; is = ap (λ l. l ++ raw ∷ []) none; start = st; reads = reads; counts = (omega arith, some_known st.known_entries e) }
 
@@ -161,7 +161,7 @@ place_all (raw ∷ raws) F v live p h =
 -- What a machine that stays alive keeps once further frames have come: the proposals that weren't acknowledged; and it comes to have
 -- proposed any only in Processing.
 abbrev pub KeepsOn : Heard → Machine → Type 0
-KeepsOn fed v = (before : List RawMessage) → (all_received before v).failure ≡ None → ((all_received before v).proposals ≡ kept_after fed.proposed (behind (frames_fed fed ++ before))) × ProposesLate fed (all_received before v).phase
+KeepsOn fed v = (before : List RawMessage) → (all_received before v).failure ≡ None → ((all_received before v).proposals ≡ kept_after fed.proposed (after_head (frames_fed fed ++ before))) × ProposesLate fed (all_received before v).phase
 
 -- a frame that is refused, among all that were fed
 pub bad_frame : (fixed : Fixed) (fed : Heard) (to : List Fed) (G : List RawMessage) → frames_fed (with_pieces to fed) ≡ frames_fed fed ++ G → (v m : Machine) (e : Error) → (v.version ≡ fixed.version) × (v.options ≡ fixed.options) → v.failure ≡ None → Place v.phase v.entries_missing (frames_fed fed) → KeepsOn fed v → FailsAt G v m → m.failure ≡ Some e → BadFrame fixed (with_pieces to fed) e
@@ -244,14 +244,14 @@ pub come_keeps : (fixed : Fixed) (r : Record) → HasCome fixed r → r.vm.machi
 come_keeps fixed r k live open_yet before alive =
     ⊎_elim
     (λ (b : BeforeInput fixed (heard fixed.version r) r.answers r.waiting r.taken r.vm).
-    let frames = behind (frames_fed (heard fixed.version r) ++ before) in
+    let frames = after_head (frames_fed (heard fixed.version r) ++ before) in
     (all_none before r.vm.machine (comes_none fixed (heard fixed.version r) r.vm.machine (b.comes live)) ∙ sym (ap (λ ps. kept_after ps frames) b.none_proposed ∙ kept_none frames), inl b.none_proposed))
     (λ (c : JournalCame fixed (heard fixed.version r) r.answers r.taken r.vm).
     let runs : is_running r.vm.machine.phase ≡ true = ⊎_elim (λ (x : is_running r.vm.machine.phase ≡ true). x) (λ (x : r.vm.machine.phase ≡ Closed). absurd (open_yet x)) (c.phase live) in
     let is_live : IsLive r.vm.machine = record { failure = live; phase = runs } in
     let fed = heard fixed.version r in
     let frames = c.journal.entries ++ c.journal.others in (
-      (all_keep before r.vm.machine live runs alive).0 ∙ ap (λ ps. kept_after ps before) (c.keeps is_live).0 ∙ sym (kept_append fed.proposed frames before) ∙ ap (λ l. kept_after fed.proposed (behind (l ++ before))) (sym c.journal.frames),
+      (all_keep before r.vm.machine live runs alive).0 ∙ ap (λ ps. kept_after ps before) (c.keeps is_live).0 ∙ sym (kept_append fed.proposed frames before) ∙ ap (λ l. kept_after fed.proposed (after_head (l ++ before))) (sym c.journal.frames),
       ⊎_elim
           (λ (none : fed.proposed ≡ []). inl none)
           (λ (at : r.vm.machine.phase ≡ Processing). inr (all_stay before r.vm.machine live runs alive ∙ at))

@@ -24,7 +24,7 @@ use Rattle.vm_parts.specs.declared.run_state.KeptProposal.{KeptProposal}
 use Rattle.vm_machine.specs.declared.machine.Machine.{Machine}
 use Rattle.vm_machine.specs.declared.phase.Phase.{Phase}
 use Rattle.vm_machine.specs.declared.phase.Phase.TheVariants.{WaitingStart, WaitingReplayEntries, Replaying, Processing, Closed}
-use Rattle.vm_machine.specs.Inputs.{acknowledged, acknowledged_by, acknowledgement_step, completion_of, counted_entry, coverage_of, entries_in, entry_step, info_of, started, started_with, message_step, notification_step, queued, start_step}
+use Rattle.vm_machine.specs.Inputs.{acknowledged, acknowledged_by, acknowledgement_step, acknowledged_completion, counted_entry, coverage_of, entries_in, entry_step, start_info_of, start_received, started_with, message_step, notification_step, queued, start_step}
 use Rattle.vm_machine.specs.Outcomes.{Done, Failed, Outcome, refused, ruled, settled}
 use Rattle.vm_machine.specs.Phases.{is_running}
 use Rattle.invocation_vm.specs.Views.{all_received, left_by, received}
@@ -109,7 +109,7 @@ without_more p (x ∷ xs) more some = by_test (p x) (without_more p xs more) som
 module _ (kept more : List KeptProposal) where
   stands_more : (ack : Option ProposeRunCompletionAck) → IsOfKept kept ack → acknowledged_as (kept ++ more) ack ≡ acknowledged_as kept ack
   stands_more None found = refl
-  stands_more (Some ack) found = ap (option_map (completion_of ack.id)) (find_more (is_for ack.id) kept more found)
+  stands_more (Some ack) found = ap (option_map (acknowledged_completion ack.id)) (find_more (is_for ack.id) kept more found)
 
   unacknowledged_more : (ack : Option ProposeRunCompletionAck) → IsOfKept kept ack → unacknowledged (kept ++ more) ack ≡ unacknowledged kept ack ++ more
   unacknowledged_more None found = refl
@@ -256,12 +256,12 @@ settled_none : (o : Outcome Unit) → NoneKept o → (left_by (settled o)).propo
 settled_none (Done t w) none = none
 settled_none (Failed e w) none = none
 
-started_none : (o : Option Start) (v : Machine) → v.proposals ≡ [] → NoneKept (started o v)
+started_none : (o : Option Start) (v : Machine) → v.proposals ≡ [] → NoneKept (start_received o v)
 started_none None v none = none
 started_none (Some st) v none = by_entries (entries_in st.state)
   where
     by_test : (entries : List (List ℕ × Option (List ℕ))) (b : Bool)
-        → NoneKept (if b then refused fault.KnownEntriesIsZero v else Done (tt {0}) (record v { start = info_of v.version v.options.fallback_random_seed st; state = record { entries = entries; coverage = coverage_of st.partial }; entries_missing = st.known_entries; phase = WaitingReplayEntries }))
+        → NoneKept (if b then refused fault.KnownEntriesIsZero v else Done (tt {0}) (record v { start = start_info_of v.version v.options.fallback_random_seed st; state = record { entries = entries; coverage = coverage_of st.partial }; entries_missing = st.known_entries; phase = WaitingReplayEntries }))
     by_test entries true = none
     by_test entries false = none
 

@@ -23,7 +23,7 @@ use Rattle.journal_errors.specs.Types.{type_number}
 use Rattle.vm_machine.specs.declared.machine.Machine.{Machine}
 use Rattle.vm_machine.specs.declared.phase.Phase.{Phase}
 use Rattle.vm_machine.specs.declared.phase.Phase.TheVariants.{WaitingStart, WaitingReplayEntries, Replaying, Processing, Closed}
-use Rattle.vm_machine.specs.Inputs.{close_step, closed_at, counted_entry, coverage_of, entries_in, entry_step, info_of, malformed_step, message_step, notification_step, queued, start_step, started, started_with, acknowledged, acknowledged_by, acknowledgement_step}
+use Rattle.vm_machine.specs.Inputs.{close_step, closed_at, counted_entry, coverage_of, entries_in, entry_step, start_info_of, malformed_step, message_step, notification_step, queued, start_step, start_received, started_with, acknowledged, acknowledged_by, acknowledgement_step}
 use Rattle.vm_machine.specs.Outcomes.{Outcome, Done, Failed, called, called_at, failed, refused, ruled, settled}
 use Rattle.vm_machine.specs.Phases.{is_closed}
 use Rattle.invocation_vm.specs.Frames.{Tail, Rest, Garbage, frames_of}
@@ -112,11 +112,11 @@ started_silent : (st : Start) (o : Option (List (List ℕ × Option (List ℕ)))
 started_silent st None v = refl
 started_silent st (Some entries) v = by_test (st.known_entries == 0)
   where
-    by_test : (b : Bool) → Silent v (if b then refused fault.KnownEntriesIsZero v else Done (tt {0}) (record v { start = info_of v.version v.options.fallback_random_seed st; state = record { entries = entries; coverage = coverage_of st.partial }; entries_missing = st.known_entries; phase = WaitingReplayEntries }))
+    by_test : (b : Bool) → Silent v (if b then refused fault.KnownEntriesIsZero v else Done (tt {0}) (record v { start = start_info_of v.version v.options.fallback_random_seed st; state = record { entries = entries; coverage = coverage_of st.partial }; entries_missing = st.known_entries; phase = WaitingReplayEntries }))
     by_test true = refl
     by_test false = refl
 
-start_silent : (o : Option Start) (v : Machine) → Silent v (started o v)
+start_silent : (o : Option Start) (v : Machine) → Silent v (start_received o v)
 start_silent None v = refl
 start_silent (Some st) v = started_silent st (entries_in st.state) v
 

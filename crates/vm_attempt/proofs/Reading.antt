@@ -10,21 +10,21 @@ use Rattle.vm_parts.specs.declared.context.StateMap.{StateMap}
 use Rattle.vm_types.specs.declared.steps.Answer.{Answer}
 use Rattle.vm_types.specs.declared.steps.Answer.TheVariants as answer
 use Rattle.await_trees.specs.declared.handle.NotificationHandle.{NotificationHandle}
-use Rattle.vm_parts.specs.Counting.{missing}
+use Rattle.vm_parts.specs.Counting.{missing_number}
 use Rattle.vm_machine.specs.declared.machine.Machine.{Machine}
 use Rattle.vm_asks.specs.declared.state_read.StateRead.{StateRead}
 use Rattle.vm_asks.specs.declared.state_read.StateRead.TheVariants as reads
 use Rattle.vm_machine.specs.Commands.{about_next, entered, handed_out, phase_after, written as wrote}
 use Rattle.vm_machine.specs.Outcomes.{Done, Failed, last_related}
 use Rattle.vm_machine.specs.Phases.{is_processing, state_fault}
-use Rattle.vm_machine.specs.Reads.{ReadCanBeRead, own_result, read_back, read_counted, read_numbered, read_popped, read_step, read_written, with_result}
+use Rattle.vm_machine.specs.Reads.{ReadCanBeRead, own_result, read_back, read_counted, read_numbered, read_popped, read_step, read_written, with_read_ready}
 use Rattle.vm_asks.specs.StateReads.{eager_type, lazy_form, lazy_type, name_read, own_form, recorded_as, recorded_type, result_in}
 use Rattle.vm_asks.specs.Requests.{changed}
 use Rattle.vm_model.specs.Calls.{Setup, Demand, Move, counted, reading}
 use Rattle.vm_model.specs.Calls.Demand.{Reads}
 use Rattle.vm_model.specs.Calls.Move.{Needs}
 use Rattle.vm_model.specs.Journal.{stored_form}
-use Rattle.vm_model.specs.Moves.{Point, brought, changed_by, command_used, found, longer, moved, supply}
+use Rattle.vm_model.specs.Moves.{Point, with_read_result, changed_by, command_used, found, longer, moved, supply}
 use Rattle.vm_model.proofs.Standing.{read_stands}
 use Rattle.vm_attempt.specs.Agreement.{Aside, Beside, machine_at}
 use Rattle.vm_steps.specs.Steps.{IfDone}
@@ -58,7 +58,7 @@ same_state given r p = changed_behind p.said (lazy_form r p.derived.counters.com
 
 -- the point behind a read
 abbrev past : StateRead → Option NotificationResult → List RawMessage → Point → Point
-past r o left p = record { answers = p.answers ++ gives (handle_at p); derived = brought p.derived.counters.completion o (counted 1 p.derived); said = p.said ++ lazy_form r p.derived.counters.completion ∷ []; queue = p.queue; left = left }
+past r o left p = record { answers = p.answers ++ gives (handle_at p); derived = with_read_result p.derived.counters.completion o (counted 1 p.derived); said = p.said ++ lazy_form r p.derived.counters.completion ∷ []; queue = p.queue; left = left }
 
 -- ---- no recorded command is left: the read's own is written
 
@@ -67,7 +67,7 @@ shown given aside r p = record { last = record { ty = type_of (own_at given r p)
 
 writes : (s : Setup) (given : StateMap) (written : List RawMessage) (aside : Aside) (r : StateRead) (p : Point) → p.left ≡ [] → (o : Option NotificationResult)
     → Leads s given written aside p (needing r p) [] (stored_form (own_at given r p) ∷ []) gives (command_used (Ok o) (needed r p) (gives (handle_at p)) (counted 1 p.derived) [] p)
-    (Done (handle_at p) (with_result p.derived.counters.completion o (wrote (own_at given r p) (handed_out 1 (entered (type_of (own_at given r p)) (name_read r) (machine_at s given written aside p))))))
+    (Done (handle_at p) (with_read_ready p.derived.counters.completion o (wrote (own_at given r p) (handed_out 1 (entered (type_of (own_at given r p)) (name_read r) (machine_at s given written aside p))))))
 unfolding shown
 writes s given written aside r p spent None =
     let m = own_at given r p in (
@@ -135,10 +135,10 @@ counts s given written aside r p None whole = numbers s given written aside r p 
 
 -- a state read does what its move leads to
 pub reads_follow : (s : Setup) (given : StateMap) (written : List RawMessage) (aside : Aside) (r : StateRead) (p : Point) → IfDone (read_step r (machine_at s given written aside p)) (ReadCanBeRead r (machine_at s given written aside p))
-    → Leads s given written aside p (reading r (missing 1 0 1 p.derived.counters) p.derived) p.left (supply (state_at given p) (reading r (missing 1 0 1 p.derived.counters) p.derived) p.left) gives (moved (reading r (missing 1 0 1 p.derived.counters) p.derived) (longer (supply (state_at given p) (reading r (missing 1 0 1 p.derived.counters) p.derived) p.left) p)) (read_step r (machine_at s given written aside p))
+    → Leads s given written aside p (reading r (missing_number 1 0 1 p.derived.counters) p.derived) p.left (supply (state_at given p) (reading r (missing_number 1 0 1 p.derived.counters) p.derived) p.left) gives (moved (reading r (missing_number 1 0 1 p.derived.counters) p.derived) (longer (supply (state_at given p) (reading r (missing_number 1 0 1 p.derived.counters) p.derived) p.left) p)) (read_step r (machine_at s given written aside p))
 unfolding read_step
 reads_follow s given written aside r p whole =
     let v = machine_at s given written aside p in
-    let lacks = missing 1 0 1 p.derived.counters in
+    let lacks = missing_number 1 0 1 p.derived.counters in
     let runs = runs_at p.left in
     rw runs (counts s given written aside r p lacks (subst (λ b. IfDone (if b then read_counted lacks r v else Failed (about_next (state_fault v.phase) (lazy_type r) [] v) v) (ReadCanBeRead r v)) runs whole))

@@ -36,7 +36,7 @@ use Rattle.journal_errors.specs.declared.faults.NamedFault.TheVariants as fault
 use Rattle.journal_errors.specs.Types.{type_number}
 use Rattle.journal_messages.specs.Reading.{acknowledgement_in}
 use Rattle.vm_machine.specs.declared.phase.Phase.TheVariants.{Processing}
-use Rattle.vm_model.specs.Histories.{behind}
+use Rattle.vm_model.specs.Histories.{after_head}
 use Rattle.vm_parts.specs.declared.run_state.KeptProposal.{KeptProposal}
 use Rattle.vm_attempt.specs.Arrivals.{kept_after}
 use Rattle.vm_attempt.specs.Blames.{BadFrame, fault_among, fault_by, acknowledgement_body_fault}
@@ -153,12 +153,12 @@ none_kept_fault (Some ack) h = let z : Some fault.BadProposeRunCompletionAck ≡
 -- no frame of an honest attempt is refused
 honest_frame : (fixed : Fixed) (fed : Heard) (e : Error) → IsHonest fixed fed → (x : BadFrame fixed fed e) → (b : Bool) → is_acknowledgement x.raw ≡ b → ⊥
 honest_frame fixed fed e honest x false is =
-    let z : None ≡ Some x.why = sym (honest.frames x.before x.raw x.behind x.phase x.missing x.split x.place is) ∙ none_kept (kept_after fed.proposed (behind x.before)) x.phase x.raw x.why x.reason in cc
+    let z : None ≡ Some x.why = sym (honest.frames x.before x.raw x.behind x.phase x.missing x.split x.place is) ∙ none_kept (kept_after fed.proposed (after_head x.before)) x.phase x.raw x.why x.reason in cc
 honest_frame fixed fed e honest x true is =
-    let kept = kept_after fed.proposed (behind x.before) in
+    let kept = kept_after fed.proposed (after_head x.before) in
     let taken : acknowledgement_body_fault kept (acknowledgement_in x.raw.body) ≡ None = honest.acknowledgements x.before x.raw x.behind x.split is in
     ⊎_elim
-    (λ (none : fed.proposed ≡ []). none_kept_fault (acknowledgement_in x.raw.body) (ap (λ ps. acknowledgement_body_fault ps (acknowledgement_in x.raw.body)) (sym (ap (λ ps. kept_after ps (behind x.before)) none ∙ kept_none (behind x.before))) ∙ taken))
+    (λ (none : fed.proposed ≡ []). none_kept_fault (acknowledgement_in x.raw.body) (ap (λ ps. acknowledgement_body_fault ps (acknowledgement_in x.raw.body)) (sym (ap (λ ps. kept_after ps (after_head x.before)) none ∙ kept_none (after_head x.before))) ∙ taken))
     (λ (at : x.phase ≡ Processing).
     let z : None ≡ Some x.why = sym taken ∙ sym (acknowledged_by_kept kept x.raw is) ∙ ap (λ ph. fault_among kept ph x.raw) (sym at) ∙ x.reason in cc)
     x.late

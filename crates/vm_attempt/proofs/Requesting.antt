@@ -14,12 +14,12 @@ use Rattle.journal_values.specs.declared.notification.NotificationResult.{Notifi
 use Rattle.vm_parts.specs.declared.context.StateMap.{StateMap}
 use Rattle.vm_types.specs.declared.steps.Answer.{Answer}
 use Rattle.await_trees.specs.declared.handle.NotificationHandle.{NotificationHandle}
-use Rattle.vm_parts.specs.Counting.{missing, next_index}
+use Rattle.vm_parts.specs.Counting.{missing_number, next_index}
 use Rattle.vm_parts.specs.Deliveries.{is_known}
 use Rattle.vm_machine.specs.declared.machine.Machine.{Machine}
 use Rattle.vm_asks.specs.declared.command.Command.{Command}
 use Rattle.vm_machine.specs.declared.phase.Phase.TheVariants.{Replaying, Processing}
-use Rattle.vm_machine.specs.Commands.{carried_out, compared, counted as counted_event, entered, ignores_payloads, issued, phase_after, popped, popped_from, prepared, replayed, runs_after, typed, written as wrote}
+use Rattle.vm_machine.specs.Commands.{carried_out, compared, command_if_counted as counted_event, entered, ignores_payloads, issued, phase_after, popped, popped_from, prepared, replayed, runs_after, of_type, written as wrote}
 use Rattle.vm_machine.specs.Phases.{is_processing, is_running, state_fault}
 use Rattle.vm_machine.specs.Outcomes.{Outcome, Done, Failed, ◌>>=◌, about_last, last_related}
 use Rattle.vm_asks.specs.Requests.{changed, ids_of, name_of, shown_type, tracked_after, with_ids}
@@ -43,7 +43,7 @@ carries_recorded : (m : Message) (ignore : Bool) (w : Machine) → w.phase ≡ R
 unfolding carried_out
 carries_recorded m ignore w e = ap (λ phase. if is_processing phase then Done tt (wrote m w) else replayed m ignore w) e
 
-replays_next : (m : Message) (ignore : Bool) (c : RawMessage) (left : List RawMessage) (w : Machine) → w.commands ≡ c ∷ left → replayed m ignore w ≡ (typed c (type_of m) (record w { commands = left; phase = phase_after left }) >>= λ raw z. compared m ignore (message_in raw.ty raw.body) z)
+replays_next : (m : Message) (ignore : Bool) (c : RawMessage) (left : List RawMessage) (w : Machine) → w.commands ≡ c ∷ left → replayed m ignore w ≡ (of_type c (type_of m) (record w { commands = left; phase = phase_after left }) >>= λ raw z. compared m ignore (message_in raw.ty raw.body) z)
 unfolding replayed popped
 replays_next m ignore c left w e = ap (λ l. popped_from l (type_of m) w >>= λ raw z. compared m ignore (message_in raw.ty raw.body) z) e
 
@@ -151,7 +151,7 @@ reads s given written aside r p c left gives answer same (Some recorded) is = by
 
 replays : (s : Setup) (given : StateMap) (written : List RawMessage) (aside : Aside) (r : Command) (p : Point) (c : RawMessage) (left : List RawMessage) (gives : NotificationHandle → List Answer) → gives (record { 0 = p.derived.counters.handle }) ≡ answer_of r p.derived ∷ []
     → Leads s given written aside p (needing s r p) (c ∷ left) [] gives (command_used (found (demand_of s r p.derived) c) (demand_of s r p.derived) (answer_of r p.derived ∷ []) (after s r p) left p)
-    (handed p (typed c (type_of (with_ids p.derived.counters.completion r.message)) (popped_to s given written aside r left p) >>= λ raw z. compared (with_ids p.derived.counters.completion r.message) (ignores s r) (message_in raw.ty raw.body) z))
+    (handed p (of_type c (type_of (with_ids p.derived.counters.completion r.message)) (popped_to s given written aside r left p) >>= λ raw z. compared (with_ids p.derived.counters.completion r.message) (ignores s r) (message_in raw.ty raw.body) z))
 replays s given written aside r p c left gives answer = by_test (type_number c.ty == type_number (type_of m)) refl
   where
     m : Message
@@ -225,6 +225,6 @@ pub issues : (s : Setup) (given : StateMap) (written : List RawMessage) (aside :
 unfolding issued
 issues s given written aside r p gives answer P own whole =
     let v = machine_at s given written aside p in
-    let lacks = missing (ids_of r.message) 0 (ids_of r.message) p.derived.counters in
+    let lacks = missing_number (ids_of r.message) 0 (ids_of r.message) p.derived.counters in
     let runs = runs_at p.left in
     rw runs (counts s given written aside r p gives answer P own lacks (subst (λ b. IfDone (if b then counted_event lacks r.message r.unstable v else (let w = entered (shown_type r.message) (name_of r.message) v in Failed (about_last (state_fault v.phase) w) w)) P) runs whole))

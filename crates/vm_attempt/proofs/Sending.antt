@@ -4,7 +4,7 @@ use Rattle.runs.specs.Pending.{is_executing, is_executing_in, may_execute, handl
 use Rattle.await_trees.specs.Handles.{handles_of}
 use Rattle.std.specs.List.{find, list_any}
 use Rattle.vm_asks.specs.declared.state_read.StateRead.{StateRead}
-use Rattle.vm_machine.specs.Reads.{own_result, read_back, read_counted, read_numbered, read_popped, read_step, read_written, with_result}
+use Rattle.vm_machine.specs.Reads.{own_result, read_back, read_counted, read_numbered, read_popped, read_step, read_written, with_read_ready}
 use Rattle.vm_asks.specs.StateReads.{eager_type, lazy_type, name_read, own_form, recorded_as, recorded_type, result_in}
 use Rattle.std.proofs.Common.{◌≡◌, length, ℕ, Bool, true, false, List, [], ◌∷◌, ◌++◌, map, Option, Some, None, Result, Ok, Err, refl, sym, ap, ◌∙◌, subst, ⊎_elim, append_assoc, append-nil}
 use Rattle.std.specs.Prelude.{◌==◌, if◌then◌else◌, unwrap_or}
@@ -30,8 +30,8 @@ use Rattle.await_trees.specs.Wires.{sent}
 use Rattle.await_tries.specs.Message.{ids}
 use Rattle.vm_types.specs.declared.values.Value.{Value}
 use Rattle.vm_types.specs.declared.steps.Step.{Step}
-use Rattle.vm_parts.specs.Counting.{missing, missing_signals}
-use Rattle.vm_parts.specs.Deliveries.{id_at, present_for, taken_by}
+use Rattle.vm_parts.specs.Counting.{missing_number, missing_signals}
+use Rattle.vm_parts.specs.Deliveries.{id_at, present_result_for, taken_by}
 use Rattle.vm_types.specs.Values.{value_of}
 use Rattle.vm_asks.specs.declared.asks.Ask.{Ask}
 use Rattle.vm_asks.specs.declared.asks.Ask.TheVariants as ask
@@ -42,11 +42,11 @@ use Rattle.vm_machine.specs.declared.phase.Phase.TheVariants.{WaitingStart, Wait
 use Rattle.vm_asks.specs.declared.asks.AnswerKind.{AnswerKind}
 use Rattle.vm_asks.specs.declared.command.Command.{Command}
 use Rattle.vm_asks.specs.Asks.{EachIs, any_refusal, ask_of, cancel_invocation_command}
-use Rattle.vm_awaits.specs.Awaits.{Awaits, AwaitsAt, AwaitsBy, Behind, Ends, EndsBy, Gathers, ReadsId, StaysPending, Tries, id_read, is_cancelled, or_cancelled, pending_on, result_at, said_waiting, says_so, suspended, waiting, with_used, waits_by, waits_on, executed, pending_in_replay}
+use Rattle.vm_awaits.specs.Awaits.{Awaits, AwaitsAt, AwaitsBy, Behind, AwaitCompletes, EndsBy, Gathers, ReadsId, StaysPending, Tries, next_id_known, is_cancelled, or_cancelled, pending_on, result_at, said_waiting, says_so, suspended, waiting, with_used, waits_by, waits_on, executed, pending_in_replay}
 use Rattle.vm_awaits.specs.Cancels.{AwaitsWhole, Cancels, FinishesIf, Onward, SendsCancel, cancel_taken, sends_cancels}
 use Rattle.vm_awaits.proofs.Cancelling.{read_known, woken_used}
 use Rattle.vm_types.specs.Options.{ends_awaits}
-use Rattle.vm_parts.specs.Tracked.{id_of_result, id_of_value, invocation_ids, noted, unresolved, with_next_id}
+use Rattle.vm_parts.specs.Tracked.{id_of_result, id_of_value, invocation_ids, id_noted, unresolved_handles, with_next_id}
 use Rattle.vm_parts.specs.declared.run_state.TrackedCall.{TrackedCall}
 use Rattle.std.specs.Option.{option_and_then}
 use Rattle.journal_errors.specs.declared.version.Version.{Version}
@@ -58,7 +58,7 @@ use Rattle.vm_steps.specs.Heard.{proposals_among}
 use Rattle.vm_attempt.proofs.Own.{AsksCommand, asks_command, numbered_is, own_is}
 use Rattle.vm_attempt.proofs.Quiet.{forms_append, map_append, proposals_append, proposes_nothing}
 use Rattle.vm_machine.specs.Takes.{result_taken, take_step, taken_at, value_noted, value_taken}
-use Rattle.vm_machine.specs.Commands.{carried_out, commanded, commanded_unless, compared, counted, entered, ignores_payloads, issued, phase_after, popped, popped_from, prepared, replayed, written, about_next, handed_out}
+use Rattle.vm_machine.specs.Commands.{carried_out, commanded, commanded_unless, compared, command_if_counted, entered, ignores_payloads, issued, phase_after, popped, popped_from, prepared, replayed, written, about_next, handed_out}
 use Rattle.vm_machine.specs.Inputs.{end_at, end_step}
 use Rattle.vm_machine.specs.Outcomes.{CalledBy, Does, DoesBy, IsStarved, Outcome, Done, Failed, ◌>>=◌, about_last, called, called_at, failed, refused, ruled, settled}
 use Rattle.vm_machine.specs.Several.{BehindFirst, MakesAll, MakesOne, answered_so, commanded_before, foreseen, foreseen_unless, missing_for, numbers_left}
@@ -218,7 +218,7 @@ module _ (v : Machine) (handle : NotificationHandle) (m : Message) (ignore : Boo
       }
       by_test false e = replays (λ at. absurd (let z : true ≡ false = sym (ap is_processing (phase ∙ at)) ∙ e in cc))
 
-counts : (o : Option NamedFault) (m : Message) (unstable : Bool) (v : Machine) → IsCommand m → Happens RunsOn v (counted o m unstable v)
+counts : (o : Option NamedFault) (m : Message) (unstable : Bool) (v : Machine) → IsCommand m → Happens RunsOn v (command_if_counted o m unstable v)
 counts (Some name) m unstable v is = alike v
 counts None m unstable v is = carries v (record { 0 = v.counters.handle }) (with_ids v.counters.completion m) (ignores_payloads v.options.non_determinism_checks unstable) (prepared m v) (numbered_is m v.counters.completion is) (refl, refl, refl, refl, prepared_fewer m v) refl refl
 
@@ -226,8 +226,8 @@ issues : (m : Message) (unstable : Bool) (v : Machine) → IsCommand m → Happe
 unfolding issued
 issues m unstable v is = by_test (is_running v.phase)
   where
-    by_test : (b : Bool) → Happens RunsOn v (if b then counted (missing (ids_of m) 0 (ids_of m) v.counters) m unstable v else (let w = entered (shown_type m) (name_of m) v in Failed (about_last (state_fault v.phase) w) w))
-    by_test true = counts (missing (ids_of m) 0 (ids_of m) v.counters) m unstable v is
+    by_test : (b : Bool) → Happens RunsOn v (if b then command_if_counted (missing_number (ids_of m) 0 (ids_of m) v.counters) m unstable v else (let w = entered (shown_type m) (name_of m) v in Failed (about_last (state_fault v.phase) w) w))
+    by_test true = counts (missing_number (ids_of m) 0 (ids_of m) v.counters) m unstable v is
     by_test false = alike v
 
 commands : (refusal : Option NamedFault) (m : Message) (unstable : Bool) (v : Machine) → IsCommand m → Happens RunsOn v (commanded_unless refusal m unstable v)
@@ -259,7 +259,7 @@ before_happens c (b ∷ bs) v is = foreseen_happens c (b ∷ bs) v is
 
 -- ---- state reads
 
-read_put : (id : ℕ) (o : Option NotificationResult) (handle : NotificationHandle) (v w : Machine) → Leaves RunsOn v handle w → Leaves RunsOn v handle (with_result id o w)
+read_put : (id : ℕ) (o : Option NotificationResult) (handle : NotificationHandle) (v w : Machine) → Leaves RunsOn v handle w → Leaves RunsOn v handle (with_read_ready id o w)
 read_put id None handle v w h = h
 read_put id (Some result) handle v w h = record { sends = record { messages = h.sends.messages; output = h.sends.output; proposals = h.sends.proposals; version = h.sends.version; options = h.sends.options }; failure = h.failure; kept = h.kept; fewer = h.fewer; goes = h.goes; left = h.left }
 
@@ -291,8 +291,8 @@ state_reads : (r : StateRead) (v : Machine) → Happens RunsOn v (read_step r v)
 unfolding read_step
 state_reads r v = by_test (is_running v.phase)
   where
-    by_test : (b : Bool) → Happens RunsOn v (if b then read_counted (missing 1 0 1 v.counters) r v else Failed (about_next (state_fault v.phase) (lazy_type r) [] v) v)
-    by_test true = reads_counted (missing 1 0 1 v.counters) r v
+    by_test : (b : Bool) → Happens RunsOn v (if b then read_counted (missing_number 1 0 1 v.counters) r v else Failed (about_next (state_fault v.phase) (lazy_type r) [] v) v)
+    by_test true = reads_counted (missing_number 1 0 1 v.counters) r v
     by_test false = alike v
 
 -- ---- calls without a command
@@ -405,7 +405,7 @@ module _ (left : Tree) (v u : Machine) (same : Stays v u) (failure : u.failure �
 
 tries : (t : Tree) (v : Machine) (x : Outcome (Result AwaitResponse Error)) → is_running v.phase ≡ true → Tries t v x → Happens AwaitLeaves v x
 tries t v x runs comes = ⊎_elim
-    (λ (y : Ends t v x). subst (Happens AwaitLeaves v) (sym y.2) (record { sends = stays_sends v (with_used y.0 v) (alike v); failure = refl; kept = refl; fewer = fewer_same v; goes = λ at _. at; left = runs }))
+    (λ (y : AwaitCompletes t v x). subst (Happens AwaitLeaves v) (sym y.2) (record { sends = stays_sends v (with_used y.0 v) (alike v); failure = refl; kept = refl; fewer = fewer_same v; goes = λ at _. at; left = runs }))
     (λ (y : StaysPending t v x). subst (Happens AwaitLeaves v) (sym y.2) (pends y.0 v (with_used (length v.results.queued) v) (alike v) refl refl runs))
     comes
 
@@ -442,13 +442,13 @@ behind v Next (Done (Ok (EphemeralNotificationReady id)) w) o h f on = subst (Ha
 behind v Next (Done (Err e) w) o h f on = subst (Happens AwaitLeaves v) (sym on) h
 behind v Next (Failed e w) o h f on = subst (Happens AwaitLeaves v) (sym on) h
 
-id_reads : (id : Option (List ℕ)) (v : Machine) → is_running v.phase ≡ true → Happens AwaitLeaves v (id_read id v)
+id_reads : (id : Option (List ℕ)) (v : Machine) → is_running v.phase ≡ true → Happens AwaitLeaves v (next_id_known id v)
 id_reads None v runs = alike v
 id_reads (Some id) v runs = record { sends = stays_sends v (record v { tracked = with_next_id id v.tracked }) (alike v); failure = refl; kept = refl; fewer = fewer_same v; goes = λ at _. at; left = runs }
 
 reads_id : (handle : ℕ) (v : Machine) (o : Outcome (Result AwaitResponse Error)) → is_running v.phase ≡ true → ReadsId handle v o → Happens AwaitLeaves v o
 reads_id handle v o runs (first, tried, on) =
-    behind v (λ w p. p ≡ id_read (option_and_then id_of_result (result_at handle w)) w) first o (tries (leaf handle) v first runs tried)
+    behind v (λ w p. p ≡ next_id_known (option_and_then id_of_result (result_at handle w)) w) first o (tries (leaf handle) v first runs tried)
     (λ w is next.
     let k = woken_unmoved (leaf handle) v w (subst (Tries (leaf handle) v) is tried) in
     happens_behind v w o k (subst (Happens AwaitLeaves w) (sym next) (id_reads (option_and_then id_of_result (result_at handle w)) w (ap is_running k.2 ∙ runs)))) on
@@ -462,7 +462,7 @@ gathers (handle ∷ handles) v o runs (first, reads, on) =
     happens_behind v w o k (gathers handles w o (ap is_running k.2 ∙ runs) next)) on
 
 ends_by : (b : Bool) (v : Machine) (o : Outcome (Result AwaitResponse Error)) → is_running v.phase ≡ true → EndsBy b v o → Happens AwaitLeaves v o
-ends_by true v o runs comes = gathers (unresolved v.tracked) v o runs comes
+ends_by true v o runs comes = gathers (unresolved_handles v.tracked) v o runs comes
 ends_by false v o runs comes = subst (Happens AwaitLeaves v) (sym comes) (record { sends = stays_sends v v (alike v); failure = refl; kept = refl; fewer = fewer_same v; goes = λ at _. at; left = runs })
 
 awaits_by : (b : Bool) (t : Tree) (v : Machine) (o : Outcome (Result AwaitResponse Error)) → is_running v.phase ≡ true → AwaitsBy b t v o → Happens AwaitLeaves v o
@@ -486,7 +486,7 @@ noted_values value (Some tracked) v u s f phase runs = record { sends = stays_se
 
 values : (handle : ℕ) (o : Option Value) (v u : Machine) → Stays v u → u.failure ≡ v.failure → u.phase ≡ v.phase → is_running u.phase ≡ true → Happens RunsOn v (value_taken handle o u)
 values handle None v u s f phase runs = s
-values handle (Some value) v u s f phase runs = noted_values value (noted handle (id_of_value value) u.tracked) v u s f phase runs
+values handle (Some value) v u s f phase runs = noted_values value (id_noted handle (id_of_value value) u.tracked) v u s f phase runs
 
 results : (handle : ℕ) (o : Option NotificationResult) (v u : Machine) → Stays v u → u.failure ≡ v.failure → u.phase ≡ v.phase → is_running u.phase ≡ true → Happens RunsOn v (result_taken handle o u)
 results handle None v u s f phase runs = record { sends = stays_sends v u s; failure = f; kept = s.3; fewer = s.4; goes = λ at _. phase ∙ at; left = runs }
@@ -498,7 +498,7 @@ takes handle v = by_test (is_running v.phase) refl
   where
     by_test : (b : Bool) → is_running v.phase ≡ b → Happens RunsOn v (if b then taken_at handle (id_at handle v.results.handles) v else refused (state_fault v.phase) v)
     by_test true e =
-        let found = present_for v.options.signal_delivery (id_at handle v.results.handles) v.results.ready in
+        let found = present_result_for v.options.signal_delivery (id_at handle v.results.handles) v.results.ready in
         results handle found v (record v { results = taken_by v.options.signal_delivery handle (id_at handle v.results.handles) found v.results }) (alike v) refl refl e
     by_test false e = alike v
 

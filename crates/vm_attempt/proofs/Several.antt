@@ -8,7 +8,7 @@ use Rattle.journal_errors.specs.declared.faults.NamedFault.{NamedFault}
 use Rattle.journal_messages.specs.declared.message.RawMessage.{RawMessage}
 use Rattle.journal_messages.specs.Commands.{IsCommand}
 use Rattle.journal_values.specs.declared.notification.NotificationResult.{NotificationResult}
-use Rattle.vm_parts.specs.Counting.{missing}
+use Rattle.vm_parts.specs.Counting.{missing_number}
 use Rattle.vm_parts.specs.declared.context.StateMap.{StateMap}
 use Rattle.vm_types.specs.declared.steps.Answer.{Answer}
 use Rattle.vm_asks.specs.declared.asks.AnswerKind.{AnswerKind}
@@ -60,7 +60,7 @@ module _ (s : Setup) (kind : AnswerKind) (p : Point) (c : Command) (cs : List Co
   alone (Some name) o = Refuses name
   alone None o = numbered s c o before
 
-  alone_is : (refusal : Option NamedFault) → commanding s c refusal before ≡ alone refusal (missing (ids_of c.message) 0 (ids_of c.message) before.counters)
+  alone_is : (refusal : Option NamedFault) → commanding s c refusal before ≡ alone refusal (missing_number (ids_of c.message) 0 (ids_of c.message) before.counters)
   alone_is (Some name) = refl
   alone_is None = refl
 
@@ -162,7 +162,7 @@ module _ (s : Setup) (m : Meaning) (given : StateMap) (kind : AnswerKind) (first
     state = state_at given p
 
     abbrev lacks : Option NamedFault
-    lacks = missing (ids_of c.message) 0 (ids_of c.message) before.counters
+    lacks = missing_number (ids_of c.message) 0 (ids_of c.message) before.counters
 
     abbrev own_fault : Option NamedFault
     own_fault = option_or c.refusal lacks

@@ -9,7 +9,7 @@ use Rattle.vm_types.specs.declared.steps.Answer.{Answer}
 use Rattle.vm_parts.specs.Outboxes.{WholeFrames}
 use Rattle.vm_machine.specs.declared.phase.Phase.{Phase}
 use Rattle.vm_machine.specs.declared.phase.Phase.TheVariants.{WaitingStart, WaitingReplayEntries, Replaying, Processing, Closed}
-use Rattle.invocation_vm.specs.Views.{StarvesAmong, View, after_closing, after_input, brought}
+use Rattle.invocation_vm.specs.Views.{StarvesAmong, View, after_closing, after_input, messages_in_bytes}
 use Rattle.vm_model.specs.Calls.{Meaning}
 use Rattle.vm_steps.specs.Heard.{Heard}
 use Rattle.vm_steps.specs.declared.progress.Progress.{Progress}
@@ -18,7 +18,7 @@ use Rattle.vm_steps.specs.declared.progress.Reply.{Reply}
 use Rattle.vm_steps.specs.declared.progress.Reply.TheVariants as reply
 use Rattle.vm_attempt.specs.Blames.{IsLate, LateBy}
 use Rattle.vm_steps.specs.Record.{Record, heard}
-use Rattle.vm_steps.specs.Stepping.{Advances, Asks, CloseDoes, Closes, FeedDoes, Feeds, IfWaits, LacksMemory, Reads, StepAt, StepDoes, StepFrom, StepUnless, Takes, future_in, kept, kept_at, progress_of, replied, step_asked, taken_from, with_vm}
+use Rattle.vm_steps.specs.Stepping.{Advances, MakesStep, CloseDoes, InputIsClosed, FeedDoes, FeedsPiece, IfWaits, LacksMemory, InputIsRead, StepAt, StepDoes, StepFrom, StepUnless, Takes, future_in, with_piece_kept, kept_at, progress_of, replied, step_asked, output_taken, with_vm}
 use Rattle.vm_attempt.specs.Told.{IsKeptUnder, NothingWakes, Premises, Quiet, AwaitWaits, StillSleeps}
 use Rattle.vm_attempt.proofs.Advanced.{asleep_waits, step_waits}
 use Rattle.invocation_vm.proofs.Feeds.{among_output}
@@ -73,18 +73,18 @@ kept_vm None Replaying piece r = refl
 kept_vm None Processing piece r = refl
 kept_vm None Closed piece r = refl
 
-feeds_sleeps : (fixed : Fixed) (piece : List ℕ) (old : Record) (result : Result Unit AllocError) (new : Record) → IsLate fixed old → StillSleeps fixed old → Feeds piece old result new → StillSleeps fixed new
+feeds_sleeps : (fixed : Fixed) (piece : List ℕ) (old : Record) (result : Result Unit AllocError) (new : Record) → IsLate fixed old → StillSleeps fixed old → FeedsPiece piece old result new → StillSleeps fixed new
 feeds_sleeps fixed piece old (Ok t) new l s does =
     let held = kept_sleeps fixed old piece l s old.over refl old.vm.machine.failure refl old.vm.machine.phase refl in
     let same = kept_vm old.vm.machine.failure old.vm.machine.phase piece old in
-    subst (StillSleeps fixed) (sym does) (still_quiet fixed (kept piece old) (after_input old.vm piece) (subst (λ (v : View). Quiet v.machine (after_input old.vm piece).machine) (sym same) (input_quiet old.vm piece)) held)
+    subst (StillSleeps fixed) (sym does) (still_quiet fixed (with_piece_kept piece old) (after_input old.vm piece) (subst (λ (v : View). Quiet v.machine (after_input old.vm piece).machine) (sym same) (input_quiet old.vm piece)) held)
 feeds_sleeps fixed piece old (Err e) new l s does =
     ⊎_elim
     (λ (x : new ≡ record old { starved = true }). subst (StillSleeps fixed) (sym x) s)
-    (λ (x : (w : View) × StarvesAmong (brought old.vm piece) old.vm.machine w.machine × (new ≡ with_vm w (kept piece old))).
+    (λ (x : (w : View) × StarvesAmong (messages_in_bytes old.vm piece) old.vm.machine w.machine × (new ≡ with_vm w (with_piece_kept piece old))).
     let held = kept_sleeps fixed old piece l s old.over refl old.vm.machine.failure refl old.vm.machine.phase refl in
     let same = kept_vm old.vm.machine.failure old.vm.machine.phase piece old in
-    subst (StillSleeps fixed) (sym x.2) (still_quiet fixed (kept piece old) x.0 (subst (λ (v : View). Quiet v.machine x.0.machine) (sym same) (quiet_same old.vm.machine x.0.machine (among_output _ old.vm.machine x.0.machine x.1))) held))
+    subst (StillSleeps fixed) (sym x.2) (still_quiet fixed (with_piece_kept piece old) x.0 (subst (λ (v : View). Quiet v.machine x.0.machine) (sym same) (quiet_same old.vm.machine x.0.machine (among_output _ old.vm.machine x.0.machine x.1))) held))
     does
 
 pub feed_sleeps : (fixed : Fixed) (piece : List ℕ) (old : Record) (result : Result Unit AllocError) (new : Record) → IsLate fixed old → StillSleeps fixed old → FeedDoes old.starved piece old result new → StillSleeps fixed new
@@ -96,7 +96,7 @@ feed_sleeps fixed piece old result new l s does = by_test old.starved does
 
 -- ---- closing, and the output
 
-closes_sleeps : (fixed : Fixed) (old : Record) (result : Result Unit AllocError) (new : Record) → StillSleeps fixed old → Closes old result new → StillSleeps fixed new
+closes_sleeps : (fixed : Fixed) (old : Record) (result : Result Unit AllocError) (new : Record) → StillSleeps fixed old → InputIsClosed old result new → StillSleeps fixed new
 closes_sleeps fixed old (Ok t) new s does = subst (StillSleeps fixed) (sym does) (still_quiet fixed old (after_closing old.vm) (closing_quiet old.vm) s)
 closes_sleeps fixed old (Err e) new s does = subst (StillSleeps fixed) (sym does.2) (still_quiet fixed old does.0 (quiet_same old.vm.machine does.0.machine (among_output _ old.vm.machine does.0.machine does.1)) s)
 
@@ -107,7 +107,7 @@ close_sleeps fixed old result new s does = by_test old.starved does
     by_test true d = subst (StillSleeps fixed) (sym d.1) s
     by_test false d = closes_sleeps fixed old result new s d
 
-sleeps_taken : (fixed : Fixed) (r : Record) → WholeFrames r.vm.machine.output → AwaitWaits fixed (heard fixed.version r) r.answers r.taken r.vm → (let n = taken_from r in AwaitWaits fixed (heard fixed.version n) n.answers n.taken n.vm)
+sleeps_taken : (fixed : Fixed) (r : Record) → WholeFrames r.vm.machine.output → AwaitWaits fixed (heard fixed.version r) r.answers r.taken r.vm → (let n = output_taken r in AwaitWaits fixed (heard fixed.version n) n.answers n.taken n.vm)
 sleeps_taken fixed r f (written, wrote, asleep) = (written, takes_wrote r.taken r.vm.machine.output written f wrote, asleep)
 
 pub take_sleeps : (fixed : Fixed) (old : Record) (result : Result (List ℕ) AllocError) (new : Record) → StillSleeps fixed old → Takes old result new → StillSleeps fixed new
@@ -120,11 +120,11 @@ take_sleeps fixed old (Err e) new s does = subst (StillSleeps fixed) (sym does) 
 abbrev Ends : Record → Result Progress Error → Record → Type 0
 Ends old result new = (new.over ≡ old.over) ⊎ ((made : Progress) × (result ≡ Ok made) × (new.over ≡ Some made))
 
-reads_ends : (old : Record) (result : Result Progress Error) (new : Record) → Reads old result new → Ends old result new
+reads_ends : (old : Record) (result : Result Progress Error) (new : Record) → InputIsRead old result new → Ends old result new
 reads_ends old (Ok made) new does = inl (ap (λ (r : Record). r.over) does.1.3)
 reads_ends old (Err e) new does = inl (ap (λ (r : Record). r.over) does.2)
 
-asks_ends : (m : Meaning) (old : Record) (result : Result Progress Error) (new : Record) → Asks m old result new → Ends old result new
+asks_ends : (m : Meaning) (old : Record) (result : Result Progress Error) (new : Record) → MakesStep m old result new → Ends old result new
 asks_ends m old result new (x, w, does, is, made) = by_reply x is made
   where
     by_reply : (x : Result Reply Error) → new ≡ replied old (future_in (step_asked m old)) x w → result ≡ progress_of x → Ends old result new
@@ -139,10 +139,10 @@ advances_ends : (m : Meaning) (old : Record) (result : Result Progress Error) (n
 advances_ends m old result new =
     ⊎_elim
     (λ (x : LacksMemory old result new). inl (ap (λ (r : Record). r.over) x.1))
-    (λ (o : ((old.answers ≡ []) × Reads old result new) ⊎ ((old.answers ≢ []) × Asks m old result new)).
+    (λ (o : ((old.answers ≡ []) × InputIsRead old result new) ⊎ ((old.answers ≢ []) × MakesStep m old result new)).
     ⊎_elim
-    (λ (x : (old.answers ≡ []) × Reads old result new). reads_ends old result new x.1)
-    (λ (x : (old.answers ≢ []) × Asks m old result new). asks_ends m old result new x.1)
+    (λ (x : (old.answers ≡ []) × InputIsRead old result new). reads_ends old result new x.1)
+    (λ (x : (old.answers ≢ []) × MakesStep m old result new). asks_ends m old result new x.1)
     o)
 
 ends_at : (m : Meaning) (old : Record) (result : Result Progress Error) (new : Record) → (ph : Phase) → StepAt ph m old result new → Ends old result new

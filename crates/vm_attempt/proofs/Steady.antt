@@ -21,7 +21,7 @@ use Rattle.vm_machine.specs.Inputs.{input_step}
 use Rattle.vm_machine.specs.Outcomes.{Done, Failed, IsStarved, called}
 use Rattle.vm_machine.specs.Phases.{is_running}
 use Rattle.invocation_vm.specs.Making.{Makes}
-use Rattle.invocation_vm.specs.Views.{StarvesAmong, View, after_closing, after_input, brought}
+use Rattle.invocation_vm.specs.Views.{StarvesAmong, View, after_closing, after_input, messages_in_bytes}
 use Rattle.invocation_vm.proofs.Feeds.{among_output}
 use Rattle.vm_model.specs.Calls.{Meaning}
 use Rattle.vm_model.specs.Journal.{stored_form}
@@ -30,7 +30,7 @@ use Rattle.vm_steps.specs.declared.progress.Reply.{Reply}
 use Rattle.vm_steps.specs.declared.progress.Reply.TheVariants as reply
 use Rattle.vm_steps.specs.Heard.{proposals_among, proposals_in}
 use Rattle.vm_steps.specs.Record.{Record, bytes_written, heard}
-use Rattle.vm_steps.specs.Stepping.{Advances, Asks, CloseDoes, Closes, FeedDoes, Feeds, LacksMemory, MakesAttempt, Reads, StepAt, StepDoes, StepFrom, StepUnless, Takes, fresh_record, future_in, kept, kept_at, replied, step_asked, taken_from, with_vm}
+use Rattle.vm_steps.specs.Stepping.{Advances, MakesStep, CloseDoes, InputIsClosed, FeedDoes, FeedsPiece, LacksMemory, MakesAttempt, InputIsRead, StepAt, StepDoes, StepFrom, StepUnless, Takes, fresh_record, future_in, with_piece_kept, kept_at, replied, step_asked, output_taken, with_vm}
 use Rattle.vm_attempt.specs.Told.{BeforeInput, JournalCame, HasCome, IsLive, Quiet, Wrote}
 use Rattle.vm_attempt.proofs.Advanced.{done_of, failed_quiet, input_silent}
 use Rattle.vm_attempt.proofs.Quiet.{Silent, closing_quiet, input_quiet}
@@ -66,14 +66,14 @@ kept_taken None Replaying piece r = refl
 kept_taken None Processing piece r = refl
 kept_taken None Closed piece r = refl
 
-feeds_writes : (piece : List ℕ) (old : Record) (result : Result Unit AllocError) (new : Record) → Feeds piece old result new → Writes old new
+feeds_writes : (piece : List ℕ) (old : Record) (result : Result Unit AllocError) (new : Record) → FeedsPiece piece old result new → Writes old new
 feeds_writes piece old (Ok t) new does =
-    subst (Writes old) (sym does) (writes_quiet old (with_vm (after_input old.vm piece) (kept piece old)) (kept_taken old.vm.machine.failure old.vm.machine.phase piece old) (input_quiet old.vm piece))
+    subst (Writes old) (sym does) (writes_quiet old (with_vm (after_input old.vm piece) (with_piece_kept piece old)) (kept_taken old.vm.machine.failure old.vm.machine.phase piece old) (input_quiet old.vm piece))
 feeds_writes piece old (Err e) new does =
     ⊎_elim
     (λ (x : new ≡ record old { starved = true }). subst (Writes old) (sym x) (writes_none old (record old { starved = true }) refl refl))
-    (λ (x : (w : View) × StarvesAmong (brought old.vm piece) old.vm.machine w.machine × (new ≡ with_vm w (kept piece old))).
-    subst (Writes old) (sym x.2) (writes_none old (with_vm x.0 (kept piece old)) (kept_taken old.vm.machine.failure old.vm.machine.phase piece old) (among_output _ old.vm.machine x.0.machine x.1)))
+    (λ (x : (w : View) × StarvesAmong (messages_in_bytes old.vm piece) old.vm.machine w.machine × (new ≡ with_vm w (with_piece_kept piece old))).
+    subst (Writes old) (sym x.2) (writes_none old (with_vm x.0 (with_piece_kept piece old)) (kept_taken old.vm.machine.failure old.vm.machine.phase piece old) (among_output _ old.vm.machine x.0.machine x.1)))
     does
 
 feed_writes : (piece : List ℕ) (old : Record) (result : Result Unit AllocError) (new : Record) → FeedDoes old.starved piece old result new → Writes old new
@@ -83,7 +83,7 @@ feed_writes piece old result new does = by_test old.starved does
     by_test true d = subst (Writes old) (sym d.1) (writes_none old old refl refl)
     by_test false d = feeds_writes piece old result new d
 
-closes_writes : (old : Record) (result : Result Unit AllocError) (new : Record) → Closes old result new → Writes old new
+closes_writes : (old : Record) (result : Result Unit AllocError) (new : Record) → InputIsClosed old result new → Writes old new
 closes_writes old (Ok t) new does = subst (Writes old) (sym does) (writes_quiet old (record old { closed = true; vm = after_closing old.vm }) refl (closing_quiet old.vm))
 closes_writes old (Err e) new does = subst (Writes old) (sym does.2) (writes_none old (record old { closed = true; vm = does.0 }) refl (among_output _ old.vm.machine does.0.machine does.1))
 
@@ -99,7 +99,7 @@ close_writes old result new does = by_test old.starved does
 silent_done : {A : Type 0} (v : Machine) (a : A) (w : Machine) → Silent v (Done a w) → w.output ≡ v.output
 silent_done v a w h = h
 
-reads_writes : (old : Record) (result : Result Progress Error) (new : Record) → old.vm.machine.failure ≡ None → Reads old result new → Writes old new
+reads_writes : (old : Record) (result : Result Progress Error) (new : Record) → old.vm.machine.failure ≡ None → InputIsRead old result new → Writes old new
 reads_writes old (Ok made) new live (stepped, (input, w, does, is)) =
     subst (Writes old) (sym is)
     (writes_none old (record old { answers = answer.Input input ∷ []; vm = w }) refl
@@ -111,7 +111,7 @@ reads_writes old (Err e) new live (w, does, is) =
     (λ (x : IsStarved old.vm.machine e w.machine). writes_none old (with_vm w old) refl x.output)
     does.0)
 
-asks_writes : (m : Meaning) (old : Record) (result : Result Progress Error) (new : Record) → IsLive old.vm.machine → Asks m old result new → Writes old new
+asks_writes : (m : Meaning) (old : Record) (result : Result Progress Error) (new : Record) → IsLive old.vm.machine → MakesStep m old result new → Writes old new
 asks_writes m old result new live (x, w, does, is, made) = subst (Writes old) (sym is) (by_reply x (step_leaves (step_asked m old) old.vm.machine live x w.machine does.0.0))
   where
     by_reply : (x : Result Reply Error) → IsLeft old.vm.machine x w.machine → Writes old (replied old (future_in (step_asked m old)) x w)
@@ -126,10 +126,10 @@ advances_writes : (m : Meaning) (old : Record) (result : Result Progress Error) 
 advances_writes m old result new live =
     ⊎_elim
     (λ (x : LacksMemory old result new). subst (Writes old) (sym x.1) (writes_none old (record old { starved = true }) refl refl))
-    (λ (o : ((old.answers ≡ []) × Reads old result new) ⊎ ((old.answers ≢ []) × Asks m old result new)).
+    (λ (o : ((old.answers ≡ []) × InputIsRead old result new) ⊎ ((old.answers ≢ []) × MakesStep m old result new)).
     ⊎_elim
-    (λ (x : (old.answers ≡ []) × Reads old result new). reads_writes old result new live.failure x.1)
-    (λ (x : (old.answers ≢ []) × Asks m old result new). asks_writes m old result new live x.1)
+    (λ (x : (old.answers ≡ []) × InputIsRead old result new). reads_writes old result new live.failure x.1)
+    (λ (x : (old.answers ≢ []) × MakesStep m old result new). asks_writes m old result new live x.1)
     o)
 
 step_at_writes : (ph : Phase) (m : Meaning) (old : Record) (result : Result Progress Error) (new : Record) → old.vm.machine.failure ≡ None → old.vm.machine.phase ≡ ph → StepAt ph m old result new → Writes old new
@@ -188,12 +188,12 @@ kept_with ps None Replaying piece r = refl
 kept_with ps None Processing piece r = refl
 kept_with ps None Closed piece r = refl
 
-feeds_with : (ps : List KeptProposal) (piece : List ℕ) (old : Record) (result : Result Unit AllocError) (new : Record) → Feeds piece old result new → Feeds piece (with_proposed ps old) result (with_proposed ps new)
+feeds_with : (ps : List KeptProposal) (piece : List ℕ) (old : Record) (result : Result Unit AllocError) (new : Record) → FeedsPiece piece old result new → FeedsPiece piece (with_proposed ps old) result (with_proposed ps new)
 feeds_with ps piece old (Ok t) new does = ap (with_proposed ps) does ∙ ap (with_vm (after_input old.vm piece)) (kept_with ps old.vm.machine.failure old.vm.machine.phase piece old)
 feeds_with ps piece old (Err e) new does =
     ⊎_elim
     (λ (x : new ≡ record old { starved = true }). inl (ap (with_proposed ps) x))
-    (λ (x : (w : View) × StarvesAmong (brought old.vm piece) old.vm.machine w.machine × (new ≡ with_vm w (kept piece old))).
+    (λ (x : (w : View) × StarvesAmong (messages_in_bytes old.vm piece) old.vm.machine w.machine × (new ≡ with_vm w (with_piece_kept piece old))).
     inr (x.0, x.1, ap (with_proposed ps) x.2 ∙ ap (with_vm x.0) (kept_with ps old.vm.machine.failure old.vm.machine.phase piece old)))
     does
 
@@ -206,7 +206,7 @@ feed_told fixed piece old result new came f g does =
     by_test true d = (d.0, ap (with_proposed (all_proposed old)) d.1)
     by_test false d = feeds_with (all_proposed old) piece old result new d
 
-closes_with : (ps : List KeptProposal) (old : Record) (result : Result Unit AllocError) (new : Record) → Closes old result new → Closes (with_proposed ps old) result (with_proposed ps new)
+closes_with : (ps : List KeptProposal) (old : Record) (result : Result Unit AllocError) (new : Record) → InputIsClosed old result new → InputIsClosed (with_proposed ps old) result (with_proposed ps new)
 closes_with ps old (Ok t) new does = ap (with_proposed ps) does
 closes_with ps old (Err e) new (w, starves, is) = (w, starves, ap (with_proposed ps) is)
 
@@ -220,12 +220,12 @@ close_told fixed old result new came f g does =
     by_test false d = closes_with (all_proposed old) old result new d
 
 -- what was taken is written as before
-taken_proposes : (r : Record) → all_proposed (taken_from r) ≡ all_proposed r
+taken_proposes : (r : Record) → all_proposed (output_taken r) ≡ all_proposed r
 taken_proposes r = ap proposals_in (append-nil (concat (r.taken ++ concat r.vm.machine.output ∷ [])) ∙ concat-append r.taken (concat r.vm.machine.output ∷ []) ∙ ap (λ l. concat r.taken ++ l) (append-nil (concat r.vm.machine.output)))
 
 pub take_told : (old : Record) (result : Result (List ℕ) AllocError) (new : Record) → Takes old result new → Takes (with_proposed (all_proposed old) old) result (with_proposed (all_proposed new) new)
 take_told old (Ok bytes) new (is, left, whole) =
-    (is, ap (λ (r : Record). with_proposed (all_proposed r) r) left ∙ ap (λ ps. with_proposed ps (taken_from old)) (taken_proposes old), whole)
+    (is, ap (λ (r : Record). with_proposed (all_proposed r) r) left ∙ ap (λ ps. with_proposed ps (output_taken old)) (taken_proposes old), whole)
 take_told old (Err e) new is = ap (λ (r : Record). with_proposed (all_proposed r) r) is
 
 replied_with : (ps : List KeptProposal) (r : Record) (future : Option UnresolvedFuture) (x : Result Reply Error) (w : View) → with_proposed ps (replied r future x w) ≡ replied (with_proposed ps r) future x w
@@ -236,21 +236,21 @@ replied_with ps r future (Ok reply.Suspended) w = refl
 replied_with ps r future (Ok reply.Ended) w = refl
 replied_with ps r future (Err e) w = refl
 
-reads_with : (ps : List KeptProposal) (old : Record) (result : Result Progress Error) (new : Record) → Reads old result new → Reads (with_proposed ps old) result (with_proposed ps new)
+reads_with : (ps : List KeptProposal) (old : Record) (result : Result Progress Error) (new : Record) → InputIsRead old result new → InputIsRead (with_proposed ps old) result (with_proposed ps new)
 reads_with ps old (Ok made) new (stepped, (input, w, does, is)) = (stepped, (input, w, does, ap (with_proposed ps) is))
 reads_with ps old (Err e) new (w, does, is) = (w, does, ap (with_proposed ps) is)
 
-asks_with : (ps : List KeptProposal) (m : Meaning) (old : Record) (result : Result Progress Error) (new : Record) → Asks m old result new → Asks m (with_proposed ps old) result (with_proposed ps new)
+asks_with : (ps : List KeptProposal) (m : Meaning) (old : Record) (result : Result Progress Error) (new : Record) → MakesStep m old result new → MakesStep m (with_proposed ps old) result (with_proposed ps new)
 asks_with ps m old result new (x, w, does, is, made) = (x, w, does, ap (with_proposed ps) is ∙ replied_with ps old (future_in (step_asked m old)) x w, made)
 
 advances_with : (ps : List KeptProposal) (m : Meaning) (old : Record) (result : Result Progress Error) (new : Record) → Advances m old result new → Advances m (with_proposed ps old) result (with_proposed ps new)
 advances_with ps m old result new =
     ⊎_elim
     (λ (x : LacksMemory old result new). inl (x.0, ap (with_proposed ps) x.1))
-    (λ (o : ((old.answers ≡ []) × Reads old result new) ⊎ ((old.answers ≢ []) × Asks m old result new)).
+    (λ (o : ((old.answers ≡ []) × InputIsRead old result new) ⊎ ((old.answers ≢ []) × MakesStep m old result new)).
     ⊎_elim
-    (λ (x : (old.answers ≡ []) × Reads old result new). inr (inl (x.0, reads_with ps old result new x.1)))
-    (λ (x : (old.answers ≢ []) × Asks m old result new). inr (inr (x.0, asks_with ps m old result new x.1)))
+    (λ (x : (old.answers ≡ []) × InputIsRead old result new). inr (inl (x.0, reads_with ps old result new x.1)))
+    (λ (x : (old.answers ≢ []) × MakesStep m old result new). inr (inr (x.0, asks_with ps m old result new x.1)))
     o)
 
 step_at_with : (ps : List KeptProposal) (ph : Phase) (m : Meaning) (old : Record) (result : Result Progress Error) (new : Record) → StepAt ph m old result new → StepAt ph m (with_proposed ps old) result (with_proposed ps new)

@@ -22,11 +22,11 @@ use Rattle.await_trees.specs.declared.tree.UnresolvedFuture.{UnresolvedFuture}
 use Rattle.await_trees.specs.Tree.{Tree}
 use Rattle.await_trees.specs.Wires.{sent}
 use Rattle.vm_types.specs.declared.values.Value.{Value}
-use Rattle.vm_parts.specs.Counting.{missing, missing_signals}
-use Rattle.vm_parts.specs.Deliveries.{id_at, present_for}
+use Rattle.vm_parts.specs.Counting.{missing_number, missing_signals}
+use Rattle.vm_parts.specs.Deliveries.{id_at, present_result_for}
 use Rattle.vm_types.specs.declared.options.SignalDelivery.TheVariants.{Queued}
 use Rattle.vm_model.specs.Deliveries.{HasNoTwo}
-use Rattle.vm_parts.specs.Tracked.{id_of_result, id_of_value, invocation_ids, noted, unresolved}
+use Rattle.vm_parts.specs.Tracked.{id_of_result, id_of_value, invocation_ids, id_noted, unresolved_handles}
 use Rattle.vm_types.specs.Values.{value_of}
 use Rattle.vm_parts.specs.declared.run_state.TrackedCall.{TrackedCall}
 use Rattle.vm_machine.specs.declared.machine.Machine.{Machine}
@@ -46,7 +46,7 @@ use Rattle.vm_asks.specs.Requests.{ids_of}
 use Rattle.vm_machine.specs.Skips.{skips_replay}
 use Rattle.invocation_vm.specs.Frames.{Rest}
 use Rattle.invocation_vm.specs.Views.{View}
-use Rattle.vm_model.specs.Calls.{Setup, Meaning, Derived, Move, Turn, asked as asked_move, awakeable_made, awaiting, call_of, commanding, is_awake, awaited, cancel_sent, cancelled, cancelling, id_awaited, id_read, is_cancelled_in, making_awakeable, numbered, part, part_unless, reading, refused_before, signal_made, ready_in, result_taken, turn_after, value_noted, value_taken}
+use Rattle.vm_model.specs.Calls.{Setup, Meaning, Derived, Move, Turn, asked as asked_move, awakeable_made, awaiting, call_of, commanding, is_awake, awaited, cancel_sent, cancelled, cancelling, id_awaited, id_read, is_cancelled_in, making_awakeable, numbered, part, part_unless, reading, refused_before, signal_made, ready_in, take_of_result, turn_after, take_noting_id, take_of_value}
 use Rattle.vm_model.specs.Calls.Move.{Answers, Needs, Awaits, Ends, Refuses}
 use Rattle.vm_model.specs.Journal.{stored_form}
 use Rattle.vm_model.specs.Moves.{Point, after, and_then, move_at, moved, next, own, start, supplied, supply, uses_arrival}
@@ -61,7 +61,7 @@ use Rattle.vm_steps.specs.declared.progress.Reply.TheVariants as reply
 use Rattle.vm_attempt.specs.Agreement.{Agrees, Answered, CallFollows, HasEnded, IsCutShort, CallRefused, IsSuspended, MovesOn, StillAgrees, Waits, command_frames, suspended_on, waiting_on}
 use Rattle.vm_attempt.specs.Journals.{is_command_frame, setup_for}
 use Rattle.vm_steps.specs.Record.{Record, heard}
-use Rattle.vm_steps.specs.Stepping.{Asks, IfWaits, step_asked, asked_from, future_in, progress_of, replied, with_vm}
+use Rattle.vm_steps.specs.Stepping.{MakesStep, IfWaits, step_asked, asked_from, future_in, progress_of, replied, with_vm}
 use Rattle.vm_steps.specs.Steps.{IfDone, Performs, ReadsBack, StepMade}
 use Rattle.vm_attempt.specs.Told.{IsKept, IsLive, RefusesReplay, AnswersInReplay, HandlerRuns, AwaitWaits, StarvesReplay, StillAwaits, Wrote, arrivals, commands_of, start_state}
 use Rattle.vm_model.proofs.Parts.{IsOfOne, turn_is}
@@ -89,7 +89,7 @@ numbered_needs s c None d is = λ state. numbered_is c.message d.counters.comple
 
 commanding_needs : (s : Setup) (c : Command) (o : Option NamedFault) (d : Derived) → IsCommand c.message → NeedsCommand (commanding s c o d)
 commanding_needs s c (Some fault) d is = tt
-commanding_needs s c None d is = numbered_needs s c (missing (ids_of c.message) 0 (ids_of c.message) d.counters) d is
+commanding_needs s c None d is = numbered_needs s c (missing_number (ids_of c.message) 0 (ids_of c.message) d.counters) d is
 
 part_needs : (s : Setup) (kind : AnswerKind) (c : Command) (cs : List Command) (before d : Derived) → IsCommand c.message → NeedsCommand (part s kind c cs before d)
 part_needs s kind c [] before d is = λ state. numbered_is c.message before.counters.completion is
@@ -125,7 +125,7 @@ cancel_needs s id None d = λ state. numbered_is (cancel_invocation_command id).
 
 cancelling_needs : (s : Setup) (ids : List (List ℕ)) (d : Derived) → NeedsCommand (cancelling s ids d)
 cancelling_needs s [] d = tt
-cancelling_needs s (id ∷ ids) d = cancel_needs s id (missing 0 0 0 d.counters) d
+cancelling_needs s (id ∷ ids) d = cancel_needs s id (missing_number 0 0 0 d.counters) d
 
 id_needs : (id : Option (List ℕ)) (d : Derived) → NeedsCommand (id_read id d)
 id_needs None d = tt
@@ -137,21 +137,21 @@ id_awaited_needs (Some result) d = id_needs (id_of_result result) d
 
 cancelled_needs : (s : Setup) (handles : List ℕ) (d : Derived) → NeedsCommand (cancelled s handles d)
 cancelled_needs s [] d = cancelling_needs s (invocation_ids d.tracked) d
-cancelled_needs s (handle ∷ handles) d = id_awaited_needs (present_for s.options.signal_delivery (id_at handle d.handles) (ready_in s d)) d
+cancelled_needs s (handle ∷ handles) d = id_awaited_needs (present_result_for s.options.signal_delivery (id_at handle d.handles) (ready_in s d)) d
 
 awaited_needs : (s : Setup) (b : Bool) (future : UnresolvedFuture) (d : Derived) → NeedsCommand (awaited s b future d)
-awaited_needs s true future d = cancelled_needs s (unresolved d.tracked) d
+awaited_needs s true future d = cancelled_needs s (unresolved_handles d.tracked) d
 awaited_needs s false future d = awaiting_needs (is_awake s future d) d
 
-noted_needs : (h : NotificationHandle) (id : NotificationId) (value : Value) (o : Option (List TrackedCall)) (d : Derived) → NeedsCommand (value_noted h id value o d)
+noted_needs : (h : NotificationHandle) (id : NotificationId) (value : Value) (o : Option (List TrackedCall)) (d : Derived) → NeedsCommand (take_noting_id h id value o d)
 noted_needs h id value None d = tt
 noted_needs h id value (Some tracked) d = tt
 
-value_needs : (h : NotificationHandle) (id : NotificationId) (o : Option Value) (d : Derived) → NeedsCommand (value_taken h id o d)
+value_needs : (h : NotificationHandle) (id : NotificationId) (o : Option Value) (d : Derived) → NeedsCommand (take_of_value h id o d)
 value_needs h id None d = tt
-value_needs h id (Some value) d = noted_needs h id value (noted h.0 (id_of_value value) d.tracked) d
+value_needs h id (Some value) d = noted_needs h id value (id_noted h.0 (id_of_value value) d.tracked) d
 
-result_needs : (h : NotificationHandle) (id : Option NotificationId) (o : Option NotificationResult) (d : Derived) → NeedsCommand (result_taken h id o d)
+result_needs : (h : NotificationHandle) (id : Option NotificationId) (o : Option NotificationResult) (d : Derived) → NeedsCommand (take_of_result h id o d)
 result_needs h (Some id) (Some result) d = value_needs h id (value_of result) d
 result_needs h (Some id) None d = tt
 result_needs h None o d = tt
@@ -162,10 +162,10 @@ asked_needs s (ask.Commands kind first second) d is =
     let t = turn_after s d.parts first (second ∷ []) d in
     turn_needs s kind (refused_before t.command t.behind t.before.counters) t d (turn_is (λ c. IsCommand c.message) s d.parts first (second ∷ []) d is)
 asked_needs s ask.Awakeable d is = making_needs s (skips_replay s.options.journal_replay) d
-asked_needs s (ask.Read r) d is = reading_needs r (missing 1 0 1 d.counters) d
+asked_needs s (ask.Read r) d is = reading_needs r (missing_number 1 0 1 d.counters) d
 asked_needs s (ask.Signal name) d is = signal_needs name (missing_signals 0 1 d.counters) d
 asked_needs s (ask.Await future) d is = awaited_needs s (is_cancelled_in s d) future d
-asked_needs s (ask.Take handle) d is = result_needs handle (id_at handle.0 d.handles) (present_for s.options.signal_delivery (id_at handle.0 d.handles) (ready_in s d)) d
+asked_needs s (ask.Take handle) d is = result_needs handle (id_at handle.0 d.handles) (present_result_for s.options.signal_delivery (id_at handle.0 d.handles) (ready_in s d)) d
 asked_needs s (ask.Completed handle) d is = tt
 asked_needs s ask.End d is = tt
 
@@ -474,7 +474,7 @@ module _ (fixed : Fixed) (r : Record) (k : HandlerRuns fixed (heard fixed.versio
       does
 
 -- a step of a handler that runs
-pub asks_keep : (fixed : Fixed) (old : Record) (result : Result Progress Error) (new : Record) → fixed.options.signal_delivery ≡ Queued → (k : HandlerRuns fixed (heard fixed.version old) old.answers old.waiting old.taken old.vm) → HasNoTwo k.at → IsLive old.vm.machine → Asks fixed.handler old result new → IsKept fixed new
+pub asks_keep : (fixed : Fixed) (old : Record) (result : Result Progress Error) (new : Record) → fixed.options.signal_delivery ≡ Queued → (k : HandlerRuns fixed (heard fixed.version old) old.answers old.waiting old.taken old.vm) → HasNoTwo k.at → IsLive old.vm.machine → MakesStep fixed.handler old result new → IsKept fixed new
 asks_keep fixed old result new queues k two live (x, w, does, is, progress) =
     let s = setup_for fixed k.journal.start in
     let st = fixed.handler k.at.answers in
@@ -506,7 +506,7 @@ module _ (fixed : Fixed) (old : Record) (result : Result Progress Error) (new : 
   follows_here o = agreeing_follows made_here fixed.handler (start_state k.journal) k.written old.vm.machine k.at o (λ future _. (queues, two)) (k.rests live) (k.agrees live)
 
   -- a step waits only where nothing wakes
-  pub asks_wait : Asks fixed.handler old result new → IfWaits result (AwaitWaits fixed (heard fixed.version new) new.answers new.taken new.vm)
+  pub asks_wait : MakesStep fixed.handler old result new → IfWaits result (AwaitWaits fixed (heard fixed.version new) new.answers new.taken new.vm)
   asks_wait (x, w, does, is, progress) =
       let made : StepMade (fixed.handler k.at.answers) x old.vm w = subst (λ q. StepMade q x old.vm w) is_next does in
       subst (λ z. IfWaits z (AwaitWaits fixed (heard fixed.version new) new.answers new.taken new.vm)) (sym progress)
@@ -522,7 +522,7 @@ module _ (fixed : Fixed) (old : Record) (result : Result Progress Error) (new : 
       absurd (cc)
 
   -- a step while recorded commands are left
-  pub asks_replay : old.vm.machine.phase ≡ Replaying → Asks fixed.handler old result new → AnswersInReplay fixed old result new
+  pub asks_replay : old.vm.machine.phase ≡ Replaying → MakesStep fixed.handler old result new → AnswersInReplay fixed old result new
   asks_replay replaying (x, w, does, is, progress) =
       let made : StepMade (fixed.handler k.at.answers) x old.vm w = subst (λ q. StepMade q x old.vm w) is_next does in
       let some = some_left replaying k.at.left refl in

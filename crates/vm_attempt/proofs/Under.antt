@@ -21,12 +21,12 @@ use Rattle.vm_steps.specs.declared.progress.Fed.{Fed}
 use Rattle.vm_steps.specs.declared.progress.Progress.{Progress}
 use Rattle.vm_attempt.specs.Journals.{setup_for}
 use Rattle.vm_steps.specs.Record.{Record, heard}
-use Rattle.vm_steps.specs.Stepping.{Advances, Asks, CloseDoes, Closes, FeedDoes, Feeds, LacksMemory, Reads, StepAt, StepDoes, StepFrom, StepUnless, Takes, kept, kept_at, step_asked, future_in, replied, with_vm}
+use Rattle.vm_steps.specs.Stepping.{Advances, MakesStep, CloseDoes, InputIsClosed, FeedDoes, FeedsPiece, LacksMemory, InputIsRead, StepAt, StepDoes, StepFrom, StepUnless, Takes, with_piece_kept, kept_at, step_asked, future_in, replied, with_vm}
 use Rattle.vm_attempt.specs.Told.{IsKeptUnder, Premises, HandlerRuns, bytes_fed, frames_fed, start_state}
 use Rattle.vm_steps.specs.declared.progress.Reply.{Reply}
 use Rattle.vm_steps.specs.declared.progress.Reply.TheVariants as reply
 use Rattle.await_trees.specs.declared.tree.UnresolvedFuture.{UnresolvedFuture}
-use Rattle.invocation_vm.specs.Views.{StarvesAmong, View, brought}
+use Rattle.invocation_vm.specs.Views.{StarvesAmong, View, messages_in_bytes}
 use Rattle.vm_attempt.proofs.Advanced.{step_keeps}
 use Rattle.vm_attempt.proofs.Kept.{close_keeps, feed_keeps, take_keeps}
 use Rattle.vm_attempt.proofs.Lasting.{runs_last}
@@ -77,12 +77,12 @@ module _ (version : Version) where
   kept_grows None Processing piece r = inr (_, refl)
   kept_grows None Closed piece r = inl refl
 
-  feeds_grow : (piece : List ℕ) (old : Record) (result : Result Unit AllocError) (new : Record) → Feeds piece old result new → Grows (heard version old) (heard version new)
+  feeds_grow : (piece : List ℕ) (old : Record) (result : Result Unit AllocError) (new : Record) → FeedsPiece piece old result new → Grows (heard version old) (heard version new)
   feeds_grow piece old (Ok t) new does = subst (λ (r : Record). Grows (heard version old) (heard version r)) (sym does) (kept_grows old.vm.machine.failure old.vm.machine.phase piece old)
   feeds_grow piece old (Err e) new does =
       ⊎_elim
       (λ (x : new ≡ record old { starved = true }). inl (ap (heard version) x))
-      (λ (x : (w : View) × StarvesAmong (brought old.vm piece) old.vm.machine w.machine × (new ≡ with_vm w (kept piece old))). subst (λ (r : Record). Grows (heard version old) (heard version r)) (sym x.2) (kept_grows old.vm.machine.failure old.vm.machine.phase piece old))
+      (λ (x : (w : View) × StarvesAmong (messages_in_bytes old.vm piece) old.vm.machine w.machine × (new ≡ with_vm w (with_piece_kept piece old))). subst (λ (r : Record). Grows (heard version old) (heard version r)) (sym x.2) (kept_grows old.vm.machine.failure old.vm.machine.phase piece old))
       does
 
   pub feed_grows : (piece : List ℕ) (old : Record) (result : Result Unit AllocError) (new : Record) → FeedDoes old.starved piece old result new → Grows (heard version old) (heard version new)
@@ -92,7 +92,7 @@ module _ (version : Version) where
       by_test true d = inl (ap (heard version) d.1)
       by_test false d = feeds_grow piece old result new d
 
-  closes_fed : (old : Record) (result : Result Unit AllocError) (new : Record) → Closes old result new → (heard version new) ≡ (heard version old)
+  closes_fed : (old : Record) (result : Result Unit AllocError) (new : Record) → InputIsClosed old result new → (heard version new) ≡ (heard version old)
   closes_fed old (Ok t) new does = ap (heard version) does
   closes_fed old (Err e) new does = ap (heard version) does.2
 
@@ -115,7 +115,7 @@ module _ (version : Version) where
   settled_fed r future (Ok reply.Ended) w = refl
   settled_fed r future (Err e) w = refl
 
-  reads_fed : (old : Record) (result : Result Progress Error) (new : Record) → Reads old result new → (heard version new) ≡ (heard version old)
+  reads_fed : (old : Record) (result : Result Progress Error) (new : Record) → InputIsRead old result new → (heard version new) ≡ (heard version old)
   reads_fed old (Ok made) new does = ap (heard version) does.1.3
   reads_fed old (Err e) new does = ap (heard version) does.2
 
@@ -123,10 +123,10 @@ module _ (version : Version) where
   advances_fed m old result new =
       ⊎_elim
       (λ (x : LacksMemory old result new). ap (heard version) x.1)
-      (λ (o : ((old.answers ≡ []) × Reads old result new) ⊎ ((old.answers ≢ []) × Asks m old result new)).
+      (λ (o : ((old.answers ≡ []) × InputIsRead old result new) ⊎ ((old.answers ≢ []) × MakesStep m old result new)).
       ⊎_elim
-      (λ (x : (old.answers ≡ []) × Reads old result new). reads_fed old result new x.1)
-      (λ (x : (old.answers ≢ []) × Asks m old result new). ap (heard version) x.1.3 ∙ settled_fed old (future_in (step_asked m old)) x.1.0 x.1.1)
+      (λ (x : (old.answers ≡ []) × InputIsRead old result new). reads_fed old result new x.1)
+      (λ (x : (old.answers ≢ []) × MakesStep m old result new). ap (heard version) x.1.3 ∙ settled_fed old (future_in (step_asked m old)) x.1.0 x.1.1)
       o)
 
   step_at_fed : (ph : Phase) (m : Meaning) (old : Record) (result : Result Progress Error) (new : Record) → StepAt ph m old result new → (heard version new) ≡ (heard version old)

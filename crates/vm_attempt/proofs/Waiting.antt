@@ -1,9 +1,9 @@
 -- An await, in a machine that agrees with a point: it uses arrivals until its tree wakes or none is left.
 use Rattle.std.specs.Option.{option_map}
-use Rattle.runs.specs.Settling.{run_command}
+use Rattle.runs.specs.Settling.{run_as_related}
 use Rattle.runs.specs.Firsts.{with_first}
 use Rattle.vm_parts.specs.declared.run_state.PendingRun.{PendingRun}
-use Rattle.runs.specs.Pending.{is_executing, is_executing_in, may_execute, started}
+use Rattle.runs.specs.Pending.{is_executing, is_executing_in, may_execute, run_started}
 use Rattle.await_trees.specs.Handles.{handles_of}
 use Rattle.std.specs.List.{find, list_any}
 use Rattle.std.proofs.Common.{◌≡◌, ◌<◌, ◌≤◌, ℕ, zero, suc, ◌+◌, Bool, true, false, List, [], ◌∷◌, ◌++◌, map, take, drop, length, Option, Some, None, refl, sym, ap, ◌∙◌, subst, ⊎_elim, append-nil, Ok, Err, arith}
@@ -27,7 +27,7 @@ use Rattle.vm_types.specs.declared.steps.Step.TheVariants as step
 use Rattle.vm_types.specs.declared.types.AwaitResponse.{AwaitResponse}
 use Rattle.vm_types.specs.declared.types.AwaitResponse.TheVariants.{AnyCompleted, CancelSignalReceived, EphemeralNotificationReady, ExecuteRun, WaitingExternalProgress}
 use Rattle.vm_machine.specs.declared.machine.Machine.{Machine}
-use Rattle.vm_awaits.specs.Awaits.{Ends, StaysPending, Tries, pending_on, with_used, waits_by, waits_on, last_run}
+use Rattle.vm_awaits.specs.Awaits.{AwaitCompletes, StaysPending, Tries, pending_on, with_used, waits_by, waits_on, last_run}
 use Rattle.vm_machine.specs.Commands.{phase_after}
 use Rattle.vm_machine.specs.Outcomes.{Outcome, Done, Failed}
 use Rattle.vm_machine.specs.Phases.{is_closed}
@@ -181,7 +181,7 @@ module _ (s : Setup) (m : Meaning) (given : StateMap) (written : List RawMessage
 
     pends : (others : List RawMessage) → p.left ≡ others → TriesTo (pending_on left (sends others))
     unfolding stands
-    pends (c ∷ others) e = record { at = last; moves = to_last; why = fault.UncompletedDoProgressDuringReplay; reason = stuck c others e; related = option_map run_command (last_run (handles_of left) (sends (c ∷ others))); error = refl; output = refl; open_yet = refl; version = refl; options = refl }
+    pends (c ∷ others) e = record { at = last; moves = to_last; why = fault.UncompletedDoProgressDuringReplay; reason = stuck c others e; related = option_map run_as_related (last_run (handles_of left) (sends (c ∷ others))); error = refl; output = refl; open_yet = refl; version = refl; options = refl }
     pends [] e = by_run (find (may_execute (handles_of left)) aside.beside.runs) (list_any (is_executing_in (handles_of left)) aside.beside.runs)
       where
         agrees_by : (after : Aside) → after.start ≡ aside.start → Agrees s given written (record (machine_at s given written after last) { phase = phase_after [] }) last
@@ -196,7 +196,7 @@ module _ (s : Setup) (m : Meaning) (given : StateMap) (written : List RawMessage
 
         by_run : (run : Option PendingRun) (executing : Bool) → TriesTo (waits_on run executing left (sends []))
         by_run (Some run) executing =
-            let runs = with_first (may_execute (handles_of left)) started aside.beside.runs in
+            let runs = with_first (may_execute (handles_of left)) run_started aside.beside.runs in
             record { at = last; waits = stands e; left = left; is_left = is_left; agrees = agrees_by (record aside { beside = record aside.beside { runs = runs } }) refl; kept = refl; output = sym (append-nil aside.output) }
         by_run None executing = by_closed aside.input_closed executing
 
@@ -204,7 +204,7 @@ module _ (s : Setup) (m : Meaning) (given : StateMap) (written : List RawMessage
 
   pub tries_to : (event : Outcome (Result AwaitResponse Error)) → Tries t v event → TriesTo event
   tries_to event tries = ⊎_elim
-      (λ (x : Ends t v event). subst TriesTo (sym x.2) (wakes x.0 x.1))
+      (λ (x : AwaitCompletes t v event). subst TriesTo (sym x.2) (wakes x.0 x.1))
       (λ (x : StaysPending t v event).
       let same : pending_on x.0 (with_used (length p.queue) v) ≡ pending_on x.0 (sends x.0 x.1 p.left) = ap (pending_on x.0) (agrees_at (length p.queue)) in
       subst TriesTo (sym (x.2 ∙ same)) (pends x.0 x.1 p.left refl))

@@ -31,7 +31,7 @@ use Rattle.vm_asks.specs.declared.asks.Ask.{Ask}
 use Rattle.vm_asks.specs.declared.asks.Ask.TheVariants as ask
 use Rattle.vm_asks.specs.Asks.{ask_of}
 use Rattle.vm_types.specs.Options.{ends_awaits}
-use Rattle.vm_parts.specs.Tracked.{unresolved}
+use Rattle.vm_parts.specs.Tracked.{unresolved_handles}
 use Rattle.vm_machine.specs.declared.machine.Machine.{Machine}
 use Rattle.vm_machine.specs.declared.phase.Phase.TheVariants.{Closed}
 use Rattle.vm_awaits.specs.Awaits.{or_cancelled, said_waiting}
@@ -142,7 +142,7 @@ first_or (handle ∷ handles) t = leaf handle
 -- id isn't known.
 abbrev pub awaited_tree : Setup → UnresolvedFuture → Derived → Tree
 awaited_tree s future d =
-    if is_cancelled_in s d then first_or (unresolved d.tracked) (tree_of future)
+    if is_cancelled_in s d then first_or (unresolved_handles d.tracked) (tree_of future)
     else if ends_awaits s.options.implicit_cancellation then or_cancelled (tree_of future)
     else tree_of future
 

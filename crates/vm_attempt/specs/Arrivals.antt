@@ -10,14 +10,15 @@ use Rattle.journal_values.specs.declared.notification.Notification.{Notification
 use Rattle.runs.specs.Firsts.{without_first}
 use Rattle.runs.specs.Kept.{is_for}
 use Rattle.vm_parts.specs.declared.run_state.KeptProposal.{KeptProposal}
-use Rattle.vm_machine.specs.Inputs.{completion_of}
+use Rattle.vm_machine.specs.Inputs.{acknowledged_completion}
 use Rattle.vm_attempt.specs.Journals.{is_acknowledgement, is_notification, notified_by}
 
 -- the completion that an acknowledgement stands for, where a result was proposed under its id
 abbrev pub acknowledged_as : List KeptProposal → Option ProposeRunCompletionAck
     → Option Notification
 acknowledged_as kept None = None
-acknowledged_as kept (Some ack) = option_map (completion_of ack.id) (find (is_for ack.id) kept)
+acknowledged_as kept (Some ack) = option_map (acknowledged_completion ack.id)
+    (find (is_for ack.id) kept)
 
 -- the arrival that a frame brings, if it brings one
 abbrev pub arrival_of : List KeptProposal → RawMessage → Option Notification

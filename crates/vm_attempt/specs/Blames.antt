@@ -38,7 +38,7 @@ use Rattle.vm_machine.specs.Proposals.{Proposes}
 use Rattle.invocation_vm.specs.Frames.{Garbage, Rest, frames_of}
 use Rattle.invocation_vm.specs.Views.{View, all_received}
 use Rattle.vm_model.specs.Calls.Move.{Refuses}
-use Rattle.vm_model.specs.Histories.{History, behind as behind_first}
+use Rattle.vm_model.specs.Histories.{History, after_head as behind_first}
 use Rattle.vm_model.specs.Journal.{input_read_from}
 use Rattle.vm_model.specs.Moves.{Point}
 use Rattle.vm_model.specs.Refusals.{IsRefusedFor}

@@ -7,10 +7,10 @@ use Rattle.retries.specs.declared.policy.RetryPolicy.{RetryPolicy}
 use Rattle.runs.specs.declared.types.RunExitResult.{RunExitResult}
 use Rattle.vm_steps.specs.declared.progress.Progress.{Progress}
 use Rattle.vm_steps.specs.Record.{Record}
-use Rattle.vm_steps.specs.Stepping.{CloseDoes, FeedDoes, FinishDoes, Meaning, StepDoes, Takes}
+use Rattle.vm_steps.specs.Stepping.{CloseDoes, FeedDoes, FinishDoes, StepFunction, StepDoes, Takes}
 
 -- One call of an attempt did this to its record: any call, with any answer.
-pub data OneCall (m : Meaning) (old new : Record) : Type 0 where
+pub data OneCall (m : StepFunction) (old new : Record) : Type 0 where
   Feeding : (piece : List ℕ) (result : Result Unit AllocError)
       → FeedDoes old.starved piece old result new → OneCall m old new
   Closing : (result : Result Unit AllocError) → CloseDoes old.starved old result new
@@ -22,6 +22,6 @@ pub data OneCall (m : Meaning) (old new : Record) : Type 0 where
   Taking : (result : Result (List ℕ) AllocError) → Takes old result new → OneCall m old new
 
 -- This number of calls of an attempt, one after another, leads from one record to another.
-abbrev pub Leads : Meaning → ℕ → Record → Record → Type 0
+abbrev pub Leads : StepFunction → ℕ → Record → Record → Type 0
 Leads m zero old new = new ≡ old
 Leads m (suc n) old new = (mid : Record) × OneCall m old mid × Leads m n mid new

@@ -19,7 +19,7 @@ use Rattle.vm_parts.specs.Ephemerals.{no_ephemerals}
 use Rattle.vm_machine.specs.declared.machine.Machine.{Machine}
 use Rattle.vm_machine.specs.declared.phase.Phase.{Phase}
 use Rattle.vm_machine.specs.declared.phase.Phase.TheVariants.{WaitingReplayEntries, Replaying}
-use Rattle.vm_machine.specs.Inputs.{coverage_of, entries_in, info_of}
+use Rattle.vm_machine.specs.Inputs.{coverage_of, entries_in, start_info_of}
 use Rattle.vm_machine.specs.Outcomes.{Outcome, Done, Failed}
 use Rattle.vm_model.specs.Calls.{Setup, identity_of}
 use Rattle.vm_model.specs.Journal.{Entry, Recorded, Notified}
@@ -169,7 +169,7 @@ abbrev pub setup_with : Version → VMOptions → Start → Setup
 setup_with version options st = record {
   version = version;
   options = options;
-  identity = identity_of (info_of version options.fallback_random_seed st);
+  identity = identity_of (start_info_of version options.fallback_random_seed st);
 }
 
 -- the setup of an attempt with this Start
@@ -180,7 +180,7 @@ setup_for fixed st = setup_with fixed.version fixed.options st
 abbrev pub aside_for : Global → Version → VMOptions → Start → Aside
 aside_for alloc version options st = record {
   alloc = alloc;
-  start = info_of version options.fallback_random_seed st;
+  start = start_info_of version options.fallback_random_seed st;
   input_closed = false;
   entries_missing = 0;
   beside = record { last = record { ty = type.Start; name = [] }; runs = [] };

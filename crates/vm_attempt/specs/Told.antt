@@ -24,7 +24,7 @@ use Rattle.vm_machine.specs.declared.machine.Machine.{Machine}
 use Rattle.std.proofs.Common.{Global}
 use Rattle.vm_machine.specs.declared.phase.Phase.{Phase}
 use Rattle.vm_machine.specs.declared.phase.Phase.TheVariants.{Closed, Processing, Replaying}
-use Rattle.vm_machine.specs.Inputs.{coverage_of, entries_in, info_of}
+use Rattle.vm_machine.specs.Inputs.{coverage_of, entries_in, start_info_of}
 use Rattle.vm_machine.specs.Making.{fresh}
 use Rattle.vm_machine.specs.Phases.{is_running}
 use Rattle.invocation_vm.specs.Frames.{Rest, frames_of}
@@ -34,7 +34,7 @@ use Rattle.vm_model.specs.Carried.{AreOfTheirKind}
 use Rattle.vm_model.specs.Deliveries.{HasNoTwo}
 use Rattle.vm_model.specs.Journal.{input_read_from, stored_form}
 use Rattle.vm_model.specs.Moves.{Point, move_at, start}
-use Rattle.vm_model.specs.Histories.{Handed, IsPrefix, Made, Told, behind}
+use Rattle.vm_model.specs.Histories.{Handed, IsPrefix, Made, Told, after_head}
 use Rattle.vm_model.specs.Refusals.{IsRefusedFor}
 use Rattle.vm_machine.specs.Outcomes.{IsStarved, ruled}
 use Rattle.vm_steps.specs.declared.progress.Fed.{Fed}
@@ -119,7 +119,7 @@ arrivals {fed} j = arriving fed.proposed (j.entries ++ j.others)
 
 -- the same, read from what was fed: the arrivals after the first frame
 abbrev pub arrivals_of : Heard → List Notification
-arrivals_of fed = arriving fed.proposed (behind (frames_fed fed))
+arrivals_of fed = arriving fed.proposed (after_head (frames_fed fed))
 
 -- the state that Start handed out
 abbrev pub start_state : {fed : Heard} → Journal fed → StateMap
@@ -310,9 +310,9 @@ abbrev pub StillAwaits : Meaning → Point → Option UnresolvedFuture → Type 
 StillAwaits m p None = Unit {0}
 StillAwaits m p (Some future) = m p.answers ≡ step.Await future
 
--- The handler runs: a number of moves leads from the point after the input to one with the attempt's
--- answers, and made what was written; and as long as the VM can make calls it agrees with that
--- point.
+-- The handler runs: a number of moves leads from the point after the input to one with the
+-- attempt's answers, and made what was written; and as long as the VM can make calls it agrees with
+-- that point.
 pub record HandlerRuns (fixed : Fixed) (fed : Heard) (answers_so_far : List Answer) (waiting : Option UnresolvedFuture) (taken : List (List ℕ)) (vm : View) : Type 0 where
   pub journal : Journal fed
   pub written : List RawMessage
@@ -366,7 +366,7 @@ pub record Begun (fixed : Fixed) (fed : Heard) (machine : Machine) : Type 0 wher
   pub state : List (List ℕ × Option (List ℕ))
   pub reads_state : entries_in start.state ≡ Some state
   pub aside : Aside
-  pub of_start : aside.start ≡ info_of fixed.version fixed.options.fallback_random_seed start
+  pub of_start : aside.start ≡ start_info_of fixed.version fixed.options.fallback_random_seed start
   pub waits : StillWaits (setup_for fixed start)
       (record { entries = state; coverage = coverage_of start.partial }) aside start.known_entries
       [] [] others machine

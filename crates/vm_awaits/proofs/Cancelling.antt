@@ -13,14 +13,14 @@ use Rattle.vm_parts.specs.declared.run_state.PendingRun.{PendingRun}
 use Rattle.vm_types.specs.declared.types.AwaitResponse.{AwaitResponse}
 use Rattle.vm_types.specs.declared.types.AwaitResponse.TheVariants.{AnyCompleted, CancelSignalReceived, EphemeralNotificationReady, ExecuteRun, WaitingExternalProgress}
 use Rattle.vm_parts.specs.declared.run_state.TrackedCall.{TrackedCall}
-use Rattle.vm_parts.specs.Tracked.{IsFirst, id_of_result, unresolved, with_next_id}
+use Rattle.vm_parts.specs.Tracked.{IsFirstHandle, id_of_result, unresolved_handles, with_next_id}
 use Rattle.vm_parts.proofs.Tracking.{unresolved-with_next_id}
 use Rattle.vm_machine.specs.declared.fault.Fault.{Fault}
 use Rattle.vm_machine.specs.declared.fault.Fault.TheVariants as why
 use Rattle.vm_machine.specs.declared.machine.Machine.{Machine}
 use Rattle.vm_machine.specs.Outcomes.{Outcome, Done, Failed, GivesBy, lasting, refused}
 use Rattle.vm_machine.specs.Phases.{is_replaying}
-use Rattle.vm_awaits.specs.Awaits.{Behind, Ends, Gathers, ReadsId, StaysPending, Tries, has_woken, id_read, pending_in_replay, result_at, waits_by, waits_on, with_used}
+use Rattle.vm_awaits.specs.Awaits.{Behind, AwaitCompletes, Gathers, ReadsId, StaysPending, Tries, has_woken, next_id_known, pending_in_replay, result_at, waits_by, waits_on, with_used}
 
 -- what lasts is as it was, and the phase
 abbrev pub Keeps : Machine → Machine → Type 0
@@ -53,7 +53,7 @@ pending_sleeps false run executing left u w h = runs_sleep run executing left u 
 -- an await that has woken has used so many notifications, and changed nothing else
 pub woken_used : (t : Tree) (v w : Machine) → Tries t v (Done (Ok AnyCompleted) w) → (n : ℕ) × (w ≡ with_used n v)
 woken_used t v w tries = ⊎_elim
-    (λ (x : Ends t v (Done (Ok AnyCompleted) w)). (x.0, sym (done_so (Ok AnyCompleted) (Ok AnyCompleted) w (with_used x.0 v) x.2)))
+    (λ (x : AwaitCompletes t v (Done (Ok AnyCompleted) w)). (x.0, sym (done_so (Ok AnyCompleted) (Ok AnyCompleted) w (with_used x.0 v) x.2)))
     (λ (x : StaysPending t v (Done (Ok AnyCompleted) w)).
     let u = with_used (length v.results.queued) v in
     absurd (pending_sleeps (is_replaying u.phase) (find (may_execute (handles_of x.0)) u.runs) (list_any (is_executing_in (handles_of x.0)) u.runs) x.0 u w x.2))
@@ -67,7 +67,7 @@ woken_keeps t v w tries =
 -- ---- an id that is read
 
 -- a read that was done
-read_done : (id : Option (List ℕ)) (v w : Machine) → woken w ≡ id_read id v → (known : List ℕ) × (w ≡ record v { tracked = with_next_id known v.tracked })
+read_done : (id : Option (List ℕ)) (v w : Machine) → woken w ≡ next_id_known id v → (known : List ℕ) × (w ≡ record v { tracked = with_next_id known v.tracked })
 read_done None v w h = absurd (never h)
   where
     never : woken w ≡ refused fault.UnexpectedInvocationIdResult v → ⊥
@@ -75,7 +75,7 @@ read_done None v w h = absurd (never h)
 read_done (Some id) v w h = (id, sym (done_so (Ok AnyCompleted) (Ok AnyCompleted) w (record v { tracked = with_next_id id v.tracked }) h))
 
 -- by the outcome of the await before it
-read_behind : (handle : ℕ) (v w : Machine) (first : Outcome (Result AwaitResponse Error)) → Tries (leaf handle) v first → Behind (λ x p. p ≡ id_read (option_and_then id_of_result (result_at handle x)) x) first (Done (Ok AnyCompleted) w)
+read_behind : (handle : ℕ) (v w : Machine) (first : Outcome (Result AwaitResponse Error)) → Tries (leaf handle) v first → Behind (λ x p. p ≡ next_id_known (option_and_then id_of_result (result_at handle x)) x) first (Done (Ok AnyCompleted) w)
     → (known : List ℕ) × (n : ℕ) × (w ≡ record (with_used n v) { tracked = with_next_id known v.tracked })
 read_behind handle v w (Done (Ok AnyCompleted) x) tries on =
     let used = woken_used (leaf handle) v x tries in
@@ -124,7 +124,7 @@ module _ (R : Outcome (Result AwaitResponse Error) → Type 0) (Next : Machine �
 
 -- Some ids were read: whatever comes of the others comes of all, and nothing else has changed.
 pub record Gathered (first now : Machine) : Type 0 where
-  pub on : (o : Outcome (Result AwaitResponse Error)) → Gathers (unresolved now.tracked) now o → Gathers (unresolved first.tracked) first o
+  pub on : (o : Outcome (Result AwaitResponse Error)) → Gathers (unresolved_handles now.tracked) now o → Gathers (unresolved_handles first.tracked) first o
   pub keeps : lasting now ≡ lasting first
 
 -- an answer that has woken
@@ -140,27 +140,27 @@ woken_is (Err e) so = absurd cc
 pub gathered_none : (v : Machine) → Gathered v v
 gathered_none v = record { on = λ o g. g; keeps = refl }
 
-module _ (first now : Machine) (g : Gathered first now) (handle : ℕ) (one : IsFirst (unresolved now.tracked) handle) where
+module _ (first now : Machine) (g : Gathered first now) (handle : ℕ) (one : IsFirstHandle (unresolved_handles now.tracked) handle) where
   -- what comes of the others comes of all
-  gives_on : (r : Result (Result AwaitResponse Error) Fault) (new : Machine) → GivesBy (Gathers (handle ∷ one.0) now) r now new → GivesBy (Gathers (unresolved first.tracked) first) r first new
+  gives_on : (r : Result (Result AwaitResponse Error) Fault) (new : Machine) → GivesBy (Gathers (handle ∷ one.0) now) r now new → GivesBy (Gathers (unresolved_handles first.tracked) first) r first new
   gives_on (Ok a) new h = g.on (Done a new) (subst (λ hs. Gathers hs now (Done a new)) (sym one.1) h)
   gives_on (Err (why.Refused e)) new h = (g.on (Failed e new) (subst (λ hs. Gathers hs now (Failed e new)) (sym one.1) h.0), h.1 ∙ g.keeps)
   gives_on (Err why.Memory) new h = h ∙ g.keeps
 
   -- a read that fails ends it
-  fails : (f : Fault) (new : Machine) → GivesBy (ReadsId handle now) (Err f) now new → GivesBy (Gathers (unresolved first.tracked) first) (Err f) first new
+  fails : (f : Fault) (new : Machine) → GivesBy (ReadsId handle now) (Err f) now new → GivesBy (Gathers (unresolved_handles first.tracked) first) (Err f) first new
   fails (why.Refused e) new h = gives_on (Err (why.Refused e)) new (gives_failed (ReadsId handle now) (Gathers one.0) now (why.Refused e) new h)
   fails why.Memory new h = gives_on (Err why.Memory) new h
 
   -- so does one that hasn't woken
-  stays : (answer : Result AwaitResponse Error) (new : Machine) → ReadsId handle now (Done answer new) → has_woken answer ≡ false → Gathers (unresolved first.tracked) first (Done answer new)
+  stays : (answer : Result AwaitResponse Error) (new : Machine) → ReadsId handle now (Done answer new) → has_woken answer ≡ false → Gathers (unresolved_handles first.tracked) first (Done answer new)
   stays answer new h asleep = gives_on (Ok answer) new (gives_other (ReadsId handle now) (Gathers one.0) now answer new h asleep)
 
   -- behind an id that was read the others are left
-  left : (mid : Machine) → ReadsId handle now (Done (Ok AnyCompleted) mid) → unresolved mid.tracked ≡ one.0
+  left : (mid : Machine) → ReadsId handle now (Done (Ok AnyCompleted) mid) → unresolved_handles mid.tracked ≡ one.0
   left mid reads =
       let known = read_known handle now mid reads in
-      ap (λ (v : Machine). unresolved v.tracked) known.2 ∙ unresolved-with_next_id known.0 now.tracked handle one.0 one.1
+      ap (λ (v : Machine). unresolved_handles v.tracked) known.2 ∙ unresolved-with_next_id known.0 now.tracked handle one.0 one.1
 
   more : (mid : Machine) → ReadsId handle now (Done (Ok AnyCompleted) mid) → Gathered first mid
   more mid reads = record {
@@ -168,22 +168,22 @@ module _ (first now : Machine) (g : Gathered first now) (handle : ℕ) (one : Is
     keeps = (read_keeps handle now mid reads).0 ∙ g.keeps;
   }
 
-  fewer : (mid : Machine) → ReadsId handle now (Done (Ok AnyCompleted) mid) → length (unresolved mid.tracked) < length (unresolved now.tracked)
+  fewer : (mid : Machine) → ReadsId handle now (Done (Ok AnyCompleted) mid) → length (unresolved_handles mid.tracked) < length (unresolved_handles now.tracked)
   fewer mid reads = let is = ap length (left mid reads) in let was = ap length one.1 in omega arith
 
 -- ---- as the loop meets it: the calls that are tracked were looked at before
 
-module _ (first now : Machine) (g : Gathered first now) (ts : List TrackedCall) (handle : ℕ) (one : IsFirst (unresolved now.tracked) handle) (same : ts ≡ now.tracked) where
+module _ (first now : Machine) (g : Gathered first now) (ts : List TrackedCall) (handle : ℕ) (one : IsFirstHandle (unresolved_handles now.tracked) handle) (same : ts ≡ now.tracked) where
   looked : record now { tracked = ts } ≡ now
   looked = ap (λ us. record now { tracked = us }) same
 
-  pub gathered_fails : (f : Fault) (new : Machine) → GivesBy (ReadsId handle (record now { tracked = ts })) (Err f) (record now { tracked = ts }) new → GivesBy (Gathers (unresolved first.tracked) first) (Err f) first new
+  pub gathered_fails : (f : Fault) (new : Machine) → GivesBy (ReadsId handle (record now { tracked = ts })) (Err f) (record now { tracked = ts }) new → GivesBy (Gathers (unresolved_handles first.tracked) first) (Err f) first new
   gathered_fails f new h = fails first now g handle one f new (subst (λ (v : Machine). GivesBy (ReadsId handle v) (Err f) v new) looked h)
 
   reads_there : (answer : Result AwaitResponse Error) (new : Machine) → ReadsId handle (record now { tracked = ts }) (Done answer new) → ReadsId handle now (Done answer new)
   reads_there answer new h = subst (λ (v : Machine). ReadsId handle v (Done answer new)) looked h
 
-  pub gathered_stays : (answer : Result AwaitResponse Error) (new : Machine) → ReadsId handle (record now { tracked = ts }) (Done answer new) → has_woken answer ≡ false → Gathers (unresolved first.tracked) first (Done answer new)
+  pub gathered_stays : (answer : Result AwaitResponse Error) (new : Machine) → ReadsId handle (record now { tracked = ts }) (Done answer new) → has_woken answer ≡ false → Gathers (unresolved_handles first.tracked) first (Done answer new)
   gathered_stays answer new h = stays first now g handle one answer new (reads_there answer new h)
 
   known_there : (answer : Result AwaitResponse Error) (mid : Machine) → ReadsId handle (record now { tracked = ts }) (Done answer mid) → has_woken answer ≡ true → ReadsId handle now (Done (Ok AnyCompleted) mid)
@@ -192,5 +192,5 @@ module _ (first now : Machine) (g : Gathered first now) (ts : List TrackedCall) 
   pub gathered_more : (answer : Result AwaitResponse Error) (mid : Machine) → ReadsId handle (record now { tracked = ts }) (Done answer mid) → has_woken answer ≡ true → Gathered first mid
   gathered_more answer mid h so = more first now g handle one mid (known_there answer mid h so)
 
-  pub gathered_fewer : (answer : Result AwaitResponse Error) (mid : Machine) → ReadsId handle (record now { tracked = ts }) (Done answer mid) → has_woken answer ≡ true → length (unresolved mid.tracked) < length (unresolved now.tracked)
+  pub gathered_fewer : (answer : Result AwaitResponse Error) (mid : Machine) → ReadsId handle (record now { tracked = ts }) (Done answer mid) → has_woken answer ≡ true → length (unresolved_handles mid.tracked) < length (unresolved_handles now.tracked)
   gathered_fewer answer mid h so = fewer first now g handle one mid (known_there answer mid h so)

@@ -5,8 +5,8 @@ use Rattle.std.specs.List.{find, list_any}
 use Rattle.std.specs.Option.{option_map, option_or}
 use Rattle.await_trees.specs.declared.handle.NotificationHandle.{NotificationHandle}
 use Rattle.runs.specs.Firsts.{with_first}
-use Rattle.runs.specs.Pending.{handle_of, is_executing_in, may_execute, started}
-use Rattle.runs.specs.Settling.{run_command}
+use Rattle.runs.specs.Pending.{handle_of, is_executing_in, may_execute, run_started}
+use Rattle.runs.specs.Settling.{run_as_related}
 use Rattle.vm_parts.specs.Ephemerals.{any_in_flight}
 use Rattle.vm_parts.specs.declared.run_state.PendingRun.{PendingRun}
 use Rattle.vm_machine.specs.declared.fault.Fault.{Fault}
@@ -49,14 +49,14 @@ mapped_or f None b = refl
 mapped_or f (Some x) b = refl
 
 -- one handle more
-pub last_related_behind : (handles : List ℕ) (handle : ℕ) (v : Machine) → option_map run_command (last_run (handles ++ handle ∷ []) v) ≡ option_or (option_map run_command (run_at handle v)) (option_map run_command (last_run handles v))
-last_related_behind handles handle v = ap (option_map run_command) (last_run_behind handles handle v) ∙ mapped_or run_command (run_at handle v) (last_run handles v)
+pub last_related_behind : (handles : List ℕ) (handle : ℕ) (v : Machine) → option_map run_as_related (last_run (handles ++ handle ∷ []) v) ≡ option_or (option_map run_as_related (run_at handle v)) (option_map run_as_related (last_run handles v))
+last_related_behind handles handle v = ap (option_map run_as_related) (last_run_behind handles handle v) ∙ mapped_or run_as_related (run_at handle v) (last_run handles v)
 
 -- ---- what an await waits for
 
 -- where none of these runs waits to be executed, none is changed
-pub none_executed : (handles : List ℕ) (runs left : List PendingRun) → None ≡ option_map handle_of (find (may_execute handles) runs) → left ≡ with_first (may_execute handles) started runs → left ≡ runs
-none_executed handles runs left none is = is ∙ not_changed (may_execute handles) started runs (mapped_none handle_of (find (may_execute handles) runs) none)
+pub none_executed : (handles : List ℕ) (runs left : List PendingRun) → None ≡ option_map handle_of (find (may_execute handles) runs) → left ≡ with_first (may_execute handles) run_started runs → left ≡ runs
+none_executed handles runs left none is = is ∙ not_changed (may_execute handles) run_started runs (mapped_none handle_of (find (may_execute handles) runs) none)
 
 -- it waits for input, or for the result of a run that is executing
 pub waits_so : (left : Tree) (v : Machine) (handles : List ℕ) (executing : Bool) → handles ≡ handles_of left → is_replaying v.phase ≡ false → None ≡ option_map handle_of (find (may_execute handles) v.runs) → executing ≡ list_any (is_executing_in handles) v.runs

@@ -22,17 +22,17 @@ use Rattle.journal_messages.specs.Message.{encoding}
 use Rattle.journal_values.specs.declared.notification.NotificationId.{NotificationId}
 use Rattle.journal_values.specs.declared.notification.NotificationResult.{NotificationResult}
 use Rattle.runs.specs.Firsts.{with_first}
-use Rattle.runs.specs.Pending.{handle_of, has_handle, is_executing, is_executing_in, may_execute, started}
-use Rattle.runs.specs.Settling.{run_command}
+use Rattle.runs.specs.Pending.{handle_of, has_handle, is_executing, is_executing_in, may_execute, run_started}
+use Rattle.runs.specs.Settling.{run_as_related}
 use Rattle.vm_types.specs.declared.options.AwaitingOnPolicy.{AwaitingOnPolicy}
 use Rattle.vm_types.specs.declared.options.AwaitingOnPolicy.TheVariants as policy
 use Rattle.vm_parts.specs.declared.run_state.PendingRun.{PendingRun}
 use Rattle.vm_types.specs.declared.types.AwaitResponse.{AwaitResponse}
 use Rattle.vm_types.specs.declared.types.AwaitResponse.TheVariants.{AnyCompleted, CancelSignalReceived, EphemeralNotificationReady, ExecuteRun, WaitingExternalProgress}
-use Rattle.vm_parts.specs.Deliveries.{id_at, present_for}
+use Rattle.vm_parts.specs.Deliveries.{id_at, present_result_for}
 use Rattle.vm_parts.specs.Ephemerals.{any_in_flight}
 use Rattle.vm_types.specs.Options.{ends_awaits}
-use Rattle.vm_parts.specs.Tracked.{id_of_result, unresolved, with_next_id}
+use Rattle.vm_parts.specs.Tracked.{id_of_result, unresolved_handles, with_next_id}
 use Rattle.vm_machine.specs.declared.machine.Machine.{Machine}
 use Rattle.vm_machine.specs.declared.phase.Phase.TheVariants.{Closed}
 use Rattle.vm_machine.specs.Outcomes.{Outcome, Done, Failed, refused}
@@ -94,11 +94,11 @@ last_run (handle ∷ handles) v = option_or (last_run handles v) (run_at handle 
 abbrev pub pending_in_replay : List ℕ → Machine → Outcome (Result AwaitResponse Error)
 pending_in_replay handles v = Failed
     (named_error fault.UncompletedDoProgressDuringReplay
-    (option_map run_command (last_run handles v))) v
+    (option_map run_as_related (last_run handles v))) v
 
 -- the first of the runs with these handles that isn't executing is executed from now on
 abbrev pub executed : List ℕ → Machine → Machine
-executed handles v = record v { runs = with_first (may_execute handles) started v.runs }
+executed handles v = record v { runs = with_first (may_execute handles) run_started v.runs }
 
 -- An await waits for input and for the results of runs, by whether the input is closed, whether an
 -- ephemeral read is in flight, and whether a run that it waits for is executing. With closed input
@@ -129,8 +129,8 @@ pending_on left v =
     (list_any (is_executing_in (handles_of left)) v.runs) left v
 
 -- The await ends: as many notifications are used as wake the tree, and no fewer would.
-abbrev pub Ends : Tree → Machine → Outcome (Result AwaitResponse Error) → Type 0
-Ends t v o = (n : ℕ) × LeastAwake v.options.signal_delivery v.results t n
+abbrev pub AwaitCompletes : Tree → Machine → Outcome (Result AwaitResponse Error) → Type 0
+AwaitCompletes t v o = (n : ℕ) × LeastAwake v.options.signal_delivery v.results t n
     × (o ≡ Done (Ok AnyCompleted) (with_used n v))
 
 -- The await stays pending: no number of the notifications wakes the tree, all are used, and what is
@@ -142,7 +142,7 @@ StaysPending t v o =
 
 -- what an await of a tree may come to by the notifications alone
 abbrev pub Tries : Tree → Machine → Outcome (Result AwaitResponse Error) → Type 0
-Tries t v o = Ends t v o ⊎ StaysPending t v o
+Tries t v o = AwaitCompletes t v o ⊎ StaysPending t v o
 
 -- ---- the cancel signal
 
@@ -159,7 +159,7 @@ or_cancelled t = if is_first_of_none t then node FirstCompleted (more (leaf 1) n
 -- the present result of a handle
 abbrev pub result_at : ℕ → Machine → Option NotificationResult
 result_at handle v =
-    present_for v.options.signal_delivery (id_at handle v.results.handles) v.results.ready
+    present_result_for v.options.signal_delivery (id_at handle v.results.handles) v.results.ready
 
 -- the cancel signal is there
 abbrev pub is_cancelled : Machine → Bool
@@ -181,16 +181,18 @@ Behind Next (Done answer w) o = MatchBool (has_woken answer) (Next w o) (o ≡ D
 Behind Next (Failed e w) o = o ≡ Failed e w
 
 -- The first id of a tracked call that isn't known is known now: the result has to be one.
-abbrev pub id_read : Option (List ℕ) → Machine → Outcome (Result AwaitResponse Error)
-id_read None v = refused fault.UnexpectedInvocationIdResult v
-id_read (Some id) v = Done (Ok AnyCompleted) (record v { tracked = with_next_id id v.tracked })
+abbrev pub next_id_known : Option (List ℕ) → Machine → Outcome (Result AwaitResponse Error)
+next_id_known None v = refused fault.UnexpectedInvocationIdResult v
+next_id_known (Some id) v = Done (Ok AnyCompleted)
+    (record v { tracked = with_next_id id v.tracked })
 
 -- the handle of the first tracked call whose id isn't known is awaited by itself, and the id is
 -- read
 abbrev pub ReadsId : ℕ → Machine → Outcome (Result AwaitResponse Error) → Type 0
 ReadsId handle v o =
     (first : Outcome (Result AwaitResponse Error)) × Tries (leaf handle) v first
-    × Behind (λ w p. p ≡ id_read (option_and_then id_of_result (result_at handle w)) w) first o
+    × Behind (λ w p. p ≡ next_id_known (option_and_then id_of_result (result_at handle w)) w) first
+    o
 
 -- So it is done with each of these handles, in order; then all ids are known.
 abbrev pub Gathers : List ℕ → Machine → Outcome (Result AwaitResponse Error) → Type 0
@@ -200,7 +202,7 @@ Gathers (handle ∷ handles) v o = (first : Outcome (Result AwaitResponse Error)
 
 -- an await that has woken, by whether the cancel signal is there
 abbrev pub EndsBy : Bool → Machine → Outcome (Result AwaitResponse Error) → Type 0
-EndsBy true v o = Gathers (unresolved v.tracked) v o
+EndsBy true v o = Gathers (unresolved_handles v.tracked) v o
 EndsBy false v o = o ≡ Done (Ok AnyCompleted) v
 
 -- a tree is awaited, or the cancel signal

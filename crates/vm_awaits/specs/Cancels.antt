@@ -60,13 +60,13 @@ FinishesIf true first r mid new =
 FinishesIf false first r mid new = (r ≡ first) × (new ≡ mid)
 
 -- what comes behind the first part of an await
-abbrev pub Finishes : Result (Result AwaitResponse Error) Error
+abbrev pub FollowsFirstPart : Result (Result AwaitResponse Error) Error
     → Result (Result AwaitResponse Error) Error → Machine → Machine → Type 0
-Finishes first r mid new = FinishesIf (sends_cancels first) first r mid new
+FollowsFirstPart first r mid new = FinishesIf (sends_cancels first) first r mid new
 
 -- the whole call of an await
 abbrev pub AwaitsWhole : Tree → Result (Result AwaitResponse Error) Error → Machine → Machine
     → Type 0
 AwaitsWhole t r old new =
     (first : Result (Result AwaitResponse Error) Error) × (mid : Machine)
-    × DoesBy (CalledBy (Awaits t old) old) first old mid × Finishes first r mid new
+    × DoesBy (CalledBy (Awaits t old) old) first old mid × FollowsFirstPart first r mid new

@@ -9,12 +9,12 @@ ghost use Rattle.await_tries.specs.Left.{tree_left};
 ghost use Rattle.await_tries.specs.Message.{ids};
 ghost use Rattle.journal_messages.specs.Message.{encoding};
 ghost use Rattle.runs.specs.Pending.{handle_of, is_executing, may_execute};
-ghost use Rattle.runs.specs.Settling.{run_command};
+ghost use Rattle.runs.specs.Settling.{run_as_related};
 ghost use Rattle.journal_messages.specs.declared.message.Message.TheVariants as message;
 ghost use Rattle.vm_machine.specs.Outcomes.{Gives, GivesBy};
 ghost use Rattle.vm_types.specs.Options.{ends_awaits};
 ghost use Rattle.vm_parts.specs.Ephemerals.{any_in_flight};
-ghost use Rattle.vm_parts.specs.Tracked.{id_of_result, unresolved};
+ghost use Rattle.vm_parts.specs.Tracked.{id_of_result, unresolved_handles};
 ghost use Rattle.vm_awaits.specs.Awaits.{Awaits, Gathers, ReadsId, Tries, TriesOrCancels, allows, executed, has_woken, is_cancelled, is_first_of_none, last_run, or_cancelled, pending_on, result_at, says_so, waiting, waits_by};
 ghost use Rattle.vm_machine.specs.Proposals.{run_at};
 ghost use Rattle.vm_awaits.specs.Cancels.{cancel_taken};
@@ -130,7 +130,7 @@ fn wait_on(machine: &mut Machine, left: &Residue) -> Result<(), AllocError>
 /// The pending run of a handle that wasn't taken, as an error that relates to its command shows it.
 fn related_run(machine: &Machine, handle: u32) -> Result<Option<RelatedCommand>, AllocError>
     ensures { IfOk result (λ related. related
-        ≡ option_map run_command (run_at handle machine.now)) }
+        ≡ option_map run_as_related (run_at handle machine.now)) }
 {
     if machine.results.find(handle).is_none() {
         return Ok(None);
@@ -151,7 +151,7 @@ fn last_related_run(
     handles: &[u32],
 ) -> Result<Option<RelatedCommand>, AllocError>
     ensures { IfOk result (λ related. related
-        ≡ option_map run_command (last_run handles.now machine.now)) }
+        ≡ option_map run_as_related (last_run handles.now machine.now)) }
 {
     let mut found = None;
     for handle in handles {
@@ -274,7 +274,8 @@ fn read_id(machine: &mut Machine, handle: u32) -> Result<Awaited, Fault>
 
 /// Reads the ids of tracked calls that aren't known, as they come.
 fn gather_ids(machine: &mut Machine) -> Result<Awaited, Fault>
-    ensures { GivesBy (Gathers (unresolved machine.old.tracked) machine.old) result machine.old
+    ensures { GivesBy (Gathers (unresolved_handles machine.old.tracked) machine.old) result
+        machine.old
         machine.new }
 {
     while let Some(handle) = machine.tracked.first_unresolved() {

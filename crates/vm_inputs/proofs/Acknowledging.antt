@@ -13,7 +13,7 @@ use Rattle.vm_parts.specs.Arrived.{Arrived}
 use Rattle.vm_parts.specs.declared.run_state.KeptProposal.{KeptProposal}
 use Rattle.vm_machine.specs.declared.fault.Fault.TheVariants.{Refused}
 use Rattle.vm_machine.specs.declared.machine.Machine.{Machine}
-use Rattle.vm_machine.specs.Inputs.{acknowledged, completion_of}
+use Rattle.vm_machine.specs.Inputs.{acknowledged, acknowledged_completion}
 use Rattle.vm_machine.specs.Outcomes.{Done, Failed, Gives}
 use Rattle.vm_machine.specs.Proposals.{proposed}
 use Rattle.vm_machine.proofs.Running.{mapped_none, mapped_some, not_found}
@@ -31,5 +31,5 @@ pub some_acknowledged : (id : ℕ) (v : Machine) (proposed : ValueOrFailure) (co
 some_acknowledged id v proposed comes kept results some left is queued =
     let found = mapped_some result_of (find (is_for id) v.proposals) proposed some in
     let same : completion_result found.0.result ≡ comes = sym (is ∙ ap completion_result found.2) in
-    let there : record v.results { queued = v.results.queued ++ completion_of id found.0 ∷ [] } ≡ results = ap (λ r. record v.results { queued = v.results.queued ++ record { id = CompletionId id; result = r } ∷ [] }) same ∙ sym queued in
+    let there : record v.results { queued = v.results.queued ++ acknowledged_completion id found.0 ∷ [] } ≡ results = ap (λ r. record v.results { queued = v.results.queued ++ record { id = CompletionId id; result = r } ∷ [] }) same ∙ sym queued in
     ap (λ o. acknowledged id o v) found.1 ∙ λ i. Done tt (record v { results = there i; proposals = sym left i })

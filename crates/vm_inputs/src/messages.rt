@@ -4,7 +4,7 @@ ghost use Rattle.runs.specs.Kept.{is_for};
 ghost use Rattle.vm_machine.specs.Ephemerals.{ephemeral_notification_step};
 ghost use Rattle.vm_machine.specs.Outcomes.{Gives};
 ghost use Rattle.vm_machine.specs.Phases.{is_waiting};
-ghost use Rattle.vm_machine.specs.Inputs.{from_version, started, info_of, entries_in, coverage_of, counted_entry, start_step, acknowledged, acknowledgement_step, entry_step, notification_step, message_step, malformed_step, close_step};
+ghost use Rattle.vm_machine.specs.Inputs.{from_version, start_received, start_info_of, entries_in, coverage_of, counted_entry, start_step, acknowledged, acknowledgement_step, entry_step, notification_step, message_step, malformed_step, close_step};
 
 use bytes::Bytes;
 use journal_attempt::Start;
@@ -45,7 +45,7 @@ fn read_state(alloc: Global, pairs: &Items<(Bytes, Bytes)>) -> Result<Option<Ent
 
 /// What is kept of Start.
 fn info_of(version: Version, fallback_random_seed: u64, start: Start) -> StartInfo
-    ensures { result ≡ info_of version fallback_random_seed start }
+    ensures { result ≡ start_info_of version fallback_random_seed start }
 {
     let Start {
         id,
@@ -89,7 +89,7 @@ fn from_version(known: bool, text: Option<Text>) -> Option<Text>
 
 /// Start is kept, where its state keys are texts and it tells of at least one entry.
 fn keep_start(machine: &mut Machine, start: Start) -> Result<(), Fault>
-    ensures step { Gives (started (Some start) machine.old) result machine.old machine.new }
+    ensures step { Gives (start_received (Some start) machine.old) result machine.old machine.new }
     ensures quiet { machine.new.output ≡ machine.old.output }
     ensures failure { machine.new.failure ≡ machine.old.failure }
 {

@@ -10,7 +10,7 @@ use Rattle.vm_parts.specs.declared.run_state.KeptProposal.{KeptProposal}
 use Rattle.vm_machine.specs.declared.machine.Machine.{Machine}
 use Rattle.journal_errors.specs.Versions.{is_from_v7}
 use Rattle.vm_machine.specs.Ephemerals.{ephemeral_notification_step}
-use Rattle.vm_machine.specs.Inputs.{acknowledged, acknowledged_by, acknowledgement_step, completion_of, enqueued, entry_step, message_step, notification_step, start_step}
+use Rattle.vm_machine.specs.Inputs.{acknowledged, acknowledged_by, acknowledgement_step, acknowledged_completion, enqueued, entry_step, message_step, notification_step, start_step}
 use Rattle.vm_machine.specs.Outcomes.{Done, Outcome, refused}
 use Rattle.vm_machine.specs.Proposals.{Acknowledges, proposed}
 use Rattle.journal_messages.specs.declared.message.RawMessage.{RawMessage}
@@ -29,7 +29,7 @@ unfolding message_step
 acknowledged_as raw id v a =
     ap (λ n. by_number raw n v) a.ty ∙ ap (λ p. acknowledgement_step raw p v) a.phase ∙ ap (λ ack. acknowledged_by ack v) a.reads ∙ ap (λ n. acknowledged n (find (is_for n) v.proposals) v) a.is
 
-pub kept_comes : (raw : RawMessage) (id : ℕ) (kept : KeptProposal) (v : Machine) → Acknowledges raw id v → find (is_for id) v.proposals ≡ Some kept → message_step raw v ≡ Done tt (enqueued (completion_of id kept) (record v { proposals = without_first (is_for id) v.proposals }))
+pub kept_comes : (raw : RawMessage) (id : ℕ) (kept : KeptProposal) (v : Machine) → Acknowledges raw id v → find (is_for id) v.proposals ≡ Some kept → message_step raw v ≡ Done tt (enqueued (acknowledged_completion id kept) (record v { proposals = without_first (is_for id) v.proposals }))
 kept_comes raw id kept v a found = acknowledged_as raw id v a ∙ ap (λ o. acknowledged id o v) found
 
 pub none_comes : (raw : RawMessage) (id : ℕ) (v : Machine) → Acknowledges raw id v → find (is_for id) v.proposals ≡ None → message_step raw v ≡ refused name.BadProposeRunCompletionAck v

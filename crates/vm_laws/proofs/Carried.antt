@@ -13,9 +13,9 @@ use Rattle.journal_messages.specs.Reading.{message_in}
 use Rattle.journal_errors.specs.Types.{type_number}
 use Rattle.vm_types.specs.declared.types.AwakeableHandle.{AwakeableHandle}
 use Rattle.await_trees.specs.declared.handle.NotificationHandle.{NotificationHandle}
-use Rattle.vm_parts.specs.Counting.{missing, missing_signals, next_index}
+use Rattle.vm_parts.specs.Counting.{missing_number, missing_signals, next_index}
 use Rattle.vm_machine.specs.declared.machine.Machine.{Machine}
-use Rattle.vm_machine.specs.Commands.{written, ignores_payloads, phase_after, popped, popped_from, compared, replayed, carried_out, prepared, counted, issued}
+use Rattle.vm_machine.specs.Commands.{written, ignores_payloads, phase_after, popped, popped_from, compared, replayed, carried_out, prepared, command_if_counted, issued}
 use Rattle.vm_machine.specs.Outcomes.{Outcome, Done, Failed, ◌>>=◌, about_last}
 use Rattle.vm_machine.specs.Phases.{is_running, is_processing}
 use Rattle.vm_asks.specs.Requests.{changed, ids_of, with_ids}
@@ -24,7 +24,7 @@ use Rattle.std.specs.Prelude.{Result, Ok, Err}
 use Rattle.vm_asks.specs.declared.state_read.StateRead.{StateRead}
 use Rattle.vm_parts.specs.declared.context.Counters.{Counters}
 use Rattle.vm_machine.specs.Commands.{entered, given_on, handed_out}
-use Rattle.vm_machine.specs.Reads.{own_result, read_back, read_counted, read_popped, read_step, read_written, with_result}
+use Rattle.vm_machine.specs.Reads.{own_result, read_back, read_counted, read_popped, read_step, read_written, with_read_ready}
 use Rattle.vm_asks.specs.StateReads.{eager_type, name_read, own_form, recorded_as, recorded_type, result_in}
 use Rattle.vm_machine.specs.Signals.{awakeable_step, awakeable_counted, signal_counted, signal_step}
 use Rattle.vm_laws.specs.Numbers.{Counted}
@@ -87,7 +87,7 @@ answered (Failed e u) given handle w h = absurd (no_answer e handle u w h)
 abbrev pub Leaves : Message → NotificationHandle → Machine → Machine → Type 0
 Leaves m handle v w = (w.state ≡ changed (with_ids v.counters.completion m) v.state) × Counted (ids_of m) 0 (ids_of m) v.counters w.counters × (handle.0 ≡ v.counters.handle)
 
-counted_leaves : (o : Option NamedFault) (m : Message) (unstable : Bool) (handle : NotificationHandle) (v w : Machine) → counted o m unstable v ≡ Done handle w → Leaves m handle v w
+counted_leaves : (o : Option NamedFault) (m : Message) (unstable : Bool) (handle : NotificationHandle) (v w : Machine) → command_if_counted o m unstable v ≡ Done handle w → Leaves m handle v w
 counted_leaves (Some name) m unstable handle v w h = absurd (no_answer _ handle v w h)
 counted_leaves None m unstable handle v w h =
     let c = with_ids v.counters.completion m in
@@ -100,8 +100,8 @@ counted_leaves None m unstable handle v w h =
     )
 
 issued_at : (b : Bool) (m : Message) (unstable : Bool) (handle : NotificationHandle) (v w u : Machine) (e : Error)
-    → (if b then counted (missing (ids_of m) 0 (ids_of m) v.counters) m unstable v else Failed e u) ≡ Done handle w → Leaves m handle v w
-issued_at true m unstable handle v w u e h = counted_leaves (missing (ids_of m) 0 (ids_of m) v.counters) m unstable handle v w h
+    → (if b then command_if_counted (missing_number (ids_of m) 0 (ids_of m) v.counters) m unstable v else Failed e u) ≡ Done handle w → Leaves m handle v w
+issued_at true m unstable handle v w u e h = counted_leaves (missing_number (ids_of m) 0 (ids_of m) v.counters) m unstable handle v w h
 issued_at false m unstable handle v w u e h = absurd (no_answer e handle u w h)
 
 pub issued_leaves : (m : Message) (unstable : Bool) (handle : NotificationHandle) (v w : Machine) → issued m unstable v ≡ Done handle w → Leaves m handle v w
@@ -171,7 +171,7 @@ one_given : (c : Counters) (command : Option ℕ) → Counted 1 0 1 c (given_on 
 one_given c command = record { completions = refl; signals = omega arith; handles = refl }
 
 written_gives : (r : StateRead) (id : ℕ) (given : Option NotificationResult) (m : Message) (v : Machine)
-    → GivesOne v (Done (record { 0 = v.counters.handle }) (with_result id given (written m (handed_out 1 (entered (type_of m) (name_read r) v)))))
+    → GivesOne v (Done (record { 0 = v.counters.handle }) (with_read_ready id given (written m (handed_out 1 (entered (type_of m) (name_read r) v)))))
 written_gives r id None m v = (one_given v.counters (Some (next_index v.counters.command)), refl, refl)
 written_gives r id (Some result) m v = (one_given v.counters (Some (next_index v.counters.command)), refl, refl)
 
@@ -201,4 +201,4 @@ running_gives false o e r v = tt
 
 pub read_gives : (r : StateRead) (handle : NotificationHandle) (v w : Machine) → read_step r v ≡ Done handle w → Counted 1 0 1 v.counters w.counters × (handle.0 ≡ v.counters.handle) × (w.state ≡ v.state)
 unfolding read_step
-read_gives r handle v w h = subst (GivesOne v) h (running_gives (is_running v.phase) (missing 1 0 1 v.counters) _ r v)
+read_gives r handle v w h = subst (GivesOne v) h (running_gives (is_running v.phase) (missing_number 1 0 1 v.counters) _ r v)

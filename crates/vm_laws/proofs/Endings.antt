@@ -36,10 +36,10 @@ use Rattle.vm_types.specs.declared.types.AwaitResponse.{AwaitResponse}
 use Rattle.vm_types.specs.declared.types.AwaitResponse.TheVariants.{AnyCompleted, CancelSignalReceived, EphemeralNotificationReady, ExecuteRun, WaitingExternalProgress}
 use Rattle.await_trees.specs.declared.handle.NotificationHandle.{NotificationHandle}
 use Rattle.vm_types.specs.declared.values.Value.{Value}
-use Rattle.vm_parts.specs.Deliveries.{id_at, present_for, taken_by}
+use Rattle.vm_parts.specs.Deliveries.{id_at, present_result_for, taken_by}
 use Rattle.vm_types.specs.Values.{value_of}
 use Rattle.vm_parts.specs.declared.context.Counters.{Counters}
-use Rattle.vm_parts.specs.Counting.{missing, missing_signals}
+use Rattle.vm_parts.specs.Counting.{missing_number, missing_signals}
 use Rattle.vm_types.specs.declared.values.Input.{Input}
 use Rattle.vm_asks.specs.Carried.{past_all}
 use Rattle.vm_machine.specs.Skips.{counters_past, skipped, skips_replay}
@@ -55,7 +55,7 @@ use Rattle.vm_asks.specs.declared.asks.AnswerKind.{AnswerKind}
 use Rattle.vm_asks.specs.declared.command.Command.{Command}
 use Rattle.vm_asks.specs.Asks.{EachIs, any_refusal, ask_of}
 use Rattle.vm_machine.specs.Takes.{result_taken, take_step, taken_at, value_noted, value_taken}
-use Rattle.vm_machine.specs.Inputs.{acknowledged, acknowledged_by, acknowledgement_step, close_step, closed_at, counted_entry, end_at, end_step, ended, enqueued, entries_in, entry_step, input_at, input_by, input_counted, input_numbered, input_past, input_read, input_step, malformed_step, message_step, notification_step, queued, start_step, started, started_with}
+use Rattle.vm_machine.specs.Inputs.{acknowledged, acknowledged_by, acknowledgement_step, close_step, closed_at, counted_entry, end_at, end_step, with_end_written, enqueued, entries_in, entry_step, input_at, input_by, input_counted, input_numbered, input_past, input_read, input_step, malformed_step, message_step, notification_step, queued, start_step, start_received, started_with}
 use Rattle.journal_state.specs.declared.state.GetStateEphemeralNotification.{GetStateEphemeralNotification}
 use Rattle.journal_state.specs.declared.state.VoidOrValue.{VoidOrValue}
 use Rattle.journal_protocol.specs.Bodies.{ephemeral_notification_in}
@@ -66,13 +66,13 @@ use Rattle.vm_parts.specs.declared.context.Known.{Known}
 use Rattle.vm_parts.specs.declared.context.Known.TheVariants as known_as
 use Rattle.vm_parts.specs.declared.context.StateMap.{StateMap}
 use Rattle.vm_parts.specs.Ephemerals.{any_in_flight}
-use Rattle.vm_parts.specs.States.{known, known_keys}
+use Rattle.vm_parts.specs.States.{value_known, known_keys}
 use Rattle.vm_asks.specs.declared.state_read.StateRead.{StateRead}
 use Rattle.vm_asks.specs.declared.state_read.StateRead.TheVariants as reads
-use Rattle.vm_machine.specs.Reads.{own_result, read_back, read_counted, read_popped, read_step, read_written, with_result}
+use Rattle.vm_machine.specs.Reads.{own_result, read_back, read_counted, read_popped, read_step, read_written, with_read_ready}
 use Rattle.vm_asks.specs.StateReads.{eager_type, keys_form, lazy_type, name_read, own_form, recorded_as, recorded_type, result_in, value_form}
 use Rattle.vm_machine.specs.Signals.{awakeable_counted, awakeable_step, signal_counted, signal_step}
-use Rattle.vm_machine.specs.Commands.{entered, written, ignores_payloads, phase_after, popped, popped_from, compared, replayed, carried_out, prepared, counted, issued, commanded, commanded_unless, about_next, handed_out}
+use Rattle.vm_machine.specs.Commands.{entered, written, ignores_payloads, phase_after, popped, popped_from, compared, replayed, carried_out, prepared, command_if_counted, issued, commanded, commanded_unless, about_next, handed_out}
 use Rattle.vm_machine.specs.Several.{commanded_before, foreseen, foreseen_unless, missing_for, numbers_left}
 use Rattle.vm_laws.specs.Endings.{EndsOnce, EventWrites, Writes, is_over, is_terminal}
 use Rattle.vm_machine.specs.Outcomes.{Outcome, Done, Failed, ◌>>=◌, CalledBy, about_last, called, called_at, failed, refused, ruled}
@@ -87,11 +87,11 @@ use Rattle.runs.specs.declared.settling.Settlement.TheVariants as settlement
 use Rattle.runs.specs.declared.types.RunExitResult.{RunExitResult}
 use Rattle.journal_values.specs.declared.parts.ValueOrFailure.{ValueOrFailure}
 use Rattle.vm_machine.specs.Proposals.{Proposes, Settled, SettledAt, SettledUnless, SettlesAs, proposal_fault, proposed, without_run}
-use Rattle.vm_awaits.specs.Awaits.{Awaits, AwaitsAt, AwaitsBy, Behind, Ends, EndsBy, Gathers, ReadsId, StaysPending, Tries, id_read, is_cancelled, executed, or_cancelled, pending_in_replay, result_at, said_waiting, says_so, suspended, waiting, waits_by, waits_on, with_used}
+use Rattle.vm_awaits.specs.Awaits.{Awaits, AwaitsAt, AwaitsBy, Behind, AwaitCompletes, EndsBy, Gathers, ReadsId, StaysPending, Tries, next_id_known, is_cancelled, executed, or_cancelled, pending_in_replay, result_at, said_waiting, says_so, suspended, waiting, waits_by, waits_on, with_used}
 use Rattle.vm_machine.specs.Proposals.{run_at}
 use Rattle.vm_awaits.proofs.Cancelling.{Keeps, woken_keeps, read_keeps}
 use Rattle.vm_types.specs.Options.{ends_awaits}
-use Rattle.vm_parts.specs.Tracked.{id_of_result, id_of_value, noted, unresolved, with_next_id}
+use Rattle.vm_parts.specs.Tracked.{id_of_result, id_of_value, id_noted, unresolved_handles, with_next_id}
 use Rattle.vm_parts.specs.declared.run_state.TrackedCall.{TrackedCall}
 use Rattle.std.specs.Option.{option_and_then}
 
@@ -242,7 +242,7 @@ pub answered : {A B : Type 0} (v : Machine) (o : Outcome A) (f : A → B) → Ev
 answered v (Done a w) f h = h
 answered v (Failed e w) f h = h
 
-counted_event : (found : Option NamedFault) (m : Message) (unstable : Bool) (v : Machine) → is_terminal m ≡ false → is_over v ≡ false → is_closed v.phase ≡ false → Event v (counted found m unstable v)
+counted_event : (found : Option NamedFault) (m : Message) (unstable : Bool) (v : Machine) → is_terminal m ≡ false → is_over v ≡ false → is_closed v.phase ≡ false → Event v (command_if_counted found m unstable v)
 counted_event (Some name) m unstable v command goes c = same v
 counted_event None m unstable v command goes c =
     let handle : NotificationHandle = record { 0 = v.counters.handle } in
@@ -251,8 +251,8 @@ counted_event None m unstable v command goes c =
     answered v (carried_out n ignore (prepared m v)) (λ _. handle) (carried_event n ignore v (prepared m v) (prepared_same m v) goes c (command_goes_on m v.counters.completion command))
 
 issued_at : (m : Message) (unstable : Bool) (v : Machine) (b : Bool) → is_terminal m ≡ false → is_running v.phase ≡ b → v.failure ≡ None
-    → Event v (if b then counted (missing (ids_of m) 0 (ids_of m) v.counters) m unstable v else (let w = entered (shown_type m) (name_of m) v in Failed (about_last (state_fault v.phase) w) w))
-issued_at m unstable v true command e live = counted_event (missing (ids_of m) 0 (ids_of m) v.counters) m unstable v command (goes_on v live e) (not_closed v.phase e)
+    → Event v (if b then command_if_counted (missing_number (ids_of m) 0 (ids_of m) v.counters) m unstable v else (let w = entered (shown_type m) (name_of m) v in Failed (about_last (state_fault v.phase) w) w))
+issued_at m unstable v true command e live = counted_event (missing_number (ids_of m) 0 (ids_of m) v.counters) m unstable v command (goes_on v live e) (not_closed v.phase e)
 issued_at m unstable v false command e live = record { output = refl; closed = refl; failure = refl }
 
 pub issued_event : (m : Message) (unstable : Bool) (v : Machine) → is_terminal m ≡ false → v.failure ≡ None → Event v (issued m unstable v)
@@ -336,10 +336,10 @@ keys_go_on name id None = refl
 keys_go_on name id (Some keys) = refl
 
 own_goes_on : (r : StateRead) (id : ℕ) (state : StateMap) → is_terminal (own_form r id state) ≡ false
-own_goes_on (reads.Value key name) id state = value_goes_on key name id (known key state)
+own_goes_on (reads.Value key name) id state = value_goes_on key name id (value_known key state)
 own_goes_on (reads.Keys name) id state = keys_go_on name id (known_keys state)
 
-result_put : (id : ℕ) (given : Option NotificationResult) (v w : Machine) → Writes v w → Writes v (with_result id given w)
+result_put : (id : ℕ) (given : Option NotificationResult) (v w : Machine) → Writes v w → Writes v (with_read_ready id given w)
 result_put id None v w h = h
 result_put id (Some result) v w h = record { messages = h.messages; output = h.output; ends_once = h.ends_once }
 
@@ -371,8 +371,8 @@ read_counted_event (Some name) r v goes c = same v
 read_counted_event None r v goes c = read_numbered_at r v (is_processing v.phase) goes c
 
 read_at : (r : StateRead) (v : Machine) (b : Bool) → is_running v.phase ≡ b → v.failure ≡ None
-    → Event v (if b then read_counted (missing 1 0 1 v.counters) r v else Failed (about_next (state_fault v.phase) (lazy_type r) [] v) v)
-read_at r v true e live = read_counted_event (missing 1 0 1 v.counters) r v (goes_on v live e) (not_closed v.phase e)
+    → Event v (if b then read_counted (missing_number 1 0 1 v.counters) r v else Failed (about_next (state_fault v.phase) (lazy_type r) [] v) v)
+read_at r v true e live = read_counted_event (missing_number 1 0 1 v.counters) r v (goes_on v live e) (not_closed v.phase e)
 read_at r v false e live = same v
 
 pub read_writes : (r : StateRead) (v : Machine) → EventWrites v (called (read_step r v) v)
@@ -441,7 +441,7 @@ pending_so false run executing left v u s goes = runs_so run executing left v u 
 -- one try of a tree
 tries_so : (t : Tree) (v : Machine) (o : Outcome (Result AwaitResponse Error)) → is_running v.phase ≡ true → v.failure ≡ None → Tries t v o → Event v o
 tries_so t v o runs live comes = ⊎_elim
-    (λ (x : Ends t v o). subst (Event v) (sym x.2) (writes_nothing v (with_used x.0 v) (record { output = refl; closed = refl; failure = refl })))
+    (λ (x : AwaitCompletes t v o). subst (Event v) (sym x.2) (writes_nothing v (with_used x.0 v) (record { output = refl; closed = refl; failure = refl })))
     (λ (x : StaysPending t v o).
     let u = with_used (length v.results.queued) v in
     subst (Event v) (sym x.2) (pending_so (is_replaying u.phase) (find (may_execute (handles_of x.0)) u.runs) (list_any (is_executing_in (handles_of x.0)) u.runs) x.0 v u (record { output = refl; closed = refl; failure = refl }) (goes_on v live runs)))
@@ -475,13 +475,13 @@ behind_so v Next (Done (Ok (EphemeralNotificationReady id)) w) o h f on = subst 
 behind_so v Next (Done (Err e) w) o h f on = subst (Event v) (sym on) h
 behind_so v Next (Failed e w) o h f on = subst (Event v) (sym on) h
 
-id_read_so : (id : Option (List ℕ)) (v : Machine) → Event v (id_read id v)
+id_read_so : (id : Option (List ℕ)) (v : Machine) → Event v (next_id_known id v)
 id_read_so None v = same v
 id_read_so (Some id) v = writes_nothing v (record v { tracked = with_next_id id v.tracked }) (record { output = refl; closed = refl; failure = refl })
 
 reads_so : (handle : ℕ) (v : Machine) (o : Outcome (Result AwaitResponse Error)) → is_running v.phase ≡ true → v.failure ≡ None → ReadsId handle v o → Event v o
 reads_so handle v o runs live (first, tries, on) =
-    behind_so v (λ w p. p ≡ id_read (option_and_then id_of_result (result_at handle w)) w) first o (tries_so (leaf handle) v first runs live tries)
+    behind_so v (λ w p. p ≡ next_id_known (option_and_then id_of_result (result_at handle w)) w) first o (tries_so (leaf handle) v first runs live tries)
     (λ w is next. event_behind v w o (woken_keeps (leaf handle) v w (subst (Tries (leaf handle) v) is tries)) (subst (Event w) (sym next) (id_read_so (option_and_then id_of_result (result_at handle w)) w))) on
 
 gathers_so : (handles : List ℕ) (v : Machine) (o : Outcome (Result AwaitResponse Error)) → is_running v.phase ≡ true → v.failure ≡ None → Gathers handles v o → Event v o
@@ -493,7 +493,7 @@ gathers_so (handle ∷ handles) v o runs live (first, reads, on) =
     event_behind v w o k (gathers_so handles w o (ap is_running k.1 ∙ runs) (ap (λ l. l.failure) k.0 ∙ live) next)) on
 
 ends_so : (b : Bool) (v : Machine) (o : Outcome (Result AwaitResponse Error)) → is_running v.phase ≡ true → v.failure ≡ None → EndsBy b v o → Event v o
-ends_so true v o runs live comes = gathers_so (unresolved v.tracked) v o runs live comes
+ends_so true v o runs live comes = gathers_so (unresolved_handles v.tracked) v o runs live comes
 ends_so false v o runs live comes = subst (Event v) (sym comes) (writes_nothing v v (same v))
 
 cancels_so : (b : Bool) (t : Tree) (v : Machine) (o : Outcome (Result AwaitResponse Error)) → is_running v.phase ≡ true → v.failure ≡ None → AwaitsBy b t v o → Event v o
@@ -523,7 +523,7 @@ noted_so value (Some tracked) v u s = record { output = s.output; closed = s.clo
 
 value_so : (handle : ℕ) (value : Option Value) (v u : Machine) → Same v u → Quiet v (value_taken handle value u)
 value_so handle None v u s = s
-value_so handle (Some value) v u s = noted_so value (noted handle (id_of_value value) u.tracked) v u s
+value_so handle (Some value) v u s = noted_so value (id_noted handle (id_of_value value) u.tracked) v u s
 
 result_so : (handle : ℕ) (result : Option NotificationResult) (v u : Machine) → Same v u → Quiet v (result_taken handle result u)
 result_so handle None v u s = s
@@ -531,7 +531,7 @@ result_so handle (Some result) v u s = value_so handle (value_of result) v u s
 
 taken_so : (handle : ℕ) (id : Option NotificationId) (v : Machine) → Quiet v (taken_at handle id v)
 taken_so handle id v =
-    let found = present_for v.options.signal_delivery id v.results.ready in
+    let found = present_result_for v.options.signal_delivery id v.results.ready in
     result_so handle found v (record v { results = taken_by v.options.signal_delivery handle id found v.results }) (record { output = refl; closed = refl; failure = refl })
 
 take_so : (handle : ℕ) (v : Machine) (b : Bool) → Quiet v (if b then taken_at handle (id_at handle v.results.handles) v else refused (state_fault v.phase) v)
@@ -574,7 +574,7 @@ past_so None v c = record { output = refl; closed = refl; failure = refl }
 past_so (Some id) v c = numbered_so (counters_past (length (drop 1 v.commands)) id v.counters) v c
 
 input_by_so : (b : Bool) (v : Machine) → is_closed v.phase ≡ false → Quiet v (input_by b v)
-input_by_so false v c = input_counted_so (missing 0 0 0 v.counters) v c
+input_by_so false v c = input_counted_so (missing_number 0 0 0 v.counters) v c
 input_by_so true v c = past_so (past_all v.counters.completion (drop 1 v.commands)) v c
 
 input_so : (p : Phase) (v : Machine) → v.phase ≡ p → Quiet v (input_at p v)
@@ -591,7 +591,7 @@ input_quiet v = input_so v.phase v refl
 pub input_writes : (v : Machine) → EventWrites v (called (input_step v) v)
 input_writes v = called_writes v (input_step v) (λ live. quiet_event v (input_step v) (input_quiet v))
 
-ended_so : (v : Machine) → is_over v ≡ false → Writes v (ended v)
+ended_so : (v : Machine) → is_over v ≡ false → Writes v (with_end_written v)
 ended_so v goes = record {
   messages = message.End ∷ [];
   output = refl;
@@ -626,7 +626,7 @@ started_so : (s : Start) (entries : Option (List (List ℕ × Option (List ℕ))
 started_so s None v e = same v
 started_so s (Some entries) v e = started_at s entries v (s.known_entries == 0) _ (record { output = refl; closed = sym (ap is_closed e); failure = refl })
 
-start_so : (start : Option Start) (v : Machine) → v.phase ≡ WaitingStart → Quiet v (started start v)
+start_so : (start : Option Start) (v : Machine) → v.phase ≡ WaitingStart → Quiet v (start_received start v)
 start_so None v e = same v
 start_so (Some s) v e = started_so s (entries_in s.state) v e
 

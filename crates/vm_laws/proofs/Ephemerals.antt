@@ -12,14 +12,14 @@ use Rattle.vm_types.specs.declared.types.EphemeralCompletionId.{EphemeralComplet
 use Rattle.vm_types.specs.declared.values.Value.{Value}
 use Rattle.vm_parts.specs.Counting.{missing_ephemeral}
 use Rattle.vm_parts.specs.Ephemerals.{value_at, without_ready}
-use Rattle.vm_parts.specs.States.{known}
+use Rattle.vm_parts.specs.States.{value_known}
 use Rattle.vm_parts.specs.declared.context.Known.{Known}
 use Rattle.vm_parts.specs.declared.context.Known.TheVariants as known_as
 use Rattle.vm_machine.specs.declared.machine.Machine.{Machine}
 use Rattle.vm_machine.specs.declared.phase.Phase.{Phase}
 use Rattle.vm_machine.specs.declared.phase.Phase.TheVariants.{WaitingStart, WaitingReplayEntries, Replaying, Processing, Closed}
 use Rattle.journal_protocol.specs.Bodies.{ephemeral_notification_in}
-use Rattle.vm_machine.specs.Ephemerals.{asked_for, asking_fault, completed_by, ephemeral_notification_step, ephemeral_step, read_in, read_numbered, read_of, ready_at_once, result_comes, take_ephemeral_step, value_found}
+use Rattle.vm_machine.specs.Ephemerals.{asked_for, asking_fault, completed_by, ephemeral_notification_step, ephemeral_step, read_in, ephemeral_read_numbered, read_of, ready_at_once, result_comes, take_ephemeral_step, value_found}
 use Rattle.vm_machine.specs.Outcomes.{Outcome, Done, Failed, called, refused}
 use Rattle.vm_machine.specs.Phases.{is_from_v8, is_processing, is_running, state_fault}
 use Rattle.vm_laws.specs.Endings.{EventWrites, Writes, is_over}
@@ -42,7 +42,7 @@ known_writes key known_as.Unknown v goes = asked_writes key v goes
 known_writes key known_as.Empty v goes = writes_nothing v (ready_at_once None v) (record { output = refl; closed = refl; failure = refl })
 known_writes key (known_as.Value bytes) v goes = writes_nothing v (ready_at_once (Some bytes) v) (record { output = refl; closed = refl; failure = refl })
 
-numbered_so : (found : Option NamedFault) (key : List ℕ) (k : Known) (v : Machine) → is_over v ≡ false → Event v (read_numbered found key k v)
+numbered_so : (found : Option NamedFault) (key : List ℕ) (k : Known) (v : Machine) → is_over v ≡ false → Event v (ephemeral_read_numbered found key k v)
 numbered_so (Some name) key k v goes = same v
 numbered_so None key k v goes = known_writes key k v goes
 
@@ -51,7 +51,7 @@ read_so WaitingStart key v e live = same v
 read_so WaitingReplayEntries key v e live = same v
 read_so Replaying key v e live = same v
 read_so Processing key v e live =
-    let k = known key v.state in
+    let k = value_known key v.state in
     numbered_so (option_or (asking_fault v.input_closed k) (missing_ephemeral v.counters)) key k v (goes_on v live (ap is_running e))
 read_so Closed key v e live = same v
 
@@ -81,7 +81,7 @@ take_ephemeral_writes id v = called_writes v (take_ephemeral_step id v) (λ live
 abbrev IsRead : List ℕ → EphemeralCompletionId → Machine → Machine → Type 0
 IsRead key id v w = (k : Known) × (id ≡ record { 0 = v.counters.ephemeral }) × (w ≡ read_of key k v)
 
-numbered_done : (found : Option NamedFault) (key : List ℕ) (k : Known) (id : EphemeralCompletionId) (v w : Machine) → read_numbered found key k v ≡ Done id w → IsRead key id v w
+numbered_done : (found : Option NamedFault) (key : List ℕ) (k : Known) (id : EphemeralCompletionId) (v w : Machine) → ephemeral_read_numbered found key k v ≡ Done id w → IsRead key id v w
 numbered_done (Some name) key k id v w h = absurd cc
 numbered_done None key k id v w h = (k, cc, cc)
 
@@ -90,7 +90,7 @@ read_done WaitingStart key id v w h = absurd cc
 read_done WaitingReplayEntries key id v w h = absurd cc
 read_done Replaying key id v w h = absurd cc
 read_done Processing key id v w h =
-    let k = known key v.state in
+    let k = value_known key v.state in
     numbered_done (option_or (asking_fault v.input_closed k) (missing_ephemeral v.counters)) key k id v w h
 read_done Closed key id v w h = absurd cc
 

@@ -22,14 +22,14 @@ use Rattle.vm_types.specs.declared.types.EphemeralCompletionId.{EphemeralComplet
 use Rattle.vm_types.specs.declared.values.Value.{Value}
 use Rattle.vm_types.specs.declared.values.Value.TheVariants as value
 use Rattle.vm_parts.specs.Counting.{most}
-use Rattle.vm_parts.specs.Ephemerals.{completed, is_in_flight, is_ready, value_at, without_ready}
-use Rattle.vm_parts.specs.States.{known}
+use Rattle.vm_parts.specs.Ephemerals.{with_read_completed, is_in_flight, is_ready, value_at, without_ready}
+use Rattle.vm_parts.specs.States.{value_known}
 use Rattle.vm_parts.specs.declared.context.Known.{Known}
 use Rattle.vm_parts.specs.declared.context.Known.TheVariants.{Unknown, Empty, Value as Holds}
 use Rattle.vm_machine.specs.declared.machine.Machine.{Machine}
 use Rattle.vm_machine.specs.declared.phase.Phase.{Phase}
 use Rattle.vm_machine.specs.declared.phase.Phase.TheVariants.{WaitingStart, WaitingReplayEntries, Replaying, Processing, Closed}
-use Rattle.vm_machine.specs.Ephemerals.{asked_for, asking_fault, completed_by, ephemeral_notification_step, ephemeral_step, found_of, read_in, read_numbered, read_of, ready_at_once, take_ephemeral_step, value_found}
+use Rattle.vm_machine.specs.Ephemerals.{asked_for, asking_fault, completed_by, ephemeral_notification_step, ephemeral_step, found_of, read_in, ephemeral_read_numbered, read_of, ready_at_once, take_ephemeral_step, value_found}
 use Rattle.vm_machine.specs.Outcomes.{Outcome, Done, refused}
 use Rattle.vm_machine.specs.Phases.{is_closed, is_from_v8, is_processing, is_replaying, is_waiting, state_fault}
 use Rattle.vm_laws.specs.EphemeralReads.{Brings, IsAnswered, TakeGives, first_reason, is_unknown, reasons, value_of_result}
@@ -67,7 +67,7 @@ among id (x ∷ xs) = by_place (nat_cmp id x) refl (among id xs)
 
 by_numbers : (closed : Bool) (k : Known) (full : Bool) (key : List ℕ) (name : NamedFault) (v : Machine)
     → first_reason ((closed && is_unknown k, fault.EphemeralStateGetWithClosedInput) ∷ (full, fault.ExhaustedEphemeralIds) ∷ []) ≡ Some name
-    → read_numbered (option_or (asking_fault closed k) (if full then Some fault.ExhaustedEphemeralIds else None)) key k v ≡ refused name v
+    → ephemeral_read_numbered (option_or (asking_fault closed k) (if full then Some fault.ExhaustedEphemeralIds else None)) key k v ≡ refused name v
 by_numbers true Unknown full key name v e = ap (λ n. refused n v) (same_Some _ name e)
 by_numbers true Empty true key name v e = ap (λ n. refused n v) (same_Some _ name e)
 by_numbers true Empty false key name v e = absurd (cc)
@@ -77,7 +77,7 @@ by_numbers false k true key name v e = ap (λ n. refused n v) (same_Some _ name 
 by_numbers false k false key name v e = absurd (cc)
 
 rest : List ℕ → Machine → List (Bool × NamedFault)
-rest key v = (v.input_closed && is_unknown (known key v.state), fault.EphemeralStateGetWithClosedInput) ∷ (v.counters.ephemeral == most, fault.ExhaustedEphemeralIds) ∷ []
+rest key v = (v.input_closed && is_unknown (value_known key v.state), fault.EphemeralStateGetWithClosedInput) ∷ (v.counters.ephemeral == most, fault.ExhaustedEphemeralIds) ∷ []
 
 by_phase : (p : Phase) (key : List ℕ) (name : NamedFault) (v : Machine)
     → first_reason ((is_replaying p, fault.EphemeralCommandDuringReplay) ∷ (is_waiting p, fault.UnexpectedState) ∷ (is_closed p, fault.Closed) ∷ rest key v) ≡ Some name → read_in p key v ≡ refused name v
@@ -86,7 +86,7 @@ by_phase WaitingStart key name v e = ap (λ n. refused n v) (same_Some _ name e)
 by_phase WaitingReplayEntries key name v e = ap (λ n. refused n v) (same_Some _ name e)
 by_phase Replaying key name v e = ap (λ n. refused n v) (same_Some _ name e)
 by_phase Closed key name v e = ap (λ n. refused n v) (same_Some _ name e)
-by_phase Processing key name v e = by_numbers v.input_closed (known key v.state) (v.counters.ephemeral == most) key name v e
+by_phase Processing key name v e = by_numbers v.input_closed (value_known key v.state) (v.counters.ephemeral == most) key name v e
 
 by_version : (b : Bool) (key : List ℕ) (name : NamedFault) (v : Machine)
     → first_reason ((not b, fault.UnsupportedFeatureForNegotiatedVersion) ∷ (is_replaying v.phase, fault.EphemeralCommandDuringReplay) ∷ (is_waiting v.phase, fault.UnexpectedState) ∷ (is_closed v.phase, fault.Closed) ∷ rest key v) ≡ Some name
@@ -119,13 +119,13 @@ found_value (stored.Value bytes) = refl
 comes : (raw : RawMessage) (found : VoidOrValue) (id : ℕ) (p : Phase) (w : Machine) → p ≡ Processing → is_processing w.phase ≡ true → is_in_flight id w.ephemeral ≡ true → Brings id found raw
     → (u : Machine) × (ephemeral_notification_step raw p w ≡ Done tt u) × TakeGives id (value_of_result found) u
 comes raw found id p w at runs flies brings =
-    let u : Machine = record w { ephemeral = completed id (found_of found) w.ephemeral } in
+    let u : Machine = record w { ephemeral = with_read_completed id (found_of found) w.ephemeral } in
     let there : value_at id u.ephemeral ≡ Some (found_of found) =
     ap (λ b. value_at id (if b || is_ready id w.ephemeral then record { in_flight = remove_key (is_at (nat_cmp id)) w.ephemeral.in_flight; ready = insert_entry nat_cmp w.ephemeral.ready id (found_of found) } else w.ephemeral)) flies ∙ its_own id (found_of found) w.ephemeral.ready in
     (u, ap (λ x. ephemeral_notification_step raw x w) at ∙ ap (λ o. completed_by o w) brings, takes id (found_of found) (value_of_result found) u runs there (found_value found))
 
 Answers : List ℕ → Machine → Outcome EphemeralCompletionId → Type 0
-Answers key v o = (id : EphemeralCompletionId) × (w : Machine) × (o ≡ Done id w) × (id.0 ≡ v.counters.ephemeral) × IsAnswered key (known key v.state) id.0 v w
+Answers key v o = (id : EphemeralCompletionId) × (w : Machine) × (o ≡ Done id w) × (id.0 ≡ v.counters.ephemeral) × IsAnswered key (value_known key v.state) id.0 v w
 
 known_answered : (key : List ℕ) (k : Known) (v : Machine) → v.phase ≡ Processing → IsAnswered key k v.counters.ephemeral v (read_of key k v)
 known_answered key Unknown v runs = (refl, λ raw found brings. comes raw found v.counters.ephemeral v.phase (asked_for key v) runs (ap is_processing runs) (among v.counters.ephemeral v.ephemeral.in_flight) brings)
@@ -148,10 +148,10 @@ phase_answered WaitingReplayEntries key v at e = absurd (cc)
 phase_answered Replaying key v at e = absurd (cc)
 phase_answered Closed key v at e = absurd (cc)
 phase_answered Processing key v at e =
-    let k = known key v.state in (
+    let k = value_known key v.state in (
       record { 0 = v.counters.ephemeral },
       read_of key k v,
-      ap (λ o. read_numbered o key k v) (none_missing v.input_closed k (v.counters.ephemeral == most) e),
+      ap (λ o. ephemeral_read_numbered o key k v) (none_missing v.input_closed k (v.counters.ephemeral == most) e),
       refl,
       known_answered key k v at,
     )
@@ -163,6 +163,6 @@ unfolding rest
 version_answered true key v e = phase_answered v.phase key v refl e
 version_answered false key v e = absurd (cc)
 
-pub read_answered : (key : List ℕ) (v : Machine) → first_reason (reasons key v) ≡ None → (id : EphemeralCompletionId) × (w : Machine) × (ephemeral_step key v ≡ Done id w) × (id.0 ≡ v.counters.ephemeral) × IsAnswered key (known key v.state) id.0 v w
+pub read_answered : (key : List ℕ) (v : Machine) → first_reason (reasons key v) ≡ None → (id : EphemeralCompletionId) × (w : Machine) × (ephemeral_step key v ≡ Done id w) × (id.0 ≡ v.counters.ephemeral) × IsAnswered key (value_known key v.state) id.0 v w
 unfolding ephemeral_step rest Answers
 read_answered key v e = version_answered (is_from_v8 v.version) key v e

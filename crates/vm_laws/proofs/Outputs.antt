@@ -50,7 +50,7 @@ use Rattle.vm_machine.specs.Skips.{skips_replay}
 use Rattle.vm_laws.specs.Outputs.{EndsOnceAfter, StaysSo}
 use Rattle.invocation_vm.specs.Frames.{Tail, Rest, Garbage, frames_of}
 use Rattle.invocation_vm.specs.Making.{made}
-use Rattle.invocation_vm.specs.Views.{View, Calls, Leaves, TakesOutput, after_closing, after_error, after_input, all_received, brought, consumed, has_failed, left_by, left_over, received, spoiled}
+use Rattle.invocation_vm.specs.Views.{View, Calls, Leaves, TakesOutput, after_closing, after_error, after_input, all_received, messages_in_bytes, consumed, has_failed, left_by, left_over, received, spoiled}
 use Rattle.invocation_vm.proofs.Feeds.{among_failed, among_output}
 
 -- ---- one after another
@@ -258,8 +258,8 @@ input_at false v bytes =
     let frames = frames_of (v.undecoded ++ bytes) in
     left_over_writes frames.1 v.machine (all_received frames.0 v.machine) (all_write frames.0 v.machine)
 
-pub bytes_stay : (bytes : List ℕ) (r : Result Unit AllocError) (old new : View) → Leaves (brought old bytes) (after_input old bytes) r old new → StaysSo old new
-bytes_stay bytes r old new l = leaves_stay (brought old bytes) (after_input old bytes) r old new (input_at (has_failed old.machine) old bytes) l
+pub bytes_stay : (bytes : List ℕ) (r : Result Unit AllocError) (old new : View) → Leaves (messages_in_bytes old bytes) (after_input old bytes) r old new → StaysSo old new
+bytes_stay bytes r old new l = leaves_stay (messages_in_bytes old bytes) (after_input old bytes) r old new (input_at (has_failed old.machine) old bytes) l
 
 pub closing_stays : (r : Result Unit AllocError) (old new : View) → Leaves [] (after_closing old) r old new → StaysSo old new
 closing_stays r old new l = leaves_stay [] (after_closing old) r old new (left_writes (called (close_step old.machine) old.machine) old.machine (close_writes old.machine)) l

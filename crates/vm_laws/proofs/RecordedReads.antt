@@ -16,7 +16,7 @@ use Rattle.journal_state.specs.declared.state.VoidOrValue.TheVariants as stored
 use Rattle.journal_values.specs.declared.notification.NotificationResult.{NotificationResult}
 use Rattle.journal_values.specs.declared.notification.NotificationResult.TheVariants as gives
 use Rattle.vm_laws.specs.RecordedReads.{IsFound, IsKeysRead, IsRead, IsValueRead, Records}
-use Rattle.vm_asks.specs.StateReads.{eager_form, eager_type, lazy_form, lazy_type, read_as, recorded_as, result_in, result_or, value_result}
+use Rattle.vm_asks.specs.StateReads.{eager_form, eager_type, lazy_form, lazy_type, read_in_form, recorded_as, result_in, result_or, value_result}
 use Rattle.vm_asks.specs.declared.state_read.StateRead.{StateRead}
 use Rattle.vm_asks.specs.declared.state_read.StateRead.TheVariants as reads
 
@@ -87,7 +87,7 @@ eager_read (reads.Keys name) id m result e r = eager_keys name id m result e r
 abbrev StandsFor : StateRead → ℕ → Option NotificationResult → Option Message → Type 0
 StandsFor read id result o = (m : Message) × (o ≡ Some m) × IsRead read id result m
 
-by_form : (read : StateRead) (id : ℕ) (form : Message) (o : Option Message) (result : Option NotificationResult) → ((m : Message) → header_equal m form true ≡ true → result_in m ≡ Ok result → IsRead read id result m) → read_as (Some form) o ≡ Ok result → StandsFor read id result o
+by_form : (read : StateRead) (id : ℕ) (form : Message) (o : Option Message) (result : Option NotificationResult) → ((m : Message) → header_equal m form true ≡ true → result_in m ≡ Ok result → IsRead read id result m) → read_in_form (Some form) o ≡ Ok result → StandsFor read id result o
 by_form read id form None result h e = absurd (cc)
 by_form read id form (Some m) result h e = by_test (header_equal m form true) refl e
   where
@@ -98,7 +98,7 @@ by_form read id form (Some m) result h e = by_test (header_equal m form true) re
 pub recorded_stands : (read : StateRead) (id : ℕ) (raw : RawMessage) (result : Option NotificationResult) → recorded_as read id raw ≡ Ok result → (m : Message) × (message_in raw.ty raw.body ≡ Some m) × IsRead read id result m
 recorded_stands read id raw result e = by_types (type_number raw.ty == type_number (lazy_type read)) (type_number raw.ty == type_number (eager_type read)) e
   where
-    by_types : (a b : Bool) → read_as (if a then Some (lazy_form read id) else if b then Some (eager_form read) else None) (message_in raw.ty raw.body) ≡ Ok result → StandsFor read id result (message_in raw.ty raw.body)
+    by_types : (a b : Bool) → read_in_form (if a then Some (lazy_form read id) else if b then Some (eager_form read) else None) (message_in raw.ty raw.body) ≡ Ok result → StandsFor read id result (message_in raw.ty raw.body)
     by_types true b e = by_form read id (lazy_form read id) (message_in raw.ty raw.body) result (λ m. lazy_read read id m result) e
     by_types false true e = by_form read id (eager_form read) (message_in raw.ty raw.body) result (λ m. eager_read read id m result) e
     by_types false false e = absurd (cc)

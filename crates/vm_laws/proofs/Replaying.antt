@@ -12,11 +12,11 @@ use Rattle.journal_messages.specs.Message.{encoding, type_of}
 use Rattle.journal_messages.specs.Reading.{message_in}
 use Rattle.journal_errors.specs.Types.{type_number}
 use Rattle.await_trees.specs.declared.handle.NotificationHandle.{NotificationHandle}
-use Rattle.vm_parts.specs.Counting.{missing}
+use Rattle.vm_parts.specs.Counting.{missing_number}
 use Rattle.vm_machine.specs.declared.machine.Machine.{Machine}
 use Rattle.vm_machine.specs.declared.phase.Phase.{Phase}
 use Rattle.vm_machine.specs.declared.phase.Phase.TheVariants.{Replaying}
-use Rattle.vm_machine.specs.Commands.{entered, written, phase_after, popped, popped_from, compared, replayed, carried_out, prepared, counted, issued}
+use Rattle.vm_machine.specs.Commands.{entered, written, phase_after, popped, popped_from, compared, replayed, carried_out, prepared, command_if_counted, issued}
 use Rattle.vm_laws.specs.Endings.{EndsOnce, Writes, is_over}
 use Rattle.vm_machine.specs.Outcomes.{Outcome, Done, Failed, ◌>>=◌, about_last}
 use Rattle.vm_machine.specs.Phases.{is_running, is_processing, state_fault}
@@ -73,7 +73,7 @@ found m ignore (raw ∷ rest) u w h = typed_at m ignore (type_number raw.ty == t
 
 -- ---- a call that is done
 
-pops_at : (o : Option NamedFault) (r : Message) (unstable : Bool) (h : NotificationHandle) (v w : Machine) → v.phase ≡ Replaying → counted o r unstable v ≡ Done h w → Pops r unstable v w
+pops_at : (o : Option NamedFault) (r : Message) (unstable : Bool) (h : NotificationHandle) (v w : Machine) → v.phase ≡ Replaying → command_if_counted o r unstable v ≡ Done h w → Pops r unstable v w
 pops_at (Some name) r unstable h v w p d = absurd (no_answer _ h v w d)
 pops_at None r unstable h v w p d =
     let m = command_at r v in
@@ -84,8 +84,8 @@ pops_at None r unstable h v w p d =
     record { raw = f.raw; recorded = f.recorded; read = f.read; equal = f.equal; popped = f.popped; output = f.output }
 
 running_at : (b : Bool) (r : Message) (unstable : Bool) (h : NotificationHandle) (v w u : Machine) (e : Error)
-    → v.phase ≡ Replaying → (if b then counted (missing (ids_of r) 0 (ids_of r) v.counters) r unstable v else Failed e u) ≡ Done h w → Pops r unstable v w
-running_at true r unstable h v w u e p d = pops_at (missing (ids_of r) 0 (ids_of r) v.counters) r unstable h v w p d
+    → v.phase ≡ Replaying → (if b then command_if_counted (missing_number (ids_of r) 0 (ids_of r) v.counters) r unstable v else Failed e u) ≡ Done h w → Pops r unstable v w
+running_at true r unstable h v w u e p d = pops_at (missing_number (ids_of r) 0 (ids_of r) v.counters) r unstable h v w p d
 running_at false r unstable h v w u e p d = absurd (no_answer e h u w d)
 
 pub pops : (r : Message) (unstable : Bool) (h : NotificationHandle) (v w : Machine) → v.phase ≡ Replaying → issued r unstable v ≡ Done h w → Pops r unstable v w
@@ -94,13 +94,13 @@ pops r unstable h v w p d = running_at (is_running v.phase) r unstable h v w _ _
 
 -- ---- a call that is refused
 
-counts : (r : Message) (unstable : Bool) (v : Machine) → MayReplay r v → issued r unstable v ≡ counted None r unstable v
+counts : (r : Message) (unstable : Bool) (v : Machine) → MayReplay r v → issued r unstable v ≡ command_if_counted None r unstable v
 unfolding issued
 counts r unstable v may =
     ap
-    (λ (x : Phase). if is_running x then counted (missing (ids_of r) 0 (ids_of r) v.counters) r unstable v
+    (λ (x : Phase). if is_running x then command_if_counted (missing_number (ids_of r) 0 (ids_of r) v.counters) r unstable v
     else (let w = entered (shown_type r) (name_of r) v in Failed (about_last (state_fault v.phase) w) w))
-    may.phase ∙ ap (λ (o : Option NamedFault). counted o r unstable v) may.numbers
+    may.phase ∙ ap (λ (o : Option NamedFault). command_if_counted o r unstable v) may.numbers
 
 -- the call's answer
 abbrev answer : Machine → Outcome Unit → Outcome NotificationHandle

@@ -18,13 +18,13 @@ use Rattle.journal_messages.specs.Reading.{message_in}
 use Rattle.await_trees.specs.declared.handle.NotificationHandle.{NotificationHandle}
 use Rattle.vm_types.specs.declared.types.DeadlineCallHandle.{DeadlineCallHandle}
 use Rattle.vm_parts.specs.declared.async_results.Mapping.{Mapping}
-use Rattle.vm_parts.specs.Counting.{missing}
+use Rattle.vm_parts.specs.Counting.{missing_number}
 use Rattle.vm_asks.specs.declared.command.Command.{Command}
 use Rattle.vm_asks.specs.Asks.{all_ids, any_refusal, deadline_handles, sleep_command}
 use Rattle.vm_asks.specs.GivenIds.{IsCallWith}
 use Rattle.vm_asks.specs.Requests.{ids_of, name_of, shown_type, with_ids}
 use Rattle.vm_machine.specs.declared.machine.Machine.{Machine}
-use Rattle.vm_machine.specs.Commands.{carried_out, commanded, commanded_unless, compared, counted, entered, ignores_payloads, issued, mapped_from, phase_after, popped, popped_from, prepared, replayed, written}
+use Rattle.vm_machine.specs.Commands.{carried_out, commanded, commanded_unless, compared, command_if_counted, entered, ignores_payloads, issued, mapped_from, phase_after, popped, popped_from, prepared, replayed, written}
 use Rattle.vm_machine.specs.Outcomes.{Does, Done, Failed, Outcome, ◌>>=◌, about_last, called, called_at}
 use Rattle.vm_machine.specs.Phases.{is_processing, is_running, state_fault}
 use Rattle.vm_machine.proofs.Calling.{answers_first}
@@ -106,7 +106,7 @@ entered_from c m ignore v w (inl x) = inl (record { output = x.output; commands 
 entered_from c m ignore v w (inr x) =
     inr (record { raw = x.raw; recorded = x.recorded; read = x.read; equal = x.equal; commands = x.commands; output = x.output })
 
-counted_makes : (o : Option NamedFault) (m : Message) (unstable : Bool) (h : NotificationHandle) (v w : Machine) → counted o m unstable v ≡ Done h w → Made m unstable h v w
+counted_makes : (o : Option NamedFault) (m : Message) (unstable : Bool) (h : NotificationHandle) (v w : Machine) → command_if_counted o m unstable v ≡ Done h w → Made m unstable h v w
 counted_makes (Some name) m unstable h v w d = absurd (no_answer _ h v w d)
 counted_makes None m unstable h v w d =
     let c = with_ids v.counters.completion m in
@@ -126,8 +126,8 @@ issued_makes : (m : Message) (unstable : Bool) (h : NotificationHandle) (v w : M
 unfolding issued
 issued_makes m unstable h v w = by_phase (is_running v.phase)
   where
-    by_phase : (b : Bool) → (if b then counted (missing (ids_of m) 0 (ids_of m) v.counters) m unstable v else (let u = entered (shown_type m) (name_of m) v in Failed (about_last (state_fault v.phase) u) u)) ≡ Done h w → Made m unstable h v w
-    by_phase true d = counted_makes (missing (ids_of m) 0 (ids_of m) v.counters) m unstable h v w d
+    by_phase : (b : Bool) → (if b then command_if_counted (missing_number (ids_of m) 0 (ids_of m) v.counters) m unstable v else (let u = entered (shown_type m) (name_of m) v in Failed (about_last (state_fault v.phase) u) u)) ≡ Done h w → Made m unstable h v w
+    by_phase true d = counted_makes (missing_number (ids_of m) 0 (ids_of m) v.counters) m unstable h v w d
     by_phase false d = absurd (no_answer _ h _ w d)
 
 commanded_makes : (o : Option NamedFault) (m : Message) (unstable : Bool) (h : NotificationHandle) (v w : Machine) → commanded_unless o m unstable v ≡ Done h w → Made m unstable h v w

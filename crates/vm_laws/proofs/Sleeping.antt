@@ -8,11 +8,11 @@ use Rattle.journal_errors.specs.declared.faults.NamedFault.TheVariants as fault
 use Rattle.await_trees.specs.declared.handle.NotificationHandle.{NotificationHandle}
 use Rattle.journal_messages.specs.declared.message.Message.{Message}
 use Rattle.journal_messages.specs.declared.message.Message.TheVariants as message
-use Rattle.vm_parts.specs.Counting.{missing}
+use Rattle.vm_parts.specs.Counting.{missing_number}
 use Rattle.vm_machine.specs.declared.machine.Machine.{Machine}
 use Rattle.vm_machine.specs.declared.phase.Phase.{Phase}
 use Rattle.vm_machine.specs.declared.phase.Phase.TheVariants.{Processing}
-use Rattle.vm_machine.specs.Commands.{carried_out, commanded, commanded_unless, counted, entered, ignores_payloads, issued, prepared, replayed, written}
+use Rattle.vm_machine.specs.Commands.{carried_out, commanded, commanded_unless, command_if_counted, entered, ignores_payloads, issued, prepared, replayed, written}
 use Rattle.vm_machine.specs.Outcomes.{Outcome, Done, Failed, ◌>>=◌, IsStarved, about_last, called, called_at}
 use Rattle.vm_machine.specs.Phases.{is_processing, is_running, state_fault}
 use Rattle.vm_asks.specs.Requests.{shown_type, with_ids}
@@ -33,7 +33,7 @@ in_bounds millis name v b =
     ap (λ x. commanded_unless (if x then None else Some fault.OutOfBoundsDuration) (sleep_message (min millis 18446744073709551615) name) false v) (lt-ltb millis 18446744073709551616 b)
     ∙ ap (λ t. issued (sleep_message t name) false v) same
 
-carries_out : (millis : ℕ) (name : List ℕ) (v : Machine) → v.phase ≡ Processing → counted None (sleep_message millis name) false v ≡ Done (record { 0 = v.counters.handle }) (sleeping millis name v)
+carries_out : (millis : ℕ) (name : List ℕ) (v : Machine) → v.phase ≡ Processing → command_if_counted None (sleep_message millis name) false v ≡ Done (record { 0 = v.counters.handle }) (sleeping millis name v)
 unfolding carried_out
 carries_out millis name v p =
     let m = sleep_message millis name in
@@ -46,9 +46,9 @@ unfolding issued
 issues millis name v may =
     let m = sleep_message millis name in
     ap
-    (λ (x : Phase). if is_running x then counted (missing 1 0 1 v.counters) m false v
+    (λ (x : Phase). if is_running x then command_if_counted (missing_number 1 0 1 v.counters) m false v
     else (let w = entered (shown_type m) name v in Failed (about_last (state_fault v.phase) w) w))
-    may.phase ∙ ap (λ (o : Option NamedFault). counted o m false v) may.numbers ∙ carries_out millis name v may.phase
+    may.phase ∙ ap (λ (o : Option NamedFault). command_if_counted o m false v) may.numbers ∙ carries_out millis name v may.phase
 
 sleeps : (millis : ℕ) (name : List ℕ) (v : Machine) → MaySleep v → millis < 18446744073709551616
     → called (commanded (sleep_command millis name) v) v ≡ Done (record { 0 = v.counters.handle }) (sleeping millis name v)

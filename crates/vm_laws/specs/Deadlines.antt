@@ -25,7 +25,7 @@ IsSleepWith id (message.Sleep c) = c.result_completion_id ≡ id
 IsSleepWith id m = ⊥
 
 -- the command was written after all other output
-pub record IsWritten (m : Message) (old new : Machine) : Type 0 where
+pub record CommandIsWritten (m : Message) (old new : Machine) : Type 0 where
   pub output : new.output ≡ old.output ++ encoding m ∷ []
   pub commands : new.commands ≡ old.commands
 
@@ -40,7 +40,7 @@ pub record IsPopped (m : Message) (ignore : Bool) (old new : Machine) : Type 0 w
 
 -- the command was written, or popped in replay
 abbrev pub IsEntered : Message → Bool → Machine → Machine → Type 0
-IsEntered m ignore old new = IsWritten m old new ⊎ IsPopped m ignore old new
+IsEntered m ignore old new = CommandIsWritten m old new ⊎ IsPopped m ignore old new
 
 -- a handle stands for this completion id
 abbrev pub stands_for : NotificationHandle → ℕ → Mapping

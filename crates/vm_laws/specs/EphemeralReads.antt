@@ -10,7 +10,7 @@ use Rattle.journal_state.specs.declared.state.VoidOrValue.TheVariants as stored
 use Rattle.vm_types.specs.declared.values.Value.{Value}
 use Rattle.vm_types.specs.declared.values.Value.TheVariants as value
 use Rattle.vm_parts.specs.Counting.{most}
-use Rattle.vm_parts.specs.States.{known}
+use Rattle.vm_parts.specs.States.{value_known}
 use Rattle.vm_parts.specs.declared.context.Known.{Known}
 use Rattle.vm_parts.specs.declared.context.Known.TheVariants.{Unknown, Empty, Value as Holds}
 use Rattle.vm_machine.specs.declared.machine.Machine.{Machine}
@@ -35,7 +35,10 @@ reasons key v =
     ∷ (is_replaying v.phase, fault.EphemeralCommandDuringReplay)
     ∷ (is_waiting v.phase, fault.UnexpectedState)
     ∷ (is_closed v.phase, fault.Closed)
-    ∷ (v.input_closed && is_unknown (known key v.state), fault.EphemeralStateGetWithClosedInput)
+    ∷ (
+      v.input_closed && is_unknown (value_known key v.state),
+      fault.EphemeralStateGetWithClosedInput,
+    )
     ∷ (v.counters.ephemeral == most, fault.ExhaustedEphemeralIds)
     ∷ []
 

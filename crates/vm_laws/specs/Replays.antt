@@ -7,7 +7,7 @@ use Rattle.journal_equality.specs.HeaderEqual.{header_equal}
 use Rattle.journal_messages.specs.Message.{type_of}
 use Rattle.journal_messages.specs.Reading.{message_in}
 use Rattle.journal_errors.specs.Types.{type_number}
-use Rattle.vm_parts.specs.Counting.{missing}
+use Rattle.vm_parts.specs.Counting.{missing_number}
 use Rattle.vm_machine.specs.declared.machine.Machine.{Machine}
 use Rattle.vm_machine.specs.declared.phase.Phase.TheVariants.{Replaying}
 use Rattle.vm_machine.specs.Commands.{about_next, ignores_payloads, issued}
@@ -17,7 +17,7 @@ use Rattle.vm_asks.specs.Requests.{ids_of, name_of, shown_type, with_ids}
 -- the machine replays, and has the numbers that the call needs
 pub record MayReplay (m : Message) (v : Machine) : Type 0 where
   pub phase : v.phase ≡ Replaying
-  pub numbers : missing (ids_of m) 0 (ids_of m) v.counters ≡ None
+  pub numbers : missing_number (ids_of m) 0 (ids_of m) v.counters ≡ None
 
 -- the command of the call
 abbrev pub command_at : Message → Machine → Message

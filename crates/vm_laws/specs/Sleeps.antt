@@ -4,7 +4,7 @@ use Rattle.journal_messages.specs.declared.message.Message.TheVariants as messag
 use Rattle.journal_values.specs.declared.notification.NotificationId.TheVariants.{CompletionId}
 use Rattle.journal_errors.specs.declared.types.MessageType.TheVariants as type
 use Rattle.journal_messages.specs.Message.{encoding}
-use Rattle.vm_parts.specs.Counting.{missing, next_index}
+use Rattle.vm_parts.specs.Counting.{missing_number, next_index}
 use Rattle.vm_machine.specs.declared.machine.Machine.{Machine}
 use Rattle.vm_machine.specs.declared.phase.Phase.TheVariants.{Processing}
 
@@ -13,7 +13,7 @@ use Rattle.vm_machine.specs.declared.phase.Phase.TheVariants.{Processing}
 pub record MaySleep (v : Machine) : Type 0 where
   pub live : v.failure ≡ None
   pub phase : v.phase ≡ Processing
-  pub numbers : missing 1 0 1 v.counters ≡ None
+  pub numbers : missing_number 1 0 1 v.counters ≡ None
 
 -- The next handle stands for the next completion id, and one frame is written, that of a Sleep with
 -- this id. Nothing else is changed but the numbers, the last command, and that a command was

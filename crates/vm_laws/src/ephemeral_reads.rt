@@ -2,7 +2,7 @@
 ghost use Rattle.std.specs.Prelude.{◌≡◌, List, None, Some, ℕ};
 ghost use Rattle.journal_errors.specs.declared.faults.NamedFault.{NamedFault};
 ghost use Rattle.vm_types.specs.declared.types.EphemeralCompletionId.{EphemeralCompletionId};
-ghost use Rattle.vm_parts.specs.States.{known};
+ghost use Rattle.vm_parts.specs.States.{value_known};
 ghost use Rattle.vm_machine.specs.declared.machine.Machine.{Machine};
 ghost use Rattle.vm_machine.specs.Ephemerals.{ephemeral_step};
 ghost use Rattle.vm_machine.specs.Outcomes.{Done, refused};
@@ -15,5 +15,5 @@ pub fn ephemeral_reads_answer_what_is_known()
         → first_reason (reasons key v) ≡ Some name → ephemeral_step key v ≡ refused name v }
     ensures answered { (key : List ℕ) (v : Machine) → first_reason (reasons key v) ≡ None
         → (id : EphemeralCompletionId) × (w : Machine) × (ephemeral_step key v ≡ Done id w)
-        × (id.0 ≡ v.counters.ephemeral) × IsAnswered key (known key v.state) id.0 v w }
+        × (id.0 ≡ v.counters.ephemeral) × IsAnswered key (value_known key v.state) id.0 v w }
 {}

@@ -25,7 +25,7 @@ ghost use Rattle.runs.specs.Firsts.{without_first};
 ghost use Rattle.runs.specs.Kept.{is_for};
 ghost use Rattle.vm_parts.specs.declared.run_state.KeptProposal.{KeptProposal};
 ghost use Rattle.journal_errors.specs.Versions.{is_from_v7};
-ghost use Rattle.vm_machine.specs.Inputs.{completion_of, enqueued, close_step, end_step, input_step, malformed_step, message_step};
+ghost use Rattle.vm_machine.specs.Inputs.{acknowledged_completion, enqueued, close_step, end_step, input_step, malformed_step, message_step};
 ghost use Rattle.vm_machine.specs.Reports.{report_step};
 ghost use Rattle.vm_laws.specs.Numbers.{Counted};
 ghost use Rattle.vm_machine.specs.Outcomes.{Done, Failed, Outcome, called, refused};
@@ -123,7 +123,7 @@ pub fn ephemeral_reads_leave_the_journal()
 pub fn acknowledgements_bring_what_was_proposed()
     ensures kept { (raw : RawMessage) (id : ℕ) (kept : KeptProposal) (v : Machine)
         → Acknowledges raw id v → find (is_for id) v.proposals ≡ Some kept → message_step raw v
-        ≡ Done tt (enqueued (completion_of id kept)
+        ≡ Done tt (enqueued (acknowledged_completion id kept)
         (record v { proposals = without_first (is_for id) v.proposals })) }
     ensures none { (raw : RawMessage) (id : ℕ) (v : Machine) → Acknowledges raw id v
         → find (is_for id) v.proposals ≡ None → message_step raw v

@@ -33,7 +33,7 @@ ghost use Rattle.invocation_vm.specs.Calls.{CallsAll, CallsAllFor, CallsCommand,
 ghost use Rattle.vm_laws.specs.Outputs.{EndsOnceAfter, StaysSo};
 ghost use Rattle.invocation_vm.specs.Making.{made};
 ghost use Rattle.vm_laws.specs.Sleeps.{MaySleep, sleeping};
-ghost use Rattle.invocation_vm.specs.Views.{View, AnswersFirst, Calls, Leaves, TakesOutput, after_closing, after_error, after_input, brought};
+ghost use Rattle.invocation_vm.specs.Views.{View, AnswersFirst, Calls, Leaves, TakesOutput, after_closing, after_error, after_input, messages_in_bytes};
 
 /// Over any list of calls, all output together has at most one Suspension, Error or End, and nothing behind it: that
 /// is so of a new VM, and each call of `VM`, by the clause that it ensures, leaves it so.
@@ -45,7 +45,7 @@ pub fn all_output_ends_once()
     ensures untaken { (e : AllocError) (old new : View) → TakesOutput (Err e) old new
         → StaysSo old new }
     ensures bytes { (bytes : List ℕ) (r : Result Unit AllocError) (old new : View)
-        → Leaves (brought old bytes) (after_input old bytes) r old new → StaysSo old new }
+        → Leaves (messages_in_bytes old bytes) (after_input old bytes) r old new → StaysSo old new }
     ensures closings { (r : Result Unit AllocError) (old new : View)
         → Leaves [] (after_closing old) r old new → StaysSo old new }
     ensures errors { (e : Error) (relationship : Option CommandRelationship)

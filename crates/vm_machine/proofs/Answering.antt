@@ -6,7 +6,7 @@ use Rattle.await_trees.specs.declared.handle.NotificationHandle.{NotificationHan
 use Rattle.vm_asks.specs.declared.asks.AnswerKind.{AnswerKind}
 use Rattle.vm_asks.specs.declared.asks.AnswerKind.TheVariants as kind
 use Rattle.vm_asks.specs.Asks.{AnswerTakes, HandlesFit, answer_kind}
-use Rattle.vm_machine.specs.Commands.{Fits}
+use Rattle.vm_machine.specs.Commands.{HandleFits}
 use Rattle.vm_asks.specs.Requests.{ids_of}
 
 -- only a call is answered by two handles, and it takes two
@@ -56,7 +56,7 @@ fits_by kind.CallWithDeadline ids handle two none fits = absurd (none refl)
 fits_by kind.Send ids handle two none fits = tt
 
 -- what a command is answered by fits, where its handles do
-pub handles_fit : (m : Message) (handle : NotificationHandle) → Fits m handle → HandlesFit (answer_kind m) handle
+pub handles_fit : (m : Message) (handle : NotificationHandle) → HandleFits m handle → HandlesFit (answer_kind m) handle
 handles_fit m handle fits = fits_by (answer_kind m) (ids_of m) handle.0 (call_takes_two m) (none_with_deadline m) fits
 
 -- what several commands are answered by fits, where their handles do

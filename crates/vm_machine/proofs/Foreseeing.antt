@@ -5,13 +5,13 @@ use Rattle.journal_errors.specs.declared.error.Error.{Error}
 use Rattle.journal_errors.specs.declared.faults.NamedFault.{NamedFault}
 use Rattle.journal_messages.specs.declared.message.Message.{Message}
 use Rattle.await_trees.specs.declared.handle.NotificationHandle.{NotificationHandle}
-use Rattle.vm_parts.specs.Counting.{missing}
+use Rattle.vm_parts.specs.Counting.{missing_number}
 use Rattle.vm_asks.specs.declared.command.Command.{Command}
 use Rattle.vm_asks.specs.Asks.{all_ids, any_refusal}
 use Rattle.vm_asks.specs.Requests.{ids_of, name_of, shown_type, with_ids}
 use Rattle.vm_machine.specs.declared.fault.Fault.{Fault}
 use Rattle.vm_machine.specs.declared.machine.Machine.{Machine}
-use Rattle.vm_machine.specs.Commands.{carried_out, commanded, commanded_unless, counted, entered, ignores_payloads, issued, prepared}
+use Rattle.vm_machine.specs.Commands.{carried_out, commanded, commanded_unless, command_if_counted, entered, ignores_payloads, issued, prepared}
 use Rattle.vm_machine.specs.Several.{AllFit, commanded_before, foreseen, foreseen_unless, missing_for, numbers_left}
 use Rattle.vm_machine.specs.Outcomes.{Done, Failed, Gives, Outcome, ◌>>=◌, about_last}
 use Rattle.vm_machine.specs.Phases.{is_running, state_fault}
@@ -25,7 +25,7 @@ answered_first : (handle : NotificationHandle) (o : Outcome Unit) (a : Notificat
 answered_first handle (Done t u) a w h = (let z : Done handle u ≡ Done a w = h in cc)
 answered_first handle (Failed e u) a w h = absurd (cc)
 
-counted_first : (o : Option NamedFault) (m : Message) (unstable : Bool) (v : Machine) (a : NotificationHandle) (w : Machine) → counted o m unstable v ≡ Done a w → a ≡ record { 0 = v.counters.handle }
+counted_first : (o : Option NamedFault) (m : Message) (unstable : Bool) (v : Machine) (a : NotificationHandle) (w : Machine) → command_if_counted o m unstable v ≡ Done a w → a ≡ record { 0 = v.counters.handle }
 counted_first (Some name) m unstable v a w h = none_done h
 counted_first None m unstable v a w h = answered_first (record { 0 = v.counters.handle }) (carried_out (with_ids v.counters.completion m) (ignores_payloads v.options.non_determinism_checks unstable) (prepared m v)) a w h
 
@@ -33,8 +33,8 @@ issued_first : (m : Message) (unstable : Bool) (v : Machine) (a : NotificationHa
 unfolding issued
 issued_first m unstable v a w = by_test (is_running v.phase)
   where
-    by_test : (b : Bool) → (if b then counted (missing (ids_of m) 0 (ids_of m) v.counters) m unstable v else (let u = entered (shown_type m) (name_of m) v in Failed (about_last (state_fault v.phase) u) u)) ≡ Done a w → a ≡ record { 0 = v.counters.handle }
-    by_test true h = counted_first (missing (ids_of m) 0 (ids_of m) v.counters) m unstable v a w h
+    by_test : (b : Bool) → (if b then command_if_counted (missing_number (ids_of m) 0 (ids_of m) v.counters) m unstable v else (let u = entered (shown_type m) (name_of m) v in Failed (about_last (state_fault v.phase) u) u)) ≡ Done a w → a ≡ record { 0 = v.counters.handle }
+    by_test true h = counted_first (missing_number (ids_of m) 0 (ids_of m) v.counters) m unstable v a w h
     by_test false h = none_done h
 
 commanded_first : (o : Option NamedFault) (m : Message) (unstable : Bool) (v : Machine) (a : NotificationHandle) (w : Machine) → commanded_unless o m unstable v ≡ Done a w → a ≡ record { 0 = v.counters.handle }

@@ -9,7 +9,7 @@ use Rattle.retries.specs.declared.policy.RetryPolicy.{RetryPolicy}
 use Rattle.runs.specs.declared.settling.Settlement.{Settlement}
 use Rattle.runs.specs.declared.types.RunExitResult.{RunExitResult}
 use Rattle.runs.specs.Firsts.{without_first}
-use Rattle.runs.specs.Settling.{Becomes}
+use Rattle.runs.specs.Settling.{SettlesRun}
 use Rattle.vm_parts.specs.declared.run_state.PendingRun.{PendingRun}
 use Rattle.vm_machine.specs.declared.fault.Fault.{Fault}
 use Rattle.vm_machine.specs.declared.fault.Fault.TheVariants.{Memory, Refused}
@@ -46,11 +46,11 @@ settled_none handle exit policy v w none same =
     subst (λ (x : Option PendingRun × Machine). GivesBy (Settled handle exit policy x.0 v) (Err (Refused (named_error name.NoPendingRun None))) v x.1) (λ i. (none i, sym same i)) (refl, refl)
 
 pub settled_some : (handle : NotificationHandle) (exit : RunExitResult) (policy : RetryPolicy) (v mid new : Machine) (run : PendingRun) (s : Settlement) (r : Result (Unit {0}) Fault) → Some run ≡ run_at handle.0 v → mid ≡ without_run handle v
-    → Becomes run exit policy mid.start mid.wrote_command s → GivesBy (SettlesAs run.completion_id s mid) r mid new → GivesBy (Settled handle exit policy (run_at handle.0 v) v) r v new
+    → SettlesRun run exit policy mid.start mid.wrote_command s → GivesBy (SettlesAs run.completion_id s mid) r mid new → GivesBy (Settled handle exit policy (run_at handle.0 v) v) r v new
 settled_some handle exit policy v mid new run s r some is becomes gives = subst (λ o. GivesBy (Settled handle exit policy o v) r v new) some (by_result r gives)
   where
-    there : Becomes run exit policy v.start v.wrote_command s
-    there = subst (λ (m : Machine). Becomes run exit policy m.start m.wrote_command s) is becomes
+    there : SettlesRun run exit policy v.start v.wrote_command s
+    there = subst (λ (m : Machine). SettlesRun run exit policy m.start m.wrote_command s) is becomes
 
     by_result : (r : Result (Unit {0}) Fault) → GivesBy (SettlesAs run.completion_id s mid) r mid new → GivesBy (Settled handle exit policy (Some run) v) r v new
     by_result (Ok t) g = (s, there, subst (λ u. SettlesAs run.completion_id s u (Done t new)) is g)

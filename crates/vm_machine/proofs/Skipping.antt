@@ -16,7 +16,7 @@ use Rattle.journal_messages.specs.declared.message.RawMessage.{RawMessage}
 use Rattle.journal_messages.specs.Reading.{input_in, message_in}
 use Rattle.vm_asks.specs.Carried.{AreBelow, all_carried, carried, carried_by, past, past_all, read_carried, read_past}
 use Rattle.vm_parts.specs.declared.context.Counters.{Counters}
-use Rattle.vm_parts.specs.Counting.{missing, most, next_index}
+use Rattle.vm_parts.specs.Counting.{missing_number, most, next_index}
 use Rattle.vm_types.specs.declared.values.Input.{Input}
 use Rattle.vm_machine.specs.declared.machine.Machine.{Machine}
 use Rattle.vm_machine.specs.declared.phase.Phase.{Phase}
@@ -123,7 +123,7 @@ input_is v i w is = by_phase v.phase refl is
     by_past at e (Some id) past h = by_counters at e id past (counters_past (length (drop 1 v.commands)) id v.counters) refl h
 
     by_skip : (at : v.phase ≡ Replaying) (b : Bool) → skips_replay v.options.journal_replay ≡ b → input_by b v ≡ Done i w → ReadsInput v i w
-    by_skip at false e h = replays at false e (counted_is (missing 0 0 0 v.counters) v i w h) refl
+    by_skip at false e h = replays at false e (counted_is (missing_number 0 0 0 v.counters) v i w h) refl
     by_skip at true e h = by_past at e (past_all v.counters.completion (drop 1 v.commands)) refl h
 
     by_phase : (ph : Phase) → v.phase ≡ ph → input_at ph v ≡ Done i w → ReadsInput v i w

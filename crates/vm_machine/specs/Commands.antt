@@ -19,7 +19,7 @@ use Rattle.vm_parts.specs.declared.context.Counters.{Counters}
 use Rattle.vm_types.specs.declared.options.NonDeterministicChecksOption.{NonDeterministicChecksOption}
 use Rattle.vm_types.specs.declared.options.NonDeterministicChecksOption.TheVariants as checks
 use Rattle.await_trees.specs.declared.handle.NotificationHandle.{NotificationHandle}
-use Rattle.vm_parts.specs.Counting.{next_index, missing}
+use Rattle.vm_parts.specs.Counting.{next_index, missing_number}
 use Rattle.vm_parts.specs.Deliveries.{is_known}
 use Rattle.vm_asks.specs.declared.command.Command.{Command}
 use Rattle.vm_machine.specs.declared.fault.Fault.{Fault}
@@ -73,15 +73,15 @@ phase_after [] = Processing
 phase_after (raw ∷ rest) = Replaying
 
 -- the popped command has to be of this type
-abbrev pub typed : RawMessage → MessageType → Machine → Outcome RawMessage
-typed raw ty v =
+abbrev pub of_type : RawMessage → MessageType → Machine → Outcome RawMessage
+of_type raw ty v =
     if type_number raw.ty == type_number ty then Done raw v
     else Failed (about_last fault.CommandTypeMismatch v) v
 
 -- the first of these commands is popped
 abbrev pub popped_from : List RawMessage → MessageType → Machine → Outcome RawMessage
 popped_from [] ty v = Failed (about_last fault.UnavailableEntry v) v
-popped_from (raw ∷ rest) ty v = typed raw ty
+popped_from (raw ∷ rest) ty v = of_type raw ty
     (record v { commands = rest; phase = phase_after rest })
 
 -- the next recorded command is popped; it has to be of this type
@@ -143,9 +143,11 @@ prepared m v =
     })
 
 -- a call whose state was checked: the counters, and then the command
-abbrev pub counted : Option NamedFault → Message → Bool → Machine → Outcome NotificationHandle
-counted (Some name) m unstable v = Failed (about_next name (shown_type m) (name_of m) v) v
-counted None m unstable v =
+abbrev pub command_if_counted : Option NamedFault → Message → Bool → Machine
+    → Outcome NotificationHandle
+command_if_counted (Some name) m unstable v = Failed (about_next name (shown_type m) (name_of m) v)
+    v
+command_if_counted None m unstable v =
     carried_out (with_ids v.counters.completion m)
     (ignores_payloads v.options.non_determinism_checks unstable) (prepared m v)
     >>= λ _ w. Done (record { 0 = v.counters.handle }) w
@@ -154,7 +156,8 @@ counted None m unstable v =
 -- attempt to the next; it answers its first handle, where it has one.
 unfoldable pub issued : Message → Bool → Machine → Outcome NotificationHandle
 issued m unstable v =
-    if is_running v.phase then counted (missing (ids_of m) 0 (ids_of m) v.counters) m unstable v
+    if is_running v.phase then command_if_counted
+    (missing_number (ids_of m) 0 (ids_of m) v.counters) m unstable v
     else (let w = entered (shown_type m) (name_of m) v in Failed (about_last (state_fault v.phase) w) w)
 
 -- Where a call's command is written, its frame can be read back: each field and the length fit
@@ -163,13 +166,13 @@ abbrev pub CanBeRead : Message → Machine → Type 0
 CanBeRead m v = is_processing v.phase ≡ true → IsWhole (with_ids v.counters.completion m)
 
 -- each handle of a call fits
-abbrev pub Fits : Message → NotificationHandle → Type 0
-Fits m handle = handle.0 + ids_of m < 2 ^ 32
+abbrev pub HandleFits : Message → NotificationHandle → Type 0
+HandleFits m handle = handle.0 + ids_of m < 2 ^ 32
 
 -- A call that has a command: what it wrote can be read back, and its handles fit.
 abbrev pub Issues : Message → Bool → Result NotificationHandle Fault → Machine → Machine → Type 0
 Issues m unstable r old new =
-    Gives (issued m unstable old) r old new × OnOk r (CanBeRead m old) × IfOk r (Fits m)
+    Gives (issued m unstable old) r old new × OnOk r (CanBeRead m old) × IfOk r (HandleFits m)
 
 -- a call that has a command, unless it is refused
 abbrev pub commanded_unless : Option NamedFault → Message → Bool → Machine
@@ -184,7 +187,8 @@ commanded c v = commanded_unless c.refusal c.message c.unstable v
 -- A call that has a command: what it wrote can be read back, and its handles fit.
 abbrev pub Carries : Command → Result NotificationHandle Fault → Machine → Machine → Type 0
 Carries c r old new =
-    Gives (commanded c old) r old new × OnOk r (CanBeRead c.message old) × IfOk r (Fits c.message)
+    Gives (commanded c old) r old new × OnOk r (CanBeRead c.message old)
+    × IfOk r (HandleFits c.message)
 
 -- a call that is answered by this of its answer
 abbrev pub answered_by : {A B : Type 0} → (A → B) → Outcome A → Outcome B

@@ -15,8 +15,8 @@ use Rattle.vm_types.specs.declared.types.EphemeralCompletionId.{EphemeralComplet
 use Rattle.vm_types.specs.declared.values.Value.{Value}
 use Rattle.vm_types.specs.declared.values.Value.TheVariants as value
 use Rattle.vm_parts.specs.Counting.{missing_ephemeral}
-use Rattle.vm_parts.specs.Ephemerals.{any_ready, completed, is_ready, value_at, with_in_flight, with_ready, without_ready}
-use Rattle.vm_parts.specs.States.{known}
+use Rattle.vm_parts.specs.Ephemerals.{any_ready, with_read_completed, is_ready, value_at, with_in_flight, with_ready, without_ready}
+use Rattle.vm_parts.specs.States.{value_known}
 use Rattle.vm_parts.specs.declared.context.Known.{Known}
 use Rattle.vm_parts.specs.declared.context.Known.TheVariants.{Unknown, Empty, Value as Holds}
 use Rattle.vm_machine.specs.declared.machine.Machine.{Machine}
@@ -57,19 +57,20 @@ asking_fault true Unknown = Some fault.EphemeralStateGetWithClosedInput
 asking_fault closed k = None
 
 -- by why it can't be done
-abbrev pub read_numbered : Option NamedFault → List ℕ → Known → Machine
+abbrev pub ephemeral_read_numbered : Option NamedFault → List ℕ → Known → Machine
     → Outcome EphemeralCompletionId
-read_numbered (Some name) key k v = refused name v
-read_numbered None key k v = Done (record { 0 = v.counters.ephemeral }) (read_of key k v)
+ephemeral_read_numbered (Some name) key k v = refused name v
+ephemeral_read_numbered None key k v = Done (record { 0 = v.counters.ephemeral }) (read_of key k v)
 
 -- a key of which this is known is read
 abbrev pub read_known : List ℕ → Known → Machine → Outcome EphemeralCompletionId
 read_known key k v =
-    read_numbered (option_or (asking_fault v.input_closed k) (missing_ephemeral v.counters)) key k v
+    ephemeral_read_numbered (option_or (asking_fault v.input_closed k)
+    (missing_ephemeral v.counters)) key k v
 
 -- a key is read in this phase
 abbrev pub read_in : Phase → List ℕ → Machine → Outcome EphemeralCompletionId
-read_in Processing key v = read_known key (known key v.state) v
+read_in Processing key v = read_known key (value_known key v.state) v
 read_in Replaying key v = refused fault.EphemeralCommandDuringReplay v
 read_in phase key v = refused (state_fault phase) v
 
@@ -114,7 +115,7 @@ found_of (stored.Value bytes) = Some bytes
 abbrev pub result_comes : ℕ → Option VoidOrValue → Machine → Outcome Unit
 result_comes id None v = refused fault.EmptyGetStateEphemeralNotification v
 result_comes id (Some found) v = Done tt
-    (record v { ephemeral = completed id (found_of found) v.ephemeral })
+    (record v { ephemeral = with_read_completed id (found_of found) v.ephemeral })
 
 -- a notification that was read
 abbrev pub completed_by : Option GetStateEphemeralNotification → Machine → Outcome Unit

@@ -25,7 +25,7 @@ use Rattle.vm_parts.specs.declared.context.StartInfo.{StartInfo}
 use Rattle.vm_parts.specs.declared.context.StateCoverage.{StateCoverage}
 use Rattle.vm_parts.specs.declared.context.StateCoverage.TheVariants.{Partial, Complete}
 use Rattle.vm_types.specs.declared.values.Input.{Input}
-use Rattle.vm_parts.specs.Counting.{missing}
+use Rattle.vm_parts.specs.Counting.{missing_number}
 use Rattle.vm_parts.specs.Entries.{entries_of}
 use Rattle.vm_machine.specs.declared.fault.Fault.{Fault}
 use Rattle.vm_machine.specs.declared.fault.Fault.TheVariants as stopped
@@ -49,8 +49,8 @@ from_version false x = None
 
 -- What is kept of Start: before V6 the options' seed takes the place of the one handed out, and
 -- before V7 there is no scope, limit key or idempotency key.
-abbrev pub info_of : Version → ℕ → Start → StartInfo
-info_of version seed s = record {
+abbrev pub start_info_of : Version → ℕ → Start → StartInfo
+start_info_of version seed s = record {
   id = s.id;
   debug_id = s.debug_id;
   key = s.key;
@@ -78,20 +78,20 @@ started_with s None v = refused fault.BadEagerStateKey v
 started_with s (Some entries) v =
     if s.known_entries == 0 then refused fault.KnownEntriesIsZero v
     else Done tt (record v {
-      start = info_of v.version v.options.fallback_random_seed s;
+      start = start_info_of v.version v.options.fallback_random_seed s;
       state = record { entries = entries; coverage = coverage_of s.partial };
       entries_missing = s.known_entries;
       phase = WaitingReplayEntries;
     })
 
 -- a Start that was read
-abbrev pub started : Option Start → Machine → Outcome Unit
-started None v = refused fault.BadMessage v
-started (Some s) v = started_with s (entries_in s.state) v
+abbrev pub start_received : Option Start → Machine → Outcome Unit
+start_received None v = refused fault.BadMessage v
+start_received (Some s) v = started_with s (entries_in s.state) v
 
 -- Start comes, once and first
 abbrev pub start_step : RawMessage → Phase → Machine → Outcome Unit
-start_step raw WaitingStart v = started (start_in raw.body) v
+start_step raw WaitingStart v = start_received (start_in raw.body) v
 start_step raw _ v = refused fault.UnexpectedInputMessage v
 
 -- ---- the known entries
@@ -132,15 +132,16 @@ notification_step raw Closed v = Done tt v
 -- ---- acknowledgements
 
 -- the completion of this id that a kept proposal stands for
-abbrev pub completion_of : ℕ → KeptProposal → Notification
-completion_of id kept = record { id = CompletionId id; result = completion_result kept.result }
+abbrev pub acknowledged_completion : ℕ → KeptProposal → Notification
+acknowledged_completion id kept =
+    record { id = CompletionId id; result = completion_result kept.result }
 
 -- The first kept proposal of this id, if there is one, comes as the run's completion, and isn't
 -- kept any more.
 abbrev pub acknowledged : ℕ → Option KeptProposal → Machine → Outcome Unit
 acknowledged id None v = refused fault.BadProposeRunCompletionAck v
 acknowledged id (Some kept) v = Done tt
-    (enqueued (completion_of id kept)
+    (enqueued (acknowledged_completion id kept)
     (record v { proposals = without_first (is_for id) v.proposals }))
 
 -- an acknowledgement that was read
@@ -223,7 +224,7 @@ input_past (Some id) v = input_numbered (counters_past (length (drop 1 v.command
 
 -- the input is read, by whether the commands behind it are skipped
 abbrev pub input_by : Bool → Machine → Outcome Input
-input_by false v = input_counted (missing 0 0 0 v.counters) v
+input_by false v = input_counted (missing_number 0 0 0 v.counters) v
 input_by true v = input_past (past_all v.counters.completion (drop 1 v.commands)) v
 
 -- the handler reads its input in this phase
@@ -239,13 +240,13 @@ input_step v = input_at v.phase v
 -- ---- the handler ends
 
 -- one End is written, and the machine is closed
-abbrev pub ended : Machine → Machine
-ended v =
+abbrev pub with_end_written : Machine → Machine
+with_end_written v =
     record v { output = v.output ++ encoding message.End ∷ []; output_ended = true; phase = Closed }
 
 -- the end, in this phase
 abbrev pub end_at : Phase → Machine → Outcome Unit
-end_at Processing v = Done tt (ended v)
+end_at Processing v = Done tt (with_end_written v)
 end_at Closed v = Done tt v
 end_at phase v = refused (state_fault phase) v
 

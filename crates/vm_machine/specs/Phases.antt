@@ -63,9 +63,9 @@ state_fault Processing = fault.UnexpectedState
 state_fault Closed = fault.Closed
 
 -- the phase as a handler's runner sees it
-abbrev pub shown : Phase → State
-shown WaitingStart = state.WaitingPreFlight
-shown WaitingReplayEntries = state.WaitingPreFlight
-shown Replaying = state.Replaying
-shown Processing = state.Processing
-shown Closed = state.Closed
+abbrev pub shown_state : Phase → State
+shown_state WaitingStart = state.WaitingPreFlight
+shown_state WaitingReplayEntries = state.WaitingPreFlight
+shown_state Replaying = state.Replaying
+shown_state Processing = state.Processing
+shown_state Closed = state.Closed

@@ -18,7 +18,7 @@ use Rattle.runs.specs.declared.settling.Settlement.TheVariants as settlement
 use Rattle.runs.specs.declared.types.RunExitResult.{RunExitResult}
 use Rattle.runs.specs.Firsts.{without_first}
 use Rattle.runs.specs.Pending.{has_handle}
-use Rattle.runs.specs.Settling.{Becomes, has_metadata}
+use Rattle.runs.specs.Settling.{SettlesRun, exit_has_metadata}
 use Rattle.vm_parts.specs.Deliveries.{id_at}
 use Rattle.vm_parts.specs.declared.run_state.PendingRun.{PendingRun}
 use Rattle.vm_machine.specs.declared.machine.Machine.{Machine}
@@ -36,20 +36,20 @@ run_at handle v = if is_some (id_at handle v.results.handles)
 -- V7, whatever the result is
 abbrev pub proposal_fault : RunExitResult → RetryPolicy → Version → Option NamedFault
 proposal_fault exit policy version =
-    if (has_metadata exit && not (is_from_v6 version))
+    if (exit_has_metadata exit && not (is_from_v6 version))
     || (pauses_on_max policy && not (is_from_v7 version))
     then Some fault.UnsupportedFeatureForNegotiatedVersion
     else None
 
 -- From V7 on a proposed result is kept until it is acknowledged.
-abbrev pub kept : ℕ → ValueOrFailure → Machine → Machine
-kept id result v = if is_from_v7 v.version
+abbrev pub proposal_kept : ℕ → ValueOrFailure → Machine → Machine
+proposal_kept id result v = if is_from_v7 v.version
     then record v { proposals = v.proposals ++ record { completion_id = id; result = result } ∷ [] }
     else v
 
 -- a result is proposed under the run's completion id
 abbrev pub proposed : ℕ → ValueOrFailure → Machine → Machine
-proposed id result v = record (kept id result v) {
+proposed id result v = record (proposal_kept id result v) {
   output = v.output
       ++ encoding (message.ProposeRunCompletion (record { id = id; result = result })) ∷ [];
 }
@@ -70,7 +70,7 @@ abbrev pub Settled : NotificationHandle → RunExitResult → RetryPolicy → Op
     → Outcome Unit → Type 0
 Settled handle exit policy None v o = o ≡ refused fault.NoPendingRun v
 Settled handle exit policy (Some run) v o =
-    (s : Settlement) × Becomes run exit policy v.start v.wrote_command s
+    (s : Settlement) × SettlesRun run exit policy v.start v.wrote_command s
     × SettlesAs run.completion_id s (without_run handle v) o
 
 -- Outside Processing what a run came to is ignored.

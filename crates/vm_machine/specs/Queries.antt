@@ -8,7 +8,7 @@ use Rattle.vm_types.specs.declared.types.State.TheVariants as state
 use Rattle.vm_machine.specs.declared.machine.Machine.{Machine}
 use Rattle.vm_machine.specs.declared.phase.Phase.{Phase}
 use Rattle.vm_machine.specs.declared.phase.Phase.TheVariants.{WaitingStart, WaitingReplayEntries, Replaying, Processing, Closed}
-use Rattle.vm_machine.specs.Phases.{shown}
+use Rattle.vm_machine.specs.Phases.{shown_state}
 
 -- whether a handler may run in this phase
 abbrev pub ready_at : Phase → Result Bool Error
@@ -25,7 +25,7 @@ IsReadyAt (Some e) phase r = (r ≡ Err e) ⊎ (r ≡ Err no_memory)
 
 -- the state as it is shown: a failed machine is closed
 abbrev pub state_of : Machine → State
-state_of v = if is_some v.failure then state.Closed else shown v.phase
+state_of v = if is_some v.failure then state.Closed else shown_state v.phase
 
 -- minus one before any command
 abbrev pub last_index : Option ℕ → ℤ

@@ -9,7 +9,7 @@ use Rattle.journal_values.specs.declared.notification.NotificationResult.{Notifi
 use Rattle.journal_messages.specs.Message.{type_of}
 use Rattle.journal_messages.specs.Message.{IsWhole}
 use Rattle.await_trees.specs.declared.handle.NotificationHandle.{NotificationHandle}
-use Rattle.vm_parts.specs.Counting.{missing}
+use Rattle.vm_parts.specs.Counting.{missing_number}
 use Rattle.vm_parts.specs.Deliveries.{with_eager}
 use Rattle.vm_machine.specs.declared.fault.Fault.{Fault}
 use Rattle.vm_machine.specs.declared.machine.Machine.{Machine}
@@ -22,9 +22,9 @@ use Rattle.vm_machine.specs.Phases.{is_processing, is_running, state_fault}
 -- ---- the event
 
 -- a result that a read brings is ready at once
-abbrev pub with_result : ℕ → Option NotificationResult → Machine → Machine
-with_result id None v = v
-with_result id (Some result) v = record v
+abbrev pub with_read_ready : ℕ → Option NotificationResult → Machine → Machine
+with_read_ready id None v = v
+with_read_ready id (Some result) v = record v
     { results = record v.results { ready = with_eager id result v.results.ready } }
 
 -- what a read's own command brings
@@ -34,14 +34,14 @@ own_result (Err name) = None
 
 -- in Processing a read writes its own command
 abbrev pub read_written : StateRead → ℕ → Message → Machine → Machine
-read_written r id m v = with_result id (own_result (result_in m))
+read_written r id m v = with_read_ready id (own_result (result_in m))
     (written m (handed_out 1 (entered (type_of m) (name_read r) v)))
 
 -- a recorded command that fits, or doesn't
 abbrev pub read_back : ℕ → ℕ → Result (Option NotificationResult) NamedFault → Machine
     → Outcome NotificationHandle
 read_back handle id (Err name) v = Failed (about_last name v) v
-read_back handle id (Ok result) v = Done (record { 0 = handle }) (with_result id result v)
+read_back handle id (Ok result) v = Done (record { 0 = handle }) (with_read_ready id result v)
 
 -- in replay the first recorded command is popped; errors show its type and no name
 abbrev pub read_popped : StateRead → ℕ → ℕ → List RawMessage → Machine → Outcome NotificationHandle
@@ -85,9 +85,10 @@ ReadsNumbered r result old new =
 -- A state read answers one handle. Where the state refuses it no command is counted.
 unfoldable pub read_step : StateRead → Machine → Outcome NotificationHandle
 read_step r v =
-    if is_running v.phase then read_counted (missing 1 0 1 v.counters) r v
+    if is_running v.phase then read_counted (missing_number 1 0 1 v.counters) r v
     else Failed (about_next (state_fault v.phase) (lazy_type r) [] v) v
 
 -- A state read: what it wrote can be read back.
-abbrev pub Reads : StateRead → Result NotificationHandle Fault → Machine → Machine → Type 0
-Reads r result old new = Gives (read_step r old) result old new × OnOk result (ReadCanBeRead r old)
+abbrev pub StateIsRead : StateRead → Result NotificationHandle Fault → Machine → Machine → Type 0
+StateIsRead r result old new =
+    Gives (read_step r old) result old new × OnOk result (ReadCanBeRead r old)

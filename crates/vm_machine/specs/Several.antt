@@ -7,7 +7,7 @@ use Rattle.journal_errors.specs.declared.faults.NamedFault.{NamedFault}
 use Rattle.journal_errors.specs.declared.faults.NamedFault.TheVariants.{ExhaustedCommandIndexes}
 use Rattle.await_trees.specs.declared.handle.NotificationHandle.{NotificationHandle}
 use Rattle.vm_parts.specs.declared.context.Counters.{Counters}
-use Rattle.vm_parts.specs.Counting.{missing, most}
+use Rattle.vm_parts.specs.Counting.{missing_number, most}
 use Rattle.vm_asks.specs.declared.command.Command.{Command}
 use Rattle.vm_asks.specs.Asks.{all_ids, any_refusal}
 use Rattle.vm_asks.specs.Requests.{name_of, shown_type}
@@ -26,7 +26,8 @@ missing_indexes n k =
 -- the first kind of number of which a command and those behind it need more than are left
 abbrev pub missing_for : Command → List Command → Counters → Option NamedFault
 missing_for c cs k =
-    option_or (missing (all_ids c cs) 0 (all_ids c cs) k) (missing_indexes (suc (length cs)) k)
+    option_or (missing_number (all_ids c cs) 0 (all_ids c cs) k)
+    (missing_indexes (suc (length cs)) k)
 
 -- the numbers are left; or the call is refused, and relates to its first command
 abbrev pub numbers_left : Option NamedFault → Command → Machine → Outcome Unit

@@ -5,8 +5,8 @@ use Rattle.journal_values.specs.declared.notification.NotificationId.{Notificati
 use Rattle.journal_values.specs.declared.notification.NotificationResult.{NotificationResult}
 use Rattle.vm_parts.specs.declared.run_state.TrackedCall.{TrackedCall}
 use Rattle.vm_types.specs.declared.values.Value.{Value}
-use Rattle.vm_parts.specs.Deliveries.{id_at, has_result_for, present_for, taken_by}
-use Rattle.vm_parts.specs.Tracked.{id_of_value, noted}
+use Rattle.vm_parts.specs.Deliveries.{id_at, has_result_for, present_result_for, taken_by}
+use Rattle.vm_parts.specs.Tracked.{id_of_value, id_noted}
 use Rattle.vm_types.specs.Values.{value_of}
 use Rattle.vm_machine.specs.declared.machine.Machine.{Machine}
 use Rattle.vm_machine.specs.Outcomes.{Outcome, Done, refused}
@@ -20,7 +20,8 @@ value_noted value (Some tracked) v = Done (Some value) (record v { tracked = tra
 -- a taken value: a state key has to be a text, and a tracked call's result its invocation's id
 abbrev pub value_taken : ℕ → Option Value → Machine → Outcome (Option Value)
 value_taken handle None v = refused fault.StateKeyIsNotUtf8 v
-value_taken handle (Some value) v = value_noted value (noted handle (id_of_value value) v.tracked) v
+value_taken handle (Some value) v = value_noted value
+    (id_noted handle (id_of_value value) v.tracked) v
 
 -- a taken result, as the handler sees it
 abbrev pub result_taken : ℕ → Option NotificationResult → Machine → Outcome (Option Value)
@@ -30,7 +31,7 @@ result_taken handle (Some result) v = value_taken handle (value_of result) v
 -- a take of the handle that stands for this id
 abbrev pub taken_at : ℕ → Option NotificationId → Machine → Outcome (Option Value)
 taken_at handle id v =
-    let found = present_for v.options.signal_delivery id v.results.ready in
+    let found = present_result_for v.options.signal_delivery id v.results.ready in
     result_taken handle found
     (record v { results = taken_by v.options.signal_delivery handle id found v.results })
 

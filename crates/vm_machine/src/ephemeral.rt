@@ -53,7 +53,8 @@ impl Machine {
             ≡ record self.old {
               ephemeral = with_in_flight id self.old.ephemeral;
               output = self.old.output
-                  ++ encoding (message.GetStateEphemeralCommand (record { id = id; key = key.now })) ∷ [];
+                  ++ encoding (message.GetStateEphemeralCommand (record { id = id; key = key.now }))
+                  ∷ [];
             }) }
         ensures err { OnErr result (lasting self.new ≡ lasting self.old) }
     {

@@ -1,7 +1,7 @@
 //! The first call of a handler, which reads its input, and the last, which ends it.
 ghost use Rattle.std.specs.Prelude.{◌≡◌, IfOk, OnErr, None, false, drop, []};
 ghost use Rattle.vm_asks.specs.Carried.{past_all};
-ghost use Rattle.vm_parts.specs.Counting.{missing};
+ghost use Rattle.vm_parts.specs.Counting.{missing_number};
 ghost use Rattle.vm_machine.specs.Outcomes.{Gives};
 ghost use Rattle.vm_machine.specs.Phases.{is_closed};
 ghost use Rattle.vm_machine.specs.declared.fault.Fault.TheVariants.{Refused};
@@ -77,7 +77,8 @@ impl Machine {
 
     /// Reads the input where recorded commands are replayed.
     fn replay_input(&mut self) -> Result<Input, Fault>
-        ensures { Gives (input_counted (missing 0 0 0 self.old.counters) self.old) result self.old
+        ensures { Gives (input_counted (missing_number 0 0 0 self.old.counters) self.old) result
+            self.old
             self.new }
     {
         if let Some(fault) = self.counters.missing(0, 0, 0) {

@@ -1,6 +1,6 @@
 //! How far a machine is: before Start, waiting for the known entries, replaying them, writing new commands, closed.
 ghost use Rattle.std.specs.Prelude.{◌≡◌};
-ghost use Rattle.vm_machine.specs.Phases.{is_running, is_processing, is_replaying, is_closed, state_fault, shown};
+ghost use Rattle.vm_machine.specs.Phases.{is_running, is_processing, is_replaying, is_closed, state_fault, shown_state};
 
 use journal_errors::NamedFault;
 use vm_parts::State;
@@ -53,7 +53,7 @@ impl Phase {
 
     /// The phase as a handler's runner sees it.
     pub fn shown(self) -> State
-        ensures { result ≡ shown self }
+        ensures { result ≡ shown_state self }
     {
         match self {
             Phase::WaitingStart | Phase::WaitingReplayEntries => State::WaitingPreFlight,

@@ -4,7 +4,7 @@ ghost use Rattle.journal_messages.specs.Message.{IsWhole, encoding};
 ghost use Rattle.journal_messages.specs.declared.message.Message.TheVariants as message;
 ghost use Rattle.runs.specs.Pending.{has_handle};
 ghost use Rattle.vm_machine.specs.Outcomes.{GivesBy, lasting};
-ghost use Rattle.vm_machine.specs.Proposals.{Proposes, Settled, SettlesAs, kept, proposal_fault, proposed, run_at, without_run};
+ghost use Rattle.vm_machine.specs.Proposals.{Proposes, Settled, SettlesAs, proposal_kept, proposal_fault, proposed, run_at, without_run};
 
 use crate::fault::{Fault, refuse};
 use crate::machine::Machine;
@@ -36,7 +36,7 @@ fn proposal_fault(
 impl Machine {
     /// The result is kept until it is acknowledged, where the version has acknowledgements.
     fn keep_proposal(&mut self, id: u32, given: &ValueOrFailure) -> Result<(), AllocError>
-        ensures ok { OnOk result (self.new ≡ kept id given.now self.old) }
+        ensures ok { OnOk result (self.new ≡ proposal_kept id given.now self.old) }
         ensures err { OnErr result (lasting self.new ≡ lasting self.old) }
     {
         if self.version >= Version::V7 {

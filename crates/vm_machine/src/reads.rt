@@ -3,7 +3,7 @@ ghost use Rattle.std.specs.Prelude.{◌≡◌, ◌<◌, ◌+◌, ◌^◌, OnOk, 
 ghost use Rattle.journal_messages.specs.Message.{IsWhole};
 ghost use Rattle.vm_machine.specs.Commands.{entered, handed_out};
 ghost use Rattle.vm_machine.specs.Outcomes.{Gives, lasting};
-ghost use Rattle.vm_machine.specs.Reads.{Reads, ReadsNumbered, read_popped, read_step, read_written, with_result};
+ghost use Rattle.vm_machine.specs.Reads.{StateIsRead, ReadsNumbered, read_popped, read_step, read_written, with_read_ready};
 
 use crate::fault::Fault;
 use crate::issue::about_next;
@@ -20,7 +20,7 @@ use wire::Text;
 impl Machine {
     /// Gives a read its result, where it brings one.
     fn put_result(&mut self, id: u32, given: Option<NotificationResult>) -> Result<(), AllocError>
-        ensures ok { OnOk result (self.new ≡ with_result id given self.old) }
+        ensures ok { OnOk result (self.new ≡ with_read_ready id given self.old) }
         ensures err { OnErr result (lasting self.new ≡ lasting self.old) }
     {
         match given {
@@ -89,7 +89,7 @@ impl Machine {
     /// The handler reads its state. In replay the recorded form decides, and not what is known of the state.
     #[tactic(auto, unfolding(crate::specs::Reads::read_step))]
     pub fn read(&mut self, read: &StateRead) -> Result<NotificationHandle, Fault>
-        ensures { Reads read.now result self.old self.new }
+        ensures { StateIsRead read.now result self.old self.new }
     {
         let index = self.counters.next_index();
         if !self.phase.is_running() {

@@ -20,13 +20,13 @@ use Rattle.vm_types.specs.declared.options.SignalDelivery.{SignalDelivery}
 use Rattle.vm_types.specs.declared.steps.Answer.TheVariants as answer
 use Rattle.await_trees.specs.declared.tree.UnresolvedFuture.{UnresolvedFuture}
 use Rattle.vm_parts.specs.Arrived.{Ready}
-use Rattle.vm_parts.specs.Counting.{missing}
-use Rattle.vm_parts.specs.Deliveries.{id_at, is_listed, present_among, present_for, same_id, with_delivered}
+use Rattle.vm_parts.specs.Counting.{missing_number}
+use Rattle.vm_parts.specs.Deliveries.{id_at, is_listed, present_among, present_result_for, same_id, with_delivered}
 use Rattle.vm_types.specs.Options.{ends_awaits}
-use Rattle.vm_parts.specs.Tracked.{id_of_result, invocation_ids, unresolved, with_next_id, without_first_call}
+use Rattle.vm_parts.specs.Tracked.{id_of_result, invocation_ids, unresolved_handles, with_next_id, without_first_call}
 use Rattle.vm_asks.specs.Asks.{cancel_invocation_command}
 use Rattle.vm_machine.specs.Commands.{ignores_payloads}
-use Rattle.vm_model.specs.Calls.{Setup, Meaning, Derived, Demand, awaited, call_of, counted, cancel_sent, cancel_taken, cancelled, cancelling, id_awaited, id_read, is_cancelled_in, ready_in}
+use Rattle.vm_model.specs.Calls.{Setup, Meaning, Derived, Demand, awaited, call_of, counted, cancel_sent, with_cancel_taken, cancelled, cancelling, id_awaited, id_read, is_cancelled_in, ready_in}
 use Rattle.vm_model.specs.Calls.Demand.{Exactly}
 use Rattle.vm_model.specs.Cancels.{id_in, present_in}
 use Rattle.vm_model.specs.Histories.{IsAwaiting, arrivals_used}
@@ -62,7 +62,7 @@ among_stays delivery id ns n h =
     ap (λ l. is_some (cond (is_listed delivery id) (first l) (newest l))) (results_behind id ns n) ∙ some_behind (is_listed delivery id) (same_id n.id id) (results_of id ns) n.result h
 
 -- and among all that is ready
-for_stays : (delivery : SignalDelivery) (o : Option NotificationId) (n : Notification) (r : Ready) → is_some (present_for delivery o r) ≡ true → is_some (present_for delivery o (with_delivered n r)) ≡ true
+for_stays : (delivery : SignalDelivery) (o : Option NotificationId) (n : Notification) (r : Ready) → is_some (present_result_for delivery o r) ≡ true → is_some (present_result_for delivery o (with_delivered n r)) ≡ true
 for_stays delivery None n r h = h
 for_stays delivery (Some id) n r h = or_some (present_among delivery id r.delivered) (present_among delivery id (r.delivered ++ n ∷ [])) (present_among delivery id r.eager) (among_stays delivery id r.delivered n) h
 
@@ -111,10 +111,10 @@ pub record Sent (s : Setup) (id : List ℕ) (p r : Point) : Type 0 where
 -- A move of the await: while a call's id isn't known, an arrival is used or the call's result is read; while calls are tracked, a
 -- cancel command is used; then it is answered.
 pub data CancelMove (s : Setup) (p r : Point) : Type 0 where
-  Arrives : (handle : ℕ) (handles : List ℕ) (n : Notification) (queue : List Notification) → unresolved p.derived.tracked ≡ handle ∷ handles → present_in s handle p.derived ≡ None → p.queue ≡ n ∷ queue → record p { derived = arrival_used n p.derived; queue = queue } ≡ r → CancelMove s p r
-  Learns : (handle : ℕ) (handles id : List ℕ) → unresolved p.derived.tracked ≡ handle ∷ handles → id_in s handle p.derived ≡ Some id → record p { derived = record p.derived { tracked = with_next_id id p.derived.tracked } } ≡ r → CancelMove s p r
-  Sends : (id : List ℕ) (ids : List (List ℕ)) → unresolved p.derived.tracked ≡ [] → invocation_ids p.derived.tracked ≡ id ∷ ids → Sent s id p r → CancelMove s p r
-  Finishes : unresolved p.derived.tracked ≡ [] → invocation_ids p.derived.tracked ≡ [] → record p { answers = p.answers ++ answer.Cancelled ∷ []; derived = cancel_taken (id_at 1 p.derived.handles) (record p.derived { tracked = [] }) } ≡ r → CancelMove s p r
+  Arrives : (handle : ℕ) (handles : List ℕ) (n : Notification) (queue : List Notification) → unresolved_handles p.derived.tracked ≡ handle ∷ handles → present_in s handle p.derived ≡ None → p.queue ≡ n ∷ queue → record p { derived = arrival_used n p.derived; queue = queue } ≡ r → CancelMove s p r
+  Learns : (handle : ℕ) (handles id : List ℕ) → unresolved_handles p.derived.tracked ≡ handle ∷ handles → id_in s handle p.derived ≡ Some id → record p { derived = record p.derived { tracked = with_next_id id p.derived.tracked } } ≡ r → CancelMove s p r
+  Sends : (id : List ℕ) (ids : List (List ℕ)) → unresolved_handles p.derived.tracked ≡ [] → invocation_ids p.derived.tracked ≡ id ∷ ids → Sent s id p r → CancelMove s p r
+  Finishes : unresolved_handles p.derived.tracked ≡ [] → invocation_ids p.derived.tracked ≡ [] → record p { answers = p.answers ++ answer.Cancelled ∷ []; derived = with_cancel_taken (id_at 1 p.derived.handles) (record p.derived { tracked = [] }) } ≡ r → CancelMove s p r
 
 -- a command that is needed exactly brings no result
 reads_none : (ignore : Bool) (command : Message) (o : Option Message) (result : Option NotificationResult) → reads_as ignore command o ≡ Ok result → None ≡ result
@@ -170,11 +170,11 @@ module _ (s : Setup) (m : Meaning) (p r : Point) where
   sends_unless id None moves = sends_next id p.left refl moves
 
   -- where all ids are known
-  cancels_next : (ids : List (List ℕ)) → unresolved d.tracked ≡ [] → invocation_ids d.tracked ≡ ids → moved (cancelling s ids d) p ≡ Some r → CancelMove s p r
+  cancels_next : (ids : List (List ℕ)) → unresolved_handles d.tracked ≡ [] → invocation_ids d.tracked ≡ ids → moved (cancelling s ids d) p ≡ Some r → CancelMove s p r
   cancels_next [] known is moves = Finishes known is (same_Some _ r moves)
-  cancels_next (id ∷ ids) known is moves = Sends id ids known is (sends_unless id (missing 0 0 0 d.counters) moves)
+  cancels_next (id ∷ ids) known is moves = Sends id ids known is (sends_unless id (missing_number 0 0 0 d.counters) moves)
 
-  module _ (handle : ℕ) (handles : List ℕ) (first : unresolved d.tracked ≡ handle ∷ handles) where
+  module _ (handle : ℕ) (handles : List ℕ) (first : unresolved_handles d.tracked ≡ handle ∷ handles) where
     -- a present result is read
     learns_next : (result : NotificationResult) (o : Option (List ℕ)) → present_in s handle d ≡ Some result → id_of_result result ≡ o → moved (id_read o d) p ≡ Some r → CancelMove s p r
     learns_next result None there is moves = none_some moves
@@ -191,13 +191,13 @@ module _ (s : Setup) (m : Meaning) (p r : Point) where
     awaits_id (Some result) is moves = learns_next result (id_of_result result) is refl moves
 
   -- by the handles whose calls' ids aren't known
-  cancelled_move : (handles : List ℕ) → unresolved d.tracked ≡ handles → moved (cancelled s handles d) p ≡ Some r → CancelMove s p r
+  cancelled_move : (handles : List ℕ) → unresolved_handles d.tracked ≡ handles → moved (cancelled s handles d) p ≡ Some r → CancelMove s p r
   cancelled_move [] is moves = cancels_next (invocation_ids d.tracked) is refl moves
   cancelled_move (handle ∷ handles) is moves = awaits_id handle handles is (present_in s handle d) refl moves
 
   -- each move of the await is one of these
   pub cancel_move : (future : UnresolvedFuture) → IsAwaiting m p future → is_cancelled_in s d ≡ true → next s m p ≡ Some r → CancelMove s p r
-  cancel_move future at cancelled moves = cancelled_move (unresolved d.tracked) refl (sym (ap (λ b. moved (awaited s b future d) p) cancelled) ∙ sym (ap (λ st. moved (call_of s st d) p) at) ∙ moves)
+  cancel_move future at cancelled moves = cancelled_move (unresolved_handles d.tracked) refl (sym (ap (λ b. moved (awaited s b future d) p) cancelled) ∙ sym (ap (λ st. moved (call_of s st d) p) at) ∙ moves)
 
 -- ---- so many moves
 

@@ -11,10 +11,10 @@ use Rattle.vm_parts.specs.declared.run_state.TrackedCall.{TrackedCall}
 use Rattle.vm_types.specs.declared.steps.Answer.{Answer}
 use Rattle.vm_types.specs.declared.steps.Answer.TheVariants as answer
 use Rattle.await_trees.specs.declared.tree.UnresolvedFuture.{UnresolvedFuture}
-use Rattle.vm_parts.specs.Deliveries.{id_at, present_for}
-use Rattle.vm_parts.specs.Tracked.{id_of_result, invocation_ids, unresolved, with_next_id, without_first_call}
+use Rattle.vm_parts.specs.Deliveries.{id_at, present_result_for}
+use Rattle.vm_parts.specs.Tracked.{id_of_result, invocation_ids, unresolved_handles, with_next_id, without_first_call}
 use Rattle.vm_asks.specs.Asks.{cancel_invocation_command}
-use Rattle.vm_model.specs.Calls.{Derived, Meaning, Setup, cancel_taken, is_cancelled_in, ready_after}
+use Rattle.vm_model.specs.Calls.{Derived, Meaning, Setup, with_cancel_taken, is_cancelled_in, ready_by_usage}
 use Rattle.vm_model.specs.Calls.Usage.{Used, Taken}
 use Rattle.vm_model.specs.Cancels.{AreInvocations, AreInvocationsIn, CancelledAwait, IsInvocation, all_present, cancel_commands, id_in, present_in}
 use Rattle.vm_model.specs.Deliveries.{HasNoTwo}
@@ -34,29 +34,29 @@ call handle id = record { handle = handle; invocation_id = id }
 -- ---- tracked calls
 
 -- the first id that isn't known is the first handle's
-first_learned : (id : List ℕ) (ts : List TrackedCall) (h : ℕ) (hs : List ℕ) → unresolved ts ≡ h ∷ hs → unresolved (with_next_id id ts) ≡ hs
+first_learned : (id : List ℕ) (ts : List TrackedCall) (h : ℕ) (hs : List ℕ) → unresolved_handles ts ≡ h ∷ hs → unresolved_handles (with_next_id id ts) ≡ hs
 first_learned id [] h hs e = absurd (cc)
 first_learned id (t ∷ ts) h hs e = by_id t.invocation_id e (first_learned id ts h hs)
   where
-    by_id : (o : Option (List ℕ)) → unresolved (call t.handle o ∷ ts) ≡ h ∷ hs → (unresolved ts ≡ h ∷ hs → unresolved (with_next_id id ts) ≡ hs) → unresolved (with_next_id id (call t.handle o ∷ ts)) ≡ hs
+    by_id : (o : Option (List ℕ)) → unresolved_handles (call t.handle o ∷ ts) ≡ h ∷ hs → (unresolved_handles ts ≡ h ∷ hs → unresolved_handles (with_next_id id ts) ≡ hs) → unresolved_handles (with_next_id id (call t.handle o ∷ ts)) ≡ hs
     by_id None e ih = (cc)
     by_id (Some known) e ih = ih e
 
 -- without an id there is no call
-no_calls : (ts : List TrackedCall) → unresolved ts ≡ [] → invocation_ids ts ≡ [] → ts ≡ []
+no_calls : (ts : List TrackedCall) → unresolved_handles ts ≡ [] → invocation_ids ts ≡ [] → ts ≡ []
 no_calls [] e f = refl
 no_calls (t ∷ ts) e f = by_id t.invocation_id e f
   where
-    by_id : {A : Type 0} (o : Option (List ℕ)) → unresolved (call t.handle o ∷ ts) ≡ [] → invocation_ids (call t.handle o ∷ ts) ≡ [] → A
+    by_id : {A : Type 0} (o : Option (List ℕ)) → unresolved_handles (call t.handle o ∷ ts) ≡ [] → invocation_ids (call t.handle o ∷ ts) ≡ [] → A
     by_id None e f = absurd (cc)
     by_id (Some known) e f = absurd (cc)
 
 -- behind the first of some calls whose ids are known
-others_known : (ts : List TrackedCall) (id : List ℕ) (ids : List (List ℕ)) → unresolved ts ≡ [] → invocation_ids ts ≡ id ∷ ids → (unresolved (without_first_call ts) ≡ []) × (invocation_ids (without_first_call ts) ≡ ids)
+others_known : (ts : List TrackedCall) (id : List ℕ) (ids : List (List ℕ)) → unresolved_handles ts ≡ [] → invocation_ids ts ≡ id ∷ ids → (unresolved_handles (without_first_call ts) ≡ []) × (invocation_ids (without_first_call ts) ≡ ids)
 others_known [] id ids e f = absurd (cc)
 others_known (t ∷ ts) id ids e f = by_id t.invocation_id e f
   where
-    by_id : (o : Option (List ℕ)) → unresolved (call t.handle o ∷ ts) ≡ [] → invocation_ids (call t.handle o ∷ ts) ≡ id ∷ ids → (unresolved ts ≡ []) × (invocation_ids ts ≡ ids)
+    by_id : (o : Option (List ℕ)) → unresolved_handles (call t.handle o ∷ ts) ≡ [] → invocation_ids (call t.handle o ∷ ts) ≡ id ∷ ids → (unresolved_handles ts ≡ []) × (invocation_ids ts ≡ ids)
     by_id None e f = absurd (cc)
     by_id (Some known) e f = (e, (cc))
 
@@ -74,7 +74,7 @@ alike_more (n ∷ ns) d e h = alike_more ns (arrival_used n d) (arrival_used n e
 
 -- a handle has one result at both
 present_alike : (s : Setup) (handle : ℕ) (d e : Derived) → Alike d e → present_in s handle e ≡ present_in s handle d
-present_alike s handle d e h = λ i. present_for s.options.signal_delivery (id_at handle (h.handles i)) (ready_after s.options.signal_delivery (h.usage i))
+present_alike s handle d e h = λ i. present_result_for s.options.signal_delivery (id_at handle (h.handles i)) (ready_by_usage s.options.signal_delivery (h.usage i))
 
 -- so have all
 all_alike : (s : Setup) (handles : List ℕ) (d e : Derived) → Alike d e → all_present s handles e ≡ all_present s handles d
@@ -126,12 +126,12 @@ module _ (s : Setup) (d : Derived) (x : Notification) (queue : List Notification
       by_id (Some known) (is, more) ih = (is, ih before more)
 
   -- and all calls
-  all_shifted : (h : ℕ) (hs : List ℕ) (ts : List TrackedCall) (ids : List (List ℕ)) → unresolved ts ≡ h ∷ hs → present_in s h d ≡ None → AreInvocations s (arrival_used x d) queue [] ts ids → AreInvocations s d (x ∷ queue) [] ts ids
+  all_shifted : (h : ℕ) (hs : List ℕ) (ts : List TrackedCall) (ids : List (List ℕ)) → unresolved_handles ts ≡ h ∷ hs → present_in s h d ≡ None → AreInvocations s (arrival_used x d) queue [] ts ids → AreInvocations s d (x ∷ queue) [] ts ids
   all_shifted h hs [] ids e none a = a
   all_shifted h hs (t ∷ ts) [] e none a = a
   all_shifted h hs (t ∷ ts) (id ∷ ids) e none a = by_id t.invocation_id e a (λ f. all_shifted h hs ts ids f none)
     where
-      by_id : (o : Option (List ℕ)) → unresolved (call t.handle o ∷ ts) ≡ h ∷ hs → AreInvocations s (arrival_used x d) queue [] (call t.handle o ∷ ts) (id ∷ ids) → (unresolved ts ≡ h ∷ hs → AreInvocations s (arrival_used x d) queue [] ts ids → AreInvocations s d (x ∷ queue) [] ts ids)
+      by_id : (o : Option (List ℕ)) → unresolved_handles (call t.handle o ∷ ts) ≡ h ∷ hs → AreInvocations s (arrival_used x d) queue [] (call t.handle o ∷ ts) (id ∷ ids) → (unresolved_handles ts ≡ h ∷ hs → AreInvocations s (arrival_used x d) queue [] ts ids → AreInvocations s d (x ∷ queue) [] ts ids)
           → AreInvocations s d (x ∷ queue) [] (call t.handle o ∷ ts) (id ∷ ids)
       by_id None e (is, more) ih =
           let same : h ≡ t.handle = cc in
@@ -163,12 +163,12 @@ module _ (s : Setup) (d e : Derived) (alike : Alike d e) (queue : List Notificat
       by_id (Some known) (is, more) ih = (is, ih before more)
 
   -- all calls, where the first result is read
-  all_read : (h : ℕ) (hs : List ℕ) (id : List ℕ) (ts : List TrackedCall) (ids : List (List ℕ)) → unresolved ts ≡ h ∷ hs → id_in s h d ≡ Some id → AreInvocations s e queue [] (with_next_id id ts) ids → AreInvocations s d queue [] ts ids
+  all_read : (h : ℕ) (hs : List ℕ) (id : List ℕ) (ts : List TrackedCall) (ids : List (List ℕ)) → unresolved_handles ts ≡ h ∷ hs → id_in s h d ≡ Some id → AreInvocations s e queue [] (with_next_id id ts) ids → AreInvocations s d queue [] ts ids
   all_read h hs id [] ids first is a = a
   all_read h hs id (t ∷ ts) ids first is a = by_id t.invocation_id ids first a (λ more f. all_read h hs id ts more f is)
     where
-      by_id : (o : Option (List ℕ)) (ids : List (List ℕ)) → unresolved (call t.handle o ∷ ts) ≡ h ∷ hs → AreInvocations s e queue [] (with_next_id id (call t.handle o ∷ ts)) ids
-          → ((more : List (List ℕ)) → unresolved ts ≡ h ∷ hs → AreInvocations s e queue [] (with_next_id id ts) more → AreInvocations s d queue [] ts more) → AreInvocations s d queue [] (call t.handle o ∷ ts) ids
+      by_id : (o : Option (List ℕ)) (ids : List (List ℕ)) → unresolved_handles (call t.handle o ∷ ts) ≡ h ∷ hs → AreInvocations s e queue [] (with_next_id id (call t.handle o ∷ ts)) ids
+          → ((more : List (List ℕ)) → unresolved_handles ts ≡ h ∷ hs → AreInvocations s e queue [] (with_next_id id ts) more → AreInvocations s d queue [] ts more) → AreInvocations s d queue [] (call t.handle o ∷ ts) ids
       by_id None [] f a ih = a
       by_id None (i ∷ more) f (same, others) ih =
           let here : h ≡ t.handle = cc in
@@ -181,21 +181,21 @@ module _ (s : Setup) (d e : Derived) (alike : Alike d e) (queue : List Notificat
 -- ---- all ids are known
 
 -- the known ids are the invocations
-known_are : (s : Setup) (d : Derived) (queue : List Notification) (ts : List TrackedCall) → unresolved ts ≡ [] → AreInvocations s d queue [] ts (invocation_ids ts)
+known_are : (s : Setup) (d : Derived) (queue : List Notification) (ts : List TrackedCall) → unresolved_handles ts ≡ [] → AreInvocations s d queue [] ts (invocation_ids ts)
 known_are s d queue [] e = refl
 known_are s d queue (t ∷ ts) e = by_id t.invocation_id e (known_are s d queue ts)
   where
-    by_id : (o : Option (List ℕ)) → unresolved (call t.handle o ∷ ts) ≡ [] → (unresolved ts ≡ [] → AreInvocations s d queue [] ts (invocation_ids ts)) → AreInvocations s d queue [] (call t.handle o ∷ ts) (invocation_ids (call t.handle o ∷ ts))
+    by_id : (o : Option (List ℕ)) → unresolved_handles (call t.handle o ∷ ts) ≡ [] → (unresolved_handles ts ≡ [] → AreInvocations s d queue [] ts (invocation_ids ts)) → AreInvocations s d queue [] (call t.handle o ∷ ts) (invocation_ids (call t.handle o ∷ ts))
     by_id None e ih = absurd (cc)
     by_id (Some known) e ih = (refl, ih e)
 
 -- and no others
-are_known : (s : Setup) (d : Derived) (queue : List Notification) (ts : List TrackedCall) (ids : List (List ℕ)) → unresolved ts ≡ [] → AreInvocations s d queue [] ts ids → ids ≡ invocation_ids ts
+are_known : (s : Setup) (d : Derived) (queue : List Notification) (ts : List TrackedCall) (ids : List (List ℕ)) → unresolved_handles ts ≡ [] → AreInvocations s d queue [] ts ids → ids ≡ invocation_ids ts
 are_known s d queue [] ids e a = a
 are_known s d queue (t ∷ ts) [] e a = absurd a
 are_known s d queue (t ∷ ts) (id ∷ ids) e a = by_id t.invocation_id e a (are_known s d queue ts ids)
   where
-    by_id : (o : Option (List ℕ)) → unresolved (call t.handle o ∷ ts) ≡ [] → AreInvocations s d queue [] (call t.handle o ∷ ts) (id ∷ ids) → (unresolved ts ≡ [] → AreInvocations s d queue [] ts ids → ids ≡ invocation_ids ts) → id ∷ ids ≡ invocation_ids (call t.handle o ∷ ts)
+    by_id : (o : Option (List ℕ)) → unresolved_handles (call t.handle o ∷ ts) ≡ [] → AreInvocations s d queue [] (call t.handle o ∷ ts) (id ∷ ids) → (unresolved_handles ts ≡ [] → AreInvocations s d queue [] ts ids → ids ≡ invocation_ids ts) → id ∷ ids ≡ invocation_ids (call t.handle o ∷ ts)
     by_id None e a ih = absurd (cc)
     by_id (Some known) e (is, more) ih = λ i. is i ∷ ih e more i
 
@@ -210,30 +210,30 @@ module _ (s : Setup) (p : Point) (queued : s.options.signal_delivery ≡ Queued)
   within handles n least there = ⊎_elim (λ (below : j < n). absurd (let none = least.least j below in let z : true ≡ false = sym there ∙ none in cc)) (λ (le : n ≤ j). le) (cases_lt j n)
 
   -- each result that was read is present at the end
-  pub present_at_end : (before : List ℕ) (ts : List TrackedCall) (ids : List (List ℕ)) → all_present s (before ++ unresolved ts) at_end ≡ true → AreInvocations s p.derived p.queue before ts ids → AreInvocationsIn s at_end ts ids
+  pub present_at_end : (before : List ℕ) (ts : List TrackedCall) (ids : List (List ℕ)) → all_present s (before ++ unresolved_handles ts) at_end ≡ true → AreInvocations s p.derived p.queue before ts ids → AreInvocationsIn s at_end ts ids
   present_at_end before [] ids all a = a
   present_at_end before (t ∷ ts) [] all a = a
   present_at_end before (t ∷ ts) (id ∷ ids) all a = by_id t.invocation_id all a (λ b. present_at_end b ts ids)
     where
-      by_id : (o : Option (List ℕ)) → all_present s (before ++ unresolved (call t.handle o ∷ ts)) at_end ≡ true → AreInvocations s p.derived p.queue before (call t.handle o ∷ ts) (id ∷ ids)
-          → ((b : List ℕ) → all_present s (b ++ unresolved ts) at_end ≡ true → AreInvocations s p.derived p.queue b ts ids → AreInvocationsIn s at_end ts ids) → AreInvocationsIn s at_end (call t.handle o ∷ ts) (id ∷ ids)
+      by_id : (o : Option (List ℕ)) → all_present s (before ++ unresolved_handles (call t.handle o ∷ ts)) at_end ≡ true → AreInvocations s p.derived p.queue before (call t.handle o ∷ ts) (id ∷ ids)
+          → ((b : List ℕ) → all_present s (b ++ unresolved_handles ts) at_end ≡ true → AreInvocations s p.derived p.queue b ts ids → AreInvocationsIn s at_end ts ids) → AreInvocationsIn s at_end (call t.handle o ∷ ts) (id ∷ ids)
       by_id (Some known) all (is, more) ih = (ap Some (sym is), ih before all more)
       by_id None all ((n, least, is), more) ih =
           let handles = before ++ t.handle ∷ [] in
-          let all' : all_present s (handles ++ unresolved ts) at_end ≡ true = ap (λ l. all_present s l at_end) (append_assoc before (t.handle ∷ []) (unresolved ts)) ∙ all in
-          let le : n ≤ j = within handles n least (all_front s handles (unresolved ts) at_end all') in
+          let all' : all_present s (handles ++ unresolved_handles ts) at_end ≡ true = ap (λ l. all_present s l at_end) (append_assoc before (t.handle ∷ []) (unresolved_handles ts)) ∙ all in
+          let le : n ≤ j = within handles n least (all_front s handles (unresolved_handles ts) at_end all') in
           let same = keeps_result s p queued two t.handle n j le (id_there (present_in s t.handle (arrivals_used (take n p.queue) p.derived)) id is) in
           (ap (option_and_then id_of_result) same ∙ is, ih handles all' more)
 
 -- ---- one move
 
 -- a take of the cancel signal by what was used before
-cancel_usage : (o : Option NotificationId) (d e : Derived) → e.usage ≡ d.usage → (cancel_taken o e).usage ≡ (cancel_taken o d).usage
+cancel_usage : (o : Option NotificationId) (d e : Derived) → e.usage ≡ d.usage → (with_cancel_taken o e).usage ≡ (with_cancel_taken o d).usage
 cancel_usage None d e same = same
 cancel_usage (Some id) d e same = ap (λ us. Taken id ∷ us) same
 
 -- it leaves the tracked calls
-cancel_tracked : (o : Option NotificationId) (d : Derived) → d.tracked ≡ [] → (cancel_taken o d).tracked ≡ []
+cancel_tracked : (o : Option NotificationId) (d : Derived) → d.tracked ≡ [] → (with_cancel_taken o d).tracked ≡ []
 cancel_tracked None d e = e
 cancel_tracked (Some id) d e = e
 
@@ -249,13 +249,13 @@ module _ (s : Setup) (m : Meaning) (p r : Point) (a : Answer) (moves : next s m 
   leads_on k to h = ap (λ o. and_then o (after s m k)) moves ∙ h
 
   -- an arrival is used first
-  arrives : (handle : ℕ) (handles : List ℕ) (n : Notification) (queue : List Notification) → unresolved calls ≡ handle ∷ handles → present_in s handle d ≡ None → p.queue ≡ n ∷ queue → record p { derived = arrival_used n d; queue = queue } ≡ r → CancelledAwait s m r a → CancelledAwait s m p a
+  arrives : (handle : ℕ) (handles : List ℕ) (n : Notification) (queue : List Notification) → unresolved_handles calls ≡ handle ∷ handles → present_in s handle d ≡ None → p.queue ≡ n ∷ queue → record p { derived = arrival_used n d; queue = queue } ≡ r → CancelledAwait s m r a → CancelledAwait s m p a
   arrives handle handles n queue first none at now ends =
       let z : Point = record p { derived = arrival_used n d; queue = queue } in
       let k : CancelledAwait s m z a = subst (λ y. CancelledAwait s m y a) (sym now) ends in
       let j = suc k.arrivals in
-      let absent : all_present s (unresolved calls) d ≡ false = ap (λ l. all_present s l d) first ∙ not_all s handle handles d none in
-      let least : IsLeast (all_present s (unresolved calls)) d p.queue j = subst (λ q. IsLeast (all_present s (unresolved calls)) d q j) (sym at) (least_next (all_present s (unresolved calls)) d n queue k.arrivals absent k.least) in
+      let absent : all_present s (unresolved_handles calls) d ≡ false = ap (λ l. all_present s l d) first ∙ not_all s handle handles d none in
+      let least : IsLeast (all_present s (unresolved_handles calls)) d p.queue j = subst (λ q. IsLeast (all_present s (unresolved_handles calls)) d q j) (sym at) (least_next (all_present s (unresolved_handles calls)) d n queue k.arrivals absent k.least) in
       let are : AreInvocations s d p.queue [] calls k.invocations = subst (λ q. AreInvocations s d q [] calls k.invocations) (sym at) (all_shifted s d n queue handle handles calls k.invocations first none k.are) in
       record {
         answered = k.answered;
@@ -270,19 +270,19 @@ module _ (s : Setup) (m : Meaning) (p r : Point) (a : Answer) (moves : next s m 
         answers = k.answers;
         said = k.said;
         queue = k.queue ∙ ap (drop j) (sym at);
-        usage = k.usage ∙ ap (λ q. (cancel_taken (id_at 1 d.handles) (arrivals_used (take j q) d)).usage) (sym at);
+        usage = k.usage ∙ ap (λ q. (with_cancel_taken (id_at 1 d.handles) (arrivals_used (take j q) d)).usage) (sym at);
         tracked = k.tracked;
       }
 
   -- a result is read first
-  learns : (handle : ℕ) (handles id : List ℕ) → unresolved calls ≡ handle ∷ handles → id_in s handle d ≡ Some id → record p { derived = record d { tracked = with_next_id id calls } } ≡ r → CancelledAwait s m r a → CancelledAwait s m p a
+  learns : (handle : ℕ) (handles id : List ℕ) → unresolved_handles calls ≡ handle ∷ handles → id_in s handle d ≡ Some id → record p { derived = record d { tracked = with_next_id id calls } } ≡ r → CancelledAwait s m r a → CancelledAwait s m p a
   learns handle handles id first is now ends =
       let e : Derived = record d { tracked = with_next_id id calls } in
       let z : Point = record p { derived = e } in
       let k : CancelledAwait s m z a = subst (λ y. CancelledAwait s m y a) (sym now) ends in
       let alike : Alike d e = record { handles = refl; usage = refl } in
       let there = id_there (present_in s handle d) id is in
-      let least = least_alike (all_present s (unresolved calls)) (all_present s (unresolved e.tracked)) d e p.queue k.arrivals
+      let least = least_alike (all_present s (unresolved_handles calls)) (all_present s (unresolved_handles e.tracked)) d e p.queue k.arrivals
       (λ ns. ap (λ l. all_present s l (arrivals_used ns d)) first ∙ all_with s d e alike p.queue handle handles there ns ∙ sym (ap (λ l. all_present s l (arrivals_used ns e)) (first_learned id calls handle handles first))) k.least
       in
       let are = all_read s d e alike p.queue handle handles id calls k.invocations first is k.are in
@@ -304,16 +304,16 @@ module _ (s : Setup) (m : Meaning) (p r : Point) (a : Answer) (moves : next s m 
       }
 
   -- a cancel command is used first
-  sends : (id : List ℕ) (ids : List (List ℕ)) → unresolved calls ≡ [] → invocation_ids calls ≡ id ∷ ids → Sent s id p r → CancelledAwait s m r a → CancelledAwait s m p a
+  sends : (id : List ℕ) (ids : List (List ℕ)) → unresolved_handles calls ≡ [] → invocation_ids calls ≡ id ∷ ids → Sent s id p r → CancelledAwait s m r a → CancelledAwait s m p a
   sends id ids known is sent k =
       let e = r.derived in
       let alike : Alike d e = record { handles = sent.handles; usage = sent.usage } in
       let on = others_known calls id ids known is in
-      let known' : unresolved e.tracked ≡ [] = ap unresolved sent.tracked ∙ on.0 in
+      let known' : unresolved_handles e.tracked ≡ [] = ap unresolved_handles sent.tracked ∙ on.0 in
       let ids_are : k.invocations ≡ ids = are_known s e r.queue e.tracked k.invocations known' k.are ∙ ap invocation_ids sent.tracked ∙ on.1 in
-      let least = least_alike (all_present s (unresolved calls)) (all_present s (unresolved e.tracked)) d e p.queue k.arrivals
+      let least = least_alike (all_present s (unresolved_handles calls)) (all_present s (unresolved_handles e.tracked)) d e p.queue k.arrivals
       (λ ns. ap (λ l. all_present s l (arrivals_used ns d)) known ∙ sym (ap (λ l. all_present s l (arrivals_used ns e)) known'))
-      (subst (λ q. IsLeast (all_present s (unresolved e.tracked)) e q k.arrivals) sent.queue k.least)
+      (subst (λ q. IsLeast (all_present s (unresolved_handles e.tracked)) e q k.arrivals) sent.queue k.least)
       in
       let are : AreInvocations s d p.queue [] calls (id ∷ k.invocations) = subst (AreInvocations s d p.queue [] calls) (is ∙ ap (λ l. id ∷ l) (sym ids_are)) (known_are s d p.queue calls known) in
       record {
@@ -330,15 +330,15 @@ module _ (s : Setup) (m : Meaning) (p r : Point) (a : Answer) (moves : next s m 
         said = k.said ∙ ap (λ l. l ++ cancel_commands k.invocations) sent.said ∙ append_assoc p.said ((cancel_invocation_command id).message ∷ []) (cancel_commands k.invocations);
         queue = k.queue ∙ ap (drop k.arrivals) sent.queue;
         usage = k.usage
-            ∙ (λ i. (cancel_taken (id_at 1 (sent.handles i)) (arrivals_used (take k.arrivals (sent.queue i)) e)).usage)
+            ∙ (λ i. (with_cancel_taken (id_at 1 (sent.handles i)) (arrivals_used (take k.arrivals (sent.queue i)) e)).usage)
             ∙ cancel_usage (id_at 1 d.handles) (arrivals_used (take k.arrivals p.queue) d) (arrivals_used (take k.arrivals p.queue) e) (alike_more (take k.arrivals p.queue) d e alike).usage;
         tracked = k.tracked;
       }
 
   -- the await is answered
-  finishes : a ≡ answer.Cancelled → unresolved calls ≡ [] → invocation_ids calls ≡ [] → record p { answers = p.answers ++ answer.Cancelled ∷ []; derived = cancel_taken (id_at 1 d.handles) (record d { tracked = [] }) } ≡ r → CancelledAwait s m p a
+  finishes : a ≡ answer.Cancelled → unresolved_handles calls ≡ [] → invocation_ids calls ≡ [] → record p { answers = p.answers ++ answer.Cancelled ∷ []; derived = with_cancel_taken (id_at 1 d.handles) (record d { tracked = [] }) } ≡ r → CancelledAwait s m p a
   finishes answered known is now =
-      let least = least_now (all_present s (unresolved calls)) d p.queue (ap (λ l. all_present s l d) known) in
+      let least = least_now (all_present s (unresolved_handles calls)) d p.queue (ap (λ l. all_present s l d) known) in
       let are : AreInvocations s d p.queue [] calls [] = subst (λ ts. AreInvocations s d p.queue [] ts []) (sym (no_calls calls known is)) refl in
       record {
         answered = answered;

@@ -32,9 +32,9 @@ use Rattle.await_trees.specs.declared.handle.NotificationHandle.{NotificationHan
 use Rattle.await_trees.specs.declared.tree.UnresolvedFuture.{UnresolvedFuture}
 use Rattle.vm_parts.specs.declared.run_state.TrackedCall.{TrackedCall}
 use Rattle.vm_types.specs.declared.values.Value.{Value}
-use Rattle.vm_parts.specs.Counting.{missing, missing_signals}
-use Rattle.vm_parts.specs.Deliveries.{id_at, present_for, same_id}
-use Rattle.vm_parts.specs.Tracked.{id_of_result, id_of_value, invocation_ids, noted, unresolved}
+use Rattle.vm_parts.specs.Counting.{missing_number, missing_signals}
+use Rattle.vm_parts.specs.Deliveries.{id_at, present_result_for, same_id}
+use Rattle.vm_parts.specs.Tracked.{id_of_result, id_of_value, invocation_ids, id_noted, unresolved_handles}
 use Rattle.vm_types.specs.Values.{value_of}
 use Rattle.vm_asks.specs.declared.asks.Ask.{Ask}
 use Rattle.vm_asks.specs.declared.asks.Ask.TheVariants as ask
@@ -43,18 +43,18 @@ use Rattle.vm_asks.specs.declared.command.Command.{Command}
 use Rattle.vm_asks.specs.declared.state_read.StateRead.{StateRead}
 use Rattle.vm_asks.specs.declared.state_read.StateRead.TheVariants as reads
 use Rattle.vm_asks.specs.Asks.{answer_by, ask_of, cancel_invocation_command}
-use Rattle.vm_asks.specs.StateReads.{eager_form, eager_type, lazy_form, lazy_type, read_as, read_by, recorded_as, result_in}
+use Rattle.vm_asks.specs.StateReads.{eager_form, eager_type, lazy_form, lazy_type, read_in_form, read_by, recorded_as, result_in}
 use Rattle.vm_asks.specs.Requests.{ids_of, with_ids}
 use Rattle.vm_machine.specs.Skips.{skips_replay}
-use Rattle.vm_model.specs.Calls.{Derived, Demand, Meaning, Move, Setup, Usage, asked, awaited, awakeable_made, awaiting, cancel_sent, cancel_taken, cancelled, cancelling, commanding, id_awaited, id_read, is_awake, is_cancelled_in, making_awakeable, numbered, reading, ready_in, result_taken, signal_made, value_noted, value_taken, Turn, behind_command, refused_before, turn_after}
+use Rattle.vm_model.specs.Calls.{Derived, Demand, Meaning, Move, Setup, Usage, asked, awaited, awakeable_made, awaiting, cancel_sent, with_cancel_taken, cancelled, cancelling, commanding, id_awaited, id_read, is_awake, is_cancelled_in, making_awakeable, numbered, reading, ready_in, take_of_result, signal_made, take_noting_id, take_of_value, Turn, behind_command, refused_before, turn_after}
 use Rattle.vm_machine.specs.Commands.{ignores_payloads}
 use Rattle.vm_model.specs.Calls.Demand.{Exactly, Reads}
 use Rattle.vm_model.specs.Calls.Move.{Answers, Needs, Awaits, Ends, Refuses}
 use Rattle.vm_model.specs.Calls.Usage.{Used, Read, Taken}
 use Rattle.vm_asks.specs.Carried.{carried}
-use Rattle.vm_model.specs.Carried.{AreCarried, ComeOnce, is_among, is_carried, read_carries}
+use Rattle.vm_model.specs.Carried.{AreCarried, ComeOnce, is_id_among, is_carried, read_carries}
 use Rattle.vm_model.specs.Deliveries.{HasNoTwo, deliveries, was_read}
-use Rattle.vm_model.specs.Moves.{Point, after, brought, command_used, found, move_at, moved, next, reads_as, start, uses_arrival, uses_command}
+use Rattle.vm_model.specs.Moves.{Point, after, with_read_result, command_used, found, move_at, moved, next, reads_as, start, uses_arrival, uses_command}
 use Rattle.vm_model.specs.Uses.{arrivals_in, needed_for}
 use Rattle.vm_model.proofs.Parts.{IsOfOne, next_keeps, next_turn, turn_splits}
 use Rattle.vm_model.proofs.Parted.{PartMove, WasUsed, part_moves}
@@ -162,7 +162,7 @@ given_two id i e = ⊎_elim
     (λ (t : ((id + 1 == i) || false) ≡ true). let h = given_one (id + 1) i t in (omega (arith, h.0), omega (arith, h.1)))
     (one_of (id == i) ((id + 1 == i) || false) e)
 
-carried_given : (id : ℕ) (m : Message) (i : ℕ) → is_among i (carried (with_ids id m)) ≡ true → (id ≤ i) × (i < id + ids_of m)
+carried_given : (id : ℕ) (m : Message) (i : ℕ) → is_id_among i (carried (with_ids id m)) ≡ true → (id ≤ i) × (i < id + ids_of m)
 carried_given id (message.Sleep c) i e = given_one id i e
 carried_given id (message.GetLazyState c) i e = given_one id i e
 carried_given id (message.GetLazyStateKeys c) i e = given_one id i e
@@ -273,7 +273,7 @@ module _ (i : ℕ) where
 
   commanding_none : (s : Setup) (c : Command) (o : Option NamedFault) (d : Derived) → ReadsNone i d (commanding s c o d)
   commanding_none s c (Some name) d = tt
-  commanding_none s c None d = numbered_none s c (missing (ids_of c.message) 0 (ids_of c.message) d.counters) d
+  commanding_none s c None d = numbered_none s c (missing_number (ids_of c.message) 0 (ids_of c.message) d.counters) d
 
   reading_none : (r : StateRead) (o : Option NamedFault) (d : Derived) → ReadsNone i d (reading r o d)
   reading_none r (Some name) d = tt
@@ -295,7 +295,7 @@ module _ (i : ℕ) where
   awaiting_none true d = (refl, omega arith)
   awaiting_none false d = tt
 
-  taken_none : (o : Option NotificationId) (d e : Derived) → reads_at i e.usage ≡ reads_at i d.usage → d.counters.completion ≤ e.counters.completion → (reads_at i (cancel_taken o e).usage ≡ reads_at i d.usage) × (d.counters.completion ≤ (cancel_taken o e).counters.completion)
+  taken_none : (o : Option NotificationId) (d e : Derived) → reads_at i e.usage ≡ reads_at i d.usage → d.counters.completion ≤ e.counters.completion → (reads_at i (with_cancel_taken o e).usage ≡ reads_at i d.usage) × (d.counters.completion ≤ (with_cancel_taken o e).counters.completion)
   unfolding reads_at
   taken_none None d e same more = (same, more)
   taken_none (Some id) d e same more = (same, more)
@@ -314,26 +314,26 @@ module _ (i : ℕ) where
 
   cancelling_none : (s : Setup) (ids : List (List ℕ)) (d : Derived) → ReadsNone i d (cancelling s ids d)
   cancelling_none s [] d = taken_none (id_at 1 d.handles) d (record d { tracked = [] }) refl (omega arith)
-  cancelling_none s (id ∷ ids) d = sent_none s id (missing 0 0 0 d.counters) d
+  cancelling_none s (id ∷ ids) d = sent_none s id (missing_number 0 0 0 d.counters) d
 
   cancelled_none : (s : Setup) (handles : List ℕ) (d : Derived) → ReadsNone i d (cancelled s handles d)
   cancelled_none s [] d = cancelling_none s (invocation_ids d.tracked) d
-  cancelled_none s (handle ∷ handles) d = id_none (present_for s.options.signal_delivery (id_at handle d.handles) (ready_in s d)) d
+  cancelled_none s (handle ∷ handles) d = id_none (present_result_for s.options.signal_delivery (id_at handle d.handles) (ready_in s d)) d
 
   awaited_none : (s : Setup) (b : Bool) (future : UnresolvedFuture) (d : Derived) → ReadsNone i d (awaited s b future d)
-  awaited_none s true future d = cancelled_none s (unresolved d.tracked) d
+  awaited_none s true future d = cancelled_none s (unresolved_handles d.tracked) d
   awaited_none s false future d = awaiting_none (is_awake s future d) d
 
-  noted_none : (handle : NotificationHandle) (id : NotificationId) (value : Value) (o : Option (List TrackedCall)) (d : Derived) → ReadsNone i d (value_noted handle id value o d)
+  noted_none : (handle : NotificationHandle) (id : NotificationId) (value : Value) (o : Option (List TrackedCall)) (d : Derived) → ReadsNone i d (take_noting_id handle id value o d)
   unfolding reads_at
   noted_none handle id value None d = tt
   noted_none handle id value (Some tracked) d = (refl, omega arith)
 
-  value_none : (handle : NotificationHandle) (id : NotificationId) (o : Option Value) (d : Derived) → ReadsNone i d (value_taken handle id o d)
+  value_none : (handle : NotificationHandle) (id : NotificationId) (o : Option Value) (d : Derived) → ReadsNone i d (take_of_value handle id o d)
   value_none handle id None d = tt
-  value_none handle id (Some value) d = noted_none handle id value (noted handle.0 (id_of_value value) d.tracked) d
+  value_none handle id (Some value) d = noted_none handle id value (id_noted handle.0 (id_of_value value) d.tracked) d
 
-  result_none : (handle : NotificationHandle) (id : Option NotificationId) (o : Option NotificationResult) (d : Derived) → ReadsNone i d (result_taken handle id o d)
+  result_none : (handle : NotificationHandle) (id : Option NotificationId) (o : Option NotificationResult) (d : Derived) → ReadsNone i d (take_of_result handle id o d)
   result_none handle (Some id) (Some result) d = value_none handle id (value_of result) d
   result_none handle (Some id) None d = (refl, omega arith)
   result_none handle None o d = (refl, omega arith)
@@ -341,11 +341,11 @@ module _ (i : ℕ) where
   asked_none : (s : Setup) (a : Ask) (d : Derived) → IsOfOne a → ReadsNone i d (asked s a d)
   asked_none s (ask.Command c) d one = commanding_none s c c.refusal d
   asked_none s (ask.Commands kind first second) d one = absurd one
-  asked_none s (ask.Read r) d one = reading_none r (missing 1 0 1 d.counters) d
+  asked_none s (ask.Read r) d one = reading_none r (missing_number 1 0 1 d.counters) d
   asked_none s ask.Awakeable d one = making_none s (skips_replay s.options.journal_replay) d
   asked_none s (ask.Signal name) d one = signal_none name (missing_signals 0 1 d.counters) d
   asked_none s (ask.Await future) d one = awaited_none s (is_cancelled_in s d) future d
-  asked_none s (ask.Take handle) d one = result_none handle (id_at handle.0 d.handles) (present_for s.options.signal_delivery (id_at handle.0 d.handles) (ready_in s d)) d
+  asked_none s (ask.Take handle) d one = result_none handle (id_at handle.0 d.handles) (present_result_for s.options.signal_delivery (id_at handle.0 d.handles) (ready_in s d)) d
   asked_none s (ask.Completed handle) d one = (refl, omega arith)
   asked_none s ask.End d one = tt
 
@@ -354,7 +354,7 @@ module _ (i : ℕ) where
 -- What a recorded command brings: no result, and it carries the needed one's ids; or it carries none.
 record Exact (command : Message) (o : Option Message) (result : Option NotificationResult) : Type 0 where
   none : result ≡ None
-  same : (i : ℕ) → read_carries i o ≡ is_among i (carried command)
+  same : (i : ℕ) → read_carries i o ≡ is_id_among i (carried command)
 
 pub typed : (a b : MessageType) → (type_number a == type_number b) ≡ true → a ≡ b
 typed a b e = one_number a b (eqb-true (type_number a) (type_number b) e)
@@ -364,7 +364,7 @@ exact_by command ignore raw None result is read e = absurd (cc)
 exact_by command ignore raw (Some n) result is read e = by_test (header_equal n command ignore) refl e
   where
     by_test : (b : Bool) → header_equal n command ignore ≡ b → (if b then Ok None else Err fault.CommandMismatch) ≡ Ok result → Exact command (Some n) result
-    by_test true t h = record { none = (let x : None ≡ result = cc in sym x); same = λ i. ap (is_among i) (same_carried command n ignore (type_read raw.ty raw.body n read ∙ is) t) }
+    by_test true t h = record { none = (let x : None ≡ result = cc in sym x); same = λ i. ap (is_id_among i) (same_carried command n ignore (type_read raw.ty raw.body n read ∙ is) t) }
     by_test false t h = absurd (cc)
 
 exact : (command : Message) (ignore : Bool) (raw : RawMessage) (result : Option NotificationResult) → found (Exactly command ignore) raw ≡ Ok result → Exact command (message_in raw.ty raw.body) result
@@ -392,7 +392,7 @@ eager_read (reads.Keys name) n e = absurd (cc)
 
 -- what a read's record brings: no result, and it carries the id; or it carries none
 abbrev ReadBrings : ℕ → Option Message → Option NotificationResult → Type 0
-ReadBrings id o result = ((result ≡ None) × ((i : ℕ) → read_carries i o ≡ is_among i (id ∷ []))) ⊎ ((i : ℕ) → read_carries i o ≡ false)
+ReadBrings id o result = ((result ≡ None) × ((i : ℕ) → read_carries i o ≡ is_id_among i (id ∷ []))) ⊎ ((i : ℕ) → read_carries i o ≡ false)
 
 read_form : (form : Message) (n : Message) (result : Option NotificationResult) → read_by form (Some n) ≡ Ok result → (header_equal n form true ≡ true) × (result_in n ≡ Ok result)
 read_form form n result e = by_test (header_equal n form true) e
@@ -404,14 +404,14 @@ read_form form n result e = by_test (header_equal n form true) e
 read_brings : (r : StateRead) (id : ℕ) (raw : RawMessage) (result : Option NotificationResult) → recorded_as r id raw ≡ Ok result → ReadBrings id (message_in raw.ty raw.body) result
 read_brings r id raw result e = by_type (type_number raw.ty == type_number (lazy_type r)) (type_number raw.ty == type_number (eager_type r)) (message_in raw.ty raw.body) e
   where
-    by_type : (lazy eager : Bool) (o : Option Message) → read_as (if lazy then Some (lazy_form r id) else if eager then Some (eager_form r) else None) o ≡ Ok result → ReadBrings id o result
+    by_type : (lazy eager : Bool) (o : Option Message) → read_in_form (if lazy then Some (lazy_form r id) else if eager then Some (eager_form r) else None) o ≡ Ok result → ReadBrings id o result
     by_type true eager None h = absurd (cc)
     by_type true eager (Some n) h =
         let t = read_form (lazy_form r id) n result h in
         let x = lazy_read r id n result t.0 t.1 in
-        inl (x.0, λ i. ap (is_among i) x.1)
+        inl (x.0, λ i. ap (is_id_among i) x.1)
     by_type false true None h = absurd (cc)
-    by_type false true (Some n) h = inr (λ i. ap (is_among i) (eager_read r n (read_form (eager_form r) n result h).0))
+    by_type false true (Some n) h = inr (λ i. ap (is_id_among i) (eager_read r n (read_form (eager_form r) n result h).0))
     by_type false false o h = absurd (cc)
 
 -- ---- one move
@@ -431,35 +431,35 @@ module _ (i : ℕ) (p : Point) (raw : RawMessage) where
   alone b e = ap (λ t. t || false) e
 
   -- what a recorded command claims that carries the ids from this one on
-  exact_claimed : (first past at : ℕ) (command : Message) (ignore : Bool) (result : Option NotificationResult) (e : Derived) → found (Exactly command ignore) raw ≡ Ok result → reads_at i e.usage ≡ old → IsOwn first past (Exactly command ignore) → Claim i first past old (reads_at i (brought at result e).usage) (raw ∷ [])
+  exact_claimed : (first past at : ℕ) (command : Message) (ignore : Bool) (result : Option NotificationResult) (e : Derived) → found (Exactly command ignore) raw ≡ Ok result → reads_at i e.usage ≡ old → IsOwn first past (Exactly command ignore) → Claim i first past old (reads_at i (with_read_result at result e).usage) (raw ∷ [])
   unfolding reads_at
   exact_claimed first past at command ignore result e is none own =
       let x = exact command ignore raw result is in
-      let quiet : reads_at i (brought at result e).usage ≡ old = ap (λ o. reads_at i (brought at o e).usage) x.none ∙ none in
-      by_test (is_among i (carried command)) refl (x.same i) quiet
+      let quiet : reads_at i (with_read_result at result e).usage ≡ old = ap (λ o. reads_at i (with_read_result at o e).usage) x.none ∙ none in
+      by_test (is_id_among i (carried command)) refl (x.same i) quiet
     where
-      by_test : (b : Bool) → is_among i (carried command) ≡ b → read_carries i (message_in raw.ty raw.body) ≡ is_among i (carried command) → reads_at i (brought at result e).usage ≡ old → Claim i first past old (reads_at i (brought at result e).usage) (raw ∷ [])
+      by_test : (b : Bool) → is_id_among i (carried command) ≡ b → read_carries i (message_in raw.ty raw.body) ≡ is_id_among i (carried command) → reads_at i (with_read_result at result e).usage ≡ old → Claim i first past old (reads_at i (with_read_result at result e).usage) (raw ∷ [])
       by_test true t same quiet =
-          let h = carried_given first own.0 i (ap (λ c. is_among i (carried c)) (sym own.1) ∙ t) in
+          let h = carried_given first own.0 i (ap (λ c. is_id_among i (carried c)) (sym own.1) ∙ t) in
           let n = own.2 in
           inr (h.0, omega (arith, h.1, n), inl quiet)
       by_test false t same quiet = inl (quiet, alone false (same ∙ t))
 
   -- what a recorded command and its result claim
-  claimed : (demand : Demand) (result : Option NotificationResult) (e : Derived) → found demand raw ≡ Ok result → reads_at i e.usage ≡ old → IsOwn id e.counters.completion demand → Claim i id e.counters.completion old (reads_at i (brought id result e).usage) (raw ∷ [])
+  claimed : (demand : Demand) (result : Option NotificationResult) (e : Derived) → found demand raw ≡ Ok result → reads_at i e.usage ≡ old → IsOwn id e.counters.completion demand → Claim i id e.counters.completion old (reads_at i (with_read_result id result e).usage) (raw ∷ [])
   unfolding reads_at
   claimed (Exactly command ignore) result e is none own = exact_claimed id e.counters.completion id command ignore result e is none own
-  claimed (Reads r number) result e is none own = subst (λ n. Claim i id n old (reads_at i (brought id result e).usage) (raw ∷ [])) (sym own.1) (by_form (read_brings r number raw result is))
+  claimed (Reads r number) result e is none own = subst (λ n. Claim i id n old (reads_at i (with_read_result id result e).usage) (raw ∷ [])) (sym own.1) (by_form (read_brings r number raw result is))
     where
-      here : (result ≡ None) → (b : Bool) → (id == i) ≡ b → read_carries i (message_in raw.ty raw.body) ≡ (b || false) → Claim i id (id + 1) old (reads_at i (brought id result e).usage) (raw ∷ [])
-      here nothing true t same = let at = eqb-true id i t in inr (omega (arith, at), omega (arith, at), inl (ap (λ o. reads_at i (brought id o e).usage) nothing ∙ none))
-      here nothing false t same = inl (ap (λ o. reads_at i (brought id o e).usage) nothing ∙ none, alone false same)
+      here : (result ≡ None) → (b : Bool) → (id == i) ≡ b → read_carries i (message_in raw.ty raw.body) ≡ (b || false) → Claim i id (id + 1) old (reads_at i (with_read_result id result e).usage) (raw ∷ [])
+      here nothing true t same = let at = eqb-true id i t in inr (omega (arith, at), omega (arith, at), inl (ap (λ o. reads_at i (with_read_result id o e).usage) nothing ∙ none))
+      here nothing false t same = inl (ap (λ o. reads_at i (with_read_result id o e).usage) nothing ∙ none, alone false same)
 
-      by_result : (o : Option NotificationResult) → read_carries i (message_in raw.ty raw.body) ≡ false → Claim i id (id + 1) old (reads_at i (brought id o e).usage) (raw ∷ [])
+      by_result : (o : Option NotificationResult) → read_carries i (message_in raw.ty raw.body) ≡ false → Claim i id (id + 1) old (reads_at i (with_read_result id o e).usage) (raw ∷ [])
       by_result None free = inl (none, alone false free)
       by_result (Some x) free = not_other id i (id == i) refl (cond (id == i) (suc (reads_at i e.usage)) (reads_at i e.usage)) old (ap (λ n. cond (id == i) (suc n) n) none) (raw ∷ []) (alone false free)
 
-      by_form : ReadBrings number (message_in raw.ty raw.body) result → Claim i id (id + 1) old (reads_at i (brought id result e).usage) (raw ∷ [])
+      by_form : ReadBrings number (message_in raw.ty raw.body) result → Claim i id (id + 1) old (reads_at i (with_read_result id result e).usage) (raw ∷ [])
       by_form (inl h) = here h.0 (id == i) refl (h.1 i ∙ ap (λ n. (n == i) || false) own.0)
       by_form (inr h) = by_result result (h i)
 
@@ -467,7 +467,7 @@ module _ (i : ℕ) (p : Point) (raw : RawMessage) where
   grows (Exactly command ignore) e own = let n = own.2 in omega (arith, n)
   grows (Reads r number) e own = let n = own.1 in omega (arith, n)
 
-same_counter : (at : ℕ) (result : Option NotificationResult) (d : Derived) → (brought at result d).counters ≡ d.counters
+same_counter : (at : ℕ) (result : Option NotificationResult) (d : Derived) → (with_read_result at result d).counters ≡ d.counters
 same_counter at None d = refl
 same_counter at (Some x) d = refl
 

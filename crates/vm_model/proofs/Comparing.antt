@@ -29,7 +29,7 @@ use Rattle.vm_asks.specs.declared.state_read.StateRead.{StateRead}
 use Rattle.vm_asks.specs.declared.state_read.StateRead.TheVariants as reads
 use Rattle.vm_asks.specs.Asks.{EachIs, ask_of}
 use Rattle.vm_asks.specs.Requests.{changed}
-use Rattle.vm_asks.specs.StateReads.{eager_form, eager_type, lazy_form, lazy_type, read_as, recorded_as}
+use Rattle.vm_asks.specs.StateReads.{eager_form, eager_type, lazy_form, lazy_type, read_in_form, recorded_as}
 use Rattle.vm_machine.specs.Commands.{checks_are_off}
 use Rattle.vm_machine.proofs.Numbering.{same_type}
 use Rattle.vm_model.specs.Calls.{Setup, Meaning, Demand, Derived, Move}
@@ -91,7 +91,7 @@ eager_quiet (reads.Keys name) = refl
 read_quiet : (r : StateRead) (id : ℕ) (raw : RawMessage) (result : Option NotificationResult) → recorded_as r id raw ≡ Ok result → changes_state raw.ty ≡ false
 read_quiet r id raw result f = by_tests (type_number raw.ty == type_number (lazy_type r)) refl (type_number raw.ty == type_number (eager_type r)) refl f
   where
-    by_tests : (a : Bool) → (type_number raw.ty == type_number (lazy_type r)) ≡ a → (b : Bool) → (type_number raw.ty == type_number (eager_type r)) ≡ b → read_as (if a then Some (lazy_form r id) else if b then Some (eager_form r) else None) (message_in raw.ty raw.body) ≡ Ok result → changes_state raw.ty ≡ false
+    by_tests : (a : Bool) → (type_number raw.ty == type_number (lazy_type r)) ≡ a → (b : Bool) → (type_number raw.ty == type_number (eager_type r)) ≡ b → read_in_form (if a then Some (lazy_form r id) else if b then Some (eager_form r) else None) (message_in raw.ty raw.body) ≡ Ok result → changes_state raw.ty ≡ false
     by_tests true l b e h = ap changes_state (typed raw.ty (lazy_type r) l) ∙ lazy_quiet r
     by_tests false l true e h = ap changes_state (typed raw.ty (eager_type r) e) ∙ eager_quiet r
     by_tests false l false e h = absurd (cc)

@@ -8,9 +8,9 @@ use Rattle.await_trees.specs.declared.handle.NotificationHandle.{NotificationHan
 use Rattle.await_trees.specs.declared.tree.UnresolvedFuture.{UnresolvedFuture}
 use Rattle.vm_parts.specs.declared.run_state.TrackedCall.{TrackedCall}
 use Rattle.vm_types.specs.declared.values.Value.{Value}
-use Rattle.vm_parts.specs.Counting.{missing, missing_signals}
-use Rattle.vm_parts.specs.Deliveries.{id_at, present_for}
-use Rattle.vm_parts.specs.Tracked.{id_of_result, id_of_value, invocation_ids, noted, unresolved}
+use Rattle.vm_parts.specs.Counting.{missing_number, missing_signals}
+use Rattle.vm_parts.specs.Deliveries.{id_at, present_result_for}
+use Rattle.vm_parts.specs.Tracked.{id_of_result, id_of_value, invocation_ids, id_noted, unresolved_handles}
 use Rattle.vm_types.specs.Values.{value_of}
 use Rattle.vm_asks.specs.declared.asks.Ask.{Ask}
 use Rattle.vm_asks.specs.declared.asks.Ask.TheVariants as ask
@@ -20,7 +20,7 @@ use Rattle.vm_asks.specs.declared.state_read.StateRead.{StateRead}
 use Rattle.vm_asks.specs.Asks.{EachIs, cancel_invocation_command}
 use Rattle.vm_asks.specs.Requests.{ids_of}
 use Rattle.vm_machine.specs.Skips.{skips_replay}
-use Rattle.vm_model.specs.Calls.{Setup, Derived, Demand, Move, asked, awaited, awakeable_made, awaiting, cancel_sent, cancelled, cancelling, commanding, demand_of, id_awaited, id_read, is_awake, is_cancelled_in, making_awakeable, numbered, reading, ready_in, result_taken, signal_made, value_noted, value_taken, Turn, part, part_unless, refused_before, turn_after}
+use Rattle.vm_model.specs.Calls.{Setup, Derived, Demand, Move, asked, awaited, awakeable_made, awaiting, cancel_sent, cancelled, cancelling, commanding, demand_of, id_awaited, id_read, is_awake, is_cancelled_in, making_awakeable, numbered, reading, ready_in, take_of_result, signal_made, take_noting_id, take_of_value, Turn, part, part_unless, refused_before, turn_after}
 use Rattle.vm_model.specs.Calls.Demand.{Reads}
 use Rattle.vm_model.specs.Calls.Move.{Answers, Needs, Awaits, Ends, Refuses}
 use Rattle.vm_model.proofs.Parts.{turn_is}
@@ -50,7 +50,7 @@ module _ (s : Setup) (P : Demand → List Answer → Type 0) (of_read : (r : Sta
 
   commanding_is : (c : Command) (o : Option NamedFault) (d : Derived) → ((a : Answer) → P (demand_of s c d) (a ∷ [])) → OfMove P (commanding s c o d)
   commanding_is c (Some fault) d h = tt
-  commanding_is c None d h = numbered_is c (missing (ids_of c.message) 0 (ids_of c.message) d.counters) d h
+  commanding_is c None d h = numbered_is c (missing_number (ids_of c.message) 0 (ids_of c.message) d.counters) d h
 
   part_is : (kind : AnswerKind) (c : Command) (cs : List Command) (before d : Derived) → OfCommand s P c → OfMove P (part s kind c cs before d)
   part_is kind c [] before d h = h before _
@@ -94,25 +94,25 @@ module _ (s : Setup) (P : Demand → List Answer → Type 0) (of_read : (r : Sta
 
   cancelling_is : (ids : List (List ℕ)) (d : Derived) → OfMove P (cancelling s ids d)
   cancelling_is [] d = tt
-  cancelling_is (id ∷ ids) d = sent_is id (missing 0 0 0 d.counters) d
+  cancelling_is (id ∷ ids) d = sent_is id (missing_number 0 0 0 d.counters) d
 
   cancelled_is : (handles : List ℕ) (d : Derived) → OfMove P (cancelled s handles d)
   cancelled_is [] d = cancelling_is (invocation_ids d.tracked) d
-  cancelled_is (handle ∷ handles) d = id_is (present_for s.options.signal_delivery (id_at handle d.handles) (ready_in s d)) d
+  cancelled_is (handle ∷ handles) d = id_is (present_result_for s.options.signal_delivery (id_at handle d.handles) (ready_in s d)) d
 
   awaited_is : (b : Bool) (future : UnresolvedFuture) (d : Derived) → OfMove P (awaited s b future d)
-  awaited_is true future d = cancelled_is (unresolved d.tracked) d
+  awaited_is true future d = cancelled_is (unresolved_handles d.tracked) d
   awaited_is false future d = awaiting_is (is_awake s future d) d
 
-  noted_is : (handle : NotificationHandle) (id : NotificationId) (value : Value) (o : Option (List TrackedCall)) (d : Derived) → OfMove P (value_noted handle id value o d)
+  noted_is : (handle : NotificationHandle) (id : NotificationId) (value : Value) (o : Option (List TrackedCall)) (d : Derived) → OfMove P (take_noting_id handle id value o d)
   noted_is handle id value None d = tt
   noted_is handle id value (Some tracked) d = tt
 
-  value_is : (handle : NotificationHandle) (id : NotificationId) (o : Option Value) (d : Derived) → OfMove P (value_taken handle id o d)
+  value_is : (handle : NotificationHandle) (id : NotificationId) (o : Option Value) (d : Derived) → OfMove P (take_of_value handle id o d)
   value_is handle id None d = tt
-  value_is handle id (Some value) d = noted_is handle id value (noted handle.0 (id_of_value value) d.tracked) d
+  value_is handle id (Some value) d = noted_is handle id value (id_noted handle.0 (id_of_value value) d.tracked) d
 
-  result_is : (handle : NotificationHandle) (id : Option NotificationId) (o : Option NotificationResult) (d : Derived) → OfMove P (result_taken handle id o d)
+  result_is : (handle : NotificationHandle) (id : Option NotificationId) (o : Option NotificationResult) (d : Derived) → OfMove P (take_of_result handle id o d)
   result_is handle (Some id) (Some result) d = value_is handle id (value_of result) d
   result_is handle (Some id) None d = tt
   result_is handle None o d = tt
@@ -122,10 +122,10 @@ module _ (s : Setup) (P : Demand → List Answer → Type 0) (of_read : (r : Sta
   asked_is (ask.Commands kind first second) d h =
       let t = turn_after s d.parts first (second ∷ []) d in
       turn_is_so kind (refused_before t.command t.behind t.before.counters) t d (turn_is (OfCommand s P) s d.parts first (second ∷ []) d h)
-  asked_is (ask.Read r) d h = reading_is r (missing 1 0 1 d.counters) d
+  asked_is (ask.Read r) d h = reading_is r (missing_number 1 0 1 d.counters) d
   asked_is ask.Awakeable d h = making_is (skips_replay s.options.journal_replay) d
   asked_is (ask.Signal name) d h = signal_is name (missing_signals 0 1 d.counters) d
   asked_is (ask.Await future) d h = awaited_is (is_cancelled_in s d) future d
-  asked_is (ask.Take handle) d h = result_is handle (id_at handle.0 d.handles) (present_for s.options.signal_delivery (id_at handle.0 d.handles) (ready_in s d)) d
+  asked_is (ask.Take handle) d h = result_is handle (id_at handle.0 d.handles) (present_result_for s.options.signal_delivery (id_at handle.0 d.handles) (ready_in s d)) d
   asked_is (ask.Completed handle) d h = tt
   asked_is ask.End d h = tt

@@ -10,7 +10,7 @@ use Rattle.journal_messages.specs.Message.{IsWhole}
 use Rattle.journal_messages.specs.Message.{type_of}
 use Rattle.journal_messages.specs.Reading.{message_in}
 use Rattle.vm_parts.specs.declared.context.Known.TheVariants.{Unknown}
-use Rattle.vm_parts.specs.States.{known, known_keys}
+use Rattle.vm_parts.specs.States.{value_known, known_keys}
 use Rattle.vm_asks.specs.declared.state_read.StateRead.TheVariants as reads
 use Rattle.vm_asks.specs.StateReads.{own_form}
 use Rattle.vm_parts.specs.declared.context.StateMap.{StateMap}
@@ -24,7 +24,7 @@ use Rattle.vm_asks.specs.Asks.{EachIs, ask_of}
 use Rattle.vm_machine.proofs.Numbering.{same_type}
 use Rattle.vm_model.specs.Calls.{Setup, Meaning, Demand, Move}
 use Rattle.vm_model.specs.Calls.Move.{Answers, Needs, Awaits, Ends, Refuses}
-use Rattle.vm_model.specs.Histories.{EagerFrom, Fits, Honest, IsTrueOf, Knowledge, Made, recorded_value}
+use Rattle.vm_model.specs.Histories.{EagerFrom, EagerReadMatches, Honest, IsTrueOf, Knowledge, Made, recorded_value}
 use Rattle.vm_model.specs.Journal.{messages_in, read_before}
 use Rattle.vm_model.specs.Moves.{Point, changed_by, longer, move_at, next, said_of, supplied, supply}
 use Rattle.vm_model.proofs.Demands.{OfAsk, OfMove, asked_is}
@@ -124,15 +124,15 @@ eager_made s m base (suc n) p made q spent (state, r, rest, knows, is, moves, fu
 -- ---- what recorded eager reads bring
 
 -- behind some recorded commands
-eager_behind : (base : StateMap) (before : List RawMessage) (raw : RawMessage) (cs : List RawMessage) → EagerFrom base (before ++ raw ∷ cs) → Fits (changed_by (messages_in before) base) raw (message_in raw.ty raw.body)
+eager_behind : (base : StateMap) (before : List RawMessage) (raw : RawMessage) (cs : List RawMessage) → EagerFrom base (before ++ raw ∷ cs) → EagerReadMatches (changed_by (messages_in before) base) raw (message_in raw.ty raw.body)
 eager_behind base [] raw cs h = h.0
 eager_behind base (c ∷ before) raw cs h =
-    subst (λ g. Fits g raw (message_in raw.ty raw.body)) (sym (changed_by-append (messages_in (c ∷ [])) (messages_in before) base) ∙ ap (λ l. changed_by l base) (sym (messages-append (c ∷ []) before))) (eager_behind (changed_by (messages_in (c ∷ [])) base) before raw cs h.1)
+    subst (λ g. EagerReadMatches g raw (message_in raw.ty raw.body)) (sym (changed_by-append (messages_in (c ∷ [])) (messages_in before) base) ∙ ap (λ l. changed_by l base) (sym (messages-append (c ∷ []) before))) (eager_behind (changed_by (messages_in (c ∷ [])) base) before raw cs h.1)
 
 pub values_brought : (base : StateMap) (before : List RawMessage) (raw : RawMessage) (cs : List RawMessage) (c : GetEagerStateCommand) → EagerFrom base (before ++ raw ∷ cs) → message_in raw.ty raw.body ≡ Some (message.GetEagerState c)
-    → (known c.key (changed_by (messages_in before) base) ≡ Unknown → ⊥) × (c.result ≡ recorded_value (known c.key (changed_by (messages_in before) base)))
-values_brought base before raw cs c h is = let g = changed_by (messages_in before) base in value_brought g raw c is (subst (Fits g raw) is (eager_behind base before raw cs h))
+    → (value_known c.key (changed_by (messages_in before) base) ≡ Unknown → ⊥) × (c.result ≡ recorded_value (value_known c.key (changed_by (messages_in before) base)))
+values_brought base before raw cs c h is = let g = changed_by (messages_in before) base in value_brought g raw c is (subst (EagerReadMatches g raw) is (eager_behind base before raw cs h))
 
 pub all_keys_brought : (base : StateMap) (before : List RawMessage) (raw : RawMessage) (cs : List RawMessage) (c : GetEagerStateKeysCommand) → EagerFrom base (before ++ raw ∷ cs) → message_in raw.ty raw.body ≡ Some (message.GetEagerStateKeys c)
     → IsWhole (own_form (reads.Keys c.name) 0 (changed_by (messages_in before) base)) → (known_keys (changed_by (messages_in before) base) ≡ None → ⊥) × (c.value ≡ known_keys (changed_by (messages_in before) base))
-all_keys_brought base before raw cs c h is whole = let g = changed_by (messages_in before) base in keys_brought g raw c is (subst (Fits g raw) is (eager_behind base before raw cs h)) whole
+all_keys_brought base before raw cs c h is whole = let g = changed_by (messages_in before) base in keys_brought g raw c is (subst (EagerReadMatches g raw) is (eager_behind base before raw cs h)) whole

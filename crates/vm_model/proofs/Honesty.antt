@@ -10,7 +10,7 @@ use Rattle.vm_types.specs.declared.steps.Answer.{Answer}
 use Rattle.vm_model.specs.Calls.{Setup, Meaning}
 use Rattle.vm_model.specs.Journal.{Entry, commands_in, notifications_in, input_read_from, messages_in}
 use Rattle.vm_model.specs.Moves.{Point, changed_by, later, start}
-use Rattle.vm_model.specs.Histories.{Handed, Honest, Knowledge, Made, OneBegins, Told, Undisturbed, Whole, behind}
+use Rattle.vm_model.specs.Histories.{Handed, Honest, Knowledge, Made, OneBegins, Told, Undisturbed, Whole, after_head}
 use Rattle.vm_model.specs.HonestRounds.{Attempted, HonestRound, HonestRounds, IsHanded, IsOneRun, IsToldOn}
 use Rattle.vm_model.proofs.Attempts.{continues}
 use Rattle.vm_model.proofs.Compared.{told_compare}
@@ -52,16 +52,16 @@ round_lasts s m K before a after h lasts t r =
     }
 
 -- what the journal's commands say changes the base as the run of the journal does
-run_said : (s : Setup) (m : Meaning) (K : Knowledge) (journal : List Entry) (h : IsOneRun s m K journal) (base : StateMap) → changed_by (messages_in (behind (commands_in journal))) base ≡ changed_by h.at.said base
-run_said s m K journal h base = ap (λ l. changed_by (messages_in (behind l)) base) h.begins ∙ sym (said_made s m K h.moves (start s h.input (notifications_in journal) []) h.rest h.at refl h.made base)
+run_said : (s : Setup) (m : Meaning) (K : Knowledge) (journal : List Entry) (h : IsOneRun s m K journal) (base : StateMap) → changed_by (messages_in (after_head (commands_in journal))) base ≡ changed_by h.at.said base
+run_said s m K journal h base = ap (λ l. changed_by (messages_in (after_head l)) base) h.begins ∙ sym (said_made s m K h.moves (start s h.input (notifications_in journal) []) h.rest h.at refl h.made base)
 
 pub honest_round : (s : Setup) (m : Meaning) (base : StateMap) (before : List Entry) (a : Attempted) (after : List Entry) → IsInOrder base.entries → IsOneRun s m (Honest base) before → IsHanded (Honest base) before a → IsToldOn s m before a → HonestRound before a.course after → IsOneRun s m (Honest base) after
 honest_round s m base before a after ordered h handed t r =
-    round_lasts s m (Honest base) before a after h (honest_lasts base a.given h.at.said (messages_in (behind (commands_in before))) ordered (run_said s m (Honest base) before h base) handed) t r
+    round_lasts s m (Honest base) before a after h (honest_lasts base a.given h.at.said (messages_in (after_head (commands_in before))) ordered (run_said s m (Honest base) before h base) handed) t r
 
 pub whole_round : (s : Setup) (m : Meaning) (base : StateMap) (before : List Entry) (a : Attempted) (after : List Entry) → IsInOrder base.entries → IsOneRun s m (Whole base) before → IsHanded (Whole base) before a → IsToldOn s m before a → HonestRound before a.course after → IsOneRun s m (Whole base) after
 whole_round s m base before a after ordered h handed t r =
-    round_lasts s m (Whole base) before a after h (whole_lasts base a.given h.at.said (messages_in (behind (commands_in before))) ordered (run_said s m (Whole base) before h base) handed) t r
+    round_lasts s m (Whole base) before a after h (whole_lasts base a.given h.at.said (messages_in (after_head (commands_in before))) ordered (run_said s m (Whole base) before h base) handed) t r
 
 pub honest_rounds : (s : Setup) (m : Meaning) (base : StateMap) (before : List Entry) (rounds : List Attempted) (after : List Entry) → IsInOrder base.entries → IsOneRun s m (Honest base) before → HonestRounds s m (Honest base) before rounds after → IsOneRun s m (Honest base) after
 honest_rounds s m base before [] after ordered h d = subst (IsOneRun s m (Honest base)) (sym d) h

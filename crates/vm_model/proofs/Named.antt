@@ -27,9 +27,9 @@ use Rattle.await_trees.specs.declared.handle.NotificationHandle.{NotificationHan
 use Rattle.await_trees.specs.declared.tree.UnresolvedFuture.{UnresolvedFuture}
 use Rattle.vm_parts.specs.declared.async_results.Mapping.{Mapping}
 use Rattle.vm_parts.specs.declared.run_state.TrackedCall.{TrackedCall}
-use Rattle.vm_parts.specs.Counting.{missing, missing_signals}
-use Rattle.vm_parts.specs.Deliveries.{id_at, present_for}
-use Rattle.vm_parts.specs.Tracked.{id_of_result, id_of_value, invocation_ids, noted, unresolved}
+use Rattle.vm_parts.specs.Counting.{missing_number, missing_signals}
+use Rattle.vm_parts.specs.Deliveries.{id_at, present_result_for}
+use Rattle.vm_parts.specs.Tracked.{id_of_result, id_of_value, invocation_ids, id_noted, unresolved_handles}
 use Rattle.vm_types.specs.Values.{value_of}
 use Rattle.vm_asks.specs.declared.asks.Ask.{Ask}
 use Rattle.vm_asks.specs.declared.asks.Ask.TheVariants as ask
@@ -44,10 +44,10 @@ use Rattle.vm_asks.specs.Requests.{ids_of, with_ids}
 use Rattle.vm_asks.specs.StateReads.{lazy_form}
 use Rattle.vm_machine.specs.Commands.{mapped_from}
 use Rattle.vm_machine.specs.Skips.{skips_replay}
-use Rattle.vm_model.specs.Calls.{Setup, Meaning, Derived, Demand, Move, answer_of, asked, awaited, awakeable_made, awaiting, behind_command, cancel_sent, cancelled, cancelling, commanding, counted, demand_of, id_awaited, id_read, is_awake, is_cancelled_in, making_awakeable, numbered, part_unless, reading, ready_in, refused_before, result_taken, signal_made, turn_after, turn_taken, value_noted, value_taken}
+use Rattle.vm_model.specs.Calls.{Setup, Meaning, Derived, Demand, Move, answer_of, asked, awaited, awakeable_made, awaiting, behind_command, cancel_sent, cancelled, cancelling, commanding, counted, demand_of, id_awaited, id_read, is_awake, is_cancelled_in, making_awakeable, numbered, part_unless, reading, ready_in, refused_before, take_of_result, signal_made, turn_after, turn_taken, take_noting_id, take_of_value}
 use Rattle.vm_model.specs.Calls.Demand.{Reads}
 use Rattle.vm_model.specs.Calls.Move.{Answers, Needs, Awaits, Ends, Refuses}
-use Rattle.vm_model.specs.Moves.{Point, after, brought, command_used, found, moved, next, said_of, start, uses_arrival, uses_command}
+use Rattle.vm_model.specs.Moves.{Point, after, with_read_result, command_used, found, moved, next, said_of, start, uses_arrival, uses_command}
 use Rattle.vm_model.specs.NamedHandles.{Gets, Names, NamesDeadlineCall, NamesOne, NamesSignal}
 use Rattle.vm_model.proofs.Parts.{IsOfOne, next_keeps}
 use Rattle.vm_model.proofs.Runs.{and_then_some, none_some}
@@ -180,15 +180,15 @@ record Says (e : Demand) (gives : List Answer) (d : Derived) (p q : Point) : Typ
   counters : q.derived.counters ≡ d.counters
   parts : q.derived.parts ≡ d.parts
 
-brought_handles : (id : ℕ) (result : Option NotificationResult) (d : Derived) → (brought id result d).handles ≡ d.handles
+brought_handles : (id : ℕ) (result : Option NotificationResult) (d : Derived) → (with_read_result id result d).handles ≡ d.handles
 brought_handles id None d = refl
 brought_handles id (Some result) d = refl
 
-brought_counters : (id : ℕ) (result : Option NotificationResult) (d : Derived) → (brought id result d).counters ≡ d.counters
+brought_counters : (id : ℕ) (result : Option NotificationResult) (d : Derived) → (with_read_result id result d).counters ≡ d.counters
 brought_counters id None d = refl
 brought_counters id (Some result) d = refl
 
-brought_parts : (id : ℕ) (result : Option NotificationResult) (d : Derived) → (brought id result d).parts ≡ d.parts
+brought_parts : (id : ℕ) (result : Option NotificationResult) (d : Derived) → (with_read_result id result d).parts ≡ d.parts
 brought_parts id None d = refl
 brought_parts id (Some result) d = refl
 
@@ -295,25 +295,25 @@ sent_bare s id None d = tt
 
 cancelling_bare : (s : Setup) (ids : List (List ℕ)) (d : Derived) → GivesBare (cancelling s ids d)
 cancelling_bare s [] d = (tt, tt)
-cancelling_bare s (id ∷ ids) d = sent_bare s id (missing 0 0 0 d.counters) d
+cancelling_bare s (id ∷ ids) d = sent_bare s id (missing_number 0 0 0 d.counters) d
 
 cancelled_bare : (s : Setup) (handles : List ℕ) (d : Derived) → GivesBare (cancelled s handles d)
 cancelled_bare s [] d = cancelling_bare s (invocation_ids d.tracked) d
-cancelled_bare s (handle ∷ handles) d = id_bare (present_for s.options.signal_delivery (id_at handle d.handles) (ready_in s d)) d
+cancelled_bare s (handle ∷ handles) d = id_bare (present_result_for s.options.signal_delivery (id_at handle d.handles) (ready_in s d)) d
 
 awaited_bare : (s : Setup) (b : Bool) (future : UnresolvedFuture) (d : Derived) → GivesBare (awaited s b future d)
-awaited_bare s true future d = cancelled_bare s (unresolved d.tracked) d
+awaited_bare s true future d = cancelled_bare s (unresolved_handles d.tracked) d
 awaited_bare s false future d = awaiting_bare (is_awake s future d) d
 
-noted_bare : (handle : NotificationHandle) (id : NotificationId) (value : Value) (o : Option (List TrackedCall)) (d : Derived) → GivesBare (value_noted handle id value o d)
+noted_bare : (handle : NotificationHandle) (id : NotificationId) (value : Value) (o : Option (List TrackedCall)) (d : Derived) → GivesBare (take_noting_id handle id value o d)
 noted_bare handle id value None d = tt
 noted_bare handle id value (Some tracked) d = (tt, tt)
 
-value_bare : (handle : NotificationHandle) (id : NotificationId) (o : Option Value) (d : Derived) → GivesBare (value_taken handle id o d)
+value_bare : (handle : NotificationHandle) (id : NotificationId) (o : Option Value) (d : Derived) → GivesBare (take_of_value handle id o d)
 value_bare handle id None d = tt
-value_bare handle id (Some value) d = noted_bare handle id value (noted handle.0 (id_of_value value) d.tracked) d
+value_bare handle id (Some value) d = noted_bare handle id value (id_noted handle.0 (id_of_value value) d.tracked) d
 
-result_bare : (handle : NotificationHandle) (id : Option NotificationId) (o : Option NotificationResult) (d : Derived) → GivesBare (result_taken handle id o d)
+result_bare : (handle : NotificationHandle) (id : Option NotificationId) (o : Option NotificationResult) (d : Derived) → GivesBare (take_of_result handle id o d)
 result_bare handle (Some id) (Some result) d = value_bare handle id (value_of result) d
 result_bare handle (Some id) None d = (tt, tt)
 result_bare handle None o d = (tt, tt)
@@ -356,7 +356,7 @@ module _ (s : Setup) (m : Meaning) (p q : Point) (a : Answer) (gets : q.answers 
 
   commanding_named : (c : Command) (o : Option NamedFault) → moved (commanding s c o p.derived) p ≡ Some q → Names s m p q a
   commanding_named c (Some name) e = none_some e
-  commanding_named c None e = numbered_named c (missing (ids_of c.message) 0 (ids_of c.message) p.derived.counters) e
+  commanding_named c None e = numbered_named c (missing_number (ids_of c.message) 0 (ids_of c.message) p.derived.counters) e
 
   reading_named : (r : StateRead) (o : Option NamedFault) → moved (reading r o p.derived) p ≡ Some q → Names s m p q a
   reading_named r (Some name) e = none_some e
@@ -433,14 +433,14 @@ module _ (s : Setup) (m : Meaning) (p q : Point) (a : Answer) (gets : q.answers 
       by_ask : (x : Ask) → ask_of s.version (m p.answers) ≡ x → ((name : List ℕ) → x ≡ ask.Signal name → m p.answers ≡ step.Signal name) → moved (asked s x p.derived) p ≡ Some q → Names s m p q a
       by_ask (ask.Command c) is by_name e = commanding_named c c.refusal e
       by_ask (ask.Commands kind first second) is by_name e = several_named kind first second p.derived.parts refl b is e
-      by_ask (ask.Read r) is by_name e = reading_named r (missing 1 0 1 p.derived.counters) e
+      by_ask (ask.Read r) is by_name e = reading_named r (missing_number 1 0 1 p.derived.counters) e
       by_ask ask.Awakeable is by_name e = making_named (skips_replay s.options.journal_replay) e
       by_ask (ask.Signal name) is by_name e = signal_named name (missing_signals 0 1 p.derived.counters) (by_name name refl) e
       by_ask (ask.Await future) is by_name e = bare_moved (awaited s (is_cancelled_in s p.derived) future p.derived) (awaited_bare s (is_cancelled_in s p.derived) future p.derived) e
       by_ask (ask.Take handle) is by_name e =
           let id = id_at handle.0 p.derived.handles in
-          let result = present_for s.options.signal_delivery id (ready_in s p.derived) in
-          bare_moved (result_taken handle id result p.derived) (result_bare handle id result p.derived) e
+          let result = present_result_for s.options.signal_delivery id (ready_in s p.derived) in
+          bare_moved (take_of_result handle id result p.derived) (result_bare handle id result p.derived) e
       by_ask (ask.Completed handle) is by_name e = bare_moved (asked s (ask.Completed handle) p.derived) (tt, tt) e
       by_ask ask.End is by_name e = none_some e
 

@@ -13,9 +13,9 @@ use Rattle.await_trees.specs.declared.handle.NotificationHandle.{NotificationHan
 use Rattle.await_trees.specs.declared.tree.UnresolvedFuture.{UnresolvedFuture}
 use Rattle.vm_parts.specs.declared.async_results.Mapping.{Mapping}
 use Rattle.vm_parts.specs.declared.run_state.TrackedCall.{TrackedCall}
-use Rattle.vm_parts.specs.Counting.{missing, missing_signals}
-use Rattle.vm_parts.specs.Deliveries.{id_at, present_for}
-use Rattle.vm_parts.specs.Tracked.{id_of_result, id_of_value, invocation_ids, noted, unresolved}
+use Rattle.vm_parts.specs.Counting.{missing_number, missing_signals}
+use Rattle.vm_parts.specs.Deliveries.{id_at, present_result_for}
+use Rattle.vm_parts.specs.Tracked.{id_of_result, id_of_value, invocation_ids, id_noted, unresolved_handles}
 use Rattle.vm_types.specs.declared.steps.Answer.{Answer}
 use Rattle.vm_types.specs.declared.values.Value.{Value}
 use Rattle.vm_types.specs.Values.{value_of}
@@ -27,9 +27,9 @@ use Rattle.vm_asks.specs.Asks.{EachIs, all_ids, ask_of}
 use Rattle.vm_asks.specs.Requests.{ids_of}
 use Rattle.vm_machine.specs.Commands.{mapped_from}
 use Rattle.vm_machine.specs.Skips.{skips_replay}
-use Rattle.vm_model.specs.Calls.{Demand, Derived, Meaning, Move, Setup, Turn, asked, awaited, awakeable_made, awaiting, behind_command, cancel_sent, cancel_taken, cancelled, cancelling, commanding, id_awaited, id_read, is_awake, is_cancelled_in, making_awakeable, numbered, reading, ready_in, result_taken, signal_made, turn_after, value_noted, value_taken}
+use Rattle.vm_model.specs.Calls.{Demand, Derived, Meaning, Move, Setup, Turn, asked, awaited, awakeable_made, awaiting, behind_command, cancel_sent, with_cancel_taken, cancelled, cancelling, commanding, id_awaited, id_read, is_awake, is_cancelled_in, making_awakeable, numbered, reading, ready_in, take_of_result, signal_made, turn_after, take_noting_id, take_of_value}
 use Rattle.vm_model.specs.Calls.Move.{Answers, Needs, Awaits, Ends, Refuses}
-use Rattle.vm_model.specs.Moves.{Point, brought, command_used, found, move_at, moved, next, uses_arrival, uses_command}
+use Rattle.vm_model.specs.Moves.{Point, with_read_result, command_used, found, move_at, moved, next, uses_arrival, uses_command}
 use Rattle.vm_model.proofs.Runs.{none_some}
 
 -- ---- how many parts are made
@@ -53,7 +53,7 @@ numbered_keeps s c None d = refl
 
 commanding_keeps : (s : Setup) (c : Command) (o : Option NamedFault) (d : Derived) → KeepsParts d (commanding s c o d)
 commanding_keeps s c (Some name) d = tt
-commanding_keeps s c None d = numbered_keeps s c (missing (ids_of c.message) 0 (ids_of c.message) d.counters) d
+commanding_keeps s c None d = numbered_keeps s c (missing_number (ids_of c.message) 0 (ids_of c.message) d.counters) d
 
 reading_keeps : (r : StateRead) (o : Option NamedFault) (d : Derived) → KeepsParts d (reading r o d)
 reading_keeps r (Some name) d = tt
@@ -75,7 +75,7 @@ awaiting_keeps : (b : Bool) (d : Derived) → KeepsParts d (awaiting b d)
 awaiting_keeps true d = refl
 awaiting_keeps false d = tt
 
-pub taken_keeps : (o : Option NotificationId) (d : Derived) → (cancel_taken o d).parts ≡ d.parts
+pub taken_keeps : (o : Option NotificationId) (d : Derived) → (with_cancel_taken o d).parts ≡ d.parts
 taken_keeps None d = refl
 taken_keeps (Some id) d = refl
 
@@ -93,25 +93,25 @@ sent_keeps s id None d = refl
 
 cancelling_keeps : (s : Setup) (ids : List (List ℕ)) (d : Derived) → KeepsParts d (cancelling s ids d)
 cancelling_keeps s [] d = taken_keeps (id_at 1 d.handles) (record d { tracked = [] })
-cancelling_keeps s (id ∷ ids) d = sent_keeps s id (missing 0 0 0 d.counters) d
+cancelling_keeps s (id ∷ ids) d = sent_keeps s id (missing_number 0 0 0 d.counters) d
 
 cancelled_keeps : (s : Setup) (handles : List ℕ) (d : Derived) → KeepsParts d (cancelled s handles d)
 cancelled_keeps s [] d = cancelling_keeps s (invocation_ids d.tracked) d
-cancelled_keeps s (handle ∷ handles) d = id_keeps (present_for s.options.signal_delivery (id_at handle d.handles) (ready_in s d)) d
+cancelled_keeps s (handle ∷ handles) d = id_keeps (present_result_for s.options.signal_delivery (id_at handle d.handles) (ready_in s d)) d
 
 awaited_keeps : (s : Setup) (b : Bool) (future : UnresolvedFuture) (d : Derived) → KeepsParts d (awaited s b future d)
-awaited_keeps s true future d = cancelled_keeps s (unresolved d.tracked) d
+awaited_keeps s true future d = cancelled_keeps s (unresolved_handles d.tracked) d
 awaited_keeps s false future d = awaiting_keeps (is_awake s future d) d
 
-noted_keeps : (handle : NotificationHandle) (id : NotificationId) (value : Value) (o : Option (List TrackedCall)) (d : Derived) → KeepsParts d (value_noted handle id value o d)
+noted_keeps : (handle : NotificationHandle) (id : NotificationId) (value : Value) (o : Option (List TrackedCall)) (d : Derived) → KeepsParts d (take_noting_id handle id value o d)
 noted_keeps handle id value None d = tt
 noted_keeps handle id value (Some tracked) d = refl
 
-value_keeps : (handle : NotificationHandle) (id : NotificationId) (o : Option Value) (d : Derived) → KeepsParts d (value_taken handle id o d)
+value_keeps : (handle : NotificationHandle) (id : NotificationId) (o : Option Value) (d : Derived) → KeepsParts d (take_of_value handle id o d)
 value_keeps handle id None d = tt
-value_keeps handle id (Some value) d = noted_keeps handle id value (noted handle.0 (id_of_value value) d.tracked) d
+value_keeps handle id (Some value) d = noted_keeps handle id value (id_noted handle.0 (id_of_value value) d.tracked) d
 
-result_keeps : (handle : NotificationHandle) (id : Option NotificationId) (o : Option NotificationResult) (d : Derived) → KeepsParts d (result_taken handle id o d)
+result_keeps : (handle : NotificationHandle) (id : Option NotificationId) (o : Option NotificationResult) (d : Derived) → KeepsParts d (take_of_result handle id o d)
 result_keeps handle (Some id) (Some result) d = value_keeps handle id (value_of result) d
 result_keeps handle (Some id) None d = refl
 result_keeps handle None o d = refl
@@ -119,15 +119,15 @@ result_keeps handle None o d = refl
 asked_keeps : (s : Setup) (a : Ask) (d : Derived) → IsOfOne a → KeepsParts d (asked s a d)
 asked_keeps s (ask.Command c) d one = commanding_keeps s c c.refusal d
 asked_keeps s (ask.Commands kind first second) d one = absurd one
-asked_keeps s (ask.Read r) d one = reading_keeps r (missing 1 0 1 d.counters) d
+asked_keeps s (ask.Read r) d one = reading_keeps r (missing_number 1 0 1 d.counters) d
 asked_keeps s ask.Awakeable d one = making_keeps s (skips_replay s.options.journal_replay) d
 asked_keeps s (ask.Signal name) d one = signal_keeps name (missing_signals 0 1 d.counters) d
 asked_keeps s (ask.Await future) d one = awaited_keeps s (is_cancelled_in s d) future d
-asked_keeps s (ask.Take handle) d one = result_keeps handle (id_at handle.0 d.handles) (present_for s.options.signal_delivery (id_at handle.0 d.handles) (ready_in s d)) d
+asked_keeps s (ask.Take handle) d one = result_keeps handle (id_at handle.0 d.handles) (present_result_for s.options.signal_delivery (id_at handle.0 d.handles) (ready_in s d)) d
 asked_keeps s (ask.Completed handle) d one = refl
 asked_keeps s ask.End d one = tt
 
-brought_keeps : (id : ℕ) (result : Option NotificationResult) (d : Derived) → (brought id result d).parts ≡ d.parts
+brought_keeps : (id : ℕ) (result : Option NotificationResult) (d : Derived) → (with_read_result id result d).parts ≡ d.parts
 brought_keeps id None d = refl
 brought_keeps id (Some result) d = refl
 

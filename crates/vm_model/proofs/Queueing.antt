@@ -9,7 +9,7 @@ use Rattle.journal_values.specs.declared.notification.NotificationId.{Notificati
 use Rattle.journal_values.specs.declared.notification.NotificationId.TheVariants.{CompletionId, SignalId, SignalName}
 use Rattle.vm_types.specs.declared.options.SignalDelivery.TheVariants.{Queued}
 use Rattle.vm_parts.specs.Deliveries.{is_listed, same_id}
-use Rattle.vm_model.specs.Calls.{Meaning, Setup, Usage, ready_after}
+use Rattle.vm_model.specs.Calls.{Meaning, Setup, Usage, ready_by_usage}
 use Rattle.vm_model.specs.Calls.Usage.{Used, Read, Taken}
 use Rattle.vm_model.specs.Deliveries.{EachTookAResult, deliveries, takes}
 use Rattle.vm_model.specs.Moves.{Point, after, start}
@@ -37,11 +37,11 @@ drop_front (suc k) [] ys h = absurd (omega (arith, h))
 drop_front (suc k) (x ∷ xs) ys h = drop_front k xs ys (omega (arith, h))
 
 left_behind : (id : NotificationId) → is_listed Queued id ≡ true → (us : List Usage) (queue : List Notification) → EachTookAResult Queued us
-    → values_ready id (ready_after Queued us) ++ results_of id queue ≡ drop (takes id us) (results_of id (arrivals_in us ++ queue))
+    → values_ready id (ready_by_usage Queued us) ++ results_of id queue ≡ drop (takes id us) (results_of id (arrivals_in us ++ queue))
 left_behind id queues us queue took =
     let rest = rest_ready id queues us took in
-    ap (λ l. (results_of id (ready_after Queued us).delivered ++ l) ++ results_of id queue) (none_read id queues us)
-    ∙ ap (λ l. l ++ results_of id queue) (append-nil (results_of id (ready_after Queued us).delivered) ∙ rest.ready)
+    ap (λ l. (results_of id (ready_by_usage Queued us).delivered ++ l) ++ results_of id queue) (none_read id queues us)
+    ∙ ap (λ l. l ++ results_of id queue) (append-nil (results_of id (ready_by_usage Queued us).delivered) ∙ rest.ready)
     ∙ sym (drop_front (takes id us) (deliveries id us) (results_of id queue) rest.within)
     ∙ ap (λ l. drop (takes id us) (l ++ results_of id queue)) (came_used id queues us)
     ∙ ap (drop (takes id us)) (sym (results-append id (arrivals_in us) queue))
@@ -50,6 +50,6 @@ pub queue_in_order : (s : Setup) (m : Meaning) (n : ℕ) (input : InputCommand) 
 queue_in_order s m n input ns cs q queued e id signal =
     let took = told_took s m n input ns cs q e in
     let us = q.derived.usage in
-    let all : EachTookAResult Queued us → values_ready id (ready_after Queued us) ++ results_of id q.queue ≡ drop (takes id us) (results_of id (arrivals_in us ++ q.queue)) = left_behind id (signal_queues id signal) us q.queue in
-    subst (λ d. EachTookAResult d us → values_ready id (ready_after d us) ++ results_of id q.queue ≡ drop (takes id us) (results_of id (arrivals_in us ++ q.queue))) (sym queued) all took
+    let all : EachTookAResult Queued us → values_ready id (ready_by_usage Queued us) ++ results_of id q.queue ≡ drop (takes id us) (results_of id (arrivals_in us ++ q.queue)) = left_behind id (signal_queues id signal) us q.queue in
+    subst (λ d. EachTookAResult d us → values_ready id (ready_by_usage d us) ++ results_of id q.queue ≡ drop (takes id us) (results_of id (arrivals_in us ++ q.queue))) (sym queued) all took
     ∙ ap (λ l. drop (takes id us) (results_of id l)) (sym (arrivals_used s m n input ns cs q e))

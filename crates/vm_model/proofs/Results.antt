@@ -10,8 +10,8 @@ use Rattle.vm_types.specs.declared.options.SignalDelivery.{SignalDelivery}
 use Rattle.vm_types.specs.declared.options.SignalDelivery.TheVariants.{Queued, Overwrite}
 use Rattle.journal_values.specs.declared.notification.NotificationResult.{NotificationResult}
 use Rattle.vm_parts.specs.Arrived.{Ready}
-use Rattle.vm_parts.specs.Deliveries.{first, is_listed, left_among, left_ready, newest, newest_after, with_delivered, with_eager, present, results_of, same_id, without_all, without_first}
-use Rattle.vm_model.specs.Calls.{Usage, ready_after}
+use Rattle.vm_parts.specs.Deliveries.{first, is_listed, left_among, left_ready, newest, newest_after, with_delivered, with_eager, present_result, results_of, same_id, without_all, without_oldest}
+use Rattle.vm_model.specs.Calls.{Usage, ready_by_usage}
 use Rattle.vm_model.specs.Calls.Usage.{Used, Read, Taken}
 use Rattle.vm_model.specs.Deliveries.{EachTookAResult, deliveries, next_taken, since_taken, takes}
 
@@ -45,21 +45,21 @@ results_behind id (x ∷ ns) n = by_tests (same_id x.id id) (same_id n.id id) (r
     by_tests false false ih = ih
 
 -- the oldest of this id is gone
-first_gone : (id i : NotificationId) (ns : List Notification) → same_id i id ≡ true → results_of id (without_first i ns) ≡ rest_of (results_of id ns)
+first_gone : (id i : NotificationId) (ns : List Notification) → same_id i id ≡ true → results_of id (without_oldest i ns) ≡ rest_of (results_of id ns)
 unfolding rest_of
 first_gone id i [] e = refl
 first_gone id i (n ∷ ns) e = by_test (same_id n.id i) refl (first_gone id i ns e)
   where
-    by_test : (b : Bool) → same_id n.id i ≡ b → results_of id (without_first i ns) ≡ rest_of (results_of id ns) → results_of id (cond b ns (n ∷ without_first i ns)) ≡ rest_of (cond (same_id n.id id) (n.result ∷ results_of id ns) (results_of id ns))
+    by_test : (b : Bool) → same_id n.id i ≡ b → results_of id (without_oldest i ns) ≡ rest_of (results_of id ns) → results_of id (cond b ns (n ∷ without_oldest i ns)) ≡ rest_of (cond (same_id n.id id) (n.result ∷ results_of id ns) (results_of id ns))
     by_test true t ih = rw (ap (λ j. same_id n.id j) (sym (same_is i id e)) ∙ t) refl
     by_test false t ih = rw (ap (λ j. same_id n.id j) (sym (same_is i id e)) ∙ t) ih
 
 -- another id's results stay
-first_kept : (id i : NotificationId) (ns : List Notification) → same_id i id ≡ false → results_of id (without_first i ns) ≡ results_of id ns
+first_kept : (id i : NotificationId) (ns : List Notification) → same_id i id ≡ false → results_of id (without_oldest i ns) ≡ results_of id ns
 first_kept id i [] e = refl
 first_kept id i (n ∷ ns) e = by_test (same_id n.id i) refl (first_kept id i ns e)
   where
-    by_test : (b : Bool) → same_id n.id i ≡ b → results_of id (without_first i ns) ≡ results_of id ns → results_of id (cond b ns (n ∷ without_first i ns)) ≡ cond (same_id n.id id) (n.result ∷ results_of id ns) (results_of id ns)
+    by_test : (b : Bool) → same_id n.id i ≡ b → results_of id (without_oldest i ns) ≡ results_of id ns → results_of id (cond b ns (n ∷ without_oldest i ns)) ≡ cond (same_id n.id id) (n.result ∷ results_of id ns) (results_of id ns)
     by_test true t ih = rw (ap (λ j. same_id j id) (same_is n.id i t) ∙ e) refl
     by_test false t ih = ap (λ l. cond (same_id n.id id) (n.result ∷ l) l) ih
 
@@ -74,7 +74,7 @@ all_kept id i (n ∷ ns) e = by_test (same_id n.id i) refl (all_kept id i ns e)
 pub left_kept : (delivery : SignalDelivery) (id i : NotificationId) (ns : List Notification) → same_id i id ≡ false → results_of id (left_among delivery i ns) ≡ results_of id ns
 left_kept delivery id i ns e = by_test (is_listed delivery i)
   where
-    by_test : (b : Bool) → results_of id (cond b (without_first i ns) (without_all i ns)) ≡ results_of id ns
+    by_test : (b : Bool) → results_of id (cond b (without_oldest i ns) (without_all i ns)) ≡ results_of id ns
     by_test true = first_kept id i ns e
     by_test false = all_kept id i ns e
 
@@ -119,19 +119,19 @@ newest_taken : (delivery : SignalDelivery) (id i : NotificationId) (r : Ready) �
 unfolding newest_in
 newest_taken delivery id i r t = λ k. option_or (newest (left_kept delivery id i r.delivered t k)) (newest (left_kept delivery id i r.eager t k))
 
-newest_ready : (delivery : SignalDelivery) (id : NotificationId) (us : List Usage) → takes id us ≡ 0 → newest_in id (ready_after delivery us) ≡ newest (deliveries id us)
+newest_ready : (delivery : SignalDelivery) (id : NotificationId) (us : List Usage) → takes id us ≡ 0 → newest_in id (ready_by_usage delivery us) ≡ newest (deliveries id us)
 unfolding newest_in
 newest_ready delivery id [] e = refl
-newest_ready delivery id (Used n ∷ us) e = newest_used id n (ready_after delivery us) (deliveries id us) (newest_ready delivery id us e)
-newest_ready delivery id (Read i result ∷ us) e = newest_read id i result (ready_after delivery us) (deliveries id us) (newest_ready delivery id us e)
+newest_ready delivery id (Used n ∷ us) e = newest_used id n (ready_by_usage delivery us) (deliveries id us) (newest_ready delivery id us e)
+newest_ready delivery id (Read i result ∷ us) e = newest_read id i result (ready_by_usage delivery us) (deliveries id us) (newest_ready delivery id us e)
 newest_ready delivery id (Taken i ∷ us) e = by_test (same_id i id) refl e (newest_ready delivery id us)
   where
-    by_test : (b : Bool) → same_id i id ≡ b → cond b (suc (takes id us)) (takes id us) ≡ 0 → (takes id us ≡ 0 → newest_in id (ready_after delivery us) ≡ newest (deliveries id us)) → newest_in id (left_ready delivery i (ready_after delivery us)) ≡ newest (deliveries id us)
+    by_test : (b : Bool) → same_id i id ≡ b → cond b (suc (takes id us)) (takes id us) ≡ 0 → (takes id us ≡ 0 → newest_in id (ready_by_usage delivery us) ≡ newest (deliveries id us)) → newest_in id (left_ready delivery i (ready_by_usage delivery us)) ≡ newest (deliveries id us)
     by_test true t e ih = absurd (omega (arith, e))
-    by_test false t e ih = newest_taken delivery id i (ready_after delivery us) t ∙ ih e
+    by_test false t e ih = newest_taken delivery id i (ready_by_usage delivery us) t ∙ ih e
 
 -- of a completion the newest delivery is present
-pub newest_present : (delivery : SignalDelivery) (n : ℕ) (us : List Usage) → takes (CompletionId n) us ≡ 0 → present delivery (CompletionId n) (ready_after delivery us) ≡ newest (deliveries (CompletionId n) us)
+pub newest_present : (delivery : SignalDelivery) (n : ℕ) (us : List Usage) → takes (CompletionId n) us ≡ 0 → present_result delivery (CompletionId n) (ready_by_usage delivery us) ≡ newest (deliveries (CompletionId n) us)
 unfolding newest_in
 newest_present Queued n us e = newest_ready Queued (CompletionId n) us e
 newest_present Overwrite n us e = newest_ready Overwrite (CompletionId n) us e
@@ -163,23 +163,23 @@ not_a_completion (CompletionId n) i e = absurd (cc)
 not_a_completion (SignalId n) i e = refl
 not_a_completion (SignalName name) i e = refl
 
-pub none_read : (id : NotificationId) → is_listed Queued id ≡ true → (us : List Usage) → results_of id (ready_after Queued us).eager ≡ []
+pub none_read : (id : NotificationId) → is_listed Queued id ≡ true → (us : List Usage) → results_of id (ready_by_usage Queued us).eager ≡ []
 unfolding rest_of
 none_read id listed [] = refl
 none_read id listed (Used n ∷ us) = none_read id listed us
-none_read id listed (Read i result ∷ us) = results_behind id (ready_after Queued us).eager (record { id = CompletionId i; result = result }) ∙ rw (not_a_completion id i listed) (none_read id listed us)
+none_read id listed (Read i result ∷ us) = results_behind id (ready_by_usage Queued us).eager (record { id = CompletionId i; result = result }) ∙ rw (not_a_completion id i listed) (none_read id listed us)
 none_read id listed (Taken i ∷ us) = by_test (same_id i id) refl (none_read id listed us)
   where
-    by_test : (b : Bool) → same_id i id ≡ b → results_of id (ready_after Queued us).eager ≡ [] → results_of id (left_among Queued i (ready_after Queued us).eager) ≡ []
+    by_test : (b : Bool) → same_id i id ≡ b → results_of id (ready_by_usage Queued us).eager ≡ [] → results_of id (left_among Queued i (ready_by_usage Queued us).eager) ≡ []
     by_test true t ih =
-        ap (λ b. results_of id (cond b (without_first i (ready_after Queued us).eager) (without_all i (ready_after Queued us).eager))) (subst (λ j. is_listed Queued j ≡ true) (sym (same_is i id t)) listed)
-        ∙ first_gone id i (ready_after Queued us).eager t ∙ ap rest_of ih
-    by_test false t ih = left_kept Queued id i (ready_after Queued us).eager t ∙ ih
+        ap (λ b. results_of id (cond b (without_oldest i (ready_by_usage Queued us).eager) (without_all i (ready_by_usage Queued us).eager))) (subst (λ j. is_listed Queued j ≡ true) (sym (same_is i id t)) listed)
+        ∙ first_gone id i (ready_by_usage Queued us).eager t ∙ ap rest_of ih
+    by_test false t ih = left_kept Queued id i (ready_by_usage Queued us).eager t ∙ ih
 
 -- its results are its deliveries from the number of its takes on
 pub record Rest (id : NotificationId) (us : List Usage) : Type 0 where
   pub within : takes id us ≤ length (deliveries id us)
-  pub ready : results_of id (ready_after Queued us).delivered ≡ drop (takes id us) (deliveries id us)
+  pub ready : results_of id (ready_by_usage Queued us).delivered ≡ drop (takes id us) (deliveries id us)
 
 length_behind : {A : Type 0} (xs : List A) (x : A) → length (xs ++ x ∷ []) ≡ suc (length xs)
 length_behind [] x = refl
@@ -194,19 +194,19 @@ rest_used id us n h = by_test (same_id n.id id) refl
         let w = h.within in
         record {
           within = rw (t, l) (omega (arith, w));
-          ready = results_behind id (ready_after Queued us).delivered n ∙ rw t (ap (λ x. x ++ n.result ∷ []) h.ready ∙ sym (dropped (deliveries id us) (drop (takes id us) (deliveries id us)) (takes id us) n.result refl h.within));
+          ready = results_behind id (ready_by_usage Queued us).delivered n ∙ rw t (ap (λ x. x ++ n.result ∷ []) h.ready ∙ sym (dropped (deliveries id us) (drop (takes id us) (deliveries id us)) (takes id us) n.result refl h.within));
         }
-    by_test false t = record { within = rw t h.within; ready = results_behind id (ready_after Queued us).delivered n ∙ rw t h.ready }
+    by_test false t = record { within = rw t h.within; ready = results_behind id (ready_by_usage Queued us).delivered n ∙ rw t h.ready }
 
 rest_read : (id : NotificationId) (us : List Usage) (i : ℕ) (result : NotificationResult) → is_listed Queued id ≡ true → Rest id us → Rest id (Read i result ∷ us)
 rest_read id us i result listed h =
     let t = not_a_completion id i listed in
-    record { within = rw t h.within; ready = all_kept id (CompletionId i) (ready_after Queued us).delivered t ∙ rw t h.ready }
+    record { within = rw t h.within; ready = all_kept id (CompletionId i) (ready_by_usage Queued us).delivered t ∙ rw t h.ready }
 
 -- of a signal the first that was delivered and not taken is present
-first_present : (id : NotificationId) → is_listed Queued id ≡ true → (us : List Usage) → present Queued id (ready_after Queued us) ≡ first (results_of id (ready_after Queued us).delivered)
+first_present : (id : NotificationId) → is_listed Queued id ≡ true → (us : List Usage) → present_result Queued id (ready_by_usage Queued us) ≡ first (results_of id (ready_by_usage Queued us).delivered)
 first_present id listed us =
-    let R = ready_after Queued us in
+    let R = ready_by_usage Queued us in
     ap (λ b. option_or (cond b (first (results_of id R.delivered)) (newest (results_of id R.delivered))) (cond b (first (results_of id R.eager)) (newest (results_of id R.eager)))) listed
     ∙ ap (λ l. option_or (first (results_of id R.delivered)) (first l)) (none_read id listed us)
     ∙ or_none (first (results_of id R.delivered))
@@ -215,21 +215,21 @@ first_present id listed us =
     or_none None = refl
     or_none (Some x) = refl
 
-rest_taken : (id i : NotificationId) (us : List Usage) → is_listed Queued id ≡ true → is_some (present Queued i (ready_after Queued us)) ≡ true → Rest id us → Rest id (Taken i ∷ us)
+rest_taken : (id i : NotificationId) (us : List Usage) → is_listed Queued id ≡ true → is_some (present_result Queued i (ready_by_usage Queued us)) ≡ true → Rest id us → Rest id (Taken i ∷ us)
 rest_taken id i us listed there h = by_test (same_id i id) refl
   where
     by_test : (b : Bool) → same_id i id ≡ b → Rest id (Taken i ∷ us)
     by_test true t =
         let is = same_is i id t in
-        let R = (ready_after Queued us).delivered in
-        let at_id : is_some (present Queued id (ready_after Queued us)) ≡ true = subst (λ j. is_some (present Queued j (ready_after Queued us)) ≡ true) is there in
+        let R = (ready_by_usage Queued us).delivered in
+        let at_id : is_some (present_result Queued id (ready_by_usage Queued us)) ≡ true = subst (λ j. is_some (present_result Queued j (ready_by_usage Queued us)) ≡ true) is there in
         let some : is_some (first (results_of id R)) ≡ true = ap is_some (sym (first_present id listed us)) ∙ at_id in
         let here : is_listed Queued i ≡ true = subst (λ j. is_listed Queued j ≡ true) (sym is) listed in
         record {
           within = rw t (some_within (deliveries id us) (takes id us) (ap (λ l. is_some (first l)) (sym h.ready) ∙ some));
-          ready = rw t (ap (λ b. results_of id (cond b (without_first i R) (without_all i R))) here ∙ first_gone id i R t ∙ ap rest_of h.ready ∙ sym (dropped_more (deliveries id us) (takes id us)));
+          ready = rw t (ap (λ b. results_of id (cond b (without_oldest i R) (without_all i R))) here ∙ first_gone id i R t ∙ ap rest_of h.ready ∙ sym (dropped_more (deliveries id us) (takes id us)));
         }
-    by_test false t = record { within = rw t h.within; ready = rw t (left_kept Queued id i (ready_after Queued us).delivered t ∙ h.ready) }
+    by_test false t = record { within = rw t h.within; ready = rw t (left_kept Queued id i (ready_by_usage Queued us).delivered t ∙ h.ready) }
 
 pub rest_ready : (id : NotificationId) → is_listed Queued id ≡ true → (us : List Usage) → EachTookAResult Queued us → Rest id us
 rest_ready id listed [] all = record { within = omega arith; ready = refl }
@@ -238,7 +238,7 @@ rest_ready id listed (Read i result ∷ us) all = rest_read id us i result liste
 rest_ready id listed (Taken i ∷ us) all = rest_taken id i us listed all.0 (rest_ready id listed us all.1)
 
 -- of a signal the delivery is present that stands behind as many as were taken
-pub next_present : (id : NotificationId) → is_listed Queued id ≡ true → (us : List Usage) → EachTookAResult Queued us → present Queued id (ready_after Queued us) ≡ first (drop (takes id us) (deliveries id us))
+pub next_present : (id : NotificationId) → is_listed Queued id ≡ true → (us : List Usage) → EachTookAResult Queued us → present_result Queued id (ready_by_usage Queued us) ≡ first (drop (takes id us) (deliveries id us))
 next_present id listed us all = first_present id listed us ∙ ap first (rest_ready id listed us all).ready
 
 -- ---- an id whose newest delivery stands
@@ -247,21 +247,21 @@ next_present id listed us all = first_present id listed us ∙ ap first (rest_re
 none_left : (delivery : SignalDelivery) (id i : NotificationId) (ns : List Notification) → is_listed delivery id ≡ false → same_id i id ≡ true → results_of id (left_among delivery i ns) ≡ []
 none_left delivery id i ns listed t =
     let is = same_is i id t in
-    ap (λ b. results_of id (cond b (without_first i ns) (without_all i ns))) (subst (λ j. is_listed delivery j ≡ false) (sym is) listed) ∙ ap (λ j. results_of id (without_all j ns)) is ∙ all_gone id ns
+    ap (λ b. results_of id (cond b (without_oldest i ns) (without_all i ns))) (subst (λ j. is_listed delivery j ≡ false) (sym is) listed) ∙ ap (λ j. results_of id (without_all j ns)) is ∙ all_gone id ns
 
-since_ready : (delivery : SignalDelivery) (id : NotificationId) → is_listed delivery id ≡ false → (us : List Usage) → newest_in id (ready_after delivery us) ≡ newest (since_taken id us)
+since_ready : (delivery : SignalDelivery) (id : NotificationId) → is_listed delivery id ≡ false → (us : List Usage) → newest_in id (ready_by_usage delivery us) ≡ newest (since_taken id us)
 unfolding newest_in
 since_ready delivery id listed [] = refl
-since_ready delivery id listed (Used n ∷ us) = newest_used id n (ready_after delivery us) (since_taken id us) (since_ready delivery id listed us)
-since_ready delivery id listed (Read i result ∷ us) = newest_read id i result (ready_after delivery us) (since_taken id us) (since_ready delivery id listed us)
+since_ready delivery id listed (Used n ∷ us) = newest_used id n (ready_by_usage delivery us) (since_taken id us) (since_ready delivery id listed us)
+since_ready delivery id listed (Read i result ∷ us) = newest_read id i result (ready_by_usage delivery us) (since_taken id us) (since_ready delivery id listed us)
 since_ready delivery id listed (Taken i ∷ us) = by_test (same_id i id) refl (since_ready delivery id listed us)
   where
-    by_test : (b : Bool) → same_id i id ≡ b → newest_in id (ready_after delivery us) ≡ newest (since_taken id us) → newest_in id (left_ready delivery i (ready_after delivery us)) ≡ newest (cond b [] (since_taken id us))
-    by_test true t ih = λ k. option_or (newest (none_left delivery id i (ready_after delivery us).delivered listed t k)) (newest (none_left delivery id i (ready_after delivery us).eager listed t k))
-    by_test false t ih = newest_taken delivery id i (ready_after delivery us) t ∙ ih
+    by_test : (b : Bool) → same_id i id ≡ b → newest_in id (ready_by_usage delivery us) ≡ newest (since_taken id us) → newest_in id (left_ready delivery i (ready_by_usage delivery us)) ≡ newest (cond b [] (since_taken id us))
+    by_test true t ih = λ k. option_or (newest (none_left delivery id i (ready_by_usage delivery us).delivered listed t k)) (newest (none_left delivery id i (ready_by_usage delivery us).eager listed t k))
+    by_test false t ih = newest_taken delivery id i (ready_by_usage delivery us) t ∙ ih
 
 -- where deliveries don't queue up the newest is present
-newest_stands : (delivery : SignalDelivery) (id : NotificationId) (r : Ready) → is_listed delivery id ≡ false → present delivery id r ≡ newest_in id r
+newest_stands : (delivery : SignalDelivery) (id : NotificationId) (r : Ready) → is_listed delivery id ≡ false → present_result delivery id r ≡ newest_in id r
 unfolding newest_in
 newest_stands delivery id r listed = ap (λ b. option_or (cond b (first (results_of id r.delivered)) (newest (results_of id r.delivered))) (cond b (first (results_of id r.eager)) (newest (results_of id r.eager)))) listed
 
@@ -271,11 +271,11 @@ listed_queued Queued id h = refl
 listed_queued Overwrite id h = absurd (cc)
 
 -- the present result is the one that is taken next
-pub present_next : (delivery : SignalDelivery) (id : NotificationId) (us : List Usage) → EachTookAResult delivery us → present delivery id (ready_after delivery us) ≡ next_taken delivery id us
+pub present_next : (delivery : SignalDelivery) (id : NotificationId) (us : List Usage) → EachTookAResult delivery us → present_result delivery id (ready_by_usage delivery us) ≡ next_taken delivery id us
 present_next delivery id us all = by_test (is_listed delivery id) refl
   where
-    by_test : (b : Bool) → is_listed delivery id ≡ b → present delivery id (ready_after delivery us) ≡ cond b (first (drop (takes id us) (deliveries id us))) (newest (since_taken id us))
+    by_test : (b : Bool) → is_listed delivery id ≡ b → present_result delivery id (ready_by_usage delivery us) ≡ cond b (first (drop (takes id us) (deliveries id us))) (newest (since_taken id us))
     by_test true listed =
         let q = listed_queued delivery id listed in
-        subst (λ d. present d id (ready_after d us) ≡ first (drop (takes id us) (deliveries id us))) (sym q) (next_present id (subst (λ d. is_listed d id ≡ true) q listed) us (subst (λ d. EachTookAResult d us) q all))
-    by_test false listed = newest_stands delivery id (ready_after delivery us) listed ∙ since_ready delivery id listed us
+        subst (λ d. present_result d id (ready_by_usage d us) ≡ first (drop (takes id us) (deliveries id us))) (sym q) (next_present id (subst (λ d. is_listed d id ≡ true) q listed) us (subst (λ d. EachTookAResult d us) q all))
+    by_test false listed = newest_stands delivery id (ready_by_usage delivery us) listed ∙ since_ready delivery id listed us

@@ -38,9 +38,9 @@ use Rattle.await_trees.specs.declared.tree.UnresolvedFuture.{UnresolvedFuture}
 use Rattle.vm_parts.specs.declared.async_results.Mapping.{Mapping}
 use Rattle.vm_parts.specs.declared.context.Counters.{Counters}
 use Rattle.vm_parts.specs.declared.run_state.TrackedCall.{TrackedCall}
-use Rattle.vm_parts.specs.Counting.{missing, missing_signals, most}
-use Rattle.vm_parts.specs.Deliveries.{id_at, newest, newest_after, present, present_for, same_id, unmapped}
-use Rattle.vm_parts.specs.Tracked.{by_id, id_of_result, if_unresolved, id_of_value, invocation_ids, is_tracked, noted, unresolved, with_call, with_id, with_next_id, without_first_call}
+use Rattle.vm_parts.specs.Counting.{missing_number, missing_signals, most}
+use Rattle.vm_parts.specs.Deliveries.{id_at, newest, newest_after, present_result, present_result_for, same_id, unmapped}
+use Rattle.vm_parts.specs.Tracked.{by_known_id, id_of_result, if_unresolved, id_of_value, invocation_ids, is_tracked, id_noted, unresolved_handles, with_call, with_invocation_id, with_next_id, without_first_call}
 use Rattle.vm_asks.specs.declared.asks.AnswerKind.{AnswerKind}
 use Rattle.vm_asks.specs.declared.asks.Ask.{Ask}
 use Rattle.vm_asks.specs.declared.asks.Ask.TheVariants as ask
@@ -51,13 +51,13 @@ use Rattle.vm_asks.specs.Requests.{ids_of, is_cancelled_with, tracked_after, wit
 use Rattle.vm_machine.specs.Commands.{ignores_payloads, mapped_from}
 use Rattle.vm_machine.specs.Several.{missing_for, missing_indexes}
 use Rattle.vm_machine.specs.Skips.{skips_replay}
-use Rattle.vm_model.specs.Calls.{Derived, Demand, Meaning, Move, Setup, Turn, Usage, asked, awaited, awakeable_made, awaiting, behind_command, cancel_sent, cancel_taken, cancelled, cancelling, commanding, counted, id_awaited, id_read, is_awake, is_cancelled_in, making_awakeable, numbered, part, part_unless, reading, ready_in, refused_before, result_taken, signal_made, turn_after, value_noted, value_taken}
+use Rattle.vm_model.specs.Calls.{Derived, Demand, Meaning, Move, Setup, Turn, Usage, asked, awaited, awakeable_made, awaiting, behind_command, cancel_sent, with_cancel_taken, cancelled, cancelling, commanding, counted, id_awaited, id_read, is_awake, is_cancelled_in, making_awakeable, numbered, part, part_unless, reading, ready_in, refused_before, take_of_result, signal_made, turn_after, take_noting_id, take_of_value}
 use Rattle.vm_model.specs.Calls.Demand.{Exactly}
 use Rattle.vm_model.specs.Calls.Move.{Answers, Needs, Awaits, Ends, Refuses}
 use Rattle.vm_model.specs.Calls.Usage.{Used, Read, Taken}
 use Rattle.vm_model.specs.Carried.{AreOfTheirKind, IsInvocationId, is_carried, is_for_invocation, names_invocation, read_carries}
 use Rattle.vm_model.specs.Deliveries.{EachTookAResult, next_taken, since_taken}
-use Rattle.vm_model.specs.Moves.{Point, after, arrival_used, brought, command_used, first_derived, found as stands_for, move_at, moved, next, reads_as, start, uses_arrival, uses_command}
+use Rattle.vm_model.specs.Moves.{Point, after, arrival_used, with_read_result, command_used, first_derived, found as stands_for, move_at, moved, next, reads_as, start, uses_arrival, uses_command}
 use Rattle.vm_model.specs.Uses.{arrivals_in, needed_for}
 use Rattle.vm_model.proofs.Carried.{RestsAt, both, next_rests, none_read, reads_at, rests_none, rests_one, rests_there, same_request, typed}
 use Rattle.vm_model.proofs.Parts.{IsOfOne, next_keeps, next_turn, turn_apart}
@@ -239,7 +239,7 @@ with_next_each : (Q : ℕ → Type 0) (id : List ℕ) (ts : List TrackedCall) �
 with_next_each Q id [] all = tt
 with_next_each Q id (t ∷ ts) all = by_known t.invocation_id (with_next_each Q id ts all.1)
   where
-    by_known : (o : Option (List ℕ)) → EachTracked Q (with_next_id id ts) → EachTracked Q (by_id o (record { handle = t.handle; invocation_id = Some id } ∷ ts) (t ∷ with_next_id id ts))
+    by_known : (o : Option (List ℕ)) → EachTracked Q (with_next_id id ts) → EachTracked Q (by_known_id o (record { handle = t.handle; invocation_id = Some id } ∷ ts) (t ∷ with_next_id id ts))
     by_known None ih = all
     by_known (Some known) ih = (all.0, ih)
 
@@ -247,22 +247,22 @@ without_first_each : (Q : ℕ → Type 0) (ts : List TrackedCall) → EachTracke
 without_first_each Q [] all = tt
 without_first_each Q (t ∷ ts) all = all.1
 
-with_id_each : (Q : ℕ → Type 0) (h : ℕ) (id : List ℕ) (ts : List TrackedCall) → EachTracked Q ts → EachTracked Q (with_id h id ts)
+with_id_each : (Q : ℕ → Type 0) (h : ℕ) (id : List ℕ) (ts : List TrackedCall) → EachTracked Q ts → EachTracked Q (with_invocation_id h id ts)
 with_id_each Q h id [] all = tt
 with_id_each Q h id (t ∷ ts) all = by_test (t.handle == h) (with_id_each Q h id ts all.1)
   where
-    by_test : (b : Bool) → EachTracked Q (with_id h id ts) → EachTracked Q (if b then record { handle = t.handle; invocation_id = Some id } ∷ ts else t ∷ with_id h id ts)
+    by_test : (b : Bool) → EachTracked Q (with_invocation_id h id ts) → EachTracked Q (if b then record { handle = t.handle; invocation_id = Some id } ∷ ts else t ∷ with_invocation_id h id ts)
     by_test true ih = all
     by_test false ih = (all.0, ih)
 
-noted_each : (Q : ℕ → Type 0) (h : ℕ) (id : Option (List ℕ)) (ts us : List TrackedCall) → noted h id ts ≡ Some us → EachTracked Q ts → EachTracked Q us
+noted_each : (Q : ℕ → Type 0) (h : ℕ) (id : Option (List ℕ)) (ts us : List TrackedCall) → id_noted h id ts ≡ Some us → EachTracked Q ts → EachTracked Q us
 noted_each Q h id ts us is all = by_test (is_tracked h ts) is
   where
-    by_known : (o : Option (List ℕ)) → option_map (λ known. with_id h known ts) o ≡ Some us → EachTracked Q us
+    by_known : (o : Option (List ℕ)) → option_map (λ known. with_invocation_id h known ts) o ≡ Some us → EachTracked Q us
     by_known None e = none_some e
     by_known (Some known) e = subst (EachTracked Q) (same_Some _ us e) (with_id_each Q h known ts all)
 
-    by_test : (b : Bool) → (if b then option_map (λ known. with_id h known ts) id else Some ts) ≡ Some us → EachTracked Q us
+    by_test : (b : Bool) → (if b then option_map (λ known. with_invocation_id h known ts) id else Some ts) ≡ Some us → EachTracked Q us
     by_test true e = by_known id e
     by_test false e = subst (EachTracked Q) (same_Some ts us e) all
 
@@ -326,7 +326,7 @@ module _ (s : Setup) (us : List RawMessage) where
 
   commanding_tracks : (c : Command) (o : Option NamedFault) (d : Derived) → Tracks us d → KeepsTracks us (commanding s c o d)
   commanding_tracks c (Some name) d t = tt
-  commanding_tracks c None d t = numbered_tracks c (missing (ids_of c.message) 0 (ids_of c.message) d.counters) d t
+  commanding_tracks c None d t = numbered_tracks c (missing_number (ids_of c.message) 0 (ids_of c.message) d.counters) d t
 
   reading_tracks : (r : StateRead) (o : Option NamedFault) (d : Derived) → Tracks us d → KeepsTracks us (reading r o d)
   reading_tracks r (Some name) d t = tt
@@ -366,23 +366,23 @@ module _ (s : Setup) (us : List RawMessage) where
       let there = tracks_more us (raw ∷ []) (counted 0 d) (counted_tracks us 0 d t) in
       (there.0, without_first_each (TracksOne (us ++ raw ∷ []) (d.counters.handle + 0) (d.handles ++ mapped_from 0 d.counters.handle d.counters.completion)) d.tracked there.1)
 
-  taken_tracks : (o : Option NotificationId) (d : Derived) → Tracks us d → Tracks us (cancel_taken o d)
+  taken_tracks : (o : Option NotificationId) (d : Derived) → Tracks us d → Tracks us (with_cancel_taken o d)
   taken_tracks None d t = t
   taken_tracks (Some id) d t = t
 
   cancelling_tracks : (ids : List (List ℕ)) (d : Derived) → Tracks us d → KeepsTracks us (cancelling s ids d)
   cancelling_tracks [] d t = taken_tracks (id_at 1 d.handles) (record d { tracked = [] }) (t.0, tt)
-  cancelling_tracks (id ∷ ids) d t = sent_tracks id (missing 0 0 0 d.counters) d t
+  cancelling_tracks (id ∷ ids) d t = sent_tracks id (missing_number 0 0 0 d.counters) d t
 
   cancelled_tracks : (handles : List ℕ) (d : Derived) → Tracks us d → KeepsTracks us (cancelled s handles d)
   cancelled_tracks [] d t = cancelling_tracks (invocation_ids d.tracked) d t
-  cancelled_tracks (handle ∷ handles) d t = id_tracks (present_for s.options.signal_delivery (id_at handle d.handles) (ready_in s d)) d t
+  cancelled_tracks (handle ∷ handles) d t = id_tracks (present_result_for s.options.signal_delivery (id_at handle d.handles) (ready_in s d)) d t
 
   awaited_tracks : (b : Bool) (future : UnresolvedFuture) (d : Derived) → Tracks us d → KeepsTracks us (awaited s b future d)
-  awaited_tracks true future d t = cancelled_tracks (unresolved d.tracked) d t
+  awaited_tracks true future d t = cancelled_tracks (unresolved_handles d.tracked) d t
   awaited_tracks false future d t = awaiting_tracks (is_awake s future d) d t
 
-  noted_tracks : (handle : NotificationHandle) (id : NotificationId) (value : Value) (o : Option (List TrackedCall)) (d : Derived) → noted handle.0 (id_of_value value) d.tracked ≡ o → Tracks us d → KeepsTracks us (value_noted handle id value o d)
+  noted_tracks : (handle : NotificationHandle) (id : NotificationId) (value : Value) (o : Option (List TrackedCall)) (d : Derived) → id_noted handle.0 (id_of_value value) d.tracked ≡ o → Tracks us d → KeepsTracks us (take_noting_id handle id value o d)
   noted_tracks handle id value None d is t = tt
   noted_tracks handle id value (Some tracked) d is t =
       let each = noted_each (TracksOne us d.counters.handle d.handles) handle.0 (id_of_value value) d.tracked tracked is t.1 in (
@@ -390,11 +390,11 @@ module _ (s : Setup) (us : List RawMessage) where
         each_is (λ x. TracksOne us d.counters.handle d.handles x.handle) (λ x. TracksOne us d.counters.handle (cond (handle.0 == 1) d.handles (unmapped handle.0 d.handles)) x.handle) tracked (λ x one. (one.0, left_each (IsFor us x.handle) handle.0 d.handles one.1)) each,
       )
 
-  value_tracks : (handle : NotificationHandle) (id : NotificationId) (o : Option Value) (d : Derived) → Tracks us d → KeepsTracks us (value_taken handle id o d)
+  value_tracks : (handle : NotificationHandle) (id : NotificationId) (o : Option Value) (d : Derived) → Tracks us d → KeepsTracks us (take_of_value handle id o d)
   value_tracks handle id None d t = tt
-  value_tracks handle id (Some value) d t = noted_tracks handle id value (noted handle.0 (id_of_value value) d.tracked) d refl t
+  value_tracks handle id (Some value) d t = noted_tracks handle id value (id_noted handle.0 (id_of_value value) d.tracked) d refl t
 
-  result_tracks : (handle : NotificationHandle) (id : Option NotificationId) (o : Option NotificationResult) (d : Derived) → Tracks us d → KeepsTracks us (result_taken handle id o d)
+  result_tracks : (handle : NotificationHandle) (id : Option NotificationId) (o : Option NotificationResult) (d : Derived) → Tracks us d → KeepsTracks us (take_of_result handle id o d)
   result_tracks handle (Some id) (Some result) d t = value_tracks handle id (value_of result) d t
   result_tracks handle (Some id) None d t = t
   result_tracks handle None o d t = t
@@ -402,11 +402,11 @@ module _ (s : Setup) (us : List RawMessage) where
   asked_tracks : (a : Ask) (d : Derived) → IsOfOne a → Tracks us d → KeepsTracks us (asked s a d)
   asked_tracks (ask.Command c) d one t = commanding_tracks c c.refusal d t
   asked_tracks (ask.Commands kind first second) d one t = absurd one
-  asked_tracks (ask.Read r) d one t = reading_tracks r (missing 1 0 1 d.counters) d t
+  asked_tracks (ask.Read r) d one t = reading_tracks r (missing_number 1 0 1 d.counters) d t
   asked_tracks ask.Awakeable d one t = making_tracks (skips_replay s.options.journal_replay) d t
   asked_tracks (ask.Signal name) d one t = signal_tracks name (missing_signals 0 1 d.counters) d t
   asked_tracks (ask.Await future) d one t = awaited_tracks (is_cancelled_in s d) future d t
-  asked_tracks (ask.Take handle) d one t = result_tracks handle (id_at handle.0 d.handles) (present_for s.options.signal_delivery (id_at handle.0 d.handles) (ready_in s d)) d t
+  asked_tracks (ask.Take handle) d one t = result_tracks handle (id_at handle.0 d.handles) (present_result_for s.options.signal_delivery (id_at handle.0 d.handles) (ready_in s d)) d t
   asked_tracks (ask.Completed handle) d one t = t
   asked_tracks ask.End d one t = tt
 
@@ -416,7 +416,7 @@ module _ (s : Setup) (us : List RawMessage) where
 abbrev Goes : List RawMessage → Point → Point → (Point → Derived) → Type 0
 Goes us p q at = (vs : List RawMessage) × (p.left ≡ vs ++ q.left) × Tracks (us ++ vs) (at q)
 
-brought_tracks : (us : List RawMessage) (id : ℕ) (o : Option NotificationResult) (d : Derived) → Tracks us d → Tracks us (brought id o d)
+brought_tracks : (us : List RawMessage) (id : ℕ) (o : Option NotificationResult) (d : Derived) → Tracks us d → Tracks us (with_read_result id o d)
 brought_tracks us id None d t = t
 brought_tracks us id (Some result) d t = t
 
@@ -551,7 +551,7 @@ other_or : (x y : Option NamedFault) → IsOther x → IsOther y → IsOther (op
 other_or None y p q = q
 other_or (Some name) y p q = p
 
-missing_other : (a b c : ℕ) (k : Counters) → IsOther (missing a b c k)
+missing_other : (a b c : ℕ) (k : Counters) → IsOther (missing_number a b c k)
 missing_other a b c k =
     other_if (nat_lt (most - k.completion) a) (Some fault.ExhaustedCompletionIds) _ (λ h. absurd (cc))
     (other_if (nat_lt (most - k.signal) b) (Some fault.ExhaustedSignalIds) _ (λ h. absurd (cc))
@@ -623,14 +623,14 @@ turn_other s (suc n) c [] d h = h
 turn_other s (suc n) c (b ∷ bs) d h = turn_other s n b bs (behind_command s c d) h.1
 
 before_other : (c : Command) (cs : List Command) (k : Counters) → EachOther c cs → IsOther (refused_before c cs k)
-before_other c [] k h = other_or c.refusal (missing (ids_of c.message) 0 (ids_of c.message) k) h (missing_other (ids_of c.message) 0 (ids_of c.message) k)
+before_other c [] k h = other_or c.refusal (missing_number (ids_of c.message) 0 (ids_of c.message) k) h (missing_other (ids_of c.message) 0 (ids_of c.message) k)
 before_other c (b ∷ bs) k h =
-    other_or (option_or (any_refusal c (b ∷ bs)) (missing_for c (b ∷ bs) k)) (option_or c.refusal (missing (ids_of c.message) 0 (ids_of c.message) k))
+    other_or (option_or (any_refusal c (b ∷ bs)) (missing_for c (b ∷ bs) k)) (option_or c.refusal (missing_number (ids_of c.message) 0 (ids_of c.message) k))
     (other_or (any_refusal c (b ∷ bs)) (missing_for c (b ∷ bs) k) (any_other c (b ∷ bs) h) (for_other c (b ∷ bs) k))
-    (other_or c.refusal (missing (ids_of c.message) 0 (ids_of c.message) k) h.0 (missing_other (ids_of c.message) 0 (ids_of c.message) k))
+    (other_or c.refusal (missing_number (ids_of c.message) 0 (ids_of c.message) k) h.0 (missing_other (ids_of c.message) 0 (ids_of c.message) k))
   where
     for_other : (c : Command) (cs : List Command) (k : Counters) → IsOther (missing_for c cs k)
-    for_other c cs k = other_or (missing (all_ids c cs) 0 (all_ids c cs) k) (missing_indexes (suc (length cs)) k) (missing_other (all_ids c cs) 0 (all_ids c cs) k) (other_if (nat_lt (most - unwrap_or k.command 0) (suc (length cs))) (Some fault.ExhaustedCommandIndexes) None (λ h. absurd (cc)) tt)
+    for_other c cs k = other_or (missing_number (all_ids c cs) 0 (all_ids c cs) k) (missing_indexes (suc (length cs)) k) (missing_other (all_ids c cs) 0 (all_ids c cs) k) (other_if (nat_lt (most - unwrap_or k.command 0) (suc (length cs))) (Some fault.ExhaustedCommandIndexes) None (λ h. absurd (cc)) tt)
 
 -- the move is refused for another reason, if it is
 abbrev Expected : Move → Type 0
@@ -654,7 +654,7 @@ numbered_expected s c None d other = tt
 
 commanding_expected : (s : Setup) (c : Command) (o : Option NamedFault) (d : Derived) → IsOther o → Expected (commanding s c o d)
 commanding_expected s c (Some name) d other = other
-commanding_expected s c None d other = numbered_expected s c (missing (ids_of c.message) 0 (ids_of c.message) d.counters) d (missing_other (ids_of c.message) 0 (ids_of c.message) d.counters)
+commanding_expected s c None d other = numbered_expected s c (missing_number (ids_of c.message) 0 (ids_of c.message) d.counters) d (missing_other (ids_of c.message) 0 (ids_of c.message) d.counters)
 
 reading_expected : (r : StateRead) (o : Option NamedFault) (d : Derived) → IsOther o → Expected (reading r o d)
 reading_expected r (Some name) d other = other
@@ -682,7 +682,7 @@ sent_expected s id None d other = tt
 
 cancelling_expected : (s : Setup) (ids : List (List ℕ)) (d : Derived) → Expected (cancelling s ids d)
 cancelling_expected s [] d = tt
-cancelling_expected s (id ∷ ids) d = sent_expected s id (missing 0 0 0 d.counters) d (missing_other 0 0 0 d.counters)
+cancelling_expected s (id ∷ ids) d = sent_expected s id (missing_number 0 0 0 d.counters) d (missing_other 0 0 0 d.counters)
 
 -- ---- reads of an invocation's id
 
@@ -703,11 +703,11 @@ tracked_is Q h (t ∷ ts) e all = by_test (t.handle == h) refl e (λ x. tracked_
     by_test true same x ih = subst Q (eqb-true t.handle h same) all.0
     by_test false same x ih = ih x
 
-first_unresolved : (Q : ℕ → Type 0) (ts : List TrackedCall) (h : ℕ) (hs : List ℕ) → unresolved ts ≡ h ∷ hs → EachTracked Q ts → Q h
+first_unresolved : (Q : ℕ → Type 0) (ts : List TrackedCall) (h : ℕ) (hs : List ℕ) → unresolved_handles ts ≡ h ∷ hs → EachTracked Q ts → Q h
 first_unresolved Q [] h hs e all = absurd (cc)
 first_unresolved Q (t ∷ ts) h hs e all = by_known t.invocation_id e (λ x. first_unresolved Q ts h hs x all.1)
   where
-    by_known : (o : Option (List ℕ)) → if_unresolved o t.handle (unresolved ts) ≡ h ∷ hs → (unresolved ts ≡ h ∷ hs → Q h) → Q h
+    by_known : (o : Option (List ℕ)) → if_unresolved o t.handle (unresolved_handles ts) ≡ h ∷ hs → (unresolved_handles ts ≡ h ∷ hs → Q h) → Q h
     by_known None x ih = subst Q (let same : t.handle ≡ h = cc in same) all.0
     by_known (Some known) x ih = ih x
 
@@ -721,13 +721,13 @@ value_is (found.StateKeys keys) value is e = absurd (let z : false ≡ true = is
 
 -- of an id that one of these commands carries for its invocation's, the present result is one
 abbrev Brings : Setup → List RawMessage → Derived → Type 0
-Brings s us d = (i : ℕ) → is_for_invocation i us ≡ true → (r : NotificationResult) → present s.options.signal_delivery (CompletionId i) (ready_in s d) ≡ Some r → IsInvocationId r
+Brings s us d = (i : ℕ) → is_for_invocation i us ≡ true → (r : NotificationResult) → present_result s.options.signal_delivery (CompletionId i) (ready_in s d) ≡ Some r → IsInvocationId r
 
 module _ (s : Setup) (us : List RawMessage) (d : Derived) (brings : Brings s us d) where
-  present_is : (h : ℕ) → TracksOne us d.counters.handle d.handles h → (r : NotificationResult) → present_for s.options.signal_delivery (id_at h d.handles) (ready_in s d) ≡ Some r → IsInvocationId r
+  present_is : (h : ℕ) → TracksOne us d.counters.handle d.handles h → (r : NotificationResult) → present_result_for s.options.signal_delivery (id_at h d.handles) (ready_in s d) ≡ Some r → IsInvocationId r
   present_is h t r e = by_id (id_at h d.handles) refl e
     where
-      by_id : (o : Option NotificationId) → id_at h d.handles ≡ o → present_for s.options.signal_delivery o (ready_in s d) ≡ Some r → IsInvocationId r
+      by_id : (o : Option NotificationId) → id_at h d.handles ≡ o → present_result_for s.options.signal_delivery o (ready_in s d) ≡ Some r → IsInvocationId r
       by_id None at x = none_some x
       by_id (Some (CompletionId i)) at x = brings i (found_for us h d.handles (CompletionId i) t.1 at) r x
       by_id (Some (SignalId i)) at x = absurd (found_for us h d.handles (SignalId i) t.1 at)
@@ -737,42 +737,42 @@ module _ (s : Setup) (us : List RawMessage) (d : Derived) (brings : Brings s us 
   read_expected None is = absurd (let z : false ≡ true = is in cc)
   read_expected (Some id) is = tt
 
-  id_expected : (h : ℕ) → TracksOne us d.counters.handle d.handles h → (o : Option NotificationResult) → present_for s.options.signal_delivery (id_at h d.handles) (ready_in s d) ≡ o → Expected (id_awaited o d)
+  id_expected : (h : ℕ) → TracksOne us d.counters.handle d.handles h → (o : Option NotificationResult) → present_result_for s.options.signal_delivery (id_at h d.handles) (ready_in s d) ≡ o → Expected (id_awaited o d)
   id_expected h t None e = tt
   id_expected h t (Some result) e = read_expected (id_of_result result) (present_is h t result e)
 
-  cancelled_expected : Tracks us d → (handles : List ℕ) → unresolved d.tracked ≡ handles → Expected (cancelled s handles d)
+  cancelled_expected : Tracks us d → (handles : List ℕ) → unresolved_handles d.tracked ≡ handles → Expected (cancelled s handles d)
   cancelled_expected t [] e = cancelling_expected s (invocation_ids d.tracked) d
-  cancelled_expected t (h ∷ hs) e = id_expected h (first_unresolved (TracksOne us d.counters.handle d.handles) d.tracked h hs e t.1) (present_for s.options.signal_delivery (id_at h d.handles) (ready_in s d)) refl
+  cancelled_expected t (h ∷ hs) e = id_expected h (first_unresolved (TracksOne us d.counters.handle d.handles) d.tracked h hs e t.1) (present_result_for s.options.signal_delivery (id_at h d.handles) (ready_in s d)) refl
 
   awaited_expected : Tracks us d → (b : Bool) (future : UnresolvedFuture) → Expected (awaited s b future d)
-  awaited_expected t true future = cancelled_expected t (unresolved d.tracked) refl
+  awaited_expected t true future = cancelled_expected t (unresolved_handles d.tracked) refl
   awaited_expected t false future = awaiting_expected (is_awake s future d) d
 
   -- a tracked call's result is read as its invocation's id
-  noted_some : (h : ℕ) (id : Option (List ℕ)) → (is_tracked h d.tracked ≡ true → is_some id ≡ true) → noted h id d.tracked ≢ None
+  noted_some : (h : ℕ) (id : Option (List ℕ)) → (is_tracked h d.tracked ≡ true → is_some id ≡ true) → id_noted h id d.tracked ≢ None
   noted_some h id some e = by_test (is_tracked h d.tracked) refl e
     where
-      by_known : (o : Option (List ℕ)) → is_some o ≡ true → option_map (λ known. with_id h known d.tracked) o ≡ None → ⊥
+      by_known : (o : Option (List ℕ)) → is_some o ≡ true → option_map (λ known. with_invocation_id h known d.tracked) o ≡ None → ⊥
       by_known None is x = (let z : false ≡ true = is in cc)
       by_known (Some known) is x = cc
 
-      by_test : (b : Bool) → is_tracked h d.tracked ≡ b → (if b then option_map (λ known. with_id h known d.tracked) id else Some d.tracked) ≡ None → ⊥
+      by_test : (b : Bool) → is_tracked h d.tracked ≡ b → (if b then option_map (λ known. with_invocation_id h known d.tracked) id else Some d.tracked) ≡ None → ⊥
       by_test true t x = by_known id (some t) x
       by_test false t x = cc
 
-  noted_expected : (handle : NotificationHandle) (id : NotificationId) (value : Value) (o : Option (List TrackedCall)) → o ≢ None → Expected (value_noted handle id value o d)
+  noted_expected : (handle : NotificationHandle) (id : NotificationId) (value : Value) (o : Option (List TrackedCall)) → o ≢ None → Expected (take_noting_id handle id value o d)
   noted_expected handle id value None some = λ _. some refl
   noted_expected handle id value (Some tracked) some = tt
 
-  value_expected : Tracks us d → (handle : NotificationHandle) (id : NotificationId) (result : NotificationResult) → present_for s.options.signal_delivery (id_at handle.0 d.handles) (ready_in s d) ≡ Some result → (o : Option Value) → value_of result ≡ o → Expected (value_taken handle id o d)
+  value_expected : Tracks us d → (handle : NotificationHandle) (id : NotificationId) (result : NotificationResult) → present_result_for s.options.signal_delivery (id_at handle.0 d.handles) (ready_in s d) ≡ Some result → (o : Option Value) → value_of result ≡ o → Expected (take_of_value handle id o d)
   value_expected t handle id result at None is = λ h. absurd (cc)
   value_expected t handle id result at (Some value) is =
-      noted_expected handle id value (noted handle.0 (id_of_value value) d.tracked)
+      noted_expected handle id value (id_noted handle.0 (id_of_value value) d.tracked)
       (noted_some handle.0 (id_of_value value) (λ tracked. value_is result value (present_is handle.0 (tracked_is (TracksOne us d.counters.handle d.handles) handle.0 d.tracked tracked t.1) result at) is))
 
-  result_expected : Tracks us d → (handle : NotificationHandle) (id : Option NotificationId) → id_at handle.0 d.handles ≡ id → (o : Option NotificationResult) → present_for s.options.signal_delivery id (ready_in s d) ≡ o → Expected (result_taken handle id o d)
-  result_expected t handle (Some id) at (Some result) is = value_expected t handle id result (ap (λ x. present_for s.options.signal_delivery x (ready_in s d)) at ∙ is) (value_of result) refl
+  result_expected : Tracks us d → (handle : NotificationHandle) (id : Option NotificationId) → id_at handle.0 d.handles ≡ id → (o : Option NotificationResult) → present_result_for s.options.signal_delivery id (ready_in s d) ≡ o → Expected (take_of_result handle id o d)
+  result_expected t handle (Some id) at (Some result) is = value_expected t handle id result (ap (λ x. present_result_for s.options.signal_delivery x (ready_in s d)) at ∙ is) (value_of result) refl
   result_expected t handle (Some id) at None is = tt
   result_expected t handle None at o is = tt
 
@@ -781,11 +781,11 @@ module _ (s : Setup) (us : List RawMessage) (d : Derived) (brings : Brings s us 
   asked_expected (ask.Commands kind first second) other t =
       let turn = turn_after s d.parts first (second ∷ []) d in
       unless_expected (refused_before turn.command turn.behind turn.before.counters) s kind turn d (before_other turn.command turn.behind turn.before.counters (turn_other s d.parts first (second ∷ []) d other))
-  asked_expected (ask.Read r) other t = reading_expected r (missing 1 0 1 d.counters) d (missing_other 1 0 1 d.counters)
+  asked_expected (ask.Read r) other t = reading_expected r (missing_number 1 0 1 d.counters) d (missing_other 1 0 1 d.counters)
   asked_expected ask.Awakeable other t = making_expected s (skips_replay s.options.journal_replay) d
   asked_expected (ask.Signal name) other t = signal_expected name (missing_signals 0 1 d.counters) d (signals_other 0 1 d.counters)
   asked_expected (ask.Await future) other t = awaited_expected (t tt) (is_cancelled_in s d) future
-  asked_expected (ask.Take handle) other t = result_expected (t tt) handle (id_at handle.0 d.handles) refl (present_for s.options.signal_delivery (id_at handle.0 d.handles) (ready_in s d)) refl
+  asked_expected (ask.Take handle) other t = result_expected (t tt) handle (id_at handle.0 d.handles) refl (present_result_for s.options.signal_delivery (id_at handle.0 d.handles) (ready_in s d)) refl
   asked_expected (ask.Completed handle) other t = tt
   asked_expected ask.End other t = tt
 

@@ -7,8 +7,8 @@ use Rattle.journal_messages.specs.declared.message.Message.TheVariants as messag
 use Rattle.vm_parts.specs.declared.context.StateCoverage.{StateCoverage}
 use Rattle.vm_parts.specs.declared.context.StateCoverage.TheVariants.{Partial, Complete}
 use Rattle.vm_parts.specs.declared.context.StateMap.{StateMap}
-use Rattle.vm_parts.specs.Entries.{IsInOrder, by_bytes, entry_of, is_among, keys_with_value}
-use Rattle.vm_parts.specs.States.{has_value, keys_by, known, known_by, known_keys}
+use Rattle.vm_parts.specs.Entries.{IsInOrder, by_bytes, entry_of, is_key_among, keys_with_value}
+use Rattle.vm_parts.specs.States.{has_value, keys_by, value_known, known_by, known_keys}
 use Rattle.vm_parts.proofs.Changes.{known_besides_cleared, known_besides_set, known_cleared, known_set}
 use Rattle.vm_parts.proofs.Keys.{key_listed, keys_in_order}
 use Rattle.vm_asks.specs.Requests.{changed}
@@ -18,27 +18,27 @@ use Rattle.vm_model.proofs.Runs.{none_some}
 use Rattle.vm_model.proofs.States.{changed_by-append, many_in_order}
 
 -- what a command says of a key that it touches
-one_says : (key : List ℕ) (m : Message) (g : StateMap) → Touches key m → known key (changed m g) ≡ says m
-one_says key (message.SetState c) g same = ap (λ k. known k (changed (message.SetState c) g)) (sym same) ∙ known_set c.key c.value g
-one_says key (message.ClearState c) g same = ap (λ k. known k (changed (message.ClearState c) g)) (sym same) ∙ known_cleared c.key g
+one_says : (key : List ℕ) (m : Message) (g : StateMap) → Touches key m → value_known key (changed m g) ≡ says m
+one_says key (message.SetState c) g same = ap (λ k. value_known k (changed (message.SetState c) g)) (sym same) ∙ known_set c.key c.value g
+one_says key (message.ClearState c) g same = ap (λ k. value_known k (changed (message.ClearState c) g)) (sym same) ∙ known_cleared c.key g
 one_says key (message.ClearAllState c) g h = refl
 one_says key m g h = absurd h
 
 -- what a command leaves of a key that it doesn't touch
-one_leaves : (key : List ℕ) (m : Message) (g : StateMap) → (Touches key m → ⊥) → known key (changed m g) ≡ known key g
+one_leaves : (key : List ℕ) (m : Message) (g : StateMap) → (Touches key m → ⊥) → value_known key (changed m g) ≡ value_known key g
 one_leaves key (message.SetState c) g other = known_besides_set c.key key c.value g (λ same. other (sym same))
 one_leaves key (message.ClearState c) g other = known_besides_cleared c.key key g (λ same. other (sym same))
 one_leaves key (message.ClearAllState c) g other = absurd (other tt)
 one_leaves key m g other = refl
 
-pub none_says : (key : List ℕ) (ms : List Message) (state : StateMap) → NoneTouches key ms → known key (changed_by ms state) ≡ known key state
+pub none_says : (key : List ℕ) (ms : List Message) (state : StateMap) → NoneTouches key ms → value_known key (changed_by ms state) ≡ value_known key state
 none_says key [] state h = refl
 none_says key (m ∷ ms) state h = none_says key ms (changed m state) h.1 ∙ one_leaves key m state h.0
 
-pub last_says : (key : List ℕ) (m : Message) (ms : List Message) (state : StateMap) → IsLast key m ms → known key (changed_by ms state) ≡ says m
+pub last_says : (key : List ℕ) (m : Message) (ms : List Message) (state : StateMap) → IsLast key m ms → value_known key (changed_by ms state) ≡ says m
 last_says key m ms state h =
-    ap (λ l. known key (changed_by l state)) h.splits
-    ∙ ap (known key) (changed_by-append h.before (m ∷ h.behind) state)
+    ap (λ l. value_known key (changed_by l state)) h.splits
+    ∙ ap (value_known key) (changed_by-append h.before (m ∷ h.behind) state)
     ∙ none_says key h.behind (changed m (changed_by h.before state)) h.others
     ∙ one_says key m (changed_by h.before state) h.touches
 
@@ -83,7 +83,7 @@ keys_are g keys ordered e = by_coverage g.coverage refl e
         let same = same_Some (keys_with_value g.entries) keys e in
         record {
           sorted = subst (IsStrictlySortedBy by_bytes) same (keys_in_order g.entries ordered);
-          listed = λ key. ap (is_among key) (sym same) ∙ key_listed g.entries ordered key ∙ ap (λ c. has_value (known_by c (entry_of key g.entries))) (sym is);
+          listed = λ key. ap (is_key_among key) (sym same) ∙ key_listed g.entries ordered key ∙ ap (λ c. has_value (known_by c (entry_of key g.entries))) (sym is);
         }
 
 pub keys_said : (ms : List Message) (state : StateMap) (keys : List (List ℕ)) → IsInOrder state.entries → known_keys (changed_by ms state) ≡ Some keys → AreKeysOf (changed_by ms state) keys

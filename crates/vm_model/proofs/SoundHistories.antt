@@ -12,7 +12,7 @@ use Rattle.vm_model.specs.Calls.{Setup, Meaning, Move}
 use Rattle.vm_model.specs.Calls.Move.{Answers, Needs, Awaits, Ends, Refuses}
 use Rattle.vm_model.specs.Journal.{Entry, commands_in, notifications_in, input_read_from, messages_in}
 use Rattle.vm_model.specs.Moves.{Point, after, changed_by, later, longer, move_at, moved, next, start, supplied, supply}
-use Rattle.vm_model.specs.Histories.{EagerFrom, Handed, Honest, Knowledge, Made, Whole, behind}
+use Rattle.vm_model.specs.Histories.{EagerFrom, Handed, Honest, Knowledge, Made, Whole, after_head}
 use Rattle.vm_model.specs.HonestRounds.{Attempted, HonestRound, HonestRounds, IsHanded, IsOneRun, IsToldOn}
 use Rattle.vm_model.specs.SoundHistories.{SoundHistory}
 use Rattle.vm_model.proofs.Eager.{eager_made, messages-append, said_made}
@@ -155,8 +155,8 @@ module _ (s : Setup) (m : Meaning) (base : StateMap) (before : List Entry) (a : 
 
 pub sound_round : (s : Setup) (m : Meaning) (base : StateMap) (before : List Entry) (a : Attempted) (after : List Entry) → IsInOrder base.entries → SoundHistory s m base before → IsHanded (Honest base) before a → IsToldOn s m before a → HonestRound before a.course after → SoundHistory s m base after
 sound_round s m base before a after ordered h handed t r =
-    let leaves : changed_by (messages_in (behind (commands_in before))) base ≡ changed_by h.history.at.said base = ap (λ l. changed_by (messages_in (behind l)) base) h.history.begins ∙ h.leaves in
-    stays_sound s m base before a after h (honest_lasts base a.given h.history.at.said (messages_in (behind (commands_in before))) ordered leaves handed) t r
+    let leaves : changed_by (messages_in (after_head (commands_in before))) base ≡ changed_by h.history.at.said base = ap (λ l. changed_by (messages_in (after_head l)) base) h.history.begins ∙ h.leaves in
+    stays_sound s m base before a after h (honest_lasts base a.given h.history.at.said (messages_in (after_head (commands_in before))) ordered leaves handed) t r
 
 pub sound_rounds : (s : Setup) (m : Meaning) (base : StateMap) (before : List Entry) (rounds : List Attempted) (after : List Entry) → IsInOrder base.entries → SoundHistory s m base before → HonestRounds s m (Honest base) before rounds after → SoundHistory s m base after
 sound_rounds s m base before [] after ordered h d = subst (SoundHistory s m base) (sym d) h

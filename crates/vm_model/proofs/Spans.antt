@@ -18,9 +18,9 @@ use Rattle.await_trees.specs.declared.handle.NotificationHandle.{NotificationHan
 use Rattle.await_trees.specs.declared.tree.UnresolvedFuture.{UnresolvedFuture}
 use Rattle.vm_parts.specs.declared.async_results.Mapping.{Mapping}
 use Rattle.vm_parts.specs.declared.run_state.TrackedCall.{TrackedCall}
-use Rattle.vm_parts.specs.Counting.{missing, missing_signals}
-use Rattle.vm_parts.specs.Deliveries.{id_at, present_for, unmapped}
-use Rattle.vm_parts.specs.Tracked.{Above, Ascend, by_id, id_of_result, id_of_value, invocation_ids, is_tracked, noted, unresolved, unresolved_call, with_call, with_id, with_next_id, without_first_call}
+use Rattle.vm_parts.specs.Counting.{missing_number, missing_signals}
+use Rattle.vm_parts.specs.Deliveries.{id_at, present_result_for, unmapped}
+use Rattle.vm_parts.specs.Tracked.{TrackedAbove, TrackedAscend, by_known_id, id_of_result, id_of_value, invocation_ids, is_tracked, id_noted, unresolved_handles, unresolved_call, with_call, with_invocation_id, with_next_id, without_first_call}
 use Rattle.vm_types.specs.Values.{value_of}
 use Rattle.vm_asks.specs.declared.asks.Ask.{Ask}
 use Rattle.vm_asks.specs.declared.asks.Ask.TheVariants as ask
@@ -31,9 +31,9 @@ use Rattle.vm_asks.specs.Asks.{ask_of}
 use Rattle.vm_asks.specs.Requests.{ids_of, is_cancelled_with, tracked_after}
 use Rattle.vm_machine.specs.Commands.{mapped_from}
 use Rattle.vm_machine.specs.Skips.{skips_replay}
-use Rattle.vm_model.specs.Calls.{Setup, Meaning, Derived, Demand, Move, Turn, asked, awaited, awakeable_made, awaiting, behind_command, cancel_sent, cancel_taken, cancelled, cancelling, commanding, counted, id_awaited, id_read, is_awake, is_cancelled_in, making_awakeable, numbered, part, part_unless, reading, ready_in, refused_before, result_taken, signal_made, turn_after, value_noted, value_taken}
+use Rattle.vm_model.specs.Calls.{Setup, Meaning, Derived, Demand, Move, Turn, asked, awaited, awakeable_made, awaiting, behind_command, cancel_sent, with_cancel_taken, cancelled, cancelling, commanding, counted, id_awaited, id_read, is_awake, is_cancelled_in, making_awakeable, numbered, part, part_unless, reading, ready_in, refused_before, take_of_result, signal_made, turn_after, take_noting_id, take_of_value}
 use Rattle.vm_model.specs.Calls.Move.{Answers, Needs, Awaits, Ends, Refuses}
-use Rattle.vm_model.specs.Moves.{Point, after, brought, command_used, found, move_at, moved, next, start, uses_arrival, uses_command}
+use Rattle.vm_model.specs.Moves.{Point, after, with_read_result, command_used, found, move_at, moved, next, start, uses_arrival, uses_command}
 use Rattle.vm_model.proofs.Runs.{and_then_some, none_some}
 
 -- ---- handles
@@ -118,76 +118,76 @@ id_of_other handle other (m ∷ ms) e = by_test (m.handle == handle) refl (id_of
 
 -- ---- tracked calls
 
-above_less : (a b : ℕ) (ts : List TrackedCall) → a ≤ b → Above b ts → Above a ts
+above_less : (a b : ℕ) (ts : List TrackedCall) → a ≤ b → TrackedAbove b ts → TrackedAbove a ts
 above_less a b [] l h = tt
 above_less a b (t ∷ ts) l h = (let x = h.0 in omega (arith, l, x), above_less a b ts l h.1)
 
-above_with_call : (low handle : ℕ) (ts : List TrackedCall) → low < handle → Above low ts → Above low (with_call handle ts)
+above_with_call : (low handle : ℕ) (ts : List TrackedCall) → low < handle → TrackedAbove low ts → TrackedAbove low (with_call handle ts)
 above_with_call low handle [] l h = (l, tt)
 above_with_call low handle (t ∷ ts) l h = by_less (nat_lt handle t.handle) (handle == t.handle) (above_with_call low handle ts l h.1)
   where
-    by_less : (b c : Bool) → Above low (with_call handle ts) → Above low (if b then unresolved_call handle ∷ t ∷ ts else if c then unresolved_call handle ∷ ts else t ∷ with_call handle ts)
+    by_less : (b c : Bool) → TrackedAbove low (with_call handle ts) → TrackedAbove low (if b then unresolved_call handle ∷ t ∷ ts else if c then unresolved_call handle ∷ ts else t ∷ with_call handle ts)
     by_less true c more = (l, h)
     by_less false true more = (l, h.1)
     by_less false false more = (h.0, more)
 
-ascend_with_call : (handle : ℕ) (ts : List TrackedCall) → Ascend ts → Ascend (with_call handle ts)
+ascend_with_call : (handle : ℕ) (ts : List TrackedCall) → TrackedAscend ts → TrackedAscend (with_call handle ts)
 ascend_with_call handle [] h = (tt, tt)
 ascend_with_call handle (t ∷ ts) h = by_less (nat_lt handle t.handle) (handle == t.handle) refl refl (ascend_with_call handle ts h.1)
   where
-    by_less : (b c : Bool) → nat_lt handle t.handle ≡ b → (handle == t.handle) ≡ c → Ascend (with_call handle ts) → Ascend (if b then unresolved_call handle ∷ t ∷ ts else if c then unresolved_call handle ∷ ts else t ∷ with_call handle ts)
+    by_less : (b c : Bool) → nat_lt handle t.handle ≡ b → (handle == t.handle) ≡ c → TrackedAscend (with_call handle ts) → TrackedAscend (if b then unresolved_call handle ∷ t ∷ ts else if c then unresolved_call handle ∷ ts else t ∷ with_call handle ts)
     by_less true c less same more = ((grind (arith, less), above_less handle t.handle ts (grind (arith, less)) h.0), h)
-    by_less false true less same more = (subst (λ x. Above x ts) (sym (eqb-true handle t.handle same)) h.0, h.1)
+    by_less false true less same more = (subst (λ x. TrackedAbove x ts) (sym (eqb-true handle t.handle same)) h.0, h.1)
     by_less false false less same more = (above_with_call t.handle handle ts (grind (arith, less, same)) h.0, more)
 
-above_with_id : (low handle : ℕ) (id : List ℕ) (ts : List TrackedCall) → Above low ts → Above low (with_id handle id ts)
+above_with_id : (low handle : ℕ) (id : List ℕ) (ts : List TrackedCall) → TrackedAbove low ts → TrackedAbove low (with_invocation_id handle id ts)
 above_with_id low handle id [] h = tt
 above_with_id low handle id (t ∷ ts) h = by_test (t.handle == handle) (above_with_id low handle id ts h.1)
   where
-    by_test : (b : Bool) → Above low (with_id handle id ts) → Above low (if b then record { handle = t.handle; invocation_id = Some id } ∷ ts else t ∷ with_id handle id ts)
+    by_test : (b : Bool) → TrackedAbove low (with_invocation_id handle id ts) → TrackedAbove low (if b then record { handle = t.handle; invocation_id = Some id } ∷ ts else t ∷ with_invocation_id handle id ts)
     by_test true more = (h.0, h.1)
     by_test false more = (h.0, more)
 
-ascend_with_id : (handle : ℕ) (id : List ℕ) (ts : List TrackedCall) → Ascend ts → Ascend (with_id handle id ts)
+ascend_with_id : (handle : ℕ) (id : List ℕ) (ts : List TrackedCall) → TrackedAscend ts → TrackedAscend (with_invocation_id handle id ts)
 ascend_with_id handle id [] h = tt
 ascend_with_id handle id (t ∷ ts) h = by_test (t.handle == handle) (ascend_with_id handle id ts h.1)
   where
-    by_test : (b : Bool) → Ascend (with_id handle id ts) → Ascend (if b then record { handle = t.handle; invocation_id = Some id } ∷ ts else t ∷ with_id handle id ts)
+    by_test : (b : Bool) → TrackedAscend (with_invocation_id handle id ts) → TrackedAscend (if b then record { handle = t.handle; invocation_id = Some id } ∷ ts else t ∷ with_invocation_id handle id ts)
     by_test true more = (h.0, h.1)
     by_test false more = (above_with_id t.handle handle id ts h.0, more)
 
-above_with_next : (low : ℕ) (id : List ℕ) (ts : List TrackedCall) → Above low ts → Above low (with_next_id id ts)
+above_with_next : (low : ℕ) (id : List ℕ) (ts : List TrackedCall) → TrackedAbove low ts → TrackedAbove low (with_next_id id ts)
 above_with_next low id [] h = tt
 above_with_next low id (t ∷ ts) h = by_known t.invocation_id (above_with_next low id ts h.1)
   where
-    by_known : (o : Option (List ℕ)) → Above low (with_next_id id ts) → Above low (by_id o (record { handle = t.handle; invocation_id = Some id } ∷ ts) (t ∷ with_next_id id ts))
+    by_known : (o : Option (List ℕ)) → TrackedAbove low (with_next_id id ts) → TrackedAbove low (by_known_id o (record { handle = t.handle; invocation_id = Some id } ∷ ts) (t ∷ with_next_id id ts))
     by_known None more = (h.0, h.1)
     by_known (Some other) more = (h.0, more)
 
-ascend_with_next : (id : List ℕ) (ts : List TrackedCall) → Ascend ts → Ascend (with_next_id id ts)
+ascend_with_next : (id : List ℕ) (ts : List TrackedCall) → TrackedAscend ts → TrackedAscend (with_next_id id ts)
 ascend_with_next id [] h = tt
 ascend_with_next id (t ∷ ts) h = by_known t.invocation_id (ascend_with_next id ts h.1)
   where
-    by_known : (o : Option (List ℕ)) → Ascend (with_next_id id ts) → Ascend (by_id o (record { handle = t.handle; invocation_id = Some id } ∷ ts) (t ∷ with_next_id id ts))
+    by_known : (o : Option (List ℕ)) → TrackedAscend (with_next_id id ts) → TrackedAscend (by_known_id o (record { handle = t.handle; invocation_id = Some id } ∷ ts) (t ∷ with_next_id id ts))
     by_known None more = (h.0, h.1)
     by_known (Some other) more = (above_with_next t.handle id ts h.0, more)
 
-ascend_noted : (handle : ℕ) (id : Option (List ℕ)) (ts now : List TrackedCall) → Ascend ts → noted handle id ts ≡ Some now → Ascend now
+ascend_noted : (handle : ℕ) (id : Option (List ℕ)) (ts now : List TrackedCall) → TrackedAscend ts → id_noted handle id ts ≡ Some now → TrackedAscend now
 ascend_noted handle id ts now h e = by_test (is_tracked handle ts) id e
   where
-    by_test : (b : Bool) (o : Option (List ℕ)) → (if b then option_map (λ known. with_id handle known ts) o else Some ts) ≡ Some now → Ascend now
+    by_test : (b : Bool) (o : Option (List ℕ)) → (if b then option_map (λ known. with_invocation_id handle known ts) o else Some ts) ≡ Some now → TrackedAscend now
     by_test true None e = none_some e
-    by_test true (Some known) e = subst Ascend (same_Some _ now e) (ascend_with_id handle known ts h)
-    by_test false o e = subst Ascend (same_Some ts now e) h
+    by_test true (Some known) e = subst TrackedAscend (same_Some _ now e) (ascend_with_id handle known ts h)
+    by_test false o e = subst TrackedAscend (same_Some ts now e) h
 
-ascend_behind_first : (ts : List TrackedCall) → Ascend ts → Ascend (without_first_call ts)
+ascend_behind_first : (ts : List TrackedCall) → TrackedAscend ts → TrackedAscend (without_first_call ts)
 ascend_behind_first [] h = tt
 ascend_behind_first (t ∷ ts) h = h.1
 
-ascend_after : (option : ImplicitCancellationOption) (m : Message) (handle : ℕ) (ts : List TrackedCall) → Ascend ts → Ascend (tracked_after option m handle ts)
+ascend_after : (option : ImplicitCancellationOption) (m : Message) (handle : ℕ) (ts : List TrackedCall) → TrackedAscend ts → TrackedAscend (tracked_after option m handle ts)
 ascend_after option m handle ts h = by_test (is_cancelled_with option m)
   where
-    by_test : (b : Bool) → Ascend (if b then with_call handle ts else ts)
+    by_test : (b : Bool) → TrackedAscend (if b then with_call handle ts else ts)
     by_test true = ascend_with_call handle ts h
     by_test false = h
 
@@ -196,7 +196,7 @@ ascend_after option m handle ts h = by_test (is_cancelled_with option m)
 pub record InOrder (d : Derived) : Type 0 where
   pub handles : Span 0 d.handles d.counters.handle
   pub cancel : id_at 1 d.handles ≡ Some (SignalId 1)
-  pub tracked : Ascend d.tracked
+  pub tracked : TrackedAscend d.tracked
 
 abbrev After : Move → Type 0
 After (Answers gives d) = InOrder d
@@ -223,7 +223,7 @@ numbered_in_order s c None d h = command_in_order s c d h
 
 commanding_in_order : (s : Setup) (c : Command) (o : Option NamedFault) (d : Derived) → InOrder d → After (commanding s c o d)
 commanding_in_order s c (Some name) d h = tt
-commanding_in_order s c None d h = numbered_in_order s c (missing (ids_of c.message) 0 (ids_of c.message) d.counters) d h
+commanding_in_order s c None d h = numbered_in_order s c (missing_number (ids_of c.message) 0 (ids_of c.message) d.counters) d h
 
 pub turn_in_order : (s : Setup) (n : ℕ) (c : Command) (cs : List Command) (d : Derived) → InOrder d → InOrder (turn_after s n c cs d).before
 turn_in_order s zero c cs d h = h
@@ -278,20 +278,20 @@ sent_in_order : (s : Setup) (id : List ℕ) (o : Option NamedFault) (d : Derived
 sent_in_order s id (Some name) d h = tt
 sent_in_order s id None d h = let k = counted_in_order 0 d h in record { handles = k.handles; cancel = k.cancel; tracked = ascend_behind_first d.tracked h.tracked }
 
-taken_in_order : (o : Option NotificationId) (d : Derived) → InOrder d → InOrder (cancel_taken o d)
+taken_in_order : (o : Option NotificationId) (d : Derived) → InOrder d → InOrder (with_cancel_taken o d)
 taken_in_order None d h = h
 taken_in_order (Some id) d h = record { handles = h.handles; cancel = h.cancel; tracked = h.tracked }
 
 cancelling_in_order : (s : Setup) (ids : List (List ℕ)) (d : Derived) → InOrder d → After (cancelling s ids d)
 cancelling_in_order s [] d h = taken_in_order (id_at 1 d.handles) (record d { tracked = [] }) (record { handles = h.handles; cancel = h.cancel; tracked = tt })
-cancelling_in_order s (id ∷ ids) d h = sent_in_order s id (missing 0 0 0 d.counters) d h
+cancelling_in_order s (id ∷ ids) d h = sent_in_order s id (missing_number 0 0 0 d.counters) d h
 
 cancelled_in_order : (s : Setup) (handles : List ℕ) (d : Derived) → InOrder d → After (cancelled s handles d)
 cancelled_in_order s [] d h = cancelling_in_order s (invocation_ids d.tracked) d h
-cancelled_in_order s (handle ∷ handles) d h = id_in_order (present_for s.options.signal_delivery (id_at handle d.handles) (ready_in s d)) d h
+cancelled_in_order s (handle ∷ handles) d h = id_in_order (present_result_for s.options.signal_delivery (id_at handle d.handles) (ready_in s d)) d h
 
 awaited_in_order : (s : Setup) (b : Bool) (future : UnresolvedFuture) (d : Derived) → InOrder d → After (awaited s b future d)
-awaited_in_order s true future d h = cancelled_in_order s (unresolved d.tracked) d h
+awaited_in_order s true future d h = cancelled_in_order s (unresolved_handles d.tracked) d h
 awaited_in_order s false future d h = awaiting_in_order (is_awake s future d) d h
 
 -- the handles that a take leaves
@@ -318,16 +318,16 @@ left_cancel handle ms h = by_test (handle == 1) refl
         by_other true t = absurd (let u = sym (eq-eqb handle 1 (sym (eqb-true 1 handle t))) ∙ e in cc)
         by_other false t = t
 
-noted_in_order : (handle : NotificationHandle) (id : NotificationId) (value : Value) (o : Option (List TrackedCall)) (d : Derived) → InOrder d → ((now : List TrackedCall) → o ≡ Some now → Ascend now) → After (value_noted handle id value o d)
+noted_in_order : (handle : NotificationHandle) (id : NotificationId) (value : Value) (o : Option (List TrackedCall)) (d : Derived) → InOrder d → ((now : List TrackedCall) → o ≡ Some now → TrackedAscend now) → After (take_noting_id handle id value o d)
 unfolding left_handles
 noted_in_order handle id value None d h k = tt
 noted_in_order handle id value (Some now) d h k = record { handles = left_in_order handle.0 d.handles d.counters.handle h.handles; cancel = left_cancel handle.0 d.handles h.cancel; tracked = k now refl }
 
-value_in_order : (handle : NotificationHandle) (id : NotificationId) (o : Option Value) (d : Derived) → InOrder d → After (value_taken handle id o d)
+value_in_order : (handle : NotificationHandle) (id : NotificationId) (o : Option Value) (d : Derived) → InOrder d → After (take_of_value handle id o d)
 value_in_order handle id None d h = tt
-value_in_order handle id (Some value) d h = noted_in_order handle id value (noted handle.0 (id_of_value value) d.tracked) d h (λ now e. ascend_noted handle.0 (id_of_value value) d.tracked now h.tracked e)
+value_in_order handle id (Some value) d h = noted_in_order handle id value (id_noted handle.0 (id_of_value value) d.tracked) d h (λ now e. ascend_noted handle.0 (id_of_value value) d.tracked now h.tracked e)
 
-result_in_order : (handle : NotificationHandle) (id : Option NotificationId) (o : Option NotificationResult) (d : Derived) → InOrder d → After (result_taken handle id o d)
+result_in_order : (handle : NotificationHandle) (id : Option NotificationId) (o : Option NotificationResult) (d : Derived) → InOrder d → After (take_of_result handle id o d)
 result_in_order handle (Some id) (Some result) d h = value_in_order handle id (value_of result) d h
 result_in_order handle (Some id) None d h = h
 result_in_order handle None o d h = h
@@ -337,15 +337,15 @@ asked_in_order s (ask.Command c) d h = commanding_in_order s c c.refusal d h
 asked_in_order s (ask.Commands kind first second) d h =
     let t = turn_after s d.parts first (second ∷ []) d in
     part_unless_in_order (refused_before t.command t.behind t.before.counters) s kind t d (turn_in_order s d.parts first (second ∷ []) d h) h
-asked_in_order s (ask.Read r) d h = reading_in_order r (missing 1 0 1 d.counters) d h
+asked_in_order s (ask.Read r) d h = reading_in_order r (missing_number 1 0 1 d.counters) d h
 asked_in_order s ask.Awakeable d h = making_in_order s (skips_replay s.options.journal_replay) d h
 asked_in_order s (ask.Signal name) d h = signal_in_order name (missing_signals 0 1 d.counters) d h
 asked_in_order s (ask.Await future) d h = awaited_in_order s (is_cancelled_in s d) future d h
-asked_in_order s (ask.Take handle) d h = result_in_order handle (id_at handle.0 d.handles) (present_for s.options.signal_delivery (id_at handle.0 d.handles) (ready_in s d)) d h
+asked_in_order s (ask.Take handle) d h = result_in_order handle (id_at handle.0 d.handles) (present_result_for s.options.signal_delivery (id_at handle.0 d.handles) (ready_in s d)) d h
 asked_in_order s (ask.Completed handle) d h = h
 asked_in_order s ask.End d h = tt
 
-brought_in_order : (id : ℕ) (result : Option NotificationResult) (d : Derived) → InOrder d → InOrder (brought id result d)
+brought_in_order : (id : ℕ) (result : Option NotificationResult) (d : Derived) → InOrder d → InOrder (with_read_result id result d)
 brought_in_order id None d h = h
 brought_in_order id (Some result) d h = record { handles = h.handles; cancel = h.cancel; tracked = h.tracked }
 

@@ -15,7 +15,7 @@ use Rattle.journal_equality.proofs.SameHeader.{same_header}
 use Rattle.vm_parts.specs.declared.context.Known.{Known}
 use Rattle.vm_parts.specs.declared.context.Known.TheVariants.{Unknown, Empty, Value}
 use Rattle.vm_parts.specs.declared.context.StateMap.{StateMap}
-use Rattle.vm_parts.specs.States.{known, known_keys}
+use Rattle.vm_parts.specs.States.{value_known, known_keys}
 use Rattle.vm_asks.specs.declared.state_read.StateRead.{StateRead}
 use Rattle.vm_asks.specs.declared.state_read.StateRead.TheVariants as reads
 use Rattle.vm_machine.specs.Reads.{own_result}
@@ -49,5 +49,5 @@ keys_stand name id None whole = let own = keys_form name id None in form_stands 
 keys_stand name id (Some keys) whole = form_stands (eager_form (reads.Keys name)) (keys_form name id (Some keys)) whole (text_same name)
 
 pub read_stands : (r : StateRead) (id : ℕ) (state : StateMap) → IsWhole (own_form r id state) → found (Reads r id) (stored_form (own_form r id state)) ≡ Ok (own_result (result_in (own_form r id state)))
-read_stands (reads.Value key name) id state whole = value_stands key name id (known key state) whole
+read_stands (reads.Value key name) id state whole = value_stands key name id (value_known key state) whole
 read_stands (reads.Keys name) id state whole = keys_stand name id (known_keys state) whole

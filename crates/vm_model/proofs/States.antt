@@ -13,8 +13,8 @@ use Rattle.vm_parts.specs.declared.context.Known.TheVariants.{Unknown, Empty, Va
 use Rattle.vm_parts.specs.declared.context.StateCoverage.{StateCoverage}
 use Rattle.vm_parts.specs.declared.context.StateCoverage.TheVariants.{Partial, Complete}
 use Rattle.vm_parts.specs.declared.context.StateMap.{StateMap}
-use Rattle.vm_parts.specs.Entries.{IsInOrder, by_bytes, entry_of, is_among, keys_with_value}
-use Rattle.vm_parts.specs.States.{has_value, keys_by, known, known_by, known_keys}
+use Rattle.vm_parts.specs.Entries.{IsInOrder, by_bytes, entry_of, is_key_among, keys_with_value}
+use Rattle.vm_parts.specs.States.{has_value, keys_by, value_known, known_by, known_keys}
 use Rattle.vm_parts.proofs.Changes.{key_at, known_besides_cleared, known_besides_set, known_cleared, known_set, stays_in_order}
 use Rattle.vm_parts.proofs.Keys.{key_listed, keys_in_order}
 use Rattle.vm_asks.specs.Requests.{changed}
@@ -69,11 +69,11 @@ one_key {A} key other f g = by_test (pointwise nat_eq key other) refl
     by_test false e = g (λ same. absurd (let t = (bytes_decides key other).1 same in cc))
 
 -- a command settles what is known of a key, or leaves it
-key_settles : (key : List ℕ) (c : Message) → Settles (known key) (changed c)
+key_settles : (key : List ℕ) (c : Message) → Settles (value_known key) (changed c)
 key_settles key (message.SetState c) =
-    one_key key c.key (λ same. inl (Value c.value, λ g. ap (λ k. known k (changed (message.SetState c) g)) same ∙ known_set c.key c.value g)) (λ differs. inr (λ g. known_besides_set c.key key c.value g differs))
+    one_key key c.key (λ same. inl (Value c.value, λ g. ap (λ k. value_known k (changed (message.SetState c) g)) same ∙ known_set c.key c.value g)) (λ differs. inr (λ g. known_besides_set c.key key c.value g differs))
 key_settles key (message.ClearState c) =
-    one_key key c.key (λ same. inl (Empty, λ g. ap (λ k. known k (changed (message.ClearState c) g)) same ∙ known_cleared c.key g)) (λ differs. inr (λ g. known_besides_cleared c.key key g differs))
+    one_key key c.key (λ same. inl (Empty, λ g. ap (λ k. value_known k (changed (message.ClearState c) g)) same ∙ known_cleared c.key g)) (λ differs. inr (λ g. known_besides_cleared c.key key g differs))
 key_settles key (message.ClearAllState c) = inl (Empty, λ g. refl)
 key_settles key c = inr (λ g. refl)
 
@@ -100,30 +100,30 @@ many_in_order (c ∷ cs) g h = many_in_order cs (changed c g) (one_in_order c g 
 at_itself : (key : List ℕ) → is_eq (by_bytes key key) ≡ true
 at_itself key = sym (texts_ties key key) ∙ (bytes_decides key key).1 refl
 
-not_behind : (k : List ℕ) (ks : List (List ℕ)) → AllByRecursion (λ y. by_bytes k y ≡ Less) ks → is_among k ks ≡ false
+not_behind : (k : List ℕ) (ks : List (List ℕ)) → AllByRecursion (λ y. by_bytes k y ≡ Less) ks → is_key_among k ks ≡ false
 not_behind k [] behind = refl
-not_behind k (y ∷ ys) behind = ap (λ r. is_eq r || is_among k ys) behind.0 ∙ not_behind k ys behind.1
+not_behind k (y ∷ ys) behind = ap (λ r. is_eq r || is_key_among k ys) behind.0 ∙ not_behind k ys behind.1
 
 further : (key k : List ℕ) (ks : List (List ℕ)) → by_bytes key k ≡ Less → AllByRecursion (λ y. by_bytes k y ≡ Less) ks → AllByRecursion (λ y. by_bytes key y ≡ Less) ks
 further key k [] less behind = tt
 further key k (y ∷ ys) less behind = (nat_list_cmp_total.trans key k y less behind.0, further key k ys less behind.1)
 
 -- the first of the one is not before the other's
-not_before : (x y : List ℕ) (xs ys : List (List ℕ)) → AllByRecursion (λ z. by_bytes y z ≡ Less) ys → ((k : List ℕ) → is_among k (x ∷ xs) ≡ is_among k (y ∷ ys)) → by_bytes x y ≡ Less → ⊥
+not_before : (x y : List ℕ) (xs ys : List (List ℕ)) → AllByRecursion (λ z. by_bytes y z ≡ Less) ys → ((k : List ℕ) → is_key_among k (x ∷ xs) ≡ is_key_among k (y ∷ ys)) → by_bytes x y ≡ Less → ⊥
 not_before x y xs ys behind same less =
-    let there : is_among x (x ∷ xs) ≡ true = ap (λ b. b || is_among x xs) (at_itself x) in
-    let away : is_among x (y ∷ ys) ≡ false = not_behind x (y ∷ ys) (less, further x y ys less behind) in
+    let there : is_key_among x (x ∷ xs) ≡ true = ap (λ b. b || is_key_among x xs) (at_itself x) in
+    let away : is_key_among x (y ∷ ys) ≡ false = not_behind x (y ∷ ys) (less, further x y ys less behind) in
     let e = same x in
     absurd (cc)
 
-same_keys : (xs ys : List (List ℕ)) → IsStrictlySortedBy by_bytes xs → IsStrictlySortedBy by_bytes ys → ((k : List ℕ) → is_among k xs ≡ is_among k ys) → xs ≡ ys
+same_keys : (xs ys : List (List ℕ)) → IsStrictlySortedBy by_bytes xs → IsStrictlySortedBy by_bytes ys → ((k : List ℕ) → is_key_among k xs ≡ is_key_among k ys) → xs ≡ ys
 unfolding IsStrictlySortedBy
 same_keys [] [] a b same = refl
-same_keys [] (y ∷ ys) a b same = absurd (let e = same y in let t : is_among y (y ∷ ys) ≡ true = ap (λ c. c || is_among y ys) (at_itself y) in cc)
-same_keys (x ∷ xs) [] a b same = absurd (let e = same x in let t : is_among x (x ∷ xs) ≡ true = ap (λ c. c || is_among x xs) (at_itself x) in cc)
+same_keys [] (y ∷ ys) a b same = absurd (let e = same y in let t : is_key_among y (y ∷ ys) ≡ true = ap (λ c. c || is_key_among y ys) (at_itself y) in cc)
+same_keys (x ∷ xs) [] a b same = absurd (let e = same x in let t : is_key_among x (x ∷ xs) ≡ true = ap (λ c. c || is_key_among x xs) (at_itself x) in cc)
 same_keys (x ∷ xs) (y ∷ ys) a b same = by_place (by_bytes x y) refl (same_keys xs ys a.1 b.1)
   where
-    by_place : (r : Ordering) → by_bytes x y ≡ r → (((k : List ℕ) → is_among k xs ≡ is_among k ys) → xs ≡ ys) → x ∷ xs ≡ y ∷ ys
+    by_place : (r : Ordering) → by_bytes x y ≡ r → (((k : List ℕ) → is_key_among k xs ≡ is_key_among k ys) → xs ≡ ys) → x ∷ xs ≡ y ∷ ys
     by_place Less is rest = absurd (not_before x y xs ys b.0 same is)
     by_place Greater is rest = absurd (not_before y x ys xs a.0 (λ k. sym (same k)) (nat_list_cmp_total.antisymm y x ∙ ap ordering_reverse is))
     by_place Equal is rest =
@@ -131,15 +131,15 @@ same_keys (x ∷ xs) (y ∷ ys) a b same = by_place (by_bytes x y) refl (same_ke
         let more : xs ≡ ys = rest (λ k. behind k (is_eq (by_bytes k x)) refl) in
         (λ i. one i ∷ more i)
       where
-        behind : (k : List ℕ) (c : Bool) → is_eq (by_bytes k x) ≡ c → is_among k xs ≡ is_among k ys
+        behind : (k : List ℕ) (c : Bool) → is_eq (by_bytes k x) ≡ c → is_key_among k xs ≡ is_key_among k ys
         behind k true e =
             let here : k ≡ x = key_at k x e in
             let there : k ≡ y = here ∙ key_at x y (ap is_eq is) in
-            (ap (λ z. is_among z xs) here ∙ not_behind x xs a.0) ∙ sym (ap (λ z. is_among z ys) there ∙ not_behind y ys b.0)
+            (ap (λ z. is_key_among z xs) here ∙ not_behind x xs a.0) ∙ sym (ap (λ z. is_key_among z ys) there ∙ not_behind y ys b.0)
         behind k false e =
             let one : x ≡ y = key_at x y (ap is_eq is) in
             let e' : is_eq (by_bytes k y) ≡ false = ap (λ z. is_eq (by_bytes k z)) (sym one) ∙ e in
-            sym (ap (λ c. c || is_among k xs) e) ∙ same k ∙ ap (λ c. c || is_among k ys) e'
+            sym (ap (λ c. c || is_key_among k xs) e) ∙ same k ∙ ap (λ c. c || is_key_among k ys) e'
 
 -- ---- the keys that are known
 
@@ -158,7 +158,7 @@ unfolding coverage_of
 none_complete z = absurd (cc)
 
 -- where all keys are known, no key is unknown
-none_unknown : (g : StateMap) (key : List ℕ) → g.coverage ≡ Complete → known key g ≡ Unknown → ⊥
+none_unknown : (g : StateMap) (key : List ℕ) → g.coverage ≡ Complete → value_known key g ≡ Unknown → ⊥
 none_unknown g key all e = by_entry (entry_of key g.entries) (sym (ap (λ c. known_by c (entry_of key g.entries)) all) ∙ e)
   where
     by_entry : (o : Option (Option (List ℕ))) → known_by Complete o ≡ Unknown → ⊥
@@ -167,14 +167,14 @@ none_unknown g key all e = by_entry (entry_of key g.entries) (sym (ap (λ c. kno
     by_entry (Some (Some value)) e = absurd (cc)
 
 -- two states with each key known as in the other
-pub one_key_list : (a b : StateMap) → IsInOrder a.entries → IsInOrder b.entries → a.coverage ≡ b.coverage → ((key : List ℕ) → known key a ≡ known key b) → known_keys a ≡ known_keys b
+pub one_key_list : (a b : StateMap) → IsInOrder a.entries → IsInOrder b.entries → a.coverage ≡ b.coverage → ((key : List ℕ) → value_known key a ≡ value_known key b) → known_keys a ≡ known_keys b
 one_key_list a b in_a in_b same at = by_coverage a.coverage refl
   where
     by_coverage : (c : StateCoverage) → a.coverage ≡ c → known_keys a ≡ known_keys b
     by_coverage Partial is = ap (λ c. keys_by c (keys_with_value a.entries)) is ∙ sym (ap (λ c. keys_by c (keys_with_value b.entries)) (sym same ∙ is))
     by_coverage Complete is =
         let is' : b.coverage ≡ Complete = sym same ∙ is in
-        let listed : (key : List ℕ) → is_among key (keys_with_value a.entries) ≡ is_among key (keys_with_value b.entries) = λ key.
+        let listed : (key : List ℕ) → is_key_among key (keys_with_value a.entries) ≡ is_key_among key (keys_with_value b.entries) = λ key.
         key_listed a.entries in_a key
         ∙ ap has_value (sym (ap (λ c. known_by c (entry_of key a.entries)) is) ∙ at key ∙ ap (λ c. known_by c (entry_of key b.entries)) is')
         ∙ sym (key_listed b.entries in_b key)
@@ -189,11 +189,11 @@ all_again base given cs more ordered h =
     let then_given = changed_by (cs ++ more) given in
     let then_base = changed_by (cs ++ more) base in
     let in_order = many_in_order (cs ++ more) given h.in_order in
-    let at : (key : List ℕ) → known key then_given ≡ known key then_base = λ key.
+    let at : (key : List ℕ) → value_known key then_given ≡ value_known key then_base = λ key.
     ⊎_elim
-    (λ (e : known key then_given ≡ known key then_base). e)
-    (λ (e : (known key then_given ≡ known key given) × (known key then_base ≡ known key (changed_by cs base))). e.0 ∙ h.at key ∙ sym e.1)
-    (again (known key) (key_settles key) cs more base given)
+    (λ (e : value_known key then_given ≡ value_known key then_base). e)
+    (λ (e : (value_known key then_given ≡ value_known key given) × (value_known key then_base ≡ value_known key (changed_by cs base))). e.0 ∙ h.at key ∙ sym e.1)
+    (again (value_known key) (key_settles key) cs more base given)
     in
     let one_coverage : given.coverage ≡ (changed_by cs base).coverage = sym (covered given.coverage (keys_with_value given.entries)) ∙ ap coverage_of h.keys ∙ covered (changed_by cs base).coverage (keys_with_value (changed_by cs base).entries) in
     let coverage : then_given.coverage ≡ then_base.coverage =
@@ -214,13 +214,13 @@ true_again base given cs more ordered h = record { in_order = in_order; at = at;
     in_order : IsInOrder (changed_by (cs ++ more) given).entries
     in_order = many_in_order (cs ++ more) given h.in_order
 
-    at : (key : List ℕ) → (known key (changed_by (cs ++ more) given) ≡ Unknown) ⊎ (known key (changed_by (cs ++ more) given) ≡ known key (changed_by (cs ++ more) base))
+    at : (key : List ℕ) → (value_known key (changed_by (cs ++ more) given) ≡ Unknown) ⊎ (value_known key (changed_by (cs ++ more) given) ≡ value_known key (changed_by (cs ++ more) base))
     at key =
         ⊎_elim
-        (λ (e : known key (changed_by (cs ++ more) given) ≡ known key (changed_by (cs ++ more) base)). inr e)
-        (λ (e : (known key (changed_by (cs ++ more) given) ≡ known key given) × (known key (changed_by (cs ++ more) base) ≡ known key (changed_by cs base))).
-        ⊎_elim (λ (u : known key given ≡ Unknown). inl (e.0 ∙ u)) (λ (u : known key given ≡ known key (changed_by cs base)). inr (e.0 ∙ u ∙ sym e.1)) (h.at key))
-        (again (known key) (key_settles key) cs more base given)
+        (λ (e : value_known key (changed_by (cs ++ more) given) ≡ value_known key (changed_by (cs ++ more) base)). inr e)
+        (λ (e : (value_known key (changed_by (cs ++ more) given) ≡ value_known key given) × (value_known key (changed_by (cs ++ more) base) ≡ value_known key (changed_by cs base))).
+        ⊎_elim (λ (u : value_known key given ≡ Unknown). inl (e.0 ∙ u)) (λ (u : value_known key given ≡ value_known key (changed_by cs base)). inr (e.0 ∙ u ∙ sym e.1)) (h.at key))
+        (again (value_known key) (key_settles key) cs more base given)
 
     -- where all keys are known now, the base's are too
     all_there : (changed_by (cs ++ more) given).coverage ≡ Complete → (changed_by (cs ++ more) base).coverage ≡ Complete
@@ -240,4 +240,4 @@ true_again base given cs more ordered h = record { in_order = in_order; at = at;
     by_coverage Partial is = inl (ap (λ c. keys_by c (keys_with_value (changed_by (cs ++ more) given).entries)) is)
     by_coverage Complete is =
         inr (one_key_list (changed_by (cs ++ more) given) (changed_by (cs ++ more) base) in_order (many_in_order (cs ++ more) base ordered) (is ∙ sym (all_there is))
-        (λ key. ⊎_elim (λ (u : known key (changed_by (cs ++ more) given) ≡ Unknown). absurd (none_unknown (changed_by (cs ++ more) given) key is u)) (λ (e : known key (changed_by (cs ++ more) given) ≡ known key (changed_by (cs ++ more) base)). e) (at key)))
+        (λ key. ⊎_elim (λ (u : value_known key (changed_by (cs ++ more) given) ≡ Unknown). absurd (none_unknown (changed_by (cs ++ more) given) key is u)) (λ (e : value_known key (changed_by (cs ++ more) given) ≡ value_known key (changed_by (cs ++ more) base)). e) (at key)))

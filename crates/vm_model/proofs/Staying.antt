@@ -11,7 +11,7 @@ use Rattle.journal_values.specs.declared.notification.NotificationId.TheVariants
 use Rattle.journal_values.specs.declared.notification.NotificationResult.{NotificationResult}
 use Rattle.vm_types.specs.declared.options.SignalDelivery.TheVariants.{Queued}
 use Rattle.vm_parts.specs.Arrived.{Ready}
-use Rattle.vm_parts.specs.Deliveries.{id_at, is_listed, present, present_for}
+use Rattle.vm_parts.specs.Deliveries.{id_at, is_listed, present_result, present_result_for}
 use Rattle.vm_model.specs.Calls.{Derived, Setup, ready_in}
 use Rattle.vm_model.specs.Cancels.{present_in}
 use Rattle.vm_model.specs.Deliveries.{HasNoTwo}
@@ -41,7 +41,7 @@ ready ns es = record { delivered = ns; eager = es }
 module _ (xs ys zs es : List Notification) (once : (i : ℕ) → length (results_of (CompletionId i) ((xs ++ ys) ++ zs)) + length (results_of (CompletionId i) es) ≤ 1)
     (others : (id : NotificationId) → is_listed Queued id ≡ true → results_of id es ≡ []) where
   -- an id keeps its present result where more is delivered
-  id_keeps : (id : NotificationId) → is_some (present Queued id (ready xs es)) ≡ true → present Queued id (ready (xs ++ ys) es) ≡ present Queued id (ready xs es)
+  id_keeps : (id : NotificationId) → is_some (present_result Queued id (ready xs es)) ≡ true → present_result Queued id (ready (xs ++ ys) es) ≡ present_result Queued id (ready xs es)
   unfolding ready
   id_keeps (SignalId i) h = rw results-append (first_stays (results_of (SignalId i) xs) (results_of (SignalId i) ys) (results_of (SignalId i) es) (others (SignalId i) refl) h)
   id_keeps (SignalName i) h = rw results-append (first_stays (results_of (SignalName i) xs) (results_of (SignalName i) ys) (results_of (SignalName i) es) (others (SignalName i) refl) h)
@@ -51,7 +51,7 @@ module _ (xs ys zs es : List Notification) (once : (i : ℕ) → length (results
       rw results-append (newest_stays (results_of (CompletionId i) xs) (results_of (CompletionId i) ys) (results_of (CompletionId i) zs) (results_of (CompletionId i) es) one h)
 
   -- and what a handle stands for
-  some_keeps : (o : Option NotificationId) → is_some (present_for Queued o (ready xs es)) ≡ true → present_for Queued o (ready (xs ++ ys) es) ≡ present_for Queued o (ready xs es)
+  some_keeps : (o : Option NotificationId) → is_some (present_result_for Queued o (ready xs es)) ≡ true → present_result_for Queued o (ready (xs ++ ys) es) ≡ present_result_for Queued o (ready xs es)
   some_keeps None h = refl
   some_keeps (Some id) h = id_keeps id h
 
@@ -66,9 +66,9 @@ module _ (s : Setup) (p : Point) (queued : s.options.signal_delivery ≡ Queued)
   eager = (ready_in s p.derived).eager
 
   -- the arrivals are used up to a number: a handle's result by what is delivered then
-  at_number : (handle n : ℕ) → present_in s handle (used_by n) ≡ present_for Queued (id_at handle p.derived.handles) (ready (delivered ++ take n p.queue) eager)
+  at_number : (handle n : ℕ) → present_in s handle (used_by n) ≡ present_result_for Queued (id_at handle p.derived.handles) (ready (delivered ++ take n p.queue) eager)
   unfolding ready
-  at_number handle n = λ i. present_for (queued i) (id_at handle (handles_more (take n p.queue) p.derived i)) (ready_more s (take n p.queue) p.derived i)
+  at_number handle n = λ i. present_result_for (queued i) (id_at handle (handles_more (take n p.queue) p.derived i)) (ready_more s (take n p.queue) p.derived i)
 
   -- a handle keeps its present result
   pub keeps_result : (handle m n : ℕ) → m ≤ n → is_some (present_in s handle (used_by m)) ≡ true → present_in s handle (used_by n) ≡ present_in s handle (used_by m)
@@ -84,6 +84,6 @@ module _ (s : Setup) (p : Point) (queued : s.options.signal_delivery ≡ Queued)
       let whole : (xs ++ ys) ++ drop n q ≡ delivered ++ q = ap (λ l. l ++ drop n q) (sym split) ∙ append_assoc delivered (take n q) (drop n q) ∙ ap (λ l. delivered ++ l) (take-append-drop n q) in
       let once = come_once s p queued two in
       at_number handle n
-      ∙ ap (λ l. present_for Queued o (ready l eager)) split
+      ∙ ap (λ l. present_result_for Queued o (ready l eager)) split
       ∙ some_keeps xs ys (drop n q) eager (λ i. subst (λ l. length (results_of (CompletionId i) l) + length (results_of (CompletionId i) eager) ≤ 1) (sym whole) (once.once i)) once.completions o (ap is_some (sym (at_number handle m)) ∙ there)
       ∙ sym (at_number handle m)

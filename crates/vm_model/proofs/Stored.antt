@@ -23,14 +23,14 @@ use Rattle.journal_protocol.proofs.Facts.{result_said, type_read, value_said}
 use Rattle.vm_parts.specs.declared.context.Known.{Known}
 use Rattle.vm_parts.specs.declared.context.Known.TheVariants.{Unknown, Empty, Value}
 use Rattle.vm_parts.specs.declared.context.StateMap.{StateMap}
-use Rattle.vm_parts.specs.States.{known, known_keys, state_set}
+use Rattle.vm_parts.specs.States.{value_known, known_keys, state_set}
 use Rattle.vm_asks.specs.declared.state_read.StateRead.{StateRead}
 use Rattle.vm_asks.specs.declared.state_read.StateRead.TheVariants as reads
 use Rattle.vm_asks.specs.StateReads.{eager_form, keys_form, own_form, read_by, result_in, value_form}
 use Rattle.vm_asks.specs.Requests.{changed}
 use Rattle.vm_model.specs.Calls.{Demand}
 use Rattle.vm_model.specs.Calls.Demand.{Exactly, Reads}
-use Rattle.vm_model.specs.Histories.{Fits, IsTrueOf, recorded_value}
+use Rattle.vm_model.specs.Histories.{EagerReadMatches, IsTrueOf, recorded_value}
 use Rattle.vm_model.specs.Journal.{messages_in, read_before, stored_form}
 use Rattle.vm_model.specs.Moves.{changed_by, found, own, reads_as, said_of}
 
@@ -55,13 +55,13 @@ is_eager type.GetEagerStateCommand = true
 is_eager type.GetEagerStateKeysCommand = true
 is_eager ty = false
 
-plain_fits : (now : StateMap) (raw : RawMessage) (m : Message) → is_eager (type_of m) ≡ false → Fits now raw (Some m)
+plain_fits : (now : StateMap) (raw : RawMessage) (m : Message) → is_eager (type_of m) ≡ false → EagerReadMatches now raw (Some m)
 plain_fits now raw (message.GetEagerState c) e = absurd (cc)
 plain_fits now raw (message.GetEagerStateKeys c) e = absurd (cc)
 plain_fits now raw m e = tt
 
 -- a stored command, as it is read
-plain_stored : (now : StateMap) (m : Message) (o : Option Message) → message_in (type_of m) (body m) ≡ o → is_eager (type_of m) ≡ false → Fits now (stored_form m) o
+plain_stored : (now : StateMap) (m : Message) (o : Option Message) → message_in (type_of m) (body m) ≡ o → is_eager (type_of m) ≡ false → EagerReadMatches now (stored_form m) o
 plain_stored now m None is e = tt
 plain_stored now m (Some n) is e = plain_fits now (stored_form m) n (ap is_eager (type_read (type_of m) (body m) n is) ∙ e)
 
@@ -114,7 +114,7 @@ unread command ignore true (Some n) result e = (n, refl, by_test (header_equal n
 
 -- a state read changes no state
 read_type : (r : StateRead) (id : ℕ) (state : StateMap) → changes_state (type_of (own_form r id state)) ≡ false
-read_type (reads.Value key name) id state = by_known (known key state)
+read_type (reads.Value key name) id state = by_known (value_known key state)
   where
     by_known : (k : Known) → changes_state (type_of (value_form key name id k)) ≡ false
     by_known Unknown = refl
@@ -151,7 +151,7 @@ eager_read form (Some n) result e = (n, refl, by_test (header_equal n form true)
     by_test false e = absurd (cc)
 
 -- the key of an eager read that is read as one of this key, and its name
-same_read : (key name : List ℕ) (n : Message) → header_equal n (eager_form (reads.Value key name)) true ≡ true → (now : StateMap) (raw : RawMessage) → ((id : ℕ) → raw ≡ stored_form (own_form (reads.Value key name) id now)) → Fits now raw (Some n)
+same_read : (key name : List ℕ) (n : Message) → header_equal n (eager_form (reads.Value key name)) true ≡ true → (now : StateMap) (raw : RawMessage) → ((id : ℕ) → raw ≡ stored_form (own_form (reads.Value key name) id now)) → EagerReadMatches now raw (Some n)
 unfolding header_equal
 same_read key name (message.GetEagerState c) e now raw h =
     let texts = both (pointwise nat_eq c.name name) (pointwise nat_eq c.key key) (both (pointwise nat_eq c.name name && pointwise nat_eq c.key key) true e).0 in
@@ -159,26 +159,26 @@ same_read key name (message.GetEagerState c) e now raw h =
     λ id. h id ∙ sym (ap (λ r. stored_form (own_form r id now)) same)
 same_read key name n e now raw h = absurd (cc)
 
-same_keys_read : (name : List ℕ) (n : Message) → header_equal n (eager_form (reads.Keys name)) true ≡ true → (now : StateMap) (raw : RawMessage) → ((id : ℕ) → raw ≡ stored_form (own_form (reads.Keys name) id now)) → Fits now raw (Some n)
+same_keys_read : (name : List ℕ) (n : Message) → header_equal n (eager_form (reads.Keys name)) true ≡ true → (now : StateMap) (raw : RawMessage) → ((id : ℕ) → raw ≡ stored_form (own_form (reads.Keys name) id now)) → EagerReadMatches now raw (Some n)
 unfolding header_equal
 same_keys_read name (message.GetEagerStateKeys c) e now raw h = λ id. h id ∙ sym (ap (λ n. stored_form (own_form (reads.Keys n) id now)) (text_is c.name name e))
 same_keys_read name n e now raw h = absurd (cc)
 
 -- a value that is known there is so in this one
-value_fits : (now : StateMap) (key name : List ℕ) (id : ℕ) (k : Known) (result : Option NotificationResult) → (k ≡ Unknown) ⊎ (k ≡ known key now) → found (Reads (reads.Value key name) id) (stored_form (value_form key name id k)) ≡ Ok result → Fits now (stored_form (value_form key name id k)) (message_in (type_of (value_form key name id k)) (body (value_form key name id k)))
+value_fits : (now : StateMap) (key name : List ℕ) (id : ℕ) (k : Known) (result : Option NotificationResult) → (k ≡ Unknown) ⊎ (k ≡ value_known key now) → found (Reads (reads.Value key name) id) (stored_form (value_form key name id k)) ≡ Ok result → EagerReadMatches now (stored_form (value_form key name id k)) (message_in (type_of (value_form key name id k)) (body (value_form key name id k)))
 value_fits now key name id Unknown result so f = plain_stored now (value_form key name id Unknown) (message_in (type_of (value_form key name id Unknown)) (body (value_form key name id Unknown))) refl refl
 value_fits now key name id Empty result so f =
     let own = value_form key name id Empty in
     let x = eager_read (eager_form (reads.Value key name)) (message_in (type_of own) (body own)) result f in
-    let is : Empty ≡ known key now = ⊎_elim (λ (u : Empty ≡ Unknown). absurd (cc)) (λ (u : Empty ≡ known key now). u) so in
+    let is : Empty ≡ value_known key now = ⊎_elim (λ (u : Empty ≡ Unknown). absurd (cc)) (λ (u : Empty ≡ value_known key now). u) so in
     rw x.1 (same_read key name x.0 x.2 now (stored_form own) (λ other. ap (λ k. stored_form (value_form key name other k)) is))
 value_fits now key name id (Value value) result so f =
     let own = value_form key name id (Value value) in
     let x = eager_read (eager_form (reads.Value key name)) (message_in (type_of own) (body own)) result f in
-    let is : Value value ≡ known key now = ⊎_elim (λ (u : Value value ≡ Unknown). absurd (cc)) (λ (u : Value value ≡ known key now). u) so in
+    let is : Value value ≡ value_known key now = ⊎_elim (λ (u : Value value ≡ Unknown). absurd (cc)) (λ (u : Value value ≡ value_known key now). u) so in
     rw x.1 (same_read key name x.0 x.2 now (stored_form own) (λ other. ap (λ k. stored_form (value_form key name other k)) is))
 
-keys_fit : (now : StateMap) (name : List ℕ) (id : ℕ) (keys : Option (List (List ℕ))) (result : Option NotificationResult) → (keys ≡ None) ⊎ (keys ≡ known_keys now) → found (Reads (reads.Keys name) id) (stored_form (keys_form name id keys)) ≡ Ok result → Fits now (stored_form (keys_form name id keys)) (message_in (type_of (keys_form name id keys)) (body (keys_form name id keys)))
+keys_fit : (now : StateMap) (name : List ℕ) (id : ℕ) (keys : Option (List (List ℕ))) (result : Option NotificationResult) → (keys ≡ None) ⊎ (keys ≡ known_keys now) → found (Reads (reads.Keys name) id) (stored_form (keys_form name id keys)) ≡ Ok result → EagerReadMatches now (stored_form (keys_form name id keys)) (message_in (type_of (keys_form name id keys)) (body (keys_form name id keys)))
 keys_fit now name id None result so f = plain_stored now (keys_form name id None) (message_in (type_of (keys_form name id None)) (body (keys_form name id None))) refl refl
 keys_fit now name id (Some keys) result so f =
     let own = keys_form name id (Some keys) in
@@ -191,16 +191,16 @@ abbrev pub IsPlain : Demand → Type 0
 IsPlain (Exactly command ignore) = is_eager (type_of command) ≡ false
 IsPlain (Reads r id) = Unit {0}
 
-pub own_fits : (now state : StateMap) (e : Demand) (result : Option NotificationResult) → IsTrueOf now state → IsPlain e → found e (stored_form (own state e)) ≡ Ok result → Fits now (stored_form (own state e)) (message_in (type_of (own state e)) (body (own state e)))
+pub own_fits : (now state : StateMap) (e : Demand) (result : Option NotificationResult) → IsTrueOf now state → IsPlain e → found e (stored_form (own state e)) ≡ Ok result → EagerReadMatches now (stored_form (own state e)) (message_in (type_of (own state e)) (body (own state e)))
 own_fits now state (Exactly command ignore) result h plain f = plain_stored now command (message_in (type_of command) (body command)) refl plain
-own_fits now state (Reads (reads.Value key name) id) result h plain f = value_fits now key name id (known key state) result (h.at key) f
+own_fits now state (Reads (reads.Value key name) id) result h plain f = value_fits now key name id (value_known key state) result (h.at key) f
 own_fits now state (Reads (reads.Keys name) id) result h plain f = keys_fit now name id (known_keys state) result h.keys f
 
 -- ---- what a recorded eager read brings
 
 -- where a state gives a recorded eager read, it brings what the state has
-pub value_brought : (g : StateMap) (raw : RawMessage) (c : GetEagerStateCommand) → message_in raw.ty raw.body ≡ Some (message.GetEagerState c) → Fits g raw (Some (message.GetEagerState c)) → (known c.key g ≡ Unknown → ⊥) × (c.result ≡ recorded_value (known c.key g))
-value_brought g raw c is fits = by_known (known c.key g) (fits 0)
+pub value_brought : (g : StateMap) (raw : RawMessage) (c : GetEagerStateCommand) → message_in raw.ty raw.body ≡ Some (message.GetEagerState c) → EagerReadMatches g raw (Some (message.GetEagerState c)) → (value_known c.key g ≡ Unknown → ⊥) × (c.result ≡ recorded_value (value_known c.key g))
+value_brought g raw c is fits = by_known (value_known c.key g) (fits 0)
   where
     -- what is read of the stored form that the entry is
     reads_own : (k : Known) → raw ≡ stored_form (value_form c.key c.name 0 k) → message_in (type_of (value_form c.key c.name 0 k)) (body (value_form c.key c.name 0 k)) ≡ Some (message.GetEagerState c)
@@ -215,7 +215,7 @@ abbrev keys_or : Message → Option (List (List ℕ))
 keys_or (message.GetEagerStateKeys c) = c.value
 keys_or m = None
 
-pub keys_brought : (g : StateMap) (raw : RawMessage) (c : GetEagerStateKeysCommand) → message_in raw.ty raw.body ≡ Some (message.GetEagerStateKeys c) → Fits g raw (Some (message.GetEagerStateKeys c)) → IsWhole (own_form (reads.Keys c.name) 0 g) → (known_keys g ≡ None → ⊥) × (c.value ≡ known_keys g)
+pub keys_brought : (g : StateMap) (raw : RawMessage) (c : GetEagerStateKeysCommand) → message_in raw.ty raw.body ≡ Some (message.GetEagerStateKeys c) → EagerReadMatches g raw (Some (message.GetEagerStateKeys c)) → IsWhole (own_form (reads.Keys c.name) 0 g) → (known_keys g ≡ None → ⊥) × (c.value ≡ known_keys g)
 keys_brought g raw c is fits whole = by_keys (known_keys g) (fits 0) whole
   where
     by_keys : (o : Option (List (List ℕ))) → raw ≡ stored_form (keys_form c.name 0 o) → IsWhole (keys_form c.name 0 o) → (o ≡ None → ⊥) × (c.value ≡ o)

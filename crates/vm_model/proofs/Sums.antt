@@ -15,9 +15,9 @@ use Rattle.await_trees.specs.declared.handle.NotificationHandle.{NotificationHan
 use Rattle.await_trees.specs.declared.tree.UnresolvedFuture.{UnresolvedFuture}
 use Rattle.vm_parts.specs.declared.run_state.TrackedCall.{TrackedCall}
 use Rattle.vm_types.specs.declared.values.Value.{Value}
-use Rattle.vm_parts.specs.Counting.{missing, missing_signals}
-use Rattle.vm_parts.specs.Deliveries.{id_at, present_for}
-use Rattle.vm_parts.specs.Tracked.{id_of_result, id_of_value, invocation_ids, noted, unresolved}
+use Rattle.vm_parts.specs.Counting.{missing_number, missing_signals}
+use Rattle.vm_parts.specs.Deliveries.{id_at, present_result_for}
+use Rattle.vm_parts.specs.Tracked.{id_of_result, id_of_value, invocation_ids, id_noted, unresolved_handles}
 use Rattle.vm_types.specs.Values.{value_of}
 use Rattle.vm_asks.specs.declared.asks.Ask.{Ask}
 use Rattle.vm_asks.specs.declared.asks.Ask.TheVariants as ask
@@ -27,9 +27,9 @@ use Rattle.vm_asks.specs.declared.state_read.StateRead.{StateRead}
 use Rattle.vm_asks.specs.Asks.{all_ids, ask_of}
 use Rattle.vm_asks.specs.Requests.{ids_of}
 use Rattle.vm_machine.specs.Skips.{skips_replay}
-use Rattle.vm_model.specs.Calls.{Setup, Meaning, Derived, Demand, Move, asked, awaited, awakeable_made, awaiting, call_of, cancel_sent, cancel_taken, cancelled, cancelling, commanding, counted, id_awaited, id_read, is_awake, is_cancelled_in, making_awakeable, numbered, reading, ready_in, result_taken, signal_made, value_noted, value_taken, Turn, part, part_unless, refused_before, turn_after}
+use Rattle.vm_model.specs.Calls.{Setup, Meaning, Derived, Demand, Move, asked, awaited, awakeable_made, awaiting, call_of, cancel_sent, with_cancel_taken, cancelled, cancelling, commanding, counted, id_awaited, id_read, is_awake, is_cancelled_in, making_awakeable, numbered, reading, ready_in, take_of_result, signal_made, take_noting_id, take_of_value, Turn, part, part_unless, refused_before, turn_after}
 use Rattle.vm_model.specs.Calls.Move.{Answers, Needs, Awaits, Ends, Refuses}
-use Rattle.vm_model.specs.Moves.{Point, after, brought, command_used, move_at, moved, next, found, start, uses_arrival, uses_command}
+use Rattle.vm_model.specs.Moves.{Point, after, with_read_result, command_used, move_at, moved, next, found, start, uses_arrival, uses_command}
 use Rattle.vm_model.specs.Sums.{calls_after, calls_for, completion_ids, completion_ids_in, handles, signal_ids, signal_ids_in, handles_in, total}
 use Rattle.vm_model.proofs.Parts.{Splits, turn_splits}
 use Rattle.vm_model.proofs.Runs.{and_then_some, none_some}
@@ -64,7 +64,7 @@ numbered_given s c None d = inl (_, refl, counted_given (ids_of c.message) d _)
 
 commanding_given : (s : Setup) (c : Command) (o : Option NamedFault) (d : Derived) → GivenAfter (ids_of c.message) 0 (ids_of c.message) d (commanding s c o d)
 commanding_given s c (Some fault) d = tt
-commanding_given s c None d = numbered_given s c (missing (ids_of c.message) 0 (ids_of c.message) d.counters) d
+commanding_given s c None d = numbered_given s c (missing_number (ids_of c.message) 0 (ids_of c.message) d.counters) d
 
 -- with the last command of several the numbers of all are given
 part_given : (s : Setup) (kind : AnswerKind) (c : Command) (cs : List Command) (d : Derived) (b : Command) (bs : List Command) (before : Derived) → Splits s d c cs (record { command = b; behind = bs; before = before }) → GivenAfter (all_ids c cs) 0 (all_ids c cs) d (part s kind b bs before d)
@@ -96,7 +96,7 @@ awaiting_given true d = inl (_, refl, nothing_given d d refl)
 awaiting_given false d = tt
 
 -- a take of the cancel signal leaves the numbers
-pub taken_counters : (o : Option NotificationId) (d : Derived) → (cancel_taken o d).counters ≡ d.counters
+pub taken_counters : (o : Option NotificationId) (d : Derived) → (with_cancel_taken o d).counters ≡ d.counters
 taken_counters None d = refl
 taken_counters (Some id) d = refl
 
@@ -114,25 +114,25 @@ sent_given s id None d = inr (refl, counted_given 0 d _)
 
 cancelling_given : (s : Setup) (ids : List (List ℕ)) (d : Derived) → GivenAfter 0 0 0 d (cancelling s ids d)
 cancelling_given s [] d = inl (_, refl, nothing_given d _ (taken_counters (id_at 1 d.handles) _))
-cancelling_given s (id ∷ ids) d = sent_given s id (missing 0 0 0 d.counters) d
+cancelling_given s (id ∷ ids) d = sent_given s id (missing_number 0 0 0 d.counters) d
 
 cancelled_given : (s : Setup) (handles : List ℕ) (d : Derived) → GivenAfter 0 0 0 d (cancelled s handles d)
 cancelled_given s [] d = cancelling_given s (invocation_ids d.tracked) d
-cancelled_given s (handle ∷ handles) d = id_given (present_for s.options.signal_delivery (id_at handle d.handles) (ready_in s d)) d
+cancelled_given s (handle ∷ handles) d = id_given (present_result_for s.options.signal_delivery (id_at handle d.handles) (ready_in s d)) d
 
 awaited_given : (s : Setup) (b : Bool) (future : UnresolvedFuture) (d : Derived) → GivenAfter 0 0 0 d (awaited s b future d)
-awaited_given s true future d = cancelled_given s (unresolved d.tracked) d
+awaited_given s true future d = cancelled_given s (unresolved_handles d.tracked) d
 awaited_given s false future d = awaiting_given (is_awake s future d) d
 
-noted_given : (handle : NotificationHandle) (id : NotificationId) (value : Value) (o : Option (List TrackedCall)) (d : Derived) → GivenAfter 0 0 0 d (value_noted handle id value o d)
+noted_given : (handle : NotificationHandle) (id : NotificationId) (value : Value) (o : Option (List TrackedCall)) (d : Derived) → GivenAfter 0 0 0 d (take_noting_id handle id value o d)
 noted_given handle id value None d = tt
 noted_given handle id value (Some tracked) d = inl (_, refl, nothing_given d _ refl)
 
-value_given : (handle : NotificationHandle) (id : NotificationId) (o : Option Value) (d : Derived) → GivenAfter 0 0 0 d (value_taken handle id o d)
+value_given : (handle : NotificationHandle) (id : NotificationId) (o : Option Value) (d : Derived) → GivenAfter 0 0 0 d (take_of_value handle id o d)
 value_given handle id None d = tt
-value_given handle id (Some value) d = noted_given handle id value (noted handle.0 (id_of_value value) d.tracked) d
+value_given handle id (Some value) d = noted_given handle id value (id_noted handle.0 (id_of_value value) d.tracked) d
 
-result_given : (handle : NotificationHandle) (id : Option NotificationId) (o : Option NotificationResult) (d : Derived) → GivenAfter 0 0 0 d (result_taken handle id o d)
+result_given : (handle : NotificationHandle) (id : Option NotificationId) (o : Option NotificationResult) (d : Derived) → GivenAfter 0 0 0 d (take_of_result handle id o d)
 result_given handle (Some id) (Some result) d = value_given handle id (value_of result) d
 result_given handle (Some id) None d = inl (_, refl, nothing_given d d refl)
 result_given handle None o d = inl (_, refl, nothing_given d d refl)
@@ -142,11 +142,11 @@ asked_given s (ask.Command c) d = commanding_given s c c.refusal d
 asked_given s (ask.Commands kind first second) d =
     let t = turn_after s d.parts first (second ∷ []) d in
     turn_given s kind (refused_before t.command t.behind t.before.counters) first (second ∷ []) d t (turn_splits s d.parts first (second ∷ []) d)
-asked_given s (ask.Read r) d = reading_given r (missing 1 0 1 d.counters) d
+asked_given s (ask.Read r) d = reading_given r (missing_number 1 0 1 d.counters) d
 asked_given s ask.Awakeable d = making_given s (skips_replay s.options.journal_replay) d
 asked_given s (ask.Signal name) d = signal_given name (missing_signals 0 1 d.counters) d
 asked_given s (ask.Await future) d = awaited_given s (is_cancelled_in s d) future d
-asked_given s (ask.Take handle) d = result_given handle (id_at handle.0 d.handles) (present_for s.options.signal_delivery (id_at handle.0 d.handles) (ready_in s d)) d
+asked_given s (ask.Take handle) d = result_given handle (id_at handle.0 d.handles) (present_result_for s.options.signal_delivery (id_at handle.0 d.handles) (ready_in s d)) d
 asked_given s (ask.Completed handle) d = inl (_, refl, nothing_given d d refl)
 asked_given s ask.End d = tt
 
@@ -165,12 +165,12 @@ unfolding Moves
 given_moves ids signals numbers gives e p q (inl (a, one, g)) answers now = inl (a, answers ∙ ap (λ l. p.answers ++ l) one, subst (Given ids signals numbers p.derived) now g)
 given_moves ids signals numbers gives e p q (inr (none, g)) answers now = inr (answers ∙ ap (λ l. p.answers ++ l) none ∙ append-nil p.answers, subst (Given 0 0 0 p.derived) now g)
 
-pub brought_given : (ids signals numbers id : ℕ) (result : Option NotificationResult) (d e : Derived) → Given ids signals numbers d e → Given ids signals numbers d (brought id result e)
+pub brought_given : (ids signals numbers id : ℕ) (result : Option NotificationResult) (d e : Derived) → Given ids signals numbers d e → Given ids signals numbers d (with_read_result id result e)
 brought_given ids signals numbers id None d e g = g
 brought_given ids signals numbers id (Some result) d e g = record { completion = g.completion; signal = g.signal; handle = g.handle }
 
 -- a result that a command brings leaves the numbers
-brought_by : (ids signals numbers id : ℕ) (result : Option NotificationResult) (d : Derived) (gives : List Answer) (e : Derived) → GivenBy ids signals numbers d gives e → GivenBy ids signals numbers d gives (brought id result e)
+brought_by : (ids signals numbers id : ℕ) (result : Option NotificationResult) (d : Derived) (gives : List Answer) (e : Derived) → GivenBy ids signals numbers d gives e → GivenBy ids signals numbers d gives (with_read_result id result e)
 brought_by ids signals numbers id result d gives e (inl (a, one, g)) = inl (a, one, brought_given ids signals numbers id result d e g)
 brought_by ids signals numbers id result d gives e (inr (none, g)) = inr (none, brought_given 0 0 0 id result d e g)
 
@@ -179,7 +179,7 @@ command_moves ids signals numbers (Err name) e gives d left p q g m = none_some 
 command_moves ids signals numbers (Ok result) e gives d left p q g m =
     let is = same_Some _ q m in
     let id = p.derived.counters.completion in
-    given_moves ids signals numbers gives (brought id result d) p q (brought_by ids signals numbers id result p.derived gives d g) (ap (λ z. z.answers) (sym is)) (ap (λ z. z.derived) is)
+    given_moves ids signals numbers gives (with_read_result id result d) p q (brought_by ids signals numbers id result p.derived gives d g) (ap (λ z. z.answers) (sym is)) (ap (λ z. z.derived) is)
 
 uses_moves : (ids signals numbers : ℕ) (e : Demand) (gives : List Answer) (d : Derived) (left : List RawMessage) (p q : Point) → GivenBy ids signals numbers p.derived gives d → uses_command e gives d left p ≡ Some q → Moves ids signals numbers p q
 uses_moves ids signals numbers e gives d [] p q g m = none_some m

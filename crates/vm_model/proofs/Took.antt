@@ -15,10 +15,10 @@ use Rattle.await_trees.specs.declared.handle.NotificationHandle.{NotificationHan
 use Rattle.await_trees.specs.declared.tree.UnresolvedFuture.{UnresolvedFuture}
 use Rattle.vm_parts.specs.declared.run_state.TrackedCall.{TrackedCall}
 use Rattle.vm_types.specs.declared.values.Value.{Value}
-use Rattle.vm_parts.specs.Counting.{missing, missing_signals}
-use Rattle.vm_parts.specs.Deliveries.{id_at, present, present_for}
+use Rattle.vm_parts.specs.Counting.{missing_number, missing_signals}
+use Rattle.vm_parts.specs.Deliveries.{id_at, present_result, present_result_for}
 use Rattle.vm_types.specs.Options.{ends_awaits}
-use Rattle.vm_parts.specs.Tracked.{id_of_result, id_of_value, invocation_ids, noted, unresolved}
+use Rattle.vm_parts.specs.Tracked.{id_of_result, id_of_value, invocation_ids, id_noted, unresolved_handles}
 use Rattle.vm_types.specs.Values.{value_of}
 use Rattle.vm_asks.specs.declared.asks.Ask.{Ask}
 use Rattle.vm_asks.specs.declared.asks.Ask.TheVariants as ask
@@ -28,9 +28,9 @@ use Rattle.vm_asks.specs.declared.state_read.StateRead.{StateRead}
 use Rattle.vm_asks.specs.Asks.{ask_of}
 use Rattle.vm_asks.specs.Requests.{ids_of}
 use Rattle.vm_machine.specs.Skips.{skips_replay}
-use Rattle.vm_model.specs.Calls.{Setup, Meaning, Derived, Demand, Move, asked, awaited, awakeable_made, awaiting, call_of, cancel_sent, cancel_taken, cancelled, cancelling, commanding, id_awaited, id_read, is_awake, is_cancelled_in, making_awakeable, numbered, reading, ready_in, result_taken, signal_made, value_noted, value_taken, Turn, part, part_unless, refused_before, turn_after}
+use Rattle.vm_model.specs.Calls.{Setup, Meaning, Derived, Demand, Move, asked, awaited, awakeable_made, awaiting, call_of, cancel_sent, with_cancel_taken, cancelled, cancelling, commanding, id_awaited, id_read, is_awake, is_cancelled_in, making_awakeable, numbered, reading, ready_in, take_of_result, signal_made, take_noting_id, take_of_value, Turn, part, part_unless, refused_before, turn_after}
 use Rattle.vm_model.specs.Calls.Move.{Answers, Needs, Awaits, Ends, Refuses}
-use Rattle.vm_model.specs.Moves.{Point, after, brought, command_used, move_at, moved, next, found, start, uses_arrival, uses_command}
+use Rattle.vm_model.specs.Moves.{Point, after, with_read_result, command_used, move_at, moved, next, found, start, uses_arrival, uses_command}
 use Rattle.vm_model.specs.Deliveries.{EachTookAResult, TakeIsAnswered, next_taken}
 use Rattle.vm_model.proofs.Cancelling.{both_parts}
 use Rattle.vm_model.proofs.Parts.{turn_splits}
@@ -54,7 +54,7 @@ numbered_took s c None d h = h
 
 commanding_took : (s : Setup) (c : Command) (o : Option NamedFault) (d : Derived) → Took s d → TookAfter s (commanding s c o d)
 commanding_took s c (Some fault) d h = tt
-commanding_took s c None d h = numbered_took s c (missing (ids_of c.message) 0 (ids_of c.message) d.counters) d h
+commanding_took s c None d h = numbered_took s c (missing_number (ids_of c.message) 0 (ids_of c.message) d.counters) d h
 
 part_took : (s : Setup) (kind : AnswerKind) (c : Command) (cs : List Command) (before d : Derived) → Took s before → Took s d → TookAfter s (part s kind c cs before d)
 part_took s kind c [] before d h k = h
@@ -85,7 +85,7 @@ awaiting_took s true d h = h
 awaiting_took s false d h = tt
 
 -- a cancelled handler's cancel signal is there to be taken
-cancel_took : (s : Setup) (o : Option NotificationId) (d : Derived) → is_some (present_for s.options.signal_delivery o (ready_in s d)) ≡ true → Took s d → Took s (cancel_taken o (record d { tracked = [] }))
+cancel_took : (s : Setup) (o : Option NotificationId) (d : Derived) → is_some (present_result_for s.options.signal_delivery o (ready_in s d)) ≡ true → Took s d → Took s (with_cancel_taken o (record d { tracked = [] }))
 cancel_took s None d there h = h
 cancel_took s (Some id) d there h = (there, h)
 
@@ -103,25 +103,25 @@ sent_took s id None d h = h
 
 cancelling_took : (s : Setup) (ids : List (List ℕ)) (d : Derived) → is_cancelled_in s d ≡ true → Took s d → TookAfter s (cancelling s ids d)
 cancelling_took s [] d c h = cancel_took s (id_at 1 d.handles) d (both_parts (ends_awaits s.options.implicit_cancellation) _ c).1 h
-cancelling_took s (id ∷ ids) d c h = sent_took s id (missing 0 0 0 d.counters) d h
+cancelling_took s (id ∷ ids) d c h = sent_took s id (missing_number 0 0 0 d.counters) d h
 
 cancelled_took : (s : Setup) (handles : List ℕ) (d : Derived) → is_cancelled_in s d ≡ true → Took s d → TookAfter s (cancelled s handles d)
 cancelled_took s [] d c h = cancelling_took s (invocation_ids d.tracked) d c h
-cancelled_took s (handle ∷ handles) d c h = id_took s (present_for s.options.signal_delivery (id_at handle d.handles) (ready_in s d)) d h
+cancelled_took s (handle ∷ handles) d c h = id_took s (present_result_for s.options.signal_delivery (id_at handle d.handles) (ready_in s d)) d h
 
 awaited_took : (s : Setup) (b : Bool) (future : UnresolvedFuture) (d : Derived) → is_cancelled_in s d ≡ b → Took s d → TookAfter s (awaited s b future d)
-awaited_took s true future d c h = cancelled_took s (unresolved d.tracked) d c h
+awaited_took s true future d c h = cancelled_took s (unresolved_handles d.tracked) d c h
 awaited_took s false future d c h = awaiting_took s (is_awake s future d) d h
 
-noted_took : (s : Setup) (handle : NotificationHandle) (id : NotificationId) (value : Value) (o : Option (List TrackedCall)) (d : Derived) → is_some (present s.options.signal_delivery id (ready_in s d)) ≡ true → Took s d → TookAfter s (value_noted handle id value o d)
+noted_took : (s : Setup) (handle : NotificationHandle) (id : NotificationId) (value : Value) (o : Option (List TrackedCall)) (d : Derived) → is_some (present_result s.options.signal_delivery id (ready_in s d)) ≡ true → Took s d → TookAfter s (take_noting_id handle id value o d)
 noted_took s handle id value None d there h = tt
 noted_took s handle id value (Some tracked) d there h = (there, h)
 
-value_took : (s : Setup) (handle : NotificationHandle) (id : NotificationId) (o : Option Value) (d : Derived) → is_some (present s.options.signal_delivery id (ready_in s d)) ≡ true → Took s d → TookAfter s (value_taken handle id o d)
+value_took : (s : Setup) (handle : NotificationHandle) (id : NotificationId) (o : Option Value) (d : Derived) → is_some (present_result s.options.signal_delivery id (ready_in s d)) ≡ true → Took s d → TookAfter s (take_of_value handle id o d)
 value_took s handle id None d there h = tt
-value_took s handle id (Some value) d there h = noted_took s handle id value (noted handle.0 (id_of_value value) d.tracked) d there h
+value_took s handle id (Some value) d there h = noted_took s handle id value (id_noted handle.0 (id_of_value value) d.tracked) d there h
 
-result_took : (s : Setup) (handle : NotificationHandle) (id : Option NotificationId) (o : Option NotificationResult) (d : Derived) → present_for s.options.signal_delivery id (ready_in s d) ≡ o → Took s d → TookAfter s (result_taken handle id o d)
+result_took : (s : Setup) (handle : NotificationHandle) (id : Option NotificationId) (o : Option NotificationResult) (d : Derived) → present_result_for s.options.signal_delivery id (ready_in s d) ≡ o → Took s d → TookAfter s (take_of_result handle id o d)
 result_took s handle (Some id) (Some result) d is h = value_took s handle id (value_of result) d (ap is_some is) h
 result_took s handle (Some id) None d is h = h
 result_took s handle None o d is h = h
@@ -131,15 +131,15 @@ asked_took s (ask.Command c) d h = commanding_took s c c.refusal d h
 asked_took s (ask.Commands kind first second) d h =
     let t = turn_after s d.parts first (second ∷ []) d in
     turn_took s kind (refused_before t.command t.behind t.before.counters) t d (turn_splits s d.parts first (second ∷ []) d).usage h
-asked_took s (ask.Read r) d h = reading_took s r (missing 1 0 1 d.counters) d h
+asked_took s (ask.Read r) d h = reading_took s r (missing_number 1 0 1 d.counters) d h
 asked_took s ask.Awakeable d h = making_took s (skips_replay s.options.journal_replay) d h
 asked_took s (ask.Signal name) d h = signal_took s name (missing_signals 0 1 d.counters) d h
 asked_took s (ask.Await future) d h = awaited_took s (is_cancelled_in s d) future d refl h
-asked_took s (ask.Take handle) d h = result_took s handle (id_at handle.0 d.handles) (present_for s.options.signal_delivery (id_at handle.0 d.handles) (ready_in s d)) d refl h
+asked_took s (ask.Take handle) d h = result_took s handle (id_at handle.0 d.handles) (present_result_for s.options.signal_delivery (id_at handle.0 d.handles) (ready_in s d)) d refl h
 asked_took s (ask.Completed handle) d h = h
 asked_took s ask.End d h = tt
 
-brought_took : (s : Setup) (id : ℕ) (result : Option NotificationResult) (d : Derived) → Took s d → Took s (brought id result d)
+brought_took : (s : Setup) (id : ℕ) (result : Option NotificationResult) (d : Derived) → Took s d → Took s (with_read_result id result d)
 brought_took s id None d h = h
 brought_took s id (Some result) d h = h
 
@@ -174,21 +174,21 @@ told_took s m n input ns cs q e = after_took s m n (start s input ns cs) q tt e
 
 -- ---- what a take is answered
 
-noted_answers : (s : Setup) (handle : NotificationHandle) (id : NotificationId) (result : NotificationResult) (value : Value) (o : Option (List TrackedCall)) (p q : Point) → value_of result ≡ Some value → id_at handle.0 p.derived.handles ≡ Some id → next_taken s.options.signal_delivery id p.derived.usage ≡ Some result → moved (value_noted handle id value o p.derived) p ≡ Some q → TakeIsAnswered s handle p q
+noted_answers : (s : Setup) (handle : NotificationHandle) (id : NotificationId) (result : NotificationResult) (value : Value) (o : Option (List TrackedCall)) (p q : Point) → value_of result ≡ Some value → id_at handle.0 p.derived.handles ≡ Some id → next_taken s.options.signal_delivery id p.derived.usage ≡ Some result → moved (take_noting_id handle id value o p.derived) p ≡ Some q → TakeIsAnswered s handle p q
 noted_answers s handle id result value None p q is at taken m = none_some m
 noted_answers s handle id result value (Some tracked) p q is at taken m =
     let now = same_Some _ q m in
     inr (id, result, value, at, taken, is, ap (λ z. z.answers) (sym now), ap (λ z. z.derived.usage) (sym now))
 
-value_answers : (s : Setup) (handle : NotificationHandle) (id : NotificationId) (result : NotificationResult) (o : Option Value) (p q : Point) → value_of result ≡ o → id_at handle.0 p.derived.handles ≡ Some id → next_taken s.options.signal_delivery id p.derived.usage ≡ Some result → moved (value_taken handle id o p.derived) p ≡ Some q → TakeIsAnswered s handle p q
+value_answers : (s : Setup) (handle : NotificationHandle) (id : NotificationId) (result : NotificationResult) (o : Option Value) (p q : Point) → value_of result ≡ o → id_at handle.0 p.derived.handles ≡ Some id → next_taken s.options.signal_delivery id p.derived.usage ≡ Some result → moved (take_of_value handle id o p.derived) p ≡ Some q → TakeIsAnswered s handle p q
 value_answers s handle id result None p q is at taken m = none_some m
-value_answers s handle id result (Some value) p q is at taken m = noted_answers s handle id result value (noted handle.0 (id_of_value value) p.derived.tracked) p q is at taken m
+value_answers s handle id result (Some value) p q is at taken m = noted_answers s handle id result value (id_noted handle.0 (id_of_value value) p.derived.tracked) p q is at taken m
 
 -- nothing is taken
 nothing_answers : (s : Setup) (handle : NotificationHandle) (p q : Point) → ((id : NotificationId) → id_at handle.0 p.derived.handles ≡ Some id → next_taken s.options.signal_delivery id p.derived.usage ≡ None) → moved (Answers (answer.Taken None ∷ []) p.derived) p ≡ Some q → TakeIsAnswered s handle p q
 nothing_answers s handle p q none m = inl (ap (λ z. z.answers) (sym (same_Some _ q m)), none)
 
-result_answers : (s : Setup) (handle : NotificationHandle) (id : Option NotificationId) (o : Option NotificationResult) (p q : Point) → Took s p.derived → id_at handle.0 p.derived.handles ≡ id → present_for s.options.signal_delivery id (ready_in s p.derived) ≡ o → moved (result_taken handle id o p.derived) p ≡ Some q → TakeIsAnswered s handle p q
+result_answers : (s : Setup) (handle : NotificationHandle) (id : Option NotificationId) (o : Option NotificationResult) (p q : Point) → Took s p.derived → id_at handle.0 p.derived.handles ≡ id → present_result_for s.options.signal_delivery id (ready_in s p.derived) ≡ o → moved (take_of_result handle id o p.derived) p ≡ Some q → TakeIsAnswered s handle p q
 result_answers s handle (Some id) (Some result) p q h at is m = value_answers s handle id result (value_of result) p q refl at (sym (present_next s.options.signal_delivery id p.derived.usage h) ∙ is) m
 result_answers s handle (Some id) None p q h at is m =
     nothing_answers s handle p q (λ j there. ap (λ x. next_taken s.options.signal_delivery x p.derived.usage) (same_Some j id (sym there ∙ at)) ∙ sym (present_next s.options.signal_delivery id p.derived.usage h) ∙ is) m
@@ -197,4 +197,4 @@ result_answers s handle None o p q h at is m = nothing_answers s handle p q (λ 
 -- a take of a run is answered with what is taken next
 pub take_answers : (s : Setup) (m : Meaning) (n : ℕ) (input : InputCommand) (ns : List Notification) (cs : List RawMessage) (p q : Point) (handle : NotificationHandle) → after s m n (start s input ns cs) ≡ Some p → m p.answers ≡ step.Take handle → next s m p ≡ Some q → TakeIsAnswered s handle p q
 take_answers s m n input ns cs p q handle e asks moves =
-    result_answers s handle (id_at handle.0 p.derived.handles) (present_for s.options.signal_delivery (id_at handle.0 p.derived.handles) (ready_in s p.derived)) p q (told_took s m n input ns cs p e) refl refl (ap (λ st. moved (call_of s st p.derived) p) (sym asks) ∙ moves)
+    result_answers s handle (id_at handle.0 p.derived.handles) (present_result_for s.options.signal_delivery (id_at handle.0 p.derived.handles) (ready_in s p.derived)) p q (told_took s m n input ns cs p e) refl refl (ap (λ st. moved (call_of s st p.derived) p) (sym asks) ∙ moves)

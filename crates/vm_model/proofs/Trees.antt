@@ -14,8 +14,8 @@ use Rattle.journal_values.specs.declared.notification.NotificationId.{Notificati
 use Rattle.journal_values.specs.declared.notification.NotificationId.TheVariants.{CompletionId}
 use Rattle.vm_types.specs.declared.options.SignalDelivery.TheVariants.{Queued}
 use Rattle.vm_parts.specs.Arrived.{Arrived}
-use Rattle.vm_parts.specs.Deliveries.{id_at, left_among, present_for, same_id, without_all}
-use Rattle.vm_model.specs.Calls.{Derived, Setup, Usage, leaf_in, ready_after, ready_in, tree_wakes}
+use Rattle.vm_parts.specs.Deliveries.{id_at, left_among, present_result_for, same_id, without_all}
+use Rattle.vm_model.specs.Calls.{Derived, Setup, Usage, leaf_in, ready_by_usage, ready_in, tree_wakes}
 use Rattle.vm_model.specs.Calls.Usage.{Used, Read, Taken}
 use Rattle.vm_model.specs.Deliveries.{HasNoTwo, arrived_at, deliveries}
 use Rattle.vm_model.specs.Histories.{IsLeast, arrivals_used}
@@ -40,24 +40,24 @@ fewer_left i id ns = by_test (same_id id (CompletionId i)) refl
     by_test false t = rw (left_kept Queued (CompletionId i) id ns t) (omega arith)
 
 -- what is ready of a completion is among what came for it
-ready_came : (us : List Usage) (i : ℕ) → length (results_of (CompletionId i) (ready_after Queued us).delivered) + length (results_of (CompletionId i) (ready_after Queued us).eager) ≤ length (deliveries (CompletionId i) us)
+ready_came : (us : List Usage) (i : ℕ) → length (results_of (CompletionId i) (ready_by_usage Queued us).delivered) + length (results_of (CompletionId i) (ready_by_usage Queued us).eager) ≤ length (deliveries (CompletionId i) us)
 ready_came [] i = omega arith
-ready_came (Used n ∷ us) i = rw (results_behind (CompletionId i) (ready_after Queued us).delivered n) (by_test (same_id n.id (CompletionId i)) (ready_came us i))
+ready_came (Used n ∷ us) i = rw (results_behind (CompletionId i) (ready_by_usage Queued us).delivered n) (by_test (same_id n.id (CompletionId i)) (ready_came us i))
   where
-    by_test : (b : Bool) → length (results_of (CompletionId i) (ready_after Queued us).delivered) + length (results_of (CompletionId i) (ready_after Queued us).eager) ≤ length (deliveries (CompletionId i) us)
-        → length (cond b (results_of (CompletionId i) (ready_after Queued us).delivered ++ n.result ∷ []) (results_of (CompletionId i) (ready_after Queued us).delivered)) + length (results_of (CompletionId i) (ready_after Queued us).eager)
+    by_test : (b : Bool) → length (results_of (CompletionId i) (ready_by_usage Queued us).delivered) + length (results_of (CompletionId i) (ready_by_usage Queued us).eager) ≤ length (deliveries (CompletionId i) us)
+        → length (cond b (results_of (CompletionId i) (ready_by_usage Queued us).delivered ++ n.result ∷ []) (results_of (CompletionId i) (ready_by_usage Queued us).delivered)) + length (results_of (CompletionId i) (ready_by_usage Queued us).eager)
         ≤ length (cond b (deliveries (CompletionId i) us ++ n.result ∷ []) (deliveries (CompletionId i) us))
-    by_test true ih = rw (length-append (results_of (CompletionId i) (ready_after Queued us).delivered) (n.result ∷ []), length-append (deliveries (CompletionId i) us) (n.result ∷ [])) (omega (arith, ih))
+    by_test true ih = rw (length-append (results_of (CompletionId i) (ready_by_usage Queued us).delivered) (n.result ∷ []), length-append (deliveries (CompletionId i) us) (n.result ∷ [])) (omega (arith, ih))
     by_test false ih = ih
-ready_came (Read j result ∷ us) i = rw (results_behind (CompletionId i) (ready_after Queued us).eager (record { id = CompletionId j; result = result })) (by_test (same_id (CompletionId j) (CompletionId i)) (ready_came us i) (fewer_all (CompletionId i) (CompletionId j) (ready_after Queued us).delivered))
+ready_came (Read j result ∷ us) i = rw (results_behind (CompletionId i) (ready_by_usage Queued us).eager (record { id = CompletionId j; result = result })) (by_test (same_id (CompletionId j) (CompletionId i)) (ready_came us i) (fewer_all (CompletionId i) (CompletionId j) (ready_by_usage Queued us).delivered))
   where
-    by_test : (b : Bool) → length (results_of (CompletionId i) (ready_after Queued us).delivered) + length (results_of (CompletionId i) (ready_after Queued us).eager) ≤ length (deliveries (CompletionId i) us)
-        → length (results_of (CompletionId i) (without_all (CompletionId j) (ready_after Queued us).delivered)) ≤ length (results_of (CompletionId i) (ready_after Queued us).delivered)
-        → length (results_of (CompletionId i) (without_all (CompletionId j) (ready_after Queued us).delivered)) + length (cond b (results_of (CompletionId i) (ready_after Queued us).eager ++ result ∷ []) (results_of (CompletionId i) (ready_after Queued us).eager))
+    by_test : (b : Bool) → length (results_of (CompletionId i) (ready_by_usage Queued us).delivered) + length (results_of (CompletionId i) (ready_by_usage Queued us).eager) ≤ length (deliveries (CompletionId i) us)
+        → length (results_of (CompletionId i) (without_all (CompletionId j) (ready_by_usage Queued us).delivered)) ≤ length (results_of (CompletionId i) (ready_by_usage Queued us).delivered)
+        → length (results_of (CompletionId i) (without_all (CompletionId j) (ready_by_usage Queued us).delivered)) + length (cond b (results_of (CompletionId i) (ready_by_usage Queued us).eager ++ result ∷ []) (results_of (CompletionId i) (ready_by_usage Queued us).eager))
         ≤ length (cond b (deliveries (CompletionId i) us ++ result ∷ []) (deliveries (CompletionId i) us))
-    by_test true ih fewer = rw (length-append (results_of (CompletionId i) (ready_after Queued us).eager) (result ∷ []), length-append (deliveries (CompletionId i) us) (result ∷ [])) (omega (arith, ih, fewer))
+    by_test true ih fewer = rw (length-append (results_of (CompletionId i) (ready_by_usage Queued us).eager) (result ∷ []), length-append (deliveries (CompletionId i) us) (result ∷ [])) (omega (arith, ih, fewer))
     by_test false ih fewer = omega (arith, ih, fewer)
-ready_came (Taken id ∷ us) i = omega (arith, ready_came us i, fewer_left i id (ready_after Queued us).delivered, fewer_left i id (ready_after Queued us).eager)
+ready_came (Taken id ∷ us) i = omega (arith, ready_came us i, fewer_left i id (ready_by_usage Queued us).delivered, fewer_left i id (ready_by_usage Queued us).eager)
 
 -- the results at a point come once each
 pub come_once : (s : Setup) (p : Point) → s.options.signal_delivery ≡ Queued → HasNoTwo p → EachOnce s.options.signal_delivery (arrived_at s p)
@@ -67,8 +67,8 @@ come_once s p queued two = record {
   completions = λ id listed. rw queued (none_read id listed p.derived.usage);
 }
   where
-    once : (i : ℕ) → length (results_of (CompletionId i) (ready_after Queued p.derived.usage).delivered ++ results_of (CompletionId i) p.queue) + length (results_of (CompletionId i) (ready_after Queued p.derived.usage).eager) ≤ 1
-    once i = rw (length-append (results_of (CompletionId i) (ready_after Queued p.derived.usage).delivered) (results_of (CompletionId i) p.queue)) (omega (arith, ready_came p.derived.usage i, two i))
+    once : (i : ℕ) → length (results_of (CompletionId i) (ready_by_usage Queued p.derived.usage).delivered ++ results_of (CompletionId i) p.queue) + length (results_of (CompletionId i) (ready_by_usage Queued p.derived.usage).eager) ≤ 1
+    once i = rw (length-append (results_of (CompletionId i) (ready_by_usage Queued p.derived.usage).delivered) (results_of (CompletionId i) p.queue)) (omega (arith, ready_came p.derived.usage i, two i))
 
 -- ---- arrivals are used
 
@@ -94,7 +94,7 @@ all_used (n ∷ ns) = all_used ns
 
 -- a leaf comes to the same in the model
 leaf_more : (s : Setup) (p : Point) (n : ℕ) → leaf_outcome s.options.signal_delivery (used (arrived_at s p) n) ≡ leaf_in s (arrivals_used (take n p.queue) p.derived)
-leaf_more s p n = λ i h. result_outcome (present_for s.options.signal_delivery (id_at h (sym (handles_more (take n p.queue) p.derived) i)) (sym (ready_more s (take n p.queue) p.derived) i))
+leaf_more s p n = λ i h. result_outcome (present_result_for s.options.signal_delivery (id_at h (sym (handles_more (take n p.queue) p.derived) i)) (sym (ready_more s (take n p.queue) p.derived) i))
 
 module _ (s : Setup) (t : Tree) (p : Point) (queued : s.options.signal_delivery ≡ Queued) (two : HasNoTwo p) where
   stays : Stays s.options.signal_delivery (arrived_at s p)

@@ -28,9 +28,9 @@ use Rattle.await_trees.specs.declared.handle.NotificationHandle.{NotificationHan
 use Rattle.await_trees.specs.declared.tree.UnresolvedFuture.{UnresolvedFuture}
 use Rattle.vm_parts.specs.declared.run_state.TrackedCall.{TrackedCall}
 use Rattle.vm_types.specs.declared.values.Value.{Value}
-use Rattle.vm_parts.specs.Counting.{missing, missing_signals}
-use Rattle.vm_parts.specs.Deliveries.{id_at, present_for, unmapped}
-use Rattle.vm_parts.specs.Tracked.{id_of_value, noted}
+use Rattle.vm_parts.specs.Counting.{missing_number, missing_signals}
+use Rattle.vm_parts.specs.Deliveries.{id_at, present_result_for, unmapped}
+use Rattle.vm_parts.specs.Tracked.{id_of_value, id_noted}
 use Rattle.vm_types.specs.Values.{value_of}
 use Rattle.vm_asks.specs.declared.asks.Ask.{Ask}
 use Rattle.vm_asks.specs.declared.asks.Ask.TheVariants as ask
@@ -41,13 +41,13 @@ use Rattle.vm_asks.specs.Asks.{all_ids, answer_by, ask_of}
 use Rattle.vm_machine.specs.Commands.{mapped_from}
 use Rattle.vm_asks.specs.Requests.{ids_of}
 use Rattle.vm_machine.specs.Skips.{skips_replay}
-use Rattle.vm_model.specs.Calls.{Setup, Meaning, Derived, Demand, Move, asked, awaited, awakeable_made, awaiting, cancel_taken, commanding, is_awake, is_cancelled_in, making_awakeable, numbered, reading, ready_in, result_taken, signal_made, value_noted, value_taken, Turn, behind_command, refused_before, turn_after}
+use Rattle.vm_model.specs.Calls.{Setup, Meaning, Derived, Demand, Move, asked, awaited, awakeable_made, awaiting, with_cancel_taken, commanding, is_awake, is_cancelled_in, making_awakeable, numbered, reading, ready_in, take_of_result, signal_made, take_noting_id, take_of_value, Turn, behind_command, refused_before, turn_after}
 use Rattle.vm_model.specs.Calls.Demand.{Exactly, Reads}
 use Rattle.vm_model.specs.Calls.Move.{Answers, Needs, Awaits, Ends, Refuses}
-use Rattle.vm_model.specs.Moves.{Point, after, brought, command_used, found, move_at, moved, next, reads_as, start, uses_arrival, uses_command}
-use Rattle.vm_model.specs.Histories.{IsAwaiting, behind}
+use Rattle.vm_model.specs.Moves.{Point, after, with_read_result, command_used, found, move_at, moved, next, reads_as, start, uses_arrival, uses_command}
+use Rattle.vm_model.specs.Histories.{IsAwaiting, after_head}
 use Rattle.vm_model.specs.Sums.{calls_after, calls_for, completion_ids, completion_ids_in, handles, handles_in, signal_ids, signal_ids_in}
-use Rattle.vm_model.specs.Uses.{AreSentBy, IsGiven, IsSentBy, IsSentFor, StandFor, Stands, WasTaken, all_needed, arrivals_in, cancels_needed, given_for, ids_from, ids_given, item, needed, needed_by, needed_for}
+use Rattle.vm_model.specs.Uses.{AreSentBy, IsGiven, IsSentBy, IsSentFor, StandFor, Stands, WasTaken, all_needed, arrivals_in, cancels_needed, given_for, ids_from, ids_of_steps, item, needed, needed_by, needed_for}
 use Rattle.vm_model.proofs.Cancelling.{CancelMove, Sent, cancel_demand, cancel_move}
 use Rattle.vm_model.proofs.Cancelling.CancelMove.{Arrives, Learns, Sends, Finishes}
 use Rattle.vm_model.proofs.Cancels.{cancelled_ends}
@@ -282,7 +282,7 @@ numbered_uses s c None d = record { one = (_, refl); needs = refl; change = coun
 
 commanding_uses : (s : Setup) (c : Command) (o : Option NamedFault) (d : Derived) → UsesAfter s (ask.Command c) d (commanding s c o d)
 commanding_uses s c (Some name) d = tt
-commanding_uses s c None d = numbered_uses s c (missing (ids_of c.message) 0 (ids_of c.message) d.counters) d
+commanding_uses s c None d = numbered_uses s c (missing_number (ids_of c.message) 0 (ids_of c.message) d.counters) d
 
 reading_uses : (s : Setup) (r : StateRead) (o : Option NamedFault) (d : Derived) → UsesAfter s (ask.Read r) d (reading r o d)
 reading_uses s r (Some name) d = tt
@@ -304,15 +304,15 @@ awaiting_uses : (s : Setup) (a : Ask) (b : Bool) (d : Derived) → needed_by s d
 awaiting_uses s a false d needs gives = tt
 awaiting_uses s a true d needs gives = record { one = (_, refl); needs = needs; change = subst (λ l. Change a l (answer.Awake ∷ []) d d.handles) (sym gives) (no_change a (answer.Awake ∷ []) d); usage = refl }
 
-noted_uses : (s : Setup) (handle : NotificationHandle) (id : NotificationId) (value : Value) (o : Option (List TrackedCall)) (d : Derived) → UsesAfter s (ask.Take handle) d (value_noted handle id value o d)
+noted_uses : (s : Setup) (handle : NotificationHandle) (id : NotificationId) (value : Value) (o : Option (List TrackedCall)) (d : Derived) → UsesAfter s (ask.Take handle) d (take_noting_id handle id value o d)
 noted_uses s handle id value None d = tt
 noted_uses s handle id value (Some tracked) d = record { one = (_, refl); needs = refl; change = inr (handle, value, refl, refl, refl, refl); usage = refl }
 
-value_uses : (s : Setup) (handle : NotificationHandle) (id : NotificationId) (o : Option Value) (d : Derived) → UsesAfter s (ask.Take handle) d (value_taken handle id o d)
+value_uses : (s : Setup) (handle : NotificationHandle) (id : NotificationId) (o : Option Value) (d : Derived) → UsesAfter s (ask.Take handle) d (take_of_value handle id o d)
 value_uses s handle id None d = tt
-value_uses s handle id (Some value) d = noted_uses s handle id value (noted handle.0 (id_of_value value) d.tracked) d
+value_uses s handle id (Some value) d = noted_uses s handle id value (id_noted handle.0 (id_of_value value) d.tracked) d
 
-result_uses : (s : Setup) (handle : NotificationHandle) (id : Option NotificationId) (o : Option NotificationResult) (d : Derived) → UsesAfter s (ask.Take handle) d (result_taken handle id o d)
+result_uses : (s : Setup) (handle : NotificationHandle) (id : Option NotificationId) (o : Option NotificationResult) (d : Derived) → UsesAfter s (ask.Take handle) d (take_of_result handle id o d)
 result_uses s handle (Some id) (Some result) d = value_uses s handle id (value_of result) d
 result_uses s handle (Some id) None d = record { one = (_, refl); needs = refl; change = no_change (ask.Take handle) (answer.Taken None ∷ []) d; usage = refl }
 result_uses s handle None o d = record { one = (_, refl); needs = refl; change = no_change (ask.Take handle) (answer.Taken None ∷ []) d; usage = refl }
@@ -326,11 +326,11 @@ IsUncancelled s a d = Unit {0}
 asked_uses : (s : Setup) (a : Ask) (d : Derived) → IsUncancelled s a d → UsesAfter s a d (asked s a d)
 asked_uses s (ask.Command c) d h = commanding_uses s c c.refusal d
 asked_uses s (ask.Commands kind first second) d h = absurd h
-asked_uses s (ask.Read r) d h = reading_uses s r (missing 1 0 1 d.counters) d
+asked_uses s (ask.Read r) d h = reading_uses s r (missing_number 1 0 1 d.counters) d
 asked_uses s ask.Awakeable d h = making_uses s (skips_replay s.options.journal_replay) d
 asked_uses s (ask.Signal name) d h = signal_uses s name (missing_signals 0 1 d.counters) d
 asked_uses s (ask.Await future) d h = subst (λ b. UsesAfter s (ask.Await future) d (awaited s b future d)) (sym h) (awaiting_uses s (ask.Await future) (is_awake s future d) d refl refl)
-asked_uses s (ask.Take handle) d h = result_uses s handle (id_at handle.0 d.handles) (present_for s.options.signal_delivery (id_at handle.0 d.handles) (ready_in s d)) d
+asked_uses s (ask.Take handle) d h = result_uses s handle (id_at handle.0 d.handles) (present_result_for s.options.signal_delivery (id_at handle.0 d.handles) (ready_in s d)) d
 asked_uses s (ask.Completed handle) d h = record { one = (_, refl); needs = refl; change = no_change (ask.Completed handle) _ d; usage = refl }
 asked_uses s ask.End d h = tt
 
@@ -408,7 +408,7 @@ data Moves (s : Setup) (m : Meaning) (p r : Point) : Type 0 where
   Cancels : (future : UnresolvedFuture) (id : List ℕ) → IsAwaiting m p future → is_cancelled_in s p.derived ≡ true → Sent s id p r → r.derived.parts ≡ p.derived.parts → Moves s m p r
   Parts : (kind : AnswerKind) (first second : Command) → ask_of s.version (m p.answers) ≡ ask.Commands kind first second → PartMove s kind (turn_after s p.derived.parts first (second ∷ []) p.derived) p r → Moves s m p r
 
-brought_same : (id : ℕ) (result : Option NotificationResult) (d : Derived) → (arrivals_in (brought id result d).usage ≡ arrivals_in d.usage) × ((brought id result d).handles ≡ d.handles)
+brought_same : (id : ℕ) (result : Option NotificationResult) (d : Derived) → (arrivals_in (with_read_result id result d).usage ≡ arrivals_in d.usage) × ((with_read_result id result d).handles ≡ d.handles)
 brought_same id None d = (refl, refl)
 brought_same id (Some result) d = (refl, refl)
 
@@ -418,12 +418,12 @@ one_given ids signals numbers d gives e one (inl g) = g
 one_given ids signals numbers d gives e (a, is) (inr (none, g)) = absurd (cc)
 
 -- a take of the cancel signal leaves the handles
-taken_handles : (o : Option NotificationId) (d : Derived) → (cancel_taken o d).handles ≡ d.handles
+taken_handles : (o : Option NotificationId) (d : Derived) → (with_cancel_taken o d).handles ≡ d.handles
 taken_handles None d = refl
 taken_handles (Some id) d = refl
 
 -- and the arrivals that were used
-taken_arrivals : (o : Option NotificationId) (d : Derived) → arrivals_in (cancel_taken o d).usage ≡ arrivals_in d.usage
+taken_arrivals : (o : Option NotificationId) (d : Derived) → arrivals_in (with_cancel_taken o d).usage ≡ arrivals_in d.usage
 taken_arrivals None d = refl
 taken_arrivals (Some id) d = refl
 
@@ -608,8 +608,8 @@ record Used (s : Setup) (m : Meaning) (completions signals : ℕ) (given : List 
   came : List Notification
   queue : p.queue ≡ came ++ q.queue
   usage : arrivals_in q.derived.usage ≡ arrivals_in p.derived.usage ++ came
-  all : AllGiven (given ++ ids_given s.version completions signals (calls_after m p.answers gained)) q.derived.handles
-  held : Held m (given ++ ids_given s.version completions signals (calls_after m p.answers gained)) q.answers q.derived.handles
+  all : AllGiven (given ++ ids_of_steps s.version completions signals (calls_after m p.answers gained)) q.derived.handles
+  held : Held m (given ++ ids_of_steps s.version completions signals (calls_after m p.answers gained)) q.answers q.derived.handles
 
 used_none : (s : Setup) (m : Meaning) (completions signals : ℕ) (given : List NotificationId) (p : Point) → p.derived.parts ≡ 0 → Stood m completions signals given p.answers p.derived → Used s m completions signals given p p
 used_none s m completions signals given p rests h = record {
@@ -657,8 +657,8 @@ module _ (s : Setup) (m : Meaning) (completions signals : ℕ) (given : List Not
       let steps = calls_after m r.answers t.gained in
       let same : steps ≡ calls_after m (p.answers ++ o.given ∷ []) t.gained = ap (λ l. calls_after m l t.gained) o.answers in
       let accounts = subst (λ l. Accounts s m (completions + completion_ids s.version (m p.answers)) l t.gained (m q.answers) (next_needed s m q) t.used) o.answers t.accounts in
-      let all = subst (λ l. AllGiven l q.derived.handles) (append_assoc given more (ids_given s.version (completions + completion_ids s.version (m p.answers)) (signals + signal_ids s.version (m p.answers)) steps)) t.all in
-      let held = subst (λ l. Held m l q.answers q.derived.handles) (append_assoc given more (ids_given s.version (completions + completion_ids s.version (m p.answers)) (signals + signal_ids s.version (m p.answers)) steps)) t.held in
+      let all = subst (λ l. AllGiven l q.derived.handles) (append_assoc given more (ids_of_steps s.version (completions + completion_ids s.version (m p.answers)) (signals + signal_ids s.version (m p.answers)) steps)) t.all in
+      let held = subst (λ l. Held m l q.answers q.derived.handles) (append_assoc given more (ids_of_steps s.version (completions + completion_ids s.version (m p.answers)) (signals + signal_ids s.version (m p.answers)) steps)) t.held in
       record {
         gained = o.given ∷ t.gained;
         answers = t.answers ∙ ap (λ l. l ++ t.gained) o.answers ∙ append_assoc p.answers (o.given ∷ []) t.gained;
@@ -668,8 +668,8 @@ module _ (s : Setup) (m : Meaning) (completions signals : ℕ) (given : List Not
         came = t.came;
         queue = sym o.queue ∙ t.queue;
         usage = t.usage ∙ ap (λ l. l ++ t.came) o.usage;
-        all = subst (λ l. AllGiven (given ++ (more ++ ids_given s.version (completions + completion_ids s.version (m p.answers)) (signals + signal_ids s.version (m p.answers)) l)) q.derived.handles) same all;
-        held = subst (λ l. Held m (given ++ (more ++ ids_given s.version (completions + completion_ids s.version (m p.answers)) (signals + signal_ids s.version (m p.answers)) l)) q.answers q.derived.handles) same held;
+        all = subst (λ l. AllGiven (given ++ (more ++ ids_of_steps s.version (completions + completion_ids s.version (m p.answers)) (signals + signal_ids s.version (m p.answers)) l)) q.derived.handles) same all;
+        held = subst (λ l. Held m (given ++ (more ++ ids_of_steps s.version (completions + completion_ids s.version (m p.answers)) (signals + signal_ids s.version (m p.answers)) l)) q.answers q.derived.handles) same held;
       }
 
   -- the numbers and handles stay
@@ -701,8 +701,8 @@ module _ (s : Setup) (m : Meaning) (completions signals : ℕ) (given : List Not
         came = o.came ++ t.came;
         queue = o.queue ∙ ap (λ l. o.came ++ l) t.queue ∙ sym (append_assoc o.came t.came q.queue);
         usage = t.usage ∙ ap (λ l. l ++ t.came) o.usage ∙ append_assoc (arrivals_in p.derived.usage) o.came t.came;
-        all = subst (λ l. AllGiven (given ++ ids_given s.version completions signals l) q.derived.handles) same t.all;
-        held = subst (λ l. Held m (given ++ ids_given s.version completions signals l) q.answers q.derived.handles) same t.held;
+        all = subst (λ l. AllGiven (given ++ ids_of_steps s.version completions signals l) q.derived.handles) same t.all;
+        held = subst (λ l. Held m (given ++ ids_of_steps s.version completions signals l) q.answers q.derived.handles) same t.held;
       }
 
   used_cancel : (q : Point) (future : UnresolvedFuture) (id : List ℕ) → IsAwaiting m p future → (o : Sent s id p r) → ((a : Answer) (more : List Answer) → q.answers ≡ p.answers ++ a ∷ more → a ≡ answer.Cancelled) → Used s m completions signals given r q → Used s m completions signals given p q
@@ -722,8 +722,8 @@ module _ (s : Setup) (m : Meaning) (completions signals : ℕ) (given : List Not
         came = t.came;
         queue = sym o.queue ∙ t.queue;
         usage = t.usage ∙ ap (λ us. arrivals_in us ++ t.came) o.usage;
-        all = subst (λ l. AllGiven (given ++ ids_given s.version completions signals l) q.derived.handles) same t.all;
-        held = subst (λ l. Held m (given ++ ids_given s.version completions signals l) q.answers q.derived.handles) same t.held;
+        all = subst (λ l. AllGiven (given ++ ids_of_steps s.version completions signals l) q.derived.handles) same t.all;
+        held = subst (λ l. Held m (given ++ ids_of_steps s.version completions signals l) q.answers q.derived.handles) same t.held;
       }
 
 -- ---- a call with several commands
@@ -891,11 +891,11 @@ first_stood : (s : Setup) (m : Meaning) (input : InputCommand) (ns : List Notifi
 first_stood s m input ns cs = record { completion = refl; signal = refl; handle = refl; all = (inl (refl, refl), tt); held = λ k id e. absurd (cc) }
 
 pub commands_used : (s : Setup) (m : Meaning) (n : ℕ) (input : InputCommand) (ns : List Notification) (cs : List RawMessage) (q : Point) → after s m n (start s input ns cs) ≡ Some q
-    → (used : List RawMessage) × (cancels : List (List (List ℕ))) × (sent : List (List ℕ)) × (cs ≡ used ++ q.left) × AreSentBy (behind q.answers) cancels × IsSentFor (m q.answers) sent × StandFor (needed s 0 (calls_for m q.answers) cancels ++ (cancels_needed s sent ++ next_needed s m q)) used
+    → (used : List RawMessage) × (cancels : List (List (List ℕ))) × (sent : List (List ℕ)) × (cs ≡ used ++ q.left) × AreSentBy (after_head q.answers) cancels × IsSentFor (m q.answers) sent × StandFor (needed s 0 (calls_for m q.answers) cancels ++ (cancels_needed s sent ++ next_needed s m q)) used
 commands_used s m n input ns cs q e =
     let u = after_used s m n 0 0 [] (start s input ns cs) (start s input ns cs) q refl (first_stood s m input ns cs) (Here refl) e in
     let a = u.accounts in
-    (u.used, a.0, a.1, u.left, subst (λ l. AreSentBy (behind l) a.0) (sym u.answers) a.2, a.3, subst (λ l. StandFor (needed s 0 (calls_for m l) a.0 ++ (cancels_needed s a.1 ++ next_needed s m q)) u.used) (sym u.answers) a.4)
+    (u.used, a.0, a.1, u.left, subst (λ l. AreSentBy (after_head l) a.0) (sym u.answers) a.2, a.3, subst (λ l. StandFor (needed s 0 (calls_for m l) a.0 ++ (cancels_needed s a.1 ++ next_needed s m q)) u.used) (sym u.answers) a.4)
 
 pub arrivals_used : (s : Setup) (m : Meaning) (n : ℕ) (input : InputCommand) (ns : List Notification) (cs : List RawMessage) (q : Point) → after s m n (start s input ns cs) ≡ Some q → ns ≡ arrivals_in q.derived.usage ++ q.queue
 arrivals_used s m n input ns cs q e =
@@ -910,12 +910,12 @@ given_at given (x ∷ ms) handle id h e = by_test (x.handle == handle) refl e (g
     by_test true is k ih = subst (λ (y : ℕ × NotificationId). IsGiven given y.0 y.1) (λ i. (eqb-true x.handle handle is i, same_Some x.id id k i)) h.0
     by_test false is k ih = ih k
 
-pub handles_stand : (s : Setup) (m : Meaning) (n : ℕ) (input : InputCommand) (ns : List Notification) (cs : List RawMessage) (q : Point) → after s m n (start s input ns cs) ≡ Some q → (handle : ℕ) (id : NotificationId) → id_at handle q.derived.handles ≡ Some id → IsGiven (ids_given s.version 0 0 (calls_for m q.answers)) handle id
+pub handles_stand : (s : Setup) (m : Meaning) (n : ℕ) (input : InputCommand) (ns : List Notification) (cs : List RawMessage) (q : Point) → after s m n (start s input ns cs) ≡ Some q → (handle : ℕ) (id : NotificationId) → id_at handle q.derived.handles ≡ Some id → IsGiven (ids_of_steps s.version 0 0 (calls_for m q.answers)) handle id
 handles_stand s m n input ns cs q e handle id is =
     let u = after_used s m n 0 0 [] (start s input ns cs) (start s input ns cs) q refl (first_stood s m input ns cs) (Here refl) e in
-    given_at (ids_given s.version 0 0 (calls_for m q.answers)) q.derived.handles handle id (subst (λ l. AllGiven (ids_given s.version 0 0 (calls_for m l)) q.derived.handles) (sym u.answers) u.all) is
+    given_at (ids_of_steps s.version 0 0 (calls_for m q.answers)) q.derived.handles handle id (subst (λ l. AllGiven (ids_of_steps s.version 0 0 (calls_for m l)) q.derived.handles) (sym u.answers) u.all) is
 
-pub handles_stay : (s : Setup) (m : Meaning) (n : ℕ) (input : InputCommand) (ns : List Notification) (cs : List RawMessage) (q : Point) → after s m n (start s input ns cs) ≡ Some q → (k : ℕ) (id : NotificationId) → item k (ids_given s.version 0 0 (calls_for m q.answers)) ≡ Some id → (id_at (17 + k) q.derived.handles ≡ Some id) ⊎ WasTaken m (17 + k) q.answers
+pub handles_stay : (s : Setup) (m : Meaning) (n : ℕ) (input : InputCommand) (ns : List Notification) (cs : List RawMessage) (q : Point) → after s m n (start s input ns cs) ≡ Some q → (k : ℕ) (id : NotificationId) → item k (ids_of_steps s.version 0 0 (calls_for m q.answers)) ≡ Some id → (id_at (17 + k) q.derived.handles ≡ Some id) ⊎ WasTaken m (17 + k) q.answers
 handles_stay s m n input ns cs q e k id is =
     let u = after_used s m n 0 0 [] (start s input ns cs) (start s input ns cs) q refl (first_stood s m input ns cs) (Here refl) e in
-    u.held k id (ap (λ l. item k (ids_given s.version 0 0 (calls_for m l))) (sym u.answers) ∙ is)
+    u.held k id (ap (λ l. item k (ids_of_steps s.version 0 0 (calls_for m l))) (sym u.answers) ∙ is)

@@ -26,11 +26,11 @@ use Rattle.await_trees.specs.Tree.{Tree, tree_of}
 use Rattle.await_tries.specs.Leaves.{result_outcome}
 use Rattle.vm_types.specs.declared.values.Value.{Value}
 use Rattle.vm_parts.specs.Arrived.{Ready}
-use Rattle.vm_parts.specs.Counting.{missing, missing_signals, next_index}
-use Rattle.vm_parts.specs.Deliveries.{has_result_for, id_at, left_ready, none_ready, present_for, unmapped, with_delivered, with_eager}
+use Rattle.vm_parts.specs.Counting.{missing_number, missing_signals, next_index}
+use Rattle.vm_parts.specs.Deliveries.{has_result_for, id_at, left_ready, none_ready, present_result_for, unmapped, with_delivered, with_eager}
 use Rattle.vm_parts.specs.declared.run_state.TrackedCall.{TrackedCall}
 use Rattle.vm_types.specs.Options.{ends_awaits}
-use Rattle.vm_parts.specs.Tracked.{id_of_result, id_of_value, invocation_ids, noted, unresolved, with_next_id, without_first_call}
+use Rattle.vm_parts.specs.Tracked.{id_of_result, id_of_value, invocation_ids, id_noted, unresolved_handles, with_next_id, without_first_call}
 use Rattle.vm_types.specs.Values.{value_of}
 use Rattle.vm_asks.specs.declared.asks.Ask.{Ask}
 use Rattle.vm_asks.specs.declared.asks.Ask.TheVariants as ask
@@ -96,15 +96,15 @@ pub record Derived : Type 0 where
   pub parts : ℕ
 
 -- the results that are ready: those that were used or read, and not taken
-abbrev pub ready_after : SignalDelivery → List Usage → Ready
-ready_after delivery [] = none_ready
-ready_after delivery (Used n ∷ us) = with_delivered n (ready_after delivery us)
-ready_after delivery (Read id result ∷ us) = with_eager id result (ready_after delivery us)
-ready_after delivery (Taken id ∷ us) = left_ready delivery id (ready_after delivery us)
+abbrev pub ready_by_usage : SignalDelivery → List Usage → Ready
+ready_by_usage delivery [] = none_ready
+ready_by_usage delivery (Used n ∷ us) = with_delivered n (ready_by_usage delivery us)
+ready_by_usage delivery (Read id result ∷ us) = with_eager id result (ready_by_usage delivery us)
+ready_by_usage delivery (Taken id ∷ us) = left_ready delivery id (ready_by_usage delivery us)
 
 -- the results that are ready at this point
 abbrev pub ready_in : Setup → Derived → Ready
-ready_in s d = ready_after s.options.signal_delivery d.usage
+ready_in s d = ready_by_usage s.options.signal_delivery d.usage
 
 -- whether a handle has a result
 abbrev pub has_result_in : Setup → NotificationHandle → Derived → Bool
@@ -113,7 +113,7 @@ has_result_in s handle d = has_result_for (id_at handle.0 d.handles) (ready_in s
 -- what a leaf has come to: by the present result of its handle's id
 abbrev pub leaf_in : Setup → Derived → ℕ → Outcome
 leaf_in s d h =
-    result_outcome (present_for s.options.signal_delivery (id_at h d.handles) (ready_in s d))
+    result_outcome (present_result_for s.options.signal_delivery (id_at h d.handles) (ready_in s d))
 
 -- whether a tree wakes
 abbrev pub tree_wakes : Setup → Tree → Derived → Bool
@@ -174,7 +174,7 @@ numbered s c None d = Needs (demand_of s c d) (answer_of c d ∷ []) (behind_com
 
 -- a call with a command, where its numbers are left
 abbrev pub requested : Setup → Command → Derived → Move
-requested s c d = numbered s c (missing (ids_of c.message) 0 (ids_of c.message) d.counters) d
+requested s c d = numbered s c (missing_number (ids_of c.message) 0 (ids_of c.message) d.counters) d
 
 -- a call with a command, unless its arguments refuse it
 abbrev pub commanding : Setup → Command → Option NamedFault → Derived → Move
@@ -186,10 +186,11 @@ commanding s c None d = requested s c d
 -- Why a command isn't made that has these behind it, where the next numbers are these: the first
 -- reason that there is for all of them, of arguments and then of numbers, and then its own.
 abbrev pub refused_before : Command → List Command → Counters → Option NamedFault
-refused_before c [] k = option_or c.refusal (missing (ids_of c.message) 0 (ids_of c.message) k)
+refused_before c [] k = option_or c.refusal
+    (missing_number (ids_of c.message) 0 (ids_of c.message) k)
 refused_before c (b ∷ bs) k = option_or
     (option_or (any_refusal c (b ∷ bs)) (missing_for c (b ∷ bs) k))
-    (option_or c.refusal (missing (ids_of c.message) 0 (ids_of c.message) k))
+    (option_or c.refusal (missing_number (ids_of c.message) 0 (ids_of c.message) k))
 
 -- where a call with several commands stands: the command that comes next, those behind it, and what
 -- follows behind those before it
@@ -274,7 +275,7 @@ awaiting false d = Awaits
 -- the handler is cancelled: the cancel signal ends awaits, and one is there
 abbrev pub is_cancelled_in : Setup → Derived → Bool
 is_cancelled_in s d = ends_awaits s.options.implicit_cancellation
-    && is_some (present_for s.options.signal_delivery (id_at 1 d.handles) (ready_in s d))
+    && is_some (present_result_for s.options.signal_delivery (id_at 1 d.handles) (ready_in s d))
 
 -- a tracked call's result was read: it has to be its invocation's id, which is then known
 abbrev pub id_read : Option (List ℕ) → Derived → Move
@@ -294,36 +295,36 @@ cancel_sent s id None d = Needs (demand_of s (cancel_invocation_command id) d) [
     (record (counted 0 d) { tracked = without_first_call d.tracked })
 
 -- one result of the cancel handle is taken
-abbrev pub cancel_taken : Option NotificationId → Derived → Derived
-cancel_taken None d = d
-cancel_taken (Some id) d = record d { usage = Taken id ∷ d.usage }
+abbrev pub with_cancel_taken : Option NotificationId → Derived → Derived
+with_cancel_taken None d = d
+with_cancel_taken (Some id) d = record d { usage = Taken id ∷ d.usage }
 
 -- the cancel signal is sent to these invocations, one after another; then the await is answered
 abbrev pub cancelling : Setup → List (List ℕ) → Derived → Move
 cancelling s [] d = Answers (answer.Cancelled ∷ [])
-    (cancel_taken (id_at 1 d.handles) (record d { tracked = [] }))
-cancelling s (id ∷ ids) d = cancel_sent s id (missing 0 0 0 d.counters) d
+    (with_cancel_taken (id_at 1 d.handles) (record d { tracked = [] }))
+cancelling s (id ∷ ids) d = cancel_sent s id (missing_number 0 0 0 d.counters) d
 
 -- an await of a cancelled handler, by the handles of the tracked calls whose ids aren't known:
 -- these are read first
 abbrev pub cancelled : Setup → List ℕ → Derived → Move
 cancelled s [] d = cancelling s (invocation_ids d.tracked) d
 cancelled s (handle ∷ handles) d = id_awaited
-    (present_for s.options.signal_delivery (id_at handle d.handles) (ready_in s d)) d
+    (present_result_for s.options.signal_delivery (id_at handle d.handles) (ready_in s d)) d
 
 -- an await, by whether the handler is cancelled
 abbrev pub awaited : Setup → Bool → UnresolvedFuture → Derived → Move
-awaited s true future d = cancelled s (unresolved d.tracked) d
+awaited s true future d = cancelled s (unresolved_handles d.tracked) d
 awaited s false future d = awaiting (is_awake s future d) d
 
 -- ---- takes
 
 -- a taken result leaves, and its handle with it, but for the cancel handle, by what is then known
 -- of the tracked calls
-abbrev pub value_noted : NotificationHandle → NotificationId → Value → Option (List TrackedCall)
+abbrev pub take_noting_id : NotificationHandle → NotificationId → Value → Option (List TrackedCall)
     → Derived → Move
-value_noted handle id value None d = Refuses fault.UnexpectedInvocationIdResult
-value_noted handle id value (Some tracked) d =
+take_noting_id handle id value None d = Refuses fault.UnexpectedInvocationIdResult
+take_noting_id handle id value (Some tracked) d =
     Answers (answer.Taken (Some value) ∷ []) (record d {
       handles = cond (handle.0 == 1) d.handles (unmapped handle.0 d.handles);
       usage = Taken id ∷ d.usage;
@@ -331,22 +332,22 @@ value_noted handle id value (Some tracked) d =
     })
 
 -- a taken result: a state key has to be a text, and a tracked call's result its invocation's id
-abbrev pub value_taken : NotificationHandle → NotificationId → Option Value → Derived → Move
-value_taken handle id None d = Refuses fault.StateKeyIsNotUtf8
-value_taken handle id (Some value) d = value_noted handle id value
-    (noted handle.0 (id_of_value value) d.tracked) d
+abbrev pub take_of_value : NotificationHandle → NotificationId → Option Value → Derived → Move
+take_of_value handle id None d = Refuses fault.StateKeyIsNotUtf8
+take_of_value handle id (Some value) d = take_noting_id handle id value
+    (id_noted handle.0 (id_of_value value) d.tracked) d
 
 -- a take, by the id of its handle and its present result
-abbrev pub result_taken : NotificationHandle → Option NotificationId → Option NotificationResult
+abbrev pub take_of_result : NotificationHandle → Option NotificationId → Option NotificationResult
     → Derived → Move
-result_taken handle (Some id) (Some result) d = value_taken handle id (value_of result) d
-result_taken handle (Some id) None d = Answers (answer.Taken None ∷ []) d
-result_taken handle None result d = Answers (answer.Taken None ∷ []) d
+take_of_result handle (Some id) (Some result) d = take_of_value handle id (value_of result) d
+take_of_result handle (Some id) None d = Answers (answer.Taken None ∷ []) d
+take_of_result handle None result d = Answers (answer.Taken None ∷ []) d
 
 -- a take of a handle
 abbrev pub taking : Setup → NotificationHandle → Option NotificationId → Derived → Move
 taking s handle id d =
-    result_taken handle id (present_for s.options.signal_delivery id (ready_in s d)) d
+    take_of_result handle id (present_result_for s.options.signal_delivery id (ready_in s d)) d
 
 -- ---- the table
 
@@ -354,7 +355,7 @@ taking s handle id d =
 abbrev pub asked : Setup → Ask → Derived → Move
 asked s (ask.Command c) d = commanding s c c.refusal d
 asked s (ask.Commands kind first second) d = calling s kind first (second ∷ []) d
-asked s (ask.Read r) d = reading r (missing 1 0 1 d.counters) d
+asked s (ask.Read r) d = reading r (missing_number 1 0 1 d.counters) d
 asked s ask.Awakeable d = making_awakeable s (skips_replay s.options.journal_replay) d
 asked s (ask.Signal name) d = signal_made name (missing_signals 0 1 d.counters) d
 asked s (ask.Await future) d = awaited s (is_cancelled_in s d) future d

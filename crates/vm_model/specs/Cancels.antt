@@ -9,10 +9,10 @@ use Rattle.vm_types.specs.declared.options.SignalDelivery.TheVariants.{Queued}
 use Rattle.vm_parts.specs.declared.run_state.TrackedCall.{TrackedCall}
 use Rattle.vm_types.specs.declared.steps.Answer.{Answer}
 use Rattle.vm_types.specs.declared.steps.Answer.TheVariants as answer
-use Rattle.vm_parts.specs.Deliveries.{id_at, present_for}
-use Rattle.vm_parts.specs.Tracked.{id_of_result, unresolved}
+use Rattle.vm_parts.specs.Deliveries.{id_at, present_result_for}
+use Rattle.vm_parts.specs.Tracked.{id_of_result, unresolved_handles}
 use Rattle.vm_asks.specs.Asks.{cancel_invocation_command}
-use Rattle.vm_model.specs.Calls.{Derived, Meaning, Setup, cancel_taken, ready_in}
+use Rattle.vm_model.specs.Calls.{Derived, Meaning, Setup, with_cancel_taken, ready_in}
 use Rattle.vm_model.specs.Deliveries.{HasNoTwo}
 use Rattle.vm_model.specs.Histories.{IsLeast, arrivals_used}
 use Rattle.vm_model.specs.Moves.{Point, after}
@@ -20,7 +20,7 @@ use Rattle.vm_model.specs.Moves.{Point, after}
 -- the present result of a handle
 abbrev pub present_in : Setup → ℕ → Derived → Option NotificationResult
 present_in s handle d =
-    present_for s.options.signal_delivery (id_at handle d.handles) (ready_in s d)
+    present_result_for s.options.signal_delivery (id_at handle d.handles) (ready_in s d)
 
 -- each of these handles has a present result
 abbrev pub all_present : Setup → List ℕ → Derived → Bool
@@ -77,7 +77,8 @@ cancel_commands (id ∷ ids) = (cancel_invocation_command id).message ∷ cancel
 pub record CancelledAwait (s : Setup) (m : Meaning) (p : Point) (a : Answer) : Type 0 where
   pub answered : a ≡ answer.Cancelled
   pub arrivals : ℕ
-  pub least : IsLeast (all_present s (unresolved p.derived.tracked)) p.derived p.queue arrivals
+  pub least : IsLeast (all_present s (unresolved_handles p.derived.tracked)) p.derived p.queue
+      arrivals
   pub invocations : List (List ℕ)
   pub are : AreInvocations s p.derived p.queue [] p.derived.tracked invocations
   pub are_present : s.options.signal_delivery ≡ Queued → HasNoTwo p
@@ -90,6 +91,6 @@ pub record CancelledAwait (s : Setup) (m : Meaning) (p : Point) (a : Answer) : T
   pub said : to.said ≡ p.said ++ cancel_commands invocations
   pub queue : to.queue ≡ drop arrivals p.queue
   pub usage : to.derived.usage
-      ≡ (cancel_taken (id_at 1 p.derived.handles)
+      ≡ (with_cancel_taken (id_at 1 p.derived.handles)
       (arrivals_used (take arrivals p.queue) p.derived)).usage
   pub tracked : to.derived.tracked ≡ []

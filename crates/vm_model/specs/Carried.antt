@@ -14,13 +14,13 @@ use Rattle.vm_asks.specs.Carried.{carried}
 use Rattle.vm_parts.specs.Tracked.{id_of_result}
 
 -- the id is one of these
-abbrev pub is_among : ℕ → List ℕ → Bool
-is_among id ids = list_any (λ other. other == id) ids
+abbrev pub is_id_among : ℕ → List ℕ → Bool
+is_id_among id ids = list_any (λ other. other == id) ids
 
 -- what was read of a command carries the id
 abbrev pub read_carries : ℕ → Option Message → Bool
 read_carries id None = false
-read_carries id (Some m) = is_among id (carried m)
+read_carries id (Some m) = is_id_among id (carried m)
 
 -- one of the stored commands carries the id
 abbrev pub is_carried : ℕ → List RawMessage → Bool

@@ -10,9 +10,9 @@ use Rattle.vm_types.specs.declared.steps.Answer.TheVariants as answer
 use Rattle.await_trees.specs.declared.handle.NotificationHandle.{NotificationHandle}
 use Rattle.vm_types.specs.declared.values.Value.{Value}
 use Rattle.vm_parts.specs.Arrived.{Arrived}
-use Rattle.vm_parts.specs.Deliveries.{first, id_at, is_listed, newest, present, same_id}
+use Rattle.vm_parts.specs.Deliveries.{first, id_at, is_listed, newest, present_result, same_id}
 use Rattle.vm_types.specs.Values.{value_of}
-use Rattle.vm_model.specs.Calls.{Setup, Usage, ready_after, ready_in}
+use Rattle.vm_model.specs.Calls.{Setup, Usage, ready_by_usage, ready_in}
 use Rattle.vm_model.specs.Calls.Usage.{Used, Read, Taken}
 use Rattle.vm_model.specs.Moves.{Point}
 
@@ -46,7 +46,8 @@ abbrev pub EachTookAResult : SignalDelivery → List Usage → Type 0
 EachTookAResult delivery [] = Unit {0}
 EachTookAResult delivery (Used n ∷ us) = EachTookAResult delivery us
 EachTookAResult delivery (Read i result ∷ us) = EachTookAResult delivery us
-EachTookAResult delivery (Taken i ∷ us) = (is_some (present delivery i (ready_after delivery us))
+EachTookAResult delivery (Taken i
+    ∷ us) = (is_some (present_result delivery i (ready_by_usage delivery us))
     ≡ true) × EachTookAResult delivery us
 
 -- The result that a take of an id takes: where its deliveries queue up, the one behind as many as

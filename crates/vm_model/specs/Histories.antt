@@ -14,7 +14,7 @@ use Rattle.vm_parts.specs.declared.context.StateMap.{StateMap}
 use Rattle.vm_types.specs.declared.steps.Step.TheVariants as step
 use Rattle.await_trees.specs.declared.tree.UnresolvedFuture.{UnresolvedFuture}
 use Rattle.vm_parts.specs.Entries.{IsInOrder}
-use Rattle.vm_parts.specs.States.{known, known_keys}
+use Rattle.vm_parts.specs.States.{value_known, known_keys}
 use Rattle.vm_asks.specs.declared.state_read.StateRead.TheVariants as reads
 use Rattle.vm_asks.specs.StateReads.{own_form}
 use Rattle.vm_model.specs.Calls.{Setup, Meaning, Derived, is_awake, is_cancelled_in}
@@ -32,13 +32,14 @@ Told s m input ns cs p = (n : ℕ) × (after s m n (start s input ns cs) ≡ Som
 -- so are all keys together.
 pub record IsTrueOf (now state : StateMap) : Type 0 where
   pub in_order : IsInOrder state.entries
-  pub at : (key : List ℕ) → (known key state ≡ Unknown) ⊎ (known key state ≡ known key now)
+  pub at : (key : List ℕ) → (value_known key state ≡ Unknown)
+      ⊎ (value_known key state ≡ value_known key now)
   pub keys : (known_keys state ≡ None) ⊎ (known_keys state ≡ known_keys now)
 
 -- As much is known of a state, an ordered map, as of this one, and it is so there.
 pub record IsAllOf (now state : StateMap) : Type 0 where
   pub in_order : IsInOrder state.entries
-  pub at : (key : List ℕ) → known key state ≡ known key now
+  pub at : (key : List ℕ) → value_known key state ≡ value_known key now
   pub keys : known_keys state ≡ known_keys now
 
 -- which state a call may go by, where so much was said
@@ -58,12 +59,12 @@ abbrev pub Whole : StateMap → Knowledge
 Whole base state said = IsAllOf (changed_by said base) state
 
 -- A recorded command that is an eager read is stored just as this state gives it.
-abbrev pub Fits : StateMap → RawMessage → Option Message → Type 0
-Fits state raw (Some (message.GetEagerState c)) = (id : ℕ) → raw
+abbrev pub EagerReadMatches : StateMap → RawMessage → Option Message → Type 0
+EagerReadMatches state raw (Some (message.GetEagerState c)) = (id : ℕ) → raw
     ≡ stored_form (own_form (reads.Value c.key c.name) id state)
-Fits state raw (Some (message.GetEagerStateKeys c)) = (id : ℕ) → raw
+EagerReadMatches state raw (Some (message.GetEagerStateKeys c)) = (id : ℕ) → raw
     ≡ stored_form (own_form (reads.Keys c.name) id state)
-Fits state raw m = Unit {0}
+EagerReadMatches state raw m = Unit {0}
 
 -- the result that an eager read records of a key of which so much is known
 abbrev pub recorded_value : Known → Option VoidOrValue
@@ -74,7 +75,7 @@ recorded_value (Value value) = Some (stands.Value value)
 -- each recorded eager read is as the state is there, by the recorded commands before it
 abbrev pub EagerFrom : StateMap → List RawMessage → Type 0
 EagerFrom state [] = Unit {0}
-EagerFrom state (c ∷ cs) = Fits state c (message_in c.ty c.body)
+EagerFrom state (c ∷ cs) = EagerReadMatches state c (message_in c.ty c.body)
     × EagerFrom (changed_by (messages_in (c ∷ [])) state) cs
 
 -- ---- histories
@@ -115,9 +116,9 @@ abbrev pub IsStuck : Setup → Meaning → StateMap → Point → Type 0
 IsStuck s m state p = next s m (longer (supplied s m state p) p) ≡ None
 
 -- all but the first
-abbrev pub behind : {A : Type 0} → List A → List A
-behind [] = []
-behind (x ∷ xs) = xs
+abbrev pub after_head : {A : Type 0} → List A → List A
+after_head [] = []
+after_head (x ∷ xs) = xs
 
 -- the second list begins with the first
 abbrev pub IsPrefix : {A : Type 0} → List A → List A → Type 0

@@ -8,7 +8,7 @@ use Rattle.vm_types.specs.declared.steps.Answer.{Answer}
 use Rattle.vm_model.specs.Calls.{Setup, Meaning}
 use Rattle.vm_model.specs.Journal.{Entry, Recorded, Notified, commands_in, notifications_in, input_read_from, messages_in}
 use Rattle.vm_model.specs.Moves.{Point, start}
-use Rattle.vm_model.specs.Histories.{Handed, IsPrefix, Knowledge, Made, behind}
+use Rattle.vm_model.specs.Histories.{Handed, IsPrefix, Knowledge, Made, after_head}
 
 -- One run made the journal, whose calls went by so much of the state: it begins with an input, and
 -- the commands behind it are the very ones that the handler's calls define, by the journal's
@@ -70,7 +70,7 @@ pub record HonestRound (before : List Entry) (course : List Entry) (after : List
 
 -- what the attempt was handed is as this says, behind what the journal's commands say
 abbrev pub IsHanded : Knowledge → List Entry → Attempted → Type 0
-IsHanded Knows journal a = Knows a.given (messages_in (behind (commands_in journal)))
+IsHanded Knows journal a = Knows a.given (messages_in (after_head (commands_in journal)))
 
 -- Honest rounds, one after another, each of an attempt that is told and that was handed so much of
 -- the state.

@@ -64,9 +64,9 @@ abbrev pub arrival_used : Notification → Derived → Derived
 arrival_used n d = record d { usage = Used n ∷ d.usage }
 
 -- a result that a recorded command brings is that of the completion id
-abbrev pub brought : ℕ → Option NotificationResult → Derived → Derived
-brought id None d = d
-brought id (Some result) d = record d { usage = Read id result ∷ d.usage }
+abbrev pub with_read_result : ℕ → Option NotificationResult → Derived → Derived
+with_read_result id None d = d
+with_read_result id (Some result) d = record d { usage = Read id result ∷ d.usage }
 
 -- the call is answered, where the recorded command stands for its own
 abbrev pub command_used : Result (Option NotificationResult) NamedFault → Demand → List Answer
@@ -75,7 +75,7 @@ command_used (Err name) demand gives d left p = None
 command_used (Ok result) demand gives d left p =
     Some (record {
       answers = p.answers ++ gives;
-      derived = brought p.derived.counters.completion result d;
+      derived = with_read_result p.derived.counters.completion result d;
       said = p.said
           ++ said_of demand ∷ [];
       queue = p.queue;

@@ -8,8 +8,8 @@ use Rattle.journal_messages.specs.declared.message.Message.TheVariants as messag
 use Rattle.vm_parts.specs.declared.context.Known.{Known}
 use Rattle.vm_parts.specs.declared.context.Known.TheVariants.{Empty, Value}
 use Rattle.vm_parts.specs.declared.context.StateMap.{StateMap}
-use Rattle.vm_parts.specs.Entries.{by_bytes, is_among}
-use Rattle.vm_parts.specs.States.{has_value, known}
+use Rattle.vm_parts.specs.Entries.{by_bytes, is_key_among}
+use Rattle.vm_parts.specs.States.{has_value, value_known}
 
 -- a command touches a key: it sets or clears this key, or it clears all keys
 abbrev pub Touches : List ℕ → Message → Type 0
@@ -47,4 +47,4 @@ one_clears_all ms = list_any clears_all ms
 -- these are the keys that have a value in this state, in the order of their bytes
 pub record AreKeysOf (state : StateMap) (keys : List (List ℕ)) : Type 0 where
   pub sorted : IsStrictlySortedBy by_bytes keys
-  pub listed : (key : List ℕ) → is_among key keys ≡ has_value (known key state)
+  pub listed : (key : List ℕ) → is_key_among key keys ≡ has_value (value_known key state)

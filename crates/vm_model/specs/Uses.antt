@@ -125,11 +125,11 @@ given_for completion signal a = []
 
 -- The ids that calls were given, in order: completion ids from 1 and signal ids from 17, behind so
 -- many of each.
-abbrev pub ids_given : Version → ℕ → ℕ → List Step → List NotificationId
-ids_given version completions signals [] = []
-ids_given version completions signals (st ∷ steps) =
+abbrev pub ids_of_steps : Version → ℕ → ℕ → List Step → List NotificationId
+ids_of_steps version completions signals [] = []
+ids_of_steps version completions signals (st ∷ steps) =
     given_for (1 + completions) (17 + signals) (ask_of version st)
-    ++ ids_given version (completions + completion_ids version st)
+    ++ ids_of_steps version (completions + completion_ids version st)
     (signals + signal_ids version st) steps
 
 -- the item with this index, from 0

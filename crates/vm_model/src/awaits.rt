@@ -11,8 +11,8 @@ ghost use Rattle.vm_types.specs.declared.steps.Answer.TheVariants as answer;
 ghost use Rattle.vm_types.specs.declared.steps.Step.TheVariants as step;
 ghost use Rattle.await_trees.specs.declared.handle.NotificationHandle.{NotificationHandle};
 ghost use Rattle.await_trees.specs.declared.tree.UnresolvedFuture.{UnresolvedFuture};
-ghost use Rattle.vm_parts.specs.Deliveries.{newest, present};
-ghost use Rattle.vm_model.specs.Calls.{Setup, Meaning, Usage, is_cancelled_in, ready_after, tree_wakes};
+ghost use Rattle.vm_parts.specs.Deliveries.{newest, present_result};
+ghost use Rattle.vm_model.specs.Calls.{Setup, Meaning, Usage, is_cancelled_in, ready_by_usage, tree_wakes};
 ghost use Rattle.vm_model.specs.Moves.{Point, after, next, start};
 ghost use Rattle.vm_model.specs.Histories.{IsAwaiting, IsLeast, arrivals_used, ends_await};
 ghost use Rattle.await_trees.specs.Tree.{Tree};
@@ -71,11 +71,11 @@ pub fn trees_wake()
 /// Each take took a result that was present, and is answered with its value.
 pub fn results_are_present()
     ensures present { (delivery : SignalDelivery) (id : NotificationId) (us : List Usage)
-        → EachTookAResult delivery us → present delivery id (ready_after delivery us)
+        → EachTookAResult delivery us → present_result delivery id (ready_by_usage delivery us)
         ≡ next_taken delivery id us }
     ensures completions { (delivery : SignalDelivery) (n : ℕ) (us : List Usage)
         → takes (CompletionId n) us ≡ 0
-        → present delivery (CompletionId n) (ready_after delivery us)
+        → present_result delivery (CompletionId n) (ready_by_usage delivery us)
         ≡ newest (deliveries (CompletionId n) us) }
     ensures taken { (s : Setup) (m : Meaning) (n : ℕ) (input : InputCommand)
         (ns : List Notification) (cs : List RawMessage) (q : Point)

@@ -13,11 +13,11 @@ ghost use Rattle.vm_parts.specs.Deliveries.{id_at};
 ghost use Rattle.vm_model.specs.Calls.{Setup, Meaning};
 ghost use Rattle.vm_model.specs.Calls.Move.{Refuses};
 ghost use Rattle.vm_model.specs.Carried.{AreCarried, AreOfTheirKind, ComeOnce};
-ghost use Rattle.vm_model.specs.Histories.{Handed, Made, behind};
+ghost use Rattle.vm_model.specs.Histories.{Handed, Made, after_head};
 ghost use Rattle.vm_model.specs.Moves.{Point, after, move_at, start};
 ghost use Rattle.vm_model.specs.Sums.{calls_for};
 ghost use Rattle.vm_model.specs.Deliveries.{HasNoTwo, was_read};
-ghost use Rattle.vm_model.specs.Uses.{AreSentBy, IsGiven, IsSentFor, StandFor, WasTaken, arrivals_in, cancels_needed, ids_given, item, needed, needed_by};
+ghost use Rattle.vm_model.specs.Uses.{AreSentBy, IsGiven, IsSentFor, StandFor, WasTaken, arrivals_in, cancels_needed, ids_of_steps, item, needed, needed_by};
 
 /// Both lists of a journal are used from the front. The recorded commands are those that were used and those that are left; each
 /// used one stands for what its call needs, by its type and header, and the calls follow from the answers alone. An await that is
@@ -29,7 +29,7 @@ pub fn lists_are_used()
         (ns : List Notification) (cs : List RawMessage) (q : Point)
         → after s m n (start s input ns cs) ≡ Some q
         → (used : List RawMessage) × (cancels : List (List (List ℕ))) × (sent : List (List ℕ))
-        × (cs ≡ used ++ q.left) × AreSentBy (behind q.answers) cancels
+        × (cs ≡ used ++ q.left) × AreSentBy (after_head q.answers) cancels
         × IsSentFor (m q.answers) sent
         × StandFor (needed s 0 (calls_for m q.answers) cancels
         ++ (cancels_needed s sent
@@ -49,7 +49,7 @@ pub fn handles_stand_for_ids()
         (ns : List Notification) (cs : List RawMessage) (q : Point)
         → after s m n (start s input ns cs) ≡ Some q
         → (handle : ℕ) (id : NotificationId) → id_at handle q.derived.handles ≡ Some id
-        → IsGiven (ids_given s.version 0 0 (calls_for m q.answers)) handle id }
+        → IsGiven (ids_of_steps s.version 0 0 (calls_for m q.answers)) handle id }
     ensures cancel { (s : Setup) (m : Meaning) (n : ℕ) (input : InputCommand)
         (ns : List Notification)
         (cs : List RawMessage) (q : Point) → after s m n (start s input ns cs) ≡ Some q
@@ -57,7 +57,8 @@ pub fn handles_stand_for_ids()
     ensures stays { (s : Setup) (m : Meaning) (n : ℕ) (input : InputCommand)
         (ns : List Notification) (cs : List RawMessage) (q : Point)
         → after s m n (start s input ns cs) ≡ Some q
-        → (k : ℕ) (id : NotificationId) → item k (ids_given s.version 0 0 (calls_for m q.answers))
+        → (k : ℕ) (id : NotificationId)
+        → item k (ids_of_steps s.version 0 0 (calls_for m q.answers))
         ≡ Some id → (id_at (17 + k) q.derived.handles ≡ Some id)
         ⊎ WasTaken m (17 + k) q.answers }
 {}

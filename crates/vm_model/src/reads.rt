@@ -10,7 +10,7 @@ ghost use Rattle.journal_messages.specs.declared.message.Message.{Message};
 ghost use Rattle.vm_parts.specs.declared.context.StateMap.{StateMap};
 ghost use Rattle.vm_parts.specs.declared.context.Known.TheVariants.{Unknown};
 ghost use Rattle.vm_parts.specs.Entries.{IsInOrder};
-ghost use Rattle.vm_parts.specs.States.{known, known_keys};
+ghost use Rattle.vm_parts.specs.States.{value_known, known_keys};
 ghost use Rattle.vm_asks.specs.declared.state_read.StateRead.TheVariants as reads;
 ghost use Rattle.vm_asks.specs.StateReads.{own_form};
 ghost use Rattle.vm_model.specs.Calls.{Setup, Meaning};
@@ -34,8 +34,8 @@ pub fn eager_reads_are_so()
         (h : History s m base journal) (before behind : List RawMessage) (raw : RawMessage)
         (c : GetEagerStateCommand) → h.rest ≡ before ++ raw ∷ behind → message_in raw.ty raw.body
         ≡ Some (message.GetEagerState c)
-        → (known c.key (changed_by (messages_in before) base) ≡ Unknown → ⊥)
-        × (c.result ≡ recorded_value (known c.key (changed_by (messages_in before) base))) }
+        → (value_known c.key (changed_by (messages_in before) base) ≡ Unknown → ⊥)
+        × (c.result ≡ recorded_value (value_known c.key (changed_by (messages_in before) base))) }
     ensures keys { (s : Setup) (m : Meaning) (base : StateMap) (journal : List Entry)
         (h : History s m base journal) (before behind : List RawMessage) (raw : RawMessage)
         (c : GetEagerStateKeysCommand) → h.rest ≡ before ++ raw ∷ behind

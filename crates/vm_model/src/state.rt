@@ -3,7 +3,7 @@ ghost use Rattle.std.specs.Prelude.{◌≡◌, ◌||◌, List, ℕ, Some, is_som
 ghost use Rattle.journal_messages.specs.declared.message.Message.{Message};
 ghost use Rattle.vm_parts.specs.declared.context.StateMap.{StateMap};
 ghost use Rattle.vm_parts.specs.Entries.{IsInOrder};
-ghost use Rattle.vm_parts.specs.States.{known, known_keys};
+ghost use Rattle.vm_parts.specs.States.{value_known, known_keys};
 ghost use Rattle.vm_model.specs.Moves.{changed_by};
 ghost use Rattle.vm_model.specs.SaidState.{AreKeysOf, IsLast, NoneTouches, one_clears_all, says};
 
@@ -12,9 +12,9 @@ ghost use Rattle.vm_model.specs.SaidState.{AreKeysOf, IsLast, NoneTouches, one_c
 /// order.
 pub fn state_is_what_was_said()
     ensures last { (key : List ℕ) (m : Message) (ms : List Message) (state : StateMap)
-        → IsLast key m ms → known key (changed_by ms state) ≡ says m }
+        → IsLast key m ms → value_known key (changed_by ms state) ≡ says m }
     ensures untouched { (key : List ℕ) (ms : List Message) (state : StateMap)
-        → NoneTouches key ms → known key (changed_by ms state) ≡ known key state }
+        → NoneTouches key ms → value_known key (changed_by ms state) ≡ value_known key state }
     ensures all_known { (ms : List Message) (state : StateMap)
         → is_some (known_keys (changed_by ms state))
         ≡ (is_some (known_keys state) || one_clears_all ms) }

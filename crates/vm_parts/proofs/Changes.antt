@@ -13,7 +13,7 @@ use Rattle.vm_parts.specs.declared.context.StateCoverage.{StateCoverage}
 use Rattle.vm_parts.specs.declared.context.Known.TheVariants.{Empty, Value}
 use Rattle.vm_parts.specs.declared.context.StateMap.{StateMap}
 use Rattle.vm_parts.specs.Entries.{IsInOrder, by_bytes, entries_of, entry_of, with_entry}
-use Rattle.vm_parts.specs.States.{known, known_by, state_set, state_cleared}
+use Rattle.vm_parts.specs.States.{value_known, known_by, state_set, state_cleared}
 
 -- a key is where it is
 at_itself : (key : List ℕ) → is_eq (by_bytes key key) ≡ true
@@ -55,16 +55,16 @@ of_another key other value (e ∷ es) differs = by_place (by_bytes key e.0) refl
         cond-false _ _ _ apart ∙ sym (cond-false _ _ _ apart)
     by_place Greater is behind = ap (λ rest. cond (is_eq (by_bytes other e.0)) (Some e.1) rest) behind
 
-pub known_set : (key value : List ℕ) (s : StateMap) → known key (state_set key value s) ≡ Value value
+pub known_set : (key value : List ℕ) (s : StateMap) → value_known key (state_set key value s) ≡ Value value
 known_set key value s = ap (known_by s.coverage) (its_own key (Some value) s.entries)
 
-pub known_besides_set : (key other value : List ℕ) (s : StateMap) → (other ≡ key → ⊥) → known other (state_set key value s) ≡ known other s
+pub known_besides_set : (key other value : List ℕ) (s : StateMap) → (other ≡ key → ⊥) → value_known other (state_set key value s) ≡ value_known other s
 known_besides_set key other value s differs = ap (known_by s.coverage) (of_another key other (Some value) s.entries differs)
 
-pub known_cleared : (key : List ℕ) (s : StateMap) → known key (state_cleared key s) ≡ Empty
+pub known_cleared : (key : List ℕ) (s : StateMap) → value_known key (state_cleared key s) ≡ Empty
 known_cleared key s = ap (known_by s.coverage) (its_own key None s.entries)
 
-pub known_besides_cleared : (key other : List ℕ) (s : StateMap) → (other ≡ key → ⊥) → known other (state_cleared key s) ≡ known other s
+pub known_besides_cleared : (key other : List ℕ) (s : StateMap) → (other ≡ key → ⊥) → value_known other (state_cleared key s) ≡ value_known other s
 known_besides_cleared key other s differs = ap (known_by s.coverage) (of_another key other None s.entries differs)
 
 -- what is behind a key stays behind it, with one more that is
@@ -99,12 +99,12 @@ stays_in_order key value (e ∷ es) ordered = by_place (by_bytes key e.0) refl (
 pair_more : (key value : List ℕ) (pairs : List (List ℕ × List ℕ)) → entries_of (pairs ++ (key, value) ∷ []) ≡ with_entry key (Some value) (entries_of pairs)
 pair_more key value pairs = fold_push (λ es p. with_entry p.0 (Some p.1) es) [] pairs (key, value)
 
-pub known_last : (key value : List ℕ) (pairs : List (List ℕ × List ℕ)) (c : StateCoverage) → known key (record { entries = entries_of (pairs ++ (key, value) ∷ []); coverage = c }) ≡ Value value
+pub known_last : (key value : List ℕ) (pairs : List (List ℕ × List ℕ)) (c : StateCoverage) → value_known key (record { entries = entries_of (pairs ++ (key, value) ∷ []); coverage = c }) ≡ Value value
 known_last key value pairs c =
     ap (λ es. known_by c (entry_of key es)) (pair_more key value pairs) ∙ ap (known_by c) (its_own key (Some value) (entries_of pairs))
 
 pub known_besides_last : (key other value : List ℕ) (pairs : List (List ℕ × List ℕ)) (c : StateCoverage) → (other ≡ key → ⊥)
-    → known other (record { entries = entries_of (pairs ++ (key, value) ∷ []); coverage = c }) ≡ known other (record { entries = entries_of pairs; coverage = c })
+    → value_known other (record { entries = entries_of (pairs ++ (key, value) ∷ []); coverage = c }) ≡ value_known other (record { entries = entries_of pairs; coverage = c })
 known_besides_last key other value pairs c differs =
     ap (λ es. known_by c (entry_of other es)) (pair_more key value pairs) ∙ ap (known_by c) (of_another key other (Some value) (entries_of pairs) differs)
 

@@ -6,7 +6,7 @@ use Rattle.std.specs.List.{AllByRecursion}
 use Rattle.std.specs.List.Sorted.{IsStrictlySortedBy}
 use Rattle.std.specs.Map.{keys_of}
 use Rattle.vm_parts.specs.declared.context.StateCoverage.TheVariants.{Complete}
-use Rattle.vm_parts.specs.Entries.{IsInOrder, by_bytes, entry_of, is_among, keys_with_value}
+use Rattle.vm_parts.specs.Entries.{IsInOrder, by_bytes, entry_of, is_key_among, keys_with_value}
 use Rattle.vm_parts.specs.States.{has_value, known_by}
 use Rattle.vm_parts.proofs.Changes.{key_at}
 
@@ -23,23 +23,23 @@ keys_in_order ((k, None) ∷ es) ordered = keys_in_order es ordered.1
 keys_in_order ((k, Some value) ∷ es) ordered = (some_behind k es ordered.0, keys_in_order es ordered.1)
 
 -- a key is not among later ones
-not_behind : (k : List ℕ) (ks : List (List ℕ)) → AllByRecursion (λ y. by_bytes k y ≡ Less) ks → is_among k ks ≡ false
+not_behind : (k : List ℕ) (ks : List (List ℕ)) → AllByRecursion (λ y. by_bytes k y ≡ Less) ks → is_key_among k ks ≡ false
 not_behind k [] behind = refl
-not_behind k (y ∷ ys) behind = ap (λ r. is_eq r || is_among k ys) behind.0 ∙ not_behind k ys behind.1
+not_behind k (y ∷ ys) behind = ap (λ r. is_eq r || is_key_among k ys) behind.0 ∙ not_behind k ys behind.1
 
 -- a key is listed just where it has a value
-pub key_listed : (es : List (List ℕ × Option (List ℕ))) → IsInOrder es → (key : List ℕ) → is_among key (keys_with_value es) ≡ has_value (known_by Complete (entry_of key es))
+pub key_listed : (es : List (List ℕ × Option (List ℕ))) → IsInOrder es → (key : List ℕ) → is_key_among key (keys_with_value es) ≡ has_value (known_by Complete (entry_of key es))
 unfolding IsStrictlySortedBy
 key_listed [] ordered key = refl
 key_listed ((k, None) ∷ es) ordered key = by_test (is_eq (by_bytes key k)) refl (key_listed es ordered.1 key)
   where
-    by_test : (b : Bool) → is_eq (by_bytes key k) ≡ b → is_among key (keys_with_value es) ≡ has_value (known_by Complete (entry_of key es))
-        → is_among key (keys_with_value es) ≡ has_value (known_by Complete (cond b (Some None) (entry_of key es)))
-    by_test true is behind = ap (λ x. is_among x (keys_with_value es)) (key_at key k is) ∙ not_behind k (keys_with_value es) (some_behind k es ordered.0)
+    by_test : (b : Bool) → is_eq (by_bytes key k) ≡ b → is_key_among key (keys_with_value es) ≡ has_value (known_by Complete (entry_of key es))
+        → is_key_among key (keys_with_value es) ≡ has_value (known_by Complete (cond b (Some None) (entry_of key es)))
+    by_test true is behind = ap (λ x. is_key_among x (keys_with_value es)) (key_at key k is) ∙ not_behind k (keys_with_value es) (some_behind k es ordered.0)
     by_test false is behind = behind
 key_listed ((k, Some value) ∷ es) ordered key = by_test (is_eq (by_bytes key k)) (key_listed es ordered.1 key)
   where
-    by_test : (b : Bool) → is_among key (keys_with_value es) ≡ has_value (known_by Complete (entry_of key es))
-        → (b || is_among key (keys_with_value es)) ≡ has_value (known_by Complete (cond b (Some (Some value)) (entry_of key es)))
+    by_test : (b : Bool) → is_key_among key (keys_with_value es) ≡ has_value (known_by Complete (entry_of key es))
+        → (b || is_key_among key (keys_with_value es)) ≡ has_value (known_by Complete (cond b (Some (Some value)) (entry_of key es)))
     by_test true behind = refl
     by_test false behind = behind

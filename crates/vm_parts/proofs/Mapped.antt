@@ -15,17 +15,17 @@ use Rattle.vm_parts.specs.declared.async_results.Mapping.{Mapping}
 use Rattle.journal_values.specs.declared.notification.NotificationId.{NotificationId}
 use Rattle.std.proofs.lemmas.Map.Lookups
 use Rattle.vm_parts.specs.Deliveries.{id_at, unmapped}
-use Rattle.vm_parts.specs.Mappings.{live, mapping_if, Ascend, Above, AllUnder, IsAt, Absent}
+use Rattle.vm_parts.specs.Mappings.{live_mappings, mapping_if, MappingsAscend, MappingsAbove, AllUnder, IsMappingAt, HasNoMapping}
 use Rattle.vm_types.proofs.Places.{from_place}
 
-above_at : (x : ℕ) (xs : List Held) → Above x xs → (i : ℕ) (d : Held) → i < length xs → x < (get_or xs i d).handle
+above_at : (x : ℕ) (xs : List Held) → MappingsAbove x xs → (i : ℕ) (d : Held) → i < length xs → x < (get_or xs i d).handle
 above_at x [] a i d l = absurd (omega arith)
 above_at x (y ∷ ys) a zero d l = a.0
 above_at x (y ∷ ys) a (suc i) d l = above_at x ys a.1 i d (omega arith)
 
 -- ---- found by halving
 
-rises : (xs : List Held) → Ascend xs → (k : ℕ) (d : Held) → suc k < length xs → (get_or xs k d).handle < (get_or xs (suc k) d).handle
+rises : (xs : List Held) → MappingsAscend xs → (k : ℕ) (d : Held) → suc k < length xs → (get_or xs k d).handle < (get_or xs (suc k) d).handle
 rises [] a k d l = absurd (omega arith)
 rises (x ∷ xs) a zero d l = above_at x.handle xs a.0 0 d (omega arith)
 rises (x ∷ xs) a (suc k) d l = rises xs a.1 k d (omega arith)
@@ -39,7 +39,7 @@ not_less a b h =
     go true = refl
     go false = refl
 
-pub searchable : (xs : List Held) (h : ℕ) → Ascend xs → IsNonDecreasingBy (λ y. ordering_index (nat_cmp y.handle h)) xs
+pub searchable : (xs : List Held) (h : ℕ) → MappingsAscend xs → IsNonDecreasingBy (λ y. ordering_index (nat_cmp y.handle h)) xs
 searchable xs h a = searchable_from_sorted nat_cmp_total (λ (y : Held). y.handle) xs h (λ k d z l.
     let e : k + 1 ≡ suc k = omega arith in
     rw e (not_less (get_or xs (suc k) d).handle (get_or xs k d).handle (rises xs a k d (omega arith))))
@@ -50,7 +50,7 @@ itself a h e =
     let yes : (a == h) ≡ true = grind (arith, nat_tests) in
     rw (no, yes) refl
 
-pub absent : (xs : List Held) (h i : ℕ) → IsPartitionPoint (λ (y : Held). nat_cmp y.handle h ≡ Less) (λ y. nat_cmp y.handle h ≡ Greater) xs i → Absent h xs
+pub absent : (xs : List Held) (h i : ℕ) → IsPartitionPoint (λ (y : Held). nat_cmp y.handle h ≡ Less) (λ y. nat_cmp y.handle h ≡ Greater) xs i → HasNoMapping h xs
 absent xs h i p k d l e =
     Rattle.std.proofs.Common.⊎_elim (λ (b : k < i). let f = p.0 k d (omega arith) b in let g = itself (get_or xs k d).handle h e in cc)
     (λ (b : i ≤ k). let f = p.1 k d b l in let g = itself (get_or xs k d).handle h e in cc) (Rattle.std.proofs.lemmas.Bool.cases_lt k i)
@@ -71,18 +71,18 @@ skip_unmapped : (a h : ℕ) (o : Option NotificationId) (ms : List Mapping) → 
 skip_unmapped a h None ms n = refl
 skip_unmapped a h (Some id) ms n = rw (is_not a h n) refl
 
-tail_absent : (h : ℕ) (x : Held) (xs : List Held) → Absent h (x ∷ xs) → Absent h xs
+tail_absent : (h : ℕ) (x : Held) (xs : List Held) → HasNoMapping h (x ∷ xs) → HasNoMapping h xs
 tail_absent h x xs a k d l e = a (suc k) d (omega arith) e
 
-pub no_id : (h : ℕ) (xs : List Held) → Absent h xs → id_at h (live xs) ≡ None
+pub no_id : (h : ℕ) (xs : List Held) → HasNoMapping h xs → id_at h (live_mappings xs) ≡ None
 no_id h [] a = refl
-no_id h (x ∷ xs) a = skip_id x.handle h x.id (live xs) (a 0 x (omega arith)) ∙ no_id h xs (tail_absent h x xs a)
+no_id h (x ∷ xs) a = skip_id x.handle h x.id (live_mappings xs) (a 0 x (omega arith)) ∙ no_id h xs (tail_absent h x xs a)
 
-pub none_unmapped : (h : ℕ) (xs : List Held) → Absent h xs → unmapped h (live xs) ≡ live xs
+pub none_unmapped : (h : ℕ) (xs : List Held) → HasNoMapping h xs → unmapped h (live_mappings xs) ≡ live_mappings xs
 none_unmapped h [] a = refl
-none_unmapped h (x ∷ xs) a = skip_unmapped x.handle h x.id (live xs) (a 0 x (omega arith)) ∙ ap (mapping_if x.handle x.id) (none_unmapped h xs (tail_absent h x xs a))
+none_unmapped h (x ∷ xs) a = skip_unmapped x.handle h x.id (live_mappings xs) (a 0 x (omega arith)) ∙ ap (mapping_if x.handle x.id) (none_unmapped h xs (tail_absent h x xs a))
 
-above_absent : (h : ℕ) (xs : List Held) → Above h xs → Absent h xs
+above_absent : (h : ℕ) (xs : List Held) → MappingsAbove h xs → HasNoMapping h xs
 above_absent h xs a k d l e = let g = above_at h xs a k d l in absurd (omega arith)
 
 id_here : (a h : ℕ) (o : Option NotificationId) (ms : List Mapping) → a ≡ h → id_at h ms ≡ None → id_at h (mapping_if a o ms) ≡ o
@@ -93,46 +93,46 @@ unmapped_here : (a h : ℕ) (o : Option NotificationId) (ms : List Mapping) → 
 unmapped_here a h None ms e n = n
 unmapped_here a h (Some id) ms e n = rw (is_it a h e) refl
 
-at_tail : (h : ℕ) (x : Held) (xs : List Held) (i : ℕ) → IsAt h (x ∷ xs) (suc i) → IsAt h xs i
+at_tail : (h : ℕ) (x : Held) (xs : List Held) (i : ℕ) → IsMappingAt h (x ∷ xs) (suc i) → IsMappingAt h xs i
 at_tail h x xs i p = (let l = p.0 in omega arith, p.1)
 
-above_here : (x h : ℕ) (xs : List Held) → x ≡ h → Above x xs → Absent h xs
+above_here : (x h : ℕ) (xs : List Held) → x ≡ h → MappingsAbove x xs → HasNoMapping h xs
 above_here x h xs e a = above_absent h xs (rw (← e) a)
 
-head_differs : (h : ℕ) (x : Held) (xs : List Held) (i : ℕ) → Ascend (x ∷ xs) → IsAt h (x ∷ xs) (suc i) → x.handle ≢ h
+head_differs : (h : ℕ) (x : Held) (xs : List Held) (i : ℕ) → MappingsAscend (x ∷ xs) → IsMappingAt h (x ∷ xs) (suc i) → x.handle ≢ h
 head_differs h x xs i a p e = let l = p.0 in let g = above_at x.handle xs a.0 i x (omega arith) in let k = p.1 x in absurd (omega arith)
 
-pub id_found : (h : ℕ) (xs : List Held) (i : ℕ) → Ascend xs → IsAt h xs i → (d : Held) → id_at h (live xs) ≡ (get_or xs i d).id
+pub id_found : (h : ℕ) (xs : List Held) (i : ℕ) → MappingsAscend xs → IsMappingAt h xs i → (d : Held) → id_at h (live_mappings xs) ≡ (get_or xs i d).id
 id_found h [] i a p d = let l = p.0 in absurd (omega arith)
-id_found h (x ∷ xs) zero a p d = id_here x.handle h x.id (live xs) (p.1 d) (no_id h xs (above_here x.handle h xs (p.1 d) a.0))
-id_found h (x ∷ xs) (suc i) a p d = skip_id x.handle h x.id (live xs) (head_differs h x xs i a p) ∙ id_found h xs i a.1 (at_tail h x xs i p) d
+id_found h (x ∷ xs) zero a p d = id_here x.handle h x.id (live_mappings xs) (p.1 d) (no_id h xs (above_here x.handle h xs (p.1 d) a.0))
+id_found h (x ∷ xs) (suc i) a p d = skip_id x.handle h x.id (live_mappings xs) (head_differs h x xs i a p) ∙ id_found h xs i a.1 (at_tail h x xs i p) d
 
 abbrev pub forgotten : Held → Held
 forgotten x = record x { id = None }
 
-pub left_live : (h : ℕ) (xs : List Held) (i : ℕ) → Ascend xs → IsAt h xs i → (d : Held) → live (set xs i (forgotten (get_or xs i d))) ≡ unmapped h (live xs)
+pub left_live : (h : ℕ) (xs : List Held) (i : ℕ) → MappingsAscend xs → IsMappingAt h xs i → (d : Held) → live_mappings (set xs i (forgotten (get_or xs i d))) ≡ unmapped h (live_mappings xs)
 left_live h [] i a p d = let l = p.0 in absurd (omega arith)
-left_live h (x ∷ xs) zero a p d = sym (unmapped_here x.handle h x.id (live xs) (p.1 d) (none_unmapped h xs (above_here x.handle h xs (p.1 d) a.0)))
+left_live h (x ∷ xs) zero a p d = sym (unmapped_here x.handle h x.id (live_mappings xs) (p.1 d) (none_unmapped h xs (above_here x.handle h xs (p.1 d) a.0)))
 left_live h (x ∷ xs) (suc i) a p d =
-    ap (mapping_if x.handle x.id) (left_live h xs i a.1 (at_tail h x xs i p) d) ∙ sym (skip_unmapped x.handle h x.id (live xs) (head_differs h x xs i a p))
+    ap (mapping_if x.handle x.id) (left_live h xs i a.1 (at_tail h x xs i p) d) ∙ sym (skip_unmapped x.handle h x.id (live_mappings xs) (head_differs h x xs i a p))
 
-above_set : (y : ℕ) (xs : List Held) (i : ℕ) (d : Held) → Above y xs → Above y (set xs i (forgotten (get_or xs i d)))
+above_set : (y : ℕ) (xs : List Held) (i : ℕ) (d : Held) → MappingsAbove y xs → MappingsAbove y (set xs i (forgotten (get_or xs i d)))
 above_set y [] i d a = a
 above_set y (x ∷ xs) zero d a = a
 above_set y (x ∷ xs) (suc i) d a = (a.0, above_set y xs i d a.1)
 
-pub ascend_set : (xs : List Held) (i : ℕ) (d : Held) → Ascend xs → Ascend (set xs i (forgotten (get_or xs i d)))
+pub ascend_set : (xs : List Held) (i : ℕ) (d : Held) → MappingsAscend xs → MappingsAscend (set xs i (forgotten (get_or xs i d)))
 ascend_set [] i d a = a
 ascend_set (x ∷ xs) zero d a = a
 ascend_set (x ∷ xs) (suc i) d a = (above_set x.handle xs i d a.0, ascend_set xs i d a.1)
 
 -- ---- at the end
 
-above_push : (y : ℕ) (xs : List Held) (x : Held) → Above y xs → y < x.handle → Above y (xs ++ x ∷ [])
+above_push : (y : ℕ) (xs : List Held) (x : Held) → MappingsAbove y xs → y < x.handle → MappingsAbove y (xs ++ x ∷ [])
 above_push y [] x a l = (l, tt)
 above_push y (z ∷ zs) x a l = (a.0, above_push y zs x a.1 l)
 
-pub ascend_push : (xs : List Held) (x : Held) → Ascend xs → AllUnder xs x.handle → Ascend (xs ++ x ∷ [])
+pub ascend_push : (xs : List Held) (x : Held) → MappingsAscend xs → AllUnder xs x.handle → MappingsAscend (xs ++ x ∷ [])
 ascend_push [] x a u = (tt, tt)
 ascend_push (y ∷ ys) x a u = (above_push y.handle ys x a.0 u.0, ascend_push ys x a.1 u.1)
 
@@ -140,16 +140,16 @@ mapping_append : (h : ℕ) (o : Option NotificationId) (ms ns : List Mapping) �
 mapping_append h None ms ns = refl
 mapping_append h (Some id) ms ns = refl
 
-pub live_push : (xs : List Held) (x : Held) → live (xs ++ x ∷ []) ≡ live xs ++ mapping_if x.handle x.id []
+pub live_push : (xs : List Held) (x : Held) → live_mappings (xs ++ x ∷ []) ≡ live_mappings xs ++ mapping_if x.handle x.id []
 live_push [] x = refl
-live_push (y ∷ ys) x = ap (mapping_if y.handle y.id) (live_push ys x) ∙ mapping_append y.handle y.id (live ys) (mapping_if x.handle x.id [])
+live_push (y ∷ ys) x = ap (mapping_if y.handle y.id) (live_push ys x) ∙ mapping_append y.handle y.id (live_mappings ys) (mapping_if x.handle x.id [])
 
 pub under_at : (h : ℕ) (xs : List Held) → AllUnder xs h → (i : ℕ) (d : Held) → i < length xs → (get_or xs i d).handle < h
 under_at h [] a i d l = absurd (omega arith)
 under_at h (x ∷ xs) a zero d l = a.0
 under_at h (x ∷ xs) a (suc i) d l = under_at h xs a.1 i d (omega arith)
 
-pub last_under : (h : ℕ) (xs : List Held) (n : ℕ) (d : Held) → suc n ≡ length xs → Ascend xs → (get_or xs n d).handle < h → AllUnder xs h
+pub last_under : (h : ℕ) (xs : List Held) (n : ℕ) (d : Held) → suc n ≡ length xs → MappingsAscend xs → (get_or xs n d).handle < h → AllUnder xs h
 last_under h [] n d e a l = tt
 last_under h (x ∷ []) zero d e a l = (l, tt)
 last_under h (x ∷ []) (suc n) d e a l = absurd (omega arith)

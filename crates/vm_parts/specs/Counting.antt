@@ -19,8 +19,8 @@ next_index None = 0
 next_index (Some index) = if index == most then index else index + 1
 
 -- The first kind of number of which a call with a command would need more than are left.
-abbrev pub missing : ℕ → ℕ → ℕ → Counters → Option NamedFault
-missing ids signals handles c =
+abbrev pub missing_number : ℕ → ℕ → ℕ → Counters → Option NamedFault
+missing_number ids signals handles c =
     if nat_lt (most - c.completion) ids then Some ExhaustedCompletionIds
     else if nat_lt (most - c.signal) signals then Some ExhaustedSignalIds
     else if nat_lt (most - c.handle) handles then Some ExhaustedHandles

@@ -8,7 +8,7 @@ use Rattle.journal_values.specs.declared.notification.NotificationId.TheVariants
 use Rattle.journal_values.specs.declared.notification.NotificationResult.{NotificationResult}
 use Rattle.arrivals.specs.Came.{one_used}
 pub use Rattle.arrivals.specs.Ids.{same_id}
-pub use Rattle.arrivals.specs.Results.{results_of, has_result_among, first, newest_after, newest, without_first, without_all}
+pub use Rattle.arrivals.specs.Results.{results_of, has_result_among, first, newest_after, newest, without_oldest, without_all}
 use Rattle.vm_parts.specs.declared.async_results.Mapping.{Mapping}
 use Rattle.vm_types.specs.declared.options.SignalDelivery.{SignalDelivery}
 use Rattle.vm_types.specs.declared.options.SignalDelivery.TheVariants.{Queued, Overwrite}
@@ -64,13 +64,13 @@ present_among delivery id ns =
     cond (is_listed delivery id) (first (results_of id ns)) (newest (results_of id ns))
 
 -- the present result of an id: what was delivered, else what its eager read gave
-abbrev pub present : SignalDelivery → NotificationId → Ready → Option NotificationResult
-present delivery id r =
+abbrev pub present_result : SignalDelivery → NotificationId → Ready → Option NotificationResult
+present_result delivery id r =
     option_or (present_among delivery id r.delivered) (present_among delivery id r.eager)
 
 -- what stays among these when the present result of an id is taken
 abbrev pub left_among : SignalDelivery → NotificationId → List Notification → List Notification
-left_among delivery id ns = cond (is_listed delivery id) (without_first id ns) (without_all id ns)
+left_among delivery id ns = cond (is_listed delivery id) (without_oldest id ns) (without_all id ns)
 
 -- what stays ready when the present result of an id is taken
 abbrev pub left_ready : SignalDelivery → NotificationId → Ready → Ready
@@ -98,29 +98,30 @@ next_used v =
     record v { queued = came.queued; ready = record v.ready { delivered = came.delivered } }
 
 -- a take: the present result leaves, and the handle with it, but for the cancel handle
-abbrev pub taken_from : SignalDelivery → ℕ → NotificationId → Arrived → Arrived
-taken_from delivery handle id v =
+abbrev pub after_take : SignalDelivery → ℕ → NotificationId → Arrived → Arrived
+after_take delivery handle id v =
     record v {
       ready = left_ready delivery id v.ready;
       handles = cond (handle == 1) v.handles (unmapped handle v.handles);
     }
 
 -- the result that a handle has
-abbrev pub present_for : SignalDelivery → Option NotificationId → Ready → Option NotificationResult
-present_for delivery None r = None
-present_for delivery (Some id) r = present delivery id r
+abbrev pub present_result_for : SignalDelivery → Option NotificationId → Ready
+    → Option NotificationResult
+present_result_for delivery None r = None
+present_result_for delivery (Some id) r = present_result delivery id r
 
 -- what a take leaves, if there was a result
 abbrev pub taken_by : SignalDelivery → ℕ → Option NotificationId → Option NotificationResult
     → Arrived → Arrived
-taken_by delivery handle (Some id) (Some result) v = taken_from delivery handle id v
+taken_by delivery handle (Some id) (Some result) v = after_take delivery handle id v
 taken_by delivery handle _ _ v = v
 
 -- what a take of a handle answers and leaves
-pub record Taken (delivery : SignalDelivery) (handle : ℕ) (old : Arrived) (answer : Option NotificationResult) (new : Arrived) : Type 0 where
-  pub result : answer ≡ present_for delivery (id_at handle old.handles) old.ready
+pub record IsTakeOf (delivery : SignalDelivery) (handle : ℕ) (old : Arrived) (answer : Option NotificationResult) (new : Arrived) : Type 0 where
+  pub result : answer ≡ present_result_for delivery (id_at handle old.handles) old.ready
   pub left : new ≡ taken_by delivery handle (id_at handle old.handles)
-      (present_for delivery (id_at handle old.handles) old.ready) old
+      (present_result_for delivery (id_at handle old.handles) old.ready) old
 
 -- what is ready once the first n that wait are used
 abbrev pub ready_after : ℕ → Arrived → Ready
@@ -130,5 +131,5 @@ ready_after n v = record v.ready { delivered = v.ready.delivered ++ take n v.que
 abbrev pub first_result_for : SignalDelivery → Option NotificationId → Arrived
     → Option NotificationResult
 first_result_for delivery None v = None
-first_result_for delivery (Some id) v = option_or (present delivery id v.ready)
+first_result_for delivery (Some id) v = option_or (present_result delivery id v.ready)
     (first (results_of id v.queued))

@@ -32,8 +32,8 @@ abbrev pub keys_with_value : List (List ℕ × Option (List ℕ)) → List (List
 keys_with_value entries = keys_of (filter (λ e. is_some e.1) entries)
 
 -- whether a key is among these
-abbrev pub is_among : List ℕ → List (List ℕ) → Bool
-is_among key keys = list_any (is_at (by_bytes key)) keys
+abbrev pub is_key_among : List ℕ → List (List ℕ) → Bool
+is_key_among key keys = list_any (is_at (by_bytes key)) keys
 
 -- the entries of pairs that come one after another: of several of one key the last counts
 abbrev pub entries_of : List (List ℕ × List ℕ) → List (List ℕ × Option (List ℕ))

@@ -47,8 +47,8 @@ with_ready id value e = record e { ready = insert_entry nat_cmp e.ready id value
 
 -- The result of a read comes: it is ready with this value, in the place of one that it had. Where
 -- no such read is held, nothing is done.
-abbrev pub completed : ℕ → Option (List ℕ) → Ephemerals → Ephemerals
-completed id value e =
+abbrev pub with_read_completed : ℕ → Option (List ℕ) → Ephemerals → Ephemerals
+with_read_completed id value e =
     if is_in_flight id e || is_ready id e
     then record {
       in_flight = remove_key (is_at (nat_cmp id)) e.in_flight;

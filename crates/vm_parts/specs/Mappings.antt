@@ -10,19 +10,19 @@ mapping_if handle None ms = ms
 mapping_if handle (Some id) ms = record { handle = handle; id = id } ∷ ms
 
 -- the handles that still stand for an id
-abbrev pub live : List Held → List Mapping
-live [] = []
-live (h ∷ hs) = mapping_if h.handle h.id (live hs)
+abbrev pub live_mappings : List Held → List Mapping
+live_mappings [] = []
+live_mappings (h ∷ hs) = mapping_if h.handle h.id (live_mappings hs)
 
 -- each is greater than this one
-abbrev pub Above : ℕ → List Held → Type 0
-Above handle [] = Unit {0}
-Above handle (h ∷ hs) = (handle < h.handle) × Above handle hs
+abbrev pub MappingsAbove : ℕ → List Held → Type 0
+MappingsAbove handle [] = Unit {0}
+MappingsAbove handle (h ∷ hs) = (handle < h.handle) × MappingsAbove handle hs
 
 -- handles ascend
-abbrev pub Ascend : List Held → Type 0
-Ascend [] = Unit {0}
-Ascend (h ∷ hs) = Above h.handle hs × Ascend hs
+abbrev pub MappingsAscend : List Held → Type 0
+MappingsAscend [] = Unit {0}
+MappingsAscend (h ∷ hs) = MappingsAbove h.handle hs × MappingsAscend hs
 
 -- each is less than this one
 abbrev pub AllUnder : List Held → ℕ → Type 0
@@ -30,10 +30,11 @@ AllUnder [] handle = Unit {0}
 AllUnder (h ∷ hs) handle = (h.handle < handle) × AllUnder hs handle
 
 -- no entry has the handle
-abbrev pub Absent : ℕ → List Held → Type 0
-Absent handle hs = (k : ℕ) (d : Held) → k < length hs → (slice_index_or hs k d).handle ≡ handle → ⊥
+abbrev pub HasNoMapping : ℕ → List Held → Type 0
+HasNoMapping handle hs =
+    (k : ℕ) (d : Held) → k < length hs → (slice_index_or hs k d).handle ≡ handle → ⊥
 
 -- the place of the entry of a handle
-abbrev pub IsAt : ℕ → List Held → ℕ → Type 0
-IsAt handle hs place =
+abbrev pub IsMappingAt : ℕ → List Held → ℕ → Type 0
+IsMappingAt handle hs place =
     (place < length hs) × ((d : Held) → (slice_index_or hs place d).handle ≡ handle)

@@ -27,8 +27,8 @@ known_by Partial None = Unknown
 known_by Complete None = Empty
 
 -- what is known of a key: nothing, that it has no value, or its value
-abbrev pub known : List ℕ → StateMap → Known
-known key s = known_by s.coverage (entry_of key s.entries)
+abbrev pub value_known : List ℕ → StateMap → Known
+value_known key s = known_by s.coverage (entry_of key s.entries)
 
 -- whether a value is known
 abbrev pub has_value : Known → Bool

@@ -27,16 +27,18 @@ is_tracked handle [] = false
 is_tracked handle (t ∷ ts) = (t.handle == handle) || is_tracked handle ts
 
 -- the invocation's id of the call of this handle is known
-abbrev pub with_id : ℕ → List ℕ → List TrackedCall → List TrackedCall
-with_id handle id [] = []
-with_id handle id (t ∷ ts) = if t.handle == handle
-    then record { handle = t.handle; invocation_id = Some id } ∷ ts else t ∷ with_id handle id ts
+abbrev pub with_invocation_id : ℕ → List ℕ → List TrackedCall → List TrackedCall
+with_invocation_id handle id [] = []
+with_invocation_id handle id (t ∷ ts) = if t.handle == handle
+    then record { handle = t.handle; invocation_id = Some id } ∷ ts else t
+    ∷ with_invocation_id handle id ts
 
 -- A result of this handle was read, which is this invocation's id, or no id. Of a tracked call it
 -- has to be one, which is then known.
-abbrev pub noted : ℕ → Option (List ℕ) → List TrackedCall → Option (List TrackedCall)
-noted handle id ts =
-    if is_tracked handle ts then option_map (λ known. with_id handle known ts) id else Some ts
+abbrev pub id_noted : ℕ → Option (List ℕ) → List TrackedCall → Option (List TrackedCall)
+id_noted handle id ts =
+    if is_tracked handle ts then option_map (λ known. with_invocation_id handle known ts) id
+    else Some ts
 
 -- a handle comes first, where its call's id isn't known
 abbrev pub if_unresolved : Option (List ℕ) → ℕ → List ℕ → List ℕ
@@ -44,19 +46,19 @@ if_unresolved None handle handles = handle ∷ handles
 if_unresolved (Some id) handle handles = handles
 
 -- the handles of the calls whose ids aren't known
-abbrev pub unresolved : List TrackedCall → List ℕ
-unresolved [] = []
-unresolved (t ∷ ts) = if_unresolved t.invocation_id t.handle (unresolved ts)
+abbrev pub unresolved_handles : List TrackedCall → List ℕ
+unresolved_handles [] = []
+unresolved_handles (t ∷ ts) = if_unresolved t.invocation_id t.handle (unresolved_handles ts)
 
 -- the first of two lists, where a call's id isn't known, else the second
-abbrev pub by_id : Option (List ℕ) → List TrackedCall → List TrackedCall → List TrackedCall
-by_id None first second = first
-by_id (Some id) first second = second
+abbrev pub by_known_id : Option (List ℕ) → List TrackedCall → List TrackedCall → List TrackedCall
+by_known_id None first second = first
+by_known_id (Some id) first second = second
 
 -- the first id that isn't known becomes known
 abbrev pub with_next_id : List ℕ → List TrackedCall → List TrackedCall
 with_next_id id [] = []
-with_next_id id (t ∷ ts) = by_id t.invocation_id
+with_next_id id (t ∷ ts) = by_known_id t.invocation_id
     (record { handle = t.handle; invocation_id = Some id } ∷ ts) (t ∷ with_next_id id ts)
 
 -- an id comes first, where it is known
@@ -92,33 +94,33 @@ without_first_call (t ∷ ts) = ts
 
 -- A result of this handle was read, which is this invocation's id, or no id. Where that may be so,
 -- it was noted; else the calls stay.
-abbrev pub Notes : ℕ → Option (List ℕ) → List TrackedCall → List TrackedCall → Bool → Type 0
-Notes handle id old new true = noted handle id old ≡ Some new
-Notes handle id old new false = (noted handle id old ≡ None) × (new ≡ old)
+abbrev pub NotesId : ℕ → Option (List ℕ) → List TrackedCall → List TrackedCall → Bool → Type 0
+NotesId handle id old new true = id_noted handle id old ≡ Some new
+NotesId handle id old new false = (id_noted handle id old ≡ None) × (new ≡ old)
 
 -- this handle is the first of these
-abbrev pub IsFirst : List ℕ → ℕ → Type 0
-IsFirst handles handle = (rest : List ℕ) × (handles ≡ handle ∷ rest)
+abbrev pub IsFirstHandle : List ℕ → ℕ → Type 0
+IsFirstHandle handles handle = (rest : List ℕ) × (handles ≡ handle ∷ rest)
 
 -- each handle is greater than this one
-abbrev pub Above : ℕ → List TrackedCall → Type 0
-Above handle [] = Unit {0}
-Above handle (t ∷ ts) = (handle < t.handle) × Above handle ts
+abbrev pub TrackedAbove : ℕ → List TrackedCall → Type 0
+TrackedAbove handle [] = Unit {0}
+TrackedAbove handle (t ∷ ts) = (handle < t.handle) × TrackedAbove handle ts
 
 -- handles ascend
-abbrev pub Ascend : List TrackedCall → Type 0
-Ascend [] = Unit {0}
-Ascend (t ∷ ts) = Above t.handle ts × Ascend ts
+abbrev pub TrackedAscend : List TrackedCall → Type 0
+TrackedAscend [] = Unit {0}
+TrackedAscend (t ∷ ts) = TrackedAbove t.handle ts × TrackedAscend ts
 
 -- calls in the order of their handles, and how many of the first ones have ids that are known
 pub record IsTracking (ts : List TrackedCall) (resolved : ℕ) : Type 0 where
-  pub ascend : Ascend ts
+  pub ascend : TrackedAscend ts
   pub within : resolved ≤ length ts
-  pub known : unresolved (take resolved ts) ≡ []
+  pub known : unresolved_handles (take resolved ts) ≡ []
 
 -- the call of a handle stands here
-abbrev pub IsAt : ℕ → List TrackedCall → ℕ → Type 0
-IsAt handle ts place =
+abbrev pub IsTrackedAt : ℕ → List TrackedCall → ℕ → Type 0
+IsTrackedAt handle ts place =
     (place < length ts) × ((d : TrackedCall) → (slice_index_or ts place d).handle ≡ handle)
 
 -- no call has the handle, and one would stand here: after those that are less, and before those
@@ -128,8 +130,8 @@ IsBetween handle ts place = (place ≤ length ts)
     × IsPartitionPoint (λ t. t.handle < handle) (λ t. handle < t.handle) ts place
 
 -- the first call whose id isn't known stands here, or there is none and this is the end
-pub record IsNext (ts : List TrackedCall) (place : ℕ) : Type 0 where
+pub record IsNextUnresolved (ts : List TrackedCall) (place : ℕ) : Type 0 where
   pub within : place ≤ length ts
-  pub known : unresolved (take place ts) ≡ []
+  pub known : unresolved_handles (take place ts) ≡ []
   pub next : (d : TrackedCall) → place < length ts → (slice_index_or ts place d).invocation_id
       ≡ None

@@ -3,7 +3,7 @@
 ghost use Rattle.std.specs.Prelude.{◌≡◌, ℕ, ◌∷◌, ◌++◌, [], OnOk, OnErr, IfOk};
 ghost use Rattle.std.specs.Option.{option_copied};
 ghost use Rattle.arrivals.specs.Came.{is_queued, enough};
-ghost use Rattle.vm_parts.specs.Deliveries.{id_at, is_known, no_results, is_listed, left_among, present_among, present_for, has_result_for, next_used, with_eager, ready_after, first_result_for, Taken};
+ghost use Rattle.vm_parts.specs.Deliveries.{id_at, is_known, no_results, is_listed, left_among, present_among, present_result_for, has_result_for, next_used, with_eager, ready_after, first_result_for, IsTakeOf};
 
 use crate::handles::Handles;
 use arrivals::{Arrivals, EagerResults};
@@ -182,7 +182,7 @@ impl AsyncResults {
     /// The present result of a handle.
     pub fn present(&self, delivery: SignalDelivery, handle: u32) -> Option<&NotificationResult>
         ensures { option_copied result
-            ≡ present_for delivery (id_at handle self.now.handles) self.now.ready }
+            ≡ present_result_for delivery (id_at handle self.now.handles) self.now.ready }
     {
         let id = self.handles.find(handle)?;
         match find_delivered(delivery, &self.arrivals, id) {
@@ -246,7 +246,7 @@ impl AsyncResults {
         delivery: SignalDelivery,
         handle: NotificationHandle,
     ) -> Option<NotificationResult>
-        ensures { Taken delivery handle.0 self.old result self.new }
+        ensures { IsTakeOf delivery handle.0 self.old result self.new }
     {
         let id = self.handles.find(handle.0)?;
         let delivered = take_delivered(delivery, &mut self.arrivals, id);

@@ -4,9 +4,9 @@ ghost use Rattle.std.specs.List.Sorted.{IsStrictlySortedBy};
 ghost use Rattle.vm_parts.specs.declared.context.StateCoverage.{StateCoverage as Coverage};
 ghost use Rattle.vm_parts.specs.declared.context.StateMap.{StateMap as State};
 ghost use Rattle.vm_parts.specs.declared.context.Known.TheVariants.{Empty, Value};
-ghost use Rattle.vm_parts.specs.Entries.{IsInOrder, by_bytes, entries_of, is_among};
-ghost use Rattle.vm_parts.specs.States.{state_set, state_cleared, all_cleared, known, has_value, known_keys};
-ghost use Rattle.vm_parts.specs.Counting.{fresh_counters, next_index, missing, missing_ephemeral, missing_signals};
+ghost use Rattle.vm_parts.specs.Entries.{IsInOrder, by_bytes, entries_of, is_key_among};
+ghost use Rattle.vm_parts.specs.States.{state_set, state_cleared, all_cleared, value_known, has_value, known_keys};
+ghost use Rattle.vm_parts.specs.Counting.{fresh_counters, next_index, missing_number, missing_ephemeral, missing_signals};
 
 use crate::entries::Entries;
 use crate::state_key::StateKey;
@@ -101,7 +101,7 @@ impl Counters {
 
     /// The first kind of number of which too few are left for a call with a command.
     pub fn missing(&self, ids: u32, signals: u32, handles: u32) -> Option<NamedFault>
-        ensures found { result ≡ missing ids signals handles self.now }
+        ensures found { result ≡ missing_number ids signals handles self.now }
         ensures ids_left { IfNone result (self.now.completion + ids < 2 ^ 32) }
         ensures signals_left { IfNone result (self.now.signal + signals < 2 ^ 32) }
         ensures handles_left { IfNone result (self.now.handle + handles < 2 ^ 32) }
@@ -183,7 +183,7 @@ impl StateMap {
 
     /// What is known of a key.
     pub fn get(&self, key: &StateKey) -> Result<Known, AllocError>
-        ensures { IfOk result (λ found. found ≡ known key.now self.now) }
+        ensures { IfOk result (λ found. found ≡ value_known key.now self.now) }
     {
         match self.entries.get(key) {
             Some(Some(value)) => Ok(Known::Value(value.clone()?)),
@@ -201,8 +201,8 @@ impl StateMap {
         ensures keys { IfOk result (λ keys. keys ≡ known_keys self.now) }
         ensures sorted { IfOk result (λ keys. IfSome keys (IsStrictlySortedBy by_bytes)) }
         ensures listed { IfOk result
-            (λ keys. IfSome keys (λ found. (key : List ℕ) → is_among key found
-            ≡ has_value (known key self.now))) }
+            (λ keys. IfSome keys (λ found. (key : List ℕ) → is_key_among key found
+            ≡ has_value (value_known key self.now))) }
     {
         match self.coverage {
             StateCoverage::Partial => Ok(None),
@@ -216,20 +216,26 @@ impl StateMap {
 /// There stays one entry a key, in order.
 #[tactic(auto, using(crate::proofs::Changes::known_set, crate::proofs::Changes::known_besides_set, crate::proofs::Changes::known_cleared, crate::proofs::Changes::known_besides_cleared, crate::proofs::Changes::stays_in_order, crate::proofs::Changes::known_last, crate::proofs::Changes::known_besides_last, crate::proofs::Changes::pairs_in_order))]
 pub fn state_changes()
-    ensures set { (key value : List ℕ) (s : State) → known key (state_set key value s)
+    ensures set { (key value : List ℕ) (s : State) → value_known key (state_set key value s)
         ≡ Value value }
     ensures besides_set { (key other value : List ℕ) (s : State) → other ≢ key
-        → known other (state_set key value s) ≡ known other s }
-    ensures cleared { (key : List ℕ) (s : State) → known key (state_cleared key s) ≡ Empty }
+        → value_known other (state_set key value s) ≡ value_known other s }
+    ensures cleared { (key : List ℕ) (s : State) → value_known key (state_cleared key s) ≡ Empty }
     ensures besides_cleared { (key other : List ℕ) (s : State) → other ≢ key
-        → known other (state_cleared key s) ≡ known other s }
-    ensures all_cleared { (key : List ℕ) (s : State) → known key (all_cleared s) ≡ Empty }
+        → value_known other (state_cleared key s) ≡ value_known other s }
+    ensures all_cleared { (key : List ℕ) (s : State) → value_known key (all_cleared s) ≡ Empty }
     ensures last_pair { (key value : List ℕ) (pairs : List (List ℕ × List ℕ)) (c : Coverage)
-        → known key (record { entries = entries_of (pairs ++ (key, value) ∷ []); coverage = c })
+        → value_known key (record {
+          entries = entries_of (pairs ++ (key, value) ∷ []);
+          coverage = c;
+        })
         ≡ Value value }
     ensures besides_last_pair { (key other value : List ℕ) (pairs : List (List ℕ × List ℕ)) (c : Coverage) → other ≢ key
-        → known other (record { entries = entries_of (pairs ++ (key, value) ∷ []); coverage = c })
-        ≡ known other (record { entries = entries_of pairs; coverage = c }) }
+        → value_known other (record {
+          entries = entries_of (pairs ++ (key, value) ∷ []);
+          coverage = c;
+        })
+        ≡ value_known other (record { entries = entries_of pairs; coverage = c }) }
     ensures pairs_in_order { (pairs : List (List ℕ × List ℕ)) → IsInOrder (entries_of pairs) }
     ensures set_in_order { (key value : List ℕ) (s : State) → IsInOrder s.entries
         → IsInOrder (state_set key value s).entries }

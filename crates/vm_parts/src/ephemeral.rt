@@ -1,6 +1,6 @@
 //! Ephemeral reads of the state, which leave nothing in the journal: those that are in flight, and those whose value is there.
 ghost use Rattle.std.specs.Prelude.{◌≡◌, true, false, IfNone, IfSome, OnOk, OnErr};
-ghost use Rattle.vm_parts.specs.Ephemerals.{any_in_flight, any_ready, completed, is_ready, no_ephemerals, value_at, with_in_flight, with_ready, without_ready};
+ghost use Rattle.vm_parts.specs.Ephemerals.{any_in_flight, any_ready, with_read_completed, is_ready, no_ephemerals, value_at, with_in_flight, with_ready, without_ready};
 
 use bytes::Bytes;
 use std::alloc::{AllocError, Global};
@@ -55,7 +55,7 @@ impl EphemeralCommands {
 
     /// The result of a read comes. It replaces a value that is there; if no such read is held, nothing is done.
     pub fn complete(&mut self, id: u32, value: Option<Bytes>) -> Result<(), AllocError>
-        ensures ok { OnOk result (self.new ≡ completed id value self.old) }
+        ensures ok { OnOk result (self.new ≡ with_read_completed id value self.old) }
         ensures err { OnErr result (self.new ≡ self.old) }
     {
         if self.in_flight.contains(&id) || self.ready.contains_key(&id) {

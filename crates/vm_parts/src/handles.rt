@@ -2,7 +2,7 @@
 ghost use Rattle.std.specs.Prelude.{◌≡◌, [], ◌∷◌, ◌++◌, true, OnOk, OnErr, IfSome, MatchOption};
 ghost use Rattle.std.specs.Option.{is_some, option_copied};
 ghost use Rattle.vm_parts.specs.Deliveries.{id_at, unmapped};
-ghost use Rattle.vm_parts.specs.Mappings.{live, Ascend, AllUnder, IsAt, Absent};
+ghost use Rattle.vm_parts.specs.Mappings.{live_mappings, MappingsAscend, AllUnder, IsMappingAt, HasNoMapping};
 
 use crate::async_results::Mapping;
 use journal_values::NotificationId;
@@ -27,18 +27,18 @@ pub struct Handles {
 impl Model for Handles {
     ghost use Rattle.std.specs.Prelude.{List, ◌++◌};
     ghost use Rattle.vm_parts.specs.declared.async_results.Mapping.{Mapping};
-    ghost use Rattle.vm_parts.specs.Mappings.{live, Ascend};
+    ghost use Rattle.vm_parts.specs.Mappings.{live_mappings, MappingsAscend};
 
     ghost Value = { List Mapping };
 
-    ghost view = { λ s. live s.ascending.items ++ s.others.items };
+    ghost view = { λ s. live_mappings s.ascending.items ++ s.others.items };
 
-    ghost invariant = { λ s. Ascend s.ascending.items };
+    ghost invariant = { λ s. MappingsAscend s.ascending.items };
 }
 
 /// Where a handle stands if none is missing from it to the last. Most are found so, since a counter hands them out.
 fn place_from_last(held: &[Held], handle: u32) -> Option<usize>
-    ensures { IfSome result (λ place. IsAt handle held.now place) }
+    ensures { IfSome result (λ place. IsMappingAt handle held.now place) }
 {
     let last = held.last()?;
     let back = last.handle.checked_sub(handle)?;
@@ -52,8 +52,9 @@ fn place_from_last(held: &[Held], handle: u32) -> Option<usize>
 
 /// Where a handle stands, found by halving.
 fn place_by_halving(held: &[Held], handle: u32) -> Option<usize>
-    requires { Ascend held.now }
-    ensures { MatchOption result (Absent handle held.now) (λ place. IsAt handle held.now place) }
+    requires { MappingsAscend held.now }
+    ensures { MatchOption result (HasNoMapping handle held.now)
+        (λ place. IsMappingAt handle held.now place) }
 {
     match held.binary_search_by_key(&handle, |held| held.handle) {
         Ok(place) => Some(place),
@@ -63,8 +64,9 @@ fn place_by_halving(held: &[Held], handle: u32) -> Option<usize>
 
 /// Where a handle stands.
 fn place_of(held: &[Held], handle: u32) -> Option<usize>
-    requires { Ascend held.now }
-    ensures { MatchOption result (Absent handle held.now) (λ place. IsAt handle held.now place) }
+    requires { MappingsAscend held.now }
+    ensures { MatchOption result (HasNoMapping handle held.now)
+        (λ place. IsMappingAt handle held.now place) }
 {
     match place_from_last(held, handle) {
         Some(place) => Some(place),
@@ -73,8 +75,8 @@ fn place_of(held: &[Held], handle: u32) -> Option<usize>
 }
 
 fn find_held(held: &[Held], handle: u32) -> Option<&NotificationId>
-    requires { Ascend held.now }
-    ensures { option_copied result ≡ id_at handle (live held.now) }
+    requires { MappingsAscend held.now }
+    ensures { option_copied result ≡ id_at handle (live_mappings held.now) }
 {
     let place = place_of(held, handle)?;
     held[place].id.as_ref()
@@ -93,7 +95,7 @@ fn find_mapped(mappings: &[Mapping], handle: u32) -> Option<&NotificationId>
 
 /// Whether a handle is greater than all these.
 fn is_above(held: &[Held], handle: u32) -> bool
-    requires { Ascend held.now }
+    requires { MappingsAscend held.now }
     ensures above { result ≡ true → AllUnder held.now handle }
     ensures wherever { AllUnder held.now handle → result ≡ true }
 {
@@ -113,10 +115,10 @@ fn give_up(held: &mut Held) -> bool
 
 /// Forgets a handle, and tells whether it stood for an id.
 fn forget(held: &mut Vec<Held>, handle: u32) -> bool
-    requires { Ascend held.old.items }
-    ensures result { result ≡ is_some (id_at handle (live held.old.items)) }
-    ensures left { live held.new.items ≡ unmapped handle (live held.old.items) }
-    ensures ascend { Ascend held.new.items }
+    requires { MappingsAscend held.old.items }
+    ensures result { result ≡ is_some (id_at handle (live_mappings held.old.items)) }
+    ensures left { live_mappings held.new.items ≡ unmapped handle (live_mappings held.old.items) }
+    ensures ascend { MappingsAscend held.new.items }
 {
     match place_of(held, handle) {
         None => false,

@@ -4,7 +4,7 @@ ghost use Rattle.std.specs.Cmp.{partial_equiv_from_equiv};
 ghost use Rattle.std.specs.Cmp.Lexicographic.{nat_list_cmp_total, nat_list_eq_equiv, pointwise, slice_cmp, texts_po, texts_ties};
 ghost use Rattle.std.specs.Ordering.{nat_cmp};
 ghost use Rattle.std.specs.Prelude.{nat_eq};
-ghost use Rattle.vm_parts.specs.StateKeys.{IsFront};
+ghost use Rattle.vm_parts.specs.StateKeys.{IsKeyNumber};
 
 use std::cmp::Ordering;
 use std::marker::Model;
@@ -20,18 +20,18 @@ pub struct StateKey {
 
 impl Model for StateKey {
     ghost use Rattle.std.specs.Prelude.{List, ℕ};
-    ghost use Rattle.vm_parts.specs.StateKeys.{IsFront};
+    ghost use Rattle.vm_parts.specs.StateKeys.{IsKeyNumber};
 
     ghost Value = { List ℕ };
 
     ghost view = { λ key. key.text };
 
-    ghost invariant = { λ key. IsFront key.front key.text };
+    ghost invariant = { λ key. IsKeyNumber key.front key.text };
 }
 
 /// The first eight bytes as a number, the most significant first; a shorter text is filled with zeros.
 fn front_of(bytes: &[u8]) -> u64
-    ensures { IsFront result bytes.now }
+    ensures { IsKeyNumber result bytes.now }
 {
     let mut number = 0u64;
     for i in 0..8 {

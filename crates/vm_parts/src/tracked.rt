@@ -1,7 +1,7 @@
 //! Calls whose invocations are cancelled with the handler's, by the handles of their invocations' ids.
 ghost use Rattle.std.specs.Prelude.{◌≡◌, ◌≤◌, [], IfOk, OnOk, OnErr, MatchOption, MatchResult, length, take};
 ghost use Rattle.std.specs.Option.{option_copied};
-ghost use Rattle.vm_parts.specs.Tracked.{unresolved, with_call, with_next_id, Notes, IsFirst, Ascend, IsAt, IsBetween, IsNext};
+ghost use Rattle.vm_parts.specs.Tracked.{unresolved_handles, with_call, with_next_id, NotesId, IsFirstHandle, TrackedAscend, IsTrackedAt, IsBetween, IsNextUnresolved};
 
 use crate::run_state::TrackedCall;
 use std::alloc::{AllocError, Global};
@@ -31,8 +31,8 @@ impl Model for TrackedCalls {
 
 /// The place of a handle's call, or the place where one belongs. That is mostly the end, which is tried first.
 fn place_of(calls: &[TrackedCall], handle: u32) -> Result<usize, usize>
-    requires { Ascend calls.now }
-    ensures { MatchResult result (IsAt handle calls.now) (IsBetween handle calls.now) }
+    requires { TrackedAscend calls.now }
+    ensures { MatchResult result (IsTrackedAt handle calls.now) (IsBetween handle calls.now) }
 {
     if let Some(last) = calls.last()
         && last.handle < handle
@@ -45,8 +45,8 @@ fn place_of(calls: &[TrackedCall], handle: u32) -> Result<usize, usize>
 /// The place of the first call whose id isn't known, where those before are; else the end.
 fn first_unknown(calls: &[TrackedCall], from: usize) -> usize
     requires within { from ≤ length calls.now }
-    requires known { unresolved (take from calls.now) ≡ [] }
-    ensures { IsNext calls.now result }
+    requires known { unresolved_handles (take from calls.now) ≡ [] }
+    ensures { IsNextUnresolved calls.now result }
 {
     for place in from..calls.len() {
         if calls[place].invocation_id.is_none() {
@@ -98,7 +98,7 @@ impl TrackedCalls {
     /// A result of the handle was read, which is this invocation's id, or no id. Tells whether that may be so: of a tracked call it
     /// has to be an id, which is then known.
     pub fn note(&mut self, handle: u32, id: Option<&Text>) -> Result<bool, AllocError>
-        ensures ok { IfOk result (Notes handle (option_copied id.entry) self.old self.new) }
+        ensures ok { IfOk result (NotesId handle (option_copied id.entry) self.old self.new) }
         ensures err { OnErr result (self.new ≡ self.old) }
     {
         let Ok(place) = place_of(&self.calls, handle) else {
@@ -114,8 +114,8 @@ impl TrackedCalls {
 
     /// The handle of the first call whose id isn't known.
     pub fn first_unresolved(&mut self) -> Option<u32>
-        ensures first { MatchOption result (unresolved self.old
-            ≡ []) (IsFirst (unresolved self.old)) }
+        ensures first { MatchOption result (unresolved_handles self.old
+            ≡ []) (IsFirstHandle (unresolved_handles self.old)) }
         ensures left { self.new ≡ self.old }
     {
         self.resolved = first_unknown(&self.calls, self.resolved);

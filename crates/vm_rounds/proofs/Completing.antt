@@ -11,7 +11,7 @@ use Rattle.journal_values.specs.declared.notification.Notification.{Notification
 use Rattle.vm_parts.specs.declared.context.StateMap.{StateMap}
 use Rattle.vm_asks.specs.Carried.{carried_by, read_carried}
 use Rattle.vm_model.specs.Calls.{Meaning, Setup}
-use Rattle.vm_model.specs.Carried.{AreCarried, ComeOnce, is_among, is_carried, read_carries}
+use Rattle.vm_model.specs.Carried.{AreCarried, ComeOnce, is_id_among, is_carried, read_carries}
 use Rattle.vm_model.specs.Journal.{input_read_from, notifications_in}
 use Rattle.vm_model.specs.Histories.{History, Told}
 use Rattle.vm_model.proofs.Carried.{completions_once, input_carries, typed}
@@ -29,7 +29,7 @@ stored_input raw input reads id = by_read (message_in raw.ty raw.body) refl
   where
     by_read : (o : Option Message) → message_in raw.ty raw.body ≡ o → read_carries id o ≡ false
     by_read None is = refl
-    by_read (Some m) is = ap (is_among id) (input_carries m (type_read raw.ty raw.body m is ∙ typed raw.ty type.InputCommand (input_type raw input reads)))
+    by_read (Some m) is = ap (is_id_among id) (input_carries m (type_read raw.ty raw.body m is ∙ typed raw.ty type.InputCommand (input_type raw input reads)))
 
 -- it carries none at all
 pub input_carries_none : (raw : RawMessage) (input : InputCommand) → input_read_from raw ≡ Some input → carried_by raw ≡ []

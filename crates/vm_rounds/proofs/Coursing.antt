@@ -9,7 +9,7 @@ use Rattle.journal_values.specs.declared.notification.Notification.{Notification
 use Rattle.invocation_vm.specs.Frames.{Tail, frames_of}
 use Rattle.invocation_vm.proofs.Cuts.{frames_of-append}
 use Rattle.vm_model.specs.Calls.{Meaning}
-use Rattle.vm_model.specs.Histories.{IsPrefix, behind}
+use Rattle.vm_model.specs.Histories.{IsPrefix, after_head}
 use Rattle.vm_model.specs.HonestRounds.{ahead_of}
 use Rattle.vm_model.specs.Journal.{Entry, Recorded, Notified, commands_in, notifications_in}
 use Rattle.vm_model.proofs.Lasting.{commands-append, notifications-append}
@@ -19,7 +19,7 @@ use Rattle.vm_attempt.specs.Arrivals.{AllFound, arriving, kept_after, kept_behin
 use Rattle.vm_steps.specs.Heard.{acknowledged_from, proposals_among}
 use Rattle.vm_attempt.specs.Journals.{commands_among}
 use Rattle.vm_steps.specs.Record.{Record, bytes_written, heard}
-use Rattle.vm_steps.specs.Stepping.{taken_from}
+use Rattle.vm_steps.specs.Stepping.{output_taken}
 use Rattle.vm_attempt.specs.Told.{arrivals_of, bytes_in, frames_fed, written_by}
 use Rattle.vm_attempt.proofs.Finishing.{acknowledged_more}
 use Rattle.vm_attempt.proofs.Pieces.{commands_append, more_frames}
@@ -57,9 +57,9 @@ drop_grows (suc k) (x ∷ xs) rest = drop_grows k xs rest
 dropped : {A : Type 0} (k : ℕ) (old new : List A) → IsPrefix old new → IsPrefix (drop k old) (drop k new)
 dropped k old new (rest, e) = subst (λ l. IsPrefix (drop k old) (drop k l)) (sym e) (drop_grows k old rest)
 
-behind_grows : {A : Type 0} (old new : List A) → IsPrefix old new → IsPrefix (behind old) (behind new)
-behind_grows [] new h = (behind new, refl)
-behind_grows (x ∷ xs) new (rest, e) = (rest, ap behind e)
+behind_grows : {A : Type 0} (old new : List A) → IsPrefix old new → IsPrefix (after_head old) (after_head new)
+behind_grows [] new h = (after_head new, refl)
+behind_grows (x ∷ xs) new (rest, e) = (rest, ap after_head e)
 
 -- ---- what grows as an event happens
 
@@ -110,7 +110,7 @@ pieces_add false n now mid (result, r, d, is) =
     let t = fed piece now.attempt result r d in
     by_attempt now mid r (ap (λ x. x.journal) is) (ap (λ x. x.attempt) is) (bytes_grow now.attempt r (feed_wrote piece now.attempt result r d)) (takes piece now.attempt r t.0) (same_prefix now.attempt.proposed r.proposed t.2)
 
-taken_same : (r : Record) → bytes_written (taken_from r) ≡ bytes_written r
+taken_same : (r : Record) → bytes_written (output_taken r) ≡ bytes_written r
 taken_same r =
     let out = concat r.vm.machine.output in
     append-nil (concat (r.taken ++ out ∷ [])) ∙ concat-append r.taken (out ∷ []) ∙ ap (λ l. concat r.taken ++ l) (append-nil out)
@@ -280,7 +280,7 @@ module _ (m : Meaning) (version : Version) (start : List ℕ) (raw : RawMessage)
       (more.0, sym (ap (λ (p : List RawMessage × Tail). p.0) (all_frames now g)) ∙ ap (λ b. (frames_of b).0) bytes ∙ ap (λ (p : List RawMessage × Tail). p.0) (frames_of-append F unfed) ∙ more.1)
 
   -- what has come after Start is a beginning of the journal and of what came after it
-  fed_behind : (now : Now) (g : Going version start first now) → IsPrefix (behind (frames_fed (heard version now.attempt))) (journal_frames first ++ g.came)
+  fed_behind : (now : Now) (g : Going version start first now) → IsPrefix (after_head (frames_fed (heard version now.attempt))) (journal_frames first ++ g.came)
   fed_behind now g = behind_grows (frames_fed (heard version now.attempt)) (raw ∷ (journal_frames first ++ g.came)) (fed_frames now g)
 
   -- what was proposed can be acknowledged
@@ -301,16 +301,16 @@ module _ (m : Meaning) (version : Version) (start : List ℕ) (raw : RawMessage)
       )
 
   -- what was fed finds its proposals
-  fed_found : (now : Now) (g : Going version start first now) → AllFound (proposed_to now) (behind (frames_fed (heard version now.attempt)))
+  fed_found : (now : Now) (g : Going version start first now) → AllFound (proposed_to now) (after_head (frames_fed (heard version now.attempt)))
   fed_found now g =
       let p = fed_behind now g in
-      found_front (proposed_to now) (behind (frames_fed (heard version now.attempt))) p.0 (subst (AllFound (proposed_to now)) p.1 (all_brought now g).0)
+      found_front (proposed_to now) (after_head (frames_fed (heard version now.attempt))) p.0 (subst (AllFound (proposed_to now)) p.1 (all_brought now g).0)
 
   -- what was delivered after the first journal begins what came after it
   pub delivered_arrived : (now : Now) (g : Going version start first now) → IsPrefix (delivered version first now.attempt) (notifications_in (behind_first g))
   delivered_arrived now g =
       let k = length (notes_in first) in
-      let came = arrivals_front (proposed_to now) (behind (frames_fed (heard version now.attempt))) (journal_frames first ++ g.came) (fed_behind now g) in
+      let came = arrivals_front (proposed_to now) (after_head (frames_fed (heard version now.attempt))) (journal_frames first ++ g.came) (fed_behind now g) in
       subst (IsPrefix (delivered version first now.attempt))
       (ap (drop k) (all_brought now g).1 ∙ new_behind (notes_in first) (notes_in g.added) ∙ sym (behind_notes version start first now g))
       (dropped k (arrivals_of (heard version now.attempt)) (arriving (proposed_to now) (journal_frames first ++ g.came)) came)
@@ -320,7 +320,7 @@ module _ (m : Meaning) (version : Version) (start : List ℕ) (raw : RawMessage)
   delivers now mid g b =
       let frames = behind_grows (frames_fed (heard version now.attempt)) (frames_fed (heard version mid.attempt)) (frames_grow (bytes_in now.attempt.fed) (bytes_in mid.attempt.fed) b.fed) in
       dropped (length (notes_in first)) (arrivals_of (heard version now.attempt)) (arrivals_of (heard version mid.attempt))
-      (arrivals_grow version now.attempt.proposed mid.attempt.proposed (behind (frames_fed (heard version now.attempt))) (behind (frames_fed (heard version mid.attempt))) b.proposed frames (fed_found now g))
+      (arrivals_grow version now.attempt.proposed mid.attempt.proposed (after_head (frames_fed (heard version now.attempt))) (after_head (frames_fed (heard version mid.attempt))) b.proposed frames (fed_found now g))
 
   -- The course so far: what was written and delivered, and where the stored commands stand.
   pub record Along (course : List Entry) (now : Now) : Type 0 where

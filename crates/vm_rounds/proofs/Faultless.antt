@@ -20,7 +20,7 @@ use Rattle.vm_parts.specs.Outboxes.{WholeFrames}
 use Rattle.vm_asks.specs.Carried.{all_carried}
 use Rattle.vm_machine.specs.declared.machine.Machine.{Machine}
 use Rattle.vm_machine.specs.Commands.{knows_next}
-use Rattle.vm_model.specs.Calls.{Meaning, Setup, ready_after}
+use Rattle.vm_model.specs.Calls.{Meaning, Setup, ready_by_usage}
 use Rattle.vm_model.specs.Histories.{Handed, History, IsPrefix, Made}
 use Rattle.vm_model.specs.Journal.{notifications_in, stored_form}
 use Rattle.vm_model.specs.Moves.{Point, after, start as first_point}
@@ -37,7 +37,7 @@ use Rattle.vm_attempt.proofs.Pieces.{commands_append}
 use Rattle.vm_attempt.proofs.Replayed.{commands_same, notes_same}
 use Rattle.vm_attempt.proofs.Written.{Fits, frames_spelled, taken_first, written_is}
 use Rattle.vm_steps.specs.Record.{heard}
-use Rattle.vm_steps.specs.Stepping.{fresh_record, taken_from}
+use Rattle.vm_steps.specs.Stepping.{fresh_record, output_taken}
 use Rattle.vm_store.specs.declared.types.Event.{Event}
 use Rattle.vm_store.specs.declared.types.Event.TheVariants as event
 use Rattle.vm_store.specs.declared.types.Round.{Round}
@@ -145,8 +145,8 @@ module _ (m : Meaning) (w : Setting) (begin_bytes : List ℕ) (raw : RawMessage)
         record {
           recorded = λ raw rest is. run_left raw rest (sym (ap (λ (x : Machine). x.commands) a.machine) ∙ is);
           free = λ unknown.
-              let here : is_known (CompletionId at.derived.counters.completion) (record { queued = at.queue; ready = ready_after s.options.signal_delivery at.derived.usage; handles = at.derived.handles }) ≡ false =
-              ap (λ (o : VMOptions). is_known (CompletionId at.derived.counters.completion) (record { queued = at.queue; ready = ready_after o.signal_delivery at.derived.usage; handles = at.derived.handles })) (sym options) ∙ sym (ap knows_next a.machine) ∙ unknown in
+              let here : is_known (CompletionId at.derived.counters.completion) (record { queued = at.queue; ready = ready_by_usage s.options.signal_delivery at.derived.usage; handles = at.derived.handles }) ≡ false =
+              ap (λ (o : VMOptions). is_known (CompletionId at.derived.counters.completion) (record { queued = at.queue; ready = ready_by_usage o.signal_delivery at.derived.usage; handles = at.derived.handles })) (sym options) ∙ sym (ap knows_next a.machine) ∙ unknown in
               let open_yet = unknown_open s m b.moves past.input (came now) (past.rest ++ b.written) at run_after at.derived.counters.completion (same_number at.derived.counters.completion) here in
               subst (λ (x : ℕ × List Notification). completes_id x.0 x.1 ≡ false) (λ i. (sym next i, sym (notes_are old ∙ sym (notes_same (journal_frames old))) i)) (front_open at.derived.counters.completion (notifications_in (journal_entries old)) (delivered w.version old now.attempt) open_yet);
         }
@@ -238,7 +238,7 @@ module _ (m : Meaning) (w : Setting) (begin_bytes : List ℕ) (raw : RawMessage)
   -- what is stored stays so
   stores_stored : (n : ℕ) (now : Now) (journal : List (List ℕ)) (waiting unstored : List ℕ) (g : Going w.version begin_bytes old now) (kept : Kept now) (x : Stored now) (p : Proposes ns past.rest now.attempt) (f : WholeFrames now.attempt.vm.machine.output)
       → Stores w.version n (now.unstored ++ concat now.attempt.vm.machine.output) now.journal now.waiting journal waiting unstored
-      → Stored (record now { journal = journal; waiting = waiting; output = now.output ++ concat now.attempt.vm.machine.output; unstored = unstored; attempt = taken_from now.attempt })
+      → Stored (record now { journal = journal; waiting = waiting; output = now.output ++ concat now.attempt.vm.machine.output; unstored = unstored; attempt = output_taken now.attempt })
   stores_stored n now journal waiting unstored g kept x p f d =
       let more = concat now.attempt.vm.machine.output in
       let W = written_among x.seen in

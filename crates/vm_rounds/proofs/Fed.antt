@@ -23,7 +23,7 @@ use Rattle.vm_machine.specs.Inputs.{coverage_of, entries_in}
 use Rattle.vm_model.specs.Calls.{Setup}
 use Rattle.vm_model.specs.Carried.{AreOfTheirKind}
 use Rattle.vm_model.specs.Deliveries.{HasNoTwo}
-use Rattle.vm_model.specs.Histories.{Handed, History, Made, behind}
+use Rattle.vm_model.specs.Histories.{Handed, History, Made, after_head}
 use Rattle.vm_model.specs.Journal.{input_read_from, notifications_in}
 use Rattle.vm_model.specs.Moves.{Point, later, start as first_point}
 use Rattle.vm_model.proofs.RightKinds.{fewer_kinds}
@@ -250,7 +250,7 @@ module _ (fixed : Fixed) (fed : Heard) (st : Start) (J N : List RawMessage) (s :
       let quiet = all_quiet J h.entries in
       found_append fed.proposed J N (none_found fed.proposed J quiet) (subst (λ ps. AllFound ps N) (sym (kept_all fed.proposed J quiet)) h.found)
 
-  finds : (before : List RawMessage) (raw : RawMessage) (rest : List RawMessage) → S ∷ (J ++ N) ≡ before ++ raw ∷ rest → is_acknowledgement raw ≡ true → acknowledgement_body_fault (kept_after fed.proposed (behind before)) (acknowledgement_in raw.body) ≡ None
+  finds : (before : List RawMessage) (raw : RawMessage) (rest : List RawMessage) → S ∷ (J ++ N) ≡ before ++ raw ∷ rest → is_acknowledgement raw ≡ true → acknowledgement_body_fault (kept_after fed.proposed (after_head before)) (acknowledgement_in raw.body) ≡ None
   finds [] raw rest is acknowledges = absurd (let z : false ≡ true = sym start_quiet ∙ ap is_acknowledgement (head_same S raw (J ++ N) rest is) ∙ acknowledges in cc)
   finds (b ∷ before) raw rest is acknowledges =
       let tail = tail_same S b (J ++ N) (before ++ raw ∷ rest) is in

@@ -21,7 +21,7 @@ use Rattle.vm_steps.specs.declared.progress.Progress.{Progress}
 use Rattle.vm_steps.specs.declared.progress.Reply.{Reply}
 use Rattle.vm_steps.specs.declared.progress.Reply.TheVariants as reply
 use Rattle.vm_steps.specs.Record.{Record}
-use Rattle.vm_steps.specs.Stepping.{Advances, CloseDoes, FeedDoes, Feeds, FinishDoes, Reads, StepAt, StepDoes, StepFrom, StepUnless, fed_now, future_in, kept_at, noted_at, replied, step_asked, with_vm}
+use Rattle.vm_steps.specs.Stepping.{Advances, CloseDoes, FeedDoes, FeedsPiece, FinishDoes, InputIsRead, StepAt, StepDoes, StepFrom, StepUnless, fed_now, future_in, kept_at, noted_at, replied, step_asked, with_vm}
 use Rattle.vm_attempt.specs.Told.{bytes_in}
 use Rattle.vm_attempt.proofs.Finishing.{Finished, finished}
 use Rattle.vm_attempt.proofs.Kept.{closed_input, piece_dropped}
@@ -70,7 +70,7 @@ replied_fed r future (Ok reply.Suspended) w = (refl, refl, refl, refl)
 replied_fed r future (Ok reply.Ended) w = (refl, refl, refl, refl)
 replied_fed r future (Err e) w = (refl, refl, refl, refl)
 
-reads_fed : (r : Record) (result : Result Progress Error) (new : Record) → Reads r result new → (new.fed ≡ r.fed) × (new.taken ≡ r.taken) × (new.proposed ≡ r.proposed) × (new.late ≡ r.late)
+reads_fed : (r : Record) (result : Result Progress Error) (new : Record) → InputIsRead r result new → (new.fed ≡ r.fed) × (new.taken ≡ r.taken) × (new.proposed ≡ r.proposed) × (new.late ≡ r.late)
 reads_fed r (Ok g) new h = (ap (λ x. x.fed) h.1.3, ap (λ x. x.taken) h.1.3, ap (λ x. x.proposed) h.1.3, ap (λ x. x.late) h.1.3)
 reads_fed r (Err f) new h = (ap (λ x. x.fed) h.2, ap (λ x. x.taken) h.2, ap (λ x. x.proposed) h.2, ap (λ x. x.late) h.2)
 
@@ -138,7 +138,7 @@ feeds_taken r piece w None WaitingReplayEntries = (refl, refl)
 feeds_taken r piece w None Replaying = (refl, refl)
 feeds_taken r piece w None Processing = (refl, refl)
 
-feeds : (piece : List ℕ) (r : Record) (result : Result Unit AllocError) (new : Record) → r.starved ≡ false → Feeds piece r result new → Takes piece r new × (new.taken ≡ r.taken) × (new.proposed ≡ r.proposed)
+feeds : (piece : List ℕ) (r : Record) (result : Result Unit AllocError) (new : Record) → r.starved ≡ false → FeedsPiece piece r result new → Takes piece r new × (new.taken ≡ r.taken) × (new.proposed ≡ r.proposed)
 feeds piece r (Ok t) new s d = (subst (Takes piece r) (sym d) (vm_takes r piece (after_input r.vm piece) r.vm.machine.failure r.vm.machine.phase s refl refl (inr refl)), ap (λ x. x.taken) d ∙ (feeds_taken r piece (after_input r.vm piece) r.vm.machine.failure r.vm.machine.phase).0, ap (λ x. x.proposed) d ∙ (feeds_taken r piece (after_input r.vm piece) r.vm.machine.failure r.vm.machine.phase).1)
 feeds piece r (Err e) new s (inl d) = (inl (ap (λ x. bytes_in x.fed) d, λ o. let z : true ≡ false = sym (ap (λ x. x.starved) d) ∙ o.starved in cc), ap (λ x. x.taken) d, ap (λ x. x.proposed) d)
 feeds piece r (Err e) new s (inr (w, dead, d)) = (subst (Takes piece r) (sym d) (vm_takes r piece w r.vm.machine.failure r.vm.machine.phase s refl refl (inl (among_failed _ r.vm.machine w.machine dead))), ap (λ x. x.taken) d ∙ (feeds_taken r piece w r.vm.machine.failure r.vm.machine.phase).0, ap (λ x. x.proposed) d ∙ (feeds_taken r piece w r.vm.machine.failure r.vm.machine.phase).1)
@@ -180,7 +180,7 @@ vm_keeps r piece w None WaitingReplayEntries s f p none h = open_keeps r _ piece
 vm_keeps r piece w None Replaying s f p none h = open_keeps r _ piece _ refl (record { starved = s; failure = f }) (none (open_by r Replaying s f p (λ z. cc))) refl refl
 vm_keeps r piece w None Processing s f p none h = open_keeps r _ piece _ refl (record { starved = s; failure = f }) (none (open_by r Processing s f p (λ z. cc))) refl refl
 
-feeds_keep : (piece : List ℕ) (r : Record) (result : Result Unit AllocError) (new : Record) → r.starved ≡ false → (IsOpen r → r.late ≡ []) → Feeds piece r result new → KeepsAll piece r new
+feeds_keep : (piece : List ℕ) (r : Record) (result : Result Unit AllocError) (new : Record) → r.starved ≡ false → (IsOpen r → r.late ≡ []) → FeedsPiece piece r result new → KeepsAll piece r new
 feeds_keep piece r (Ok t) new s none d = subst (KeepsAll piece r) (sym d) (vm_keeps r piece (after_input r.vm piece) r.vm.machine.failure r.vm.machine.phase s refl refl none (inr refl))
 feeds_keep piece r (Err e) new s none (inl d) =
     (inl (ap all_fed d, λ o. let z : true ≡ false = sym (ap (λ x. x.starved) d) ∙ o.starved in cc), λ o. absurd (let z : true ≡ false = sym (ap (λ x. x.starved) d) ∙ o.starved in cc))

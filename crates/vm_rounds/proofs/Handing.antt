@@ -16,7 +16,7 @@ use Rattle.vm_parts.specs.declared.context.StateCoverage.{StateCoverage}
 use Rattle.vm_parts.specs.declared.context.StateCoverage.TheVariants.{Partial, Complete}
 use Rattle.vm_parts.specs.declared.context.StateMap.{StateMap}
 use Rattle.vm_parts.specs.Entries.{IsInOrder, by_bytes, entries_of as state_entries, entry_of, with_entry}
-use Rattle.vm_parts.specs.States.{known, known_by}
+use Rattle.vm_parts.specs.States.{value_known, known_by}
 use Rattle.vm_parts.proofs.Changes.{key_at, known_besides_set, known_set, pairs_in_order}
 use Rattle.vm_machine.specs.Inputs.{coverage_of, entries_in}
 use Rattle.vm_asks.specs.Requests.{changed}
@@ -116,12 +116,12 @@ some_same true (Some None) = inl refl
 some_same true (Some (Some value)) = inr refl
 some_same false o = inl refl
 
-complete : (now : StateMap) (key : List ℕ) → now.coverage ≡ Complete → known_by Complete (entry_of key now.entries) ≡ known key now
+complete : (now : StateMap) (key : List ℕ) → now.coverage ≡ Complete → known_by Complete (entry_of key now.entries) ≡ value_known key now
 complete now key e = ap (λ c. known_by c (entry_of key now.entries)) (sym e)
 
 pub handed_all : (now : StateMap) (keys : List (List ℕ)) → IsInOrder now.entries → now.coverage ≡ Complete → IsAllOf now (handed false keys now)
 handed_all now keys ordered whole =
-    let at : (key : List ℕ) → known key (handed false keys now) ≡ known key now = λ key. known_over (is_asked false keys) Complete key now.entries ordered [] ∙ all_same (entry_of key now.entries) ∙ complete now key whole in
+    let at : (key : List ℕ) → value_known key (handed false keys now) ≡ value_known key now = λ key. known_over (is_asked false keys) Complete key now.entries ordered [] ∙ all_same (entry_of key now.entries) ∙ complete now key whole in
     let in_order = pairs_in_order (pairs_in (is_asked false keys) now.entries) in
     record { in_order = in_order; at = at; keys = one_key_list (handed false keys now) now in_order ordered (sym whole) at }
 
@@ -129,10 +129,10 @@ pub handed_true : (now : StateMap) (partial : Bool) (keys : List (List ℕ)) →
 handed_true now false keys ordered whole = let h = handed_all now keys ordered whole in record { in_order = h.in_order; at = λ key. inr (h.at key); keys = inr h.keys }
 handed_true now true keys ordered whole = record { in_order = pairs_in_order (pairs_in (is_asked true keys) now.entries); at = at; keys = inl refl }
   where
-    at : (key : List ℕ) → (known key (handed true keys now) ≡ Unknown) ⊎ (known key (handed true keys now) ≡ known key now)
+    at : (key : List ℕ) → (value_known key (handed true keys now) ≡ Unknown) ⊎ (value_known key (handed true keys now) ≡ value_known key now)
     at key =
         let e = known_over (is_asked true keys) Partial key now.entries ordered [] in
-        let K : Type 0 = (known key (handed true keys now) ≡ Unknown) ⊎ (known key (handed true keys now) ≡ known key now) in
+        let K : Type 0 = (value_known key (handed true keys now) ≡ Unknown) ⊎ (value_known key (handed true keys now) ≡ value_known key now) in
         elim (some_same (is_asked true keys key) (entry_of key now.entries)) [ inl u ↦ inl (e ∙ u) | inr u ↦ inr (e ∙ u ∙ complete now key whole) ]
 
 -- ---- of a journal

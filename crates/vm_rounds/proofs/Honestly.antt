@@ -8,7 +8,7 @@ use Rattle.journal_errors.specs.Types.{type_number}
 use Rattle.journal_messages.specs.declared.message.RawMessage.{RawMessage}
 use Rattle.journal_messages.specs.Reading.{message_in, start_in}
 use Rattle.journal_values.specs.declared.notification.Notification.{Notification}
-use Rattle.invocation_vm.specs.Frames.{Garbage, Rest, Tail, frames_of, joined}
+use Rattle.invocation_vm.specs.Frames.{Garbage, Rest, Tail, frames_of, frames_joined}
 use Rattle.invocation_vm.proofs.Cuts.{frames_of-append}
 use Rattle.vm_asks.specs.Carried.{all_carried}
 use Rattle.vm_parts.specs.declared.context.StateMap.{StateMap}
@@ -56,7 +56,7 @@ record Begins (F : List RawMessage) (t : Tail) (raws : List RawMessage) : Type 0
   others : List RawMessage
   all : F ++ others ≡ raws
 
-begins_by : (F : List RawMessage) (t : Tail) (unfed : List ℕ) (raws : List RawMessage) → joined (F, t) unfed ≡ (raws, Rest []) → Begins F t raws
+begins_by : (F : List RawMessage) (t : Tail) (unfed : List ℕ) (raws : List RawMessage) → frames_joined (F, t) unfed ≡ (raws, Rest []) → Begins F t raws
 begins_by F (Rest bytes) unfed raws is = record { clean = λ h. absurd (cc); others = (frames_of (bytes ++ unfed)).0; all = ap (λ p. p.0) is }
 begins_by F Garbage unfed raws is = absurd (let z : Garbage ≡ Rest [] = ap (λ p. p.1) is in cc)
 

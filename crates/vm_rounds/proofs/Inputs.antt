@@ -13,7 +13,7 @@ use Rattle.vm_parts.specs.declared.context.StateMap.{StateMap}
 use Rattle.vm_model.specs.Calls.{Meaning, Setup}
 use Rattle.vm_model.specs.Journal.{Entry, commands_in, input_read_from, messages_in, read_before}
 use Rattle.vm_model.specs.Moves.{changed_by}
-use Rattle.vm_model.specs.Histories.{History, behind}
+use Rattle.vm_model.specs.Histories.{History, after_head}
 use Rattle.vm_model.proofs.Stored.{changes_state, unchanged}
 
 -- a journal begins with an input
@@ -39,8 +39,8 @@ changes_nothing type.ClearAllStateCommand e = absurd (let z : false ≡ true = e
 changes_nothing ty e = refl
 
 -- the input changes no state
-pub input_says : (journal : List Entry) (b : Begins journal) (g : StateMap) → changed_by (messages_in (commands_in journal)) g ≡ changed_by (messages_in (behind (commands_in journal))) g
-input_says journal b g = ap (λ l. changed_by (messages_in l) g) b.commands ∙ by_message (message_in b.first.ty b.first.body) refl ∙ ap (λ l. changed_by (messages_in (behind l)) g) (sym b.commands)
+pub input_says : (journal : List Entry) (b : Begins journal) (g : StateMap) → changed_by (messages_in (commands_in journal)) g ≡ changed_by (messages_in (after_head (commands_in journal))) g
+input_says journal b g = ap (λ l. changed_by (messages_in l) g) b.commands ∙ by_message (message_in b.first.ty b.first.body) refl ∙ ap (λ l. changed_by (messages_in (after_head l)) g) (sym b.commands)
   where
     by_message : (o : Option Message) → message_in b.first.ty b.first.body ≡ o → changed_by (read_before o (messages_in b.rest)) g ≡ changed_by (messages_in b.rest) g
     by_message None is = refl

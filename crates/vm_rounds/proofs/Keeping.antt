@@ -16,7 +16,7 @@ use Rattle.vm_model.specs.Histories.{IsPrefix}
 use Rattle.vm_steps.specs.Heard.{proposals_among, proposals_in}
 use Rattle.vm_attempt.specs.Journals.{commands_among, is_command_frame, is_notification, notified_by}
 use Rattle.vm_steps.specs.Record.{Record, bytes_written}
-use Rattle.vm_steps.specs.Stepping.{taken_from}
+use Rattle.vm_steps.specs.Stepping.{output_taken}
 use Rattle.vm_attempt.specs.Told.{bytes_in}
 use Rattle.vm_attempt.proofs.Pieces.{commands_append}
 use Rattle.vm_attempt.proofs.Quiet.{proposals_append}
@@ -224,7 +224,7 @@ module _ (m : Meaning) (version : Version) (start : List ℕ) (first : List (Lis
       }
 
   stores : (n : ℕ) (now : Now) (journal : List (List ℕ)) (waiting unstored : List ℕ) → Stores version n (now.unstored ++ concat now.attempt.vm.machine.output) now.journal now.waiting journal waiting unstored → now.attempt.proposed ≡ proposals_in (bytes_written now.attempt) → Going version start first now
-      → Going version start first (record now { journal = journal; waiting = waiting; output = now.output ++ concat now.attempt.vm.machine.output; unstored = unstored; attempt = taken_from now.attempt })
+      → Going version start first (record now { journal = journal; waiting = waiting; output = now.output ++ concat now.attempt.vm.machine.output; unstored = unstored; attempt = output_taken now.attempt })
   stores n now journal waiting unstored s proposed g =
       let more = concat now.attempt.vm.machine.output in
       let W = written_among s.seen in

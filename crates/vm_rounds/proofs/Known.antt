@@ -11,7 +11,7 @@ use Rattle.journal_values.specs.declared.notification.NotificationId.{Notificati
 use Rattle.journal_values.specs.declared.notification.NotificationId.TheVariants.{CompletionId, SignalId, SignalName}
 use Rattle.journal_values.specs.declared.notification.NotificationResult.{NotificationResult}
 use Rattle.arrivals.specs.Ids.{same_id}
-use Rattle.arrivals.specs.Results.{has_result_among, without_all, without_first}
+use Rattle.arrivals.specs.Results.{has_result_among, without_all, without_oldest}
 use Rattle.vm_types.specs.declared.options.SignalDelivery.{SignalDelivery}
 use Rattle.vm_types.specs.declared.steps.Answer.{Answer}
 use Rattle.vm_types.specs.declared.steps.Step.{Step}
@@ -19,9 +19,9 @@ use Rattle.await_trees.specs.declared.handle.NotificationHandle.{NotificationHan
 use Rattle.await_trees.specs.declared.tree.UnresolvedFuture.{UnresolvedFuture}
 use Rattle.vm_parts.specs.declared.run_state.TrackedCall.{TrackedCall}
 use Rattle.vm_types.specs.declared.values.Value.{Value}
-use Rattle.vm_parts.specs.Counting.{missing, missing_signals}
-use Rattle.vm_parts.specs.Deliveries.{has_result, id_at, is_known, is_listed, left_among, present_for}
-use Rattle.vm_parts.specs.Tracked.{id_of_result, id_of_value, invocation_ids, noted, unresolved}
+use Rattle.vm_parts.specs.Counting.{missing_number, missing_signals}
+use Rattle.vm_parts.specs.Deliveries.{has_result, id_at, is_known, is_listed, left_among, present_result_for}
+use Rattle.vm_parts.specs.Tracked.{id_of_result, id_of_value, invocation_ids, id_noted, unresolved_handles}
 use Rattle.vm_types.specs.Values.{value_of}
 use Rattle.vm_asks.specs.declared.asks.Ask.{Ask}
 use Rattle.vm_asks.specs.declared.asks.Ask.TheVariants as ask
@@ -31,13 +31,13 @@ use Rattle.vm_asks.specs.declared.state_read.StateRead.{StateRead}
 use Rattle.vm_asks.specs.Asks.{all_ids, ask_of}
 use Rattle.vm_asks.specs.Requests.{ids_of}
 use Rattle.vm_machine.specs.Skips.{skips_replay}
-use Rattle.vm_model.specs.Calls.{Setup, Meaning, Derived, Demand, Move, Usage, asked, awaited, awakeable_made, awaiting, cancel_sent, cancel_taken, cancelled, cancelling, commanding, id_awaited, id_read, is_awake, is_cancelled_in, making_awakeable, numbered, reading, ready_after, ready_in, result_taken, signal_made, value_noted, value_taken, Turn, part, part_unless, refused_before, turn_after}
+use Rattle.vm_model.specs.Calls.{Setup, Meaning, Derived, Demand, Move, Usage, asked, awaited, awakeable_made, awaiting, cancel_sent, with_cancel_taken, cancelled, cancelling, commanding, id_awaited, id_read, is_awake, is_cancelled_in, making_awakeable, numbered, reading, ready_by_usage, ready_in, take_of_result, signal_made, take_noting_id, take_of_value, Turn, part, part_unless, refused_before, turn_after}
 use Rattle.vm_model.specs.Calls.Move.{Answers, Needs, Awaits, Ends, Refuses}
 use Rattle.vm_model.specs.Calls.Usage.{Used, Read, Taken}
 use Rattle.vm_model.specs.Deliveries.{arrived_at}
-use Rattle.vm_model.specs.Moves.{Point, after, and_then, brought, command_used, found, move_at, moved, next, start, uses_arrival, uses_command}
+use Rattle.vm_model.specs.Moves.{Point, after, and_then, with_read_result, command_used, found, move_at, moved, next, start, uses_arrival, uses_command}
 use Rattle.vm_model.specs.Sums.{calls_after, calls_for, completion_ids, completion_ids_in, signal_ids, total}
-use Rattle.vm_model.specs.Uses.{arrivals_in, given_for, ids_from, ids_given, item}
+use Rattle.vm_model.specs.Uses.{arrivals_in, given_for, ids_from, ids_of_steps, item}
 use Rattle.vm_model.proofs.Compared.{after_answers}
 use Rattle.vm_model.proofs.Parts.{turn_splits}
 use Rattle.vm_model.proofs.Results.{same_is}
@@ -82,7 +82,7 @@ module _ (s : Setup) (i : ℕ) where
 
   commanding_leaves : (c : Command) (o : Option NamedFault) (d : Derived) → Untaken i d.usage → UntakenAfter i (commanding s c o d)
   commanding_leaves c (Some fault) d h = tt
-  commanding_leaves c None d h = numbered_leaves c (missing (ids_of c.message) 0 (ids_of c.message) d.counters) d h
+  commanding_leaves c None d h = numbered_leaves c (missing_number (ids_of c.message) 0 (ids_of c.message) d.counters) d h
 
   part_leaves : (kind : AnswerKind) (c : Command) (cs : List Command) (before d : Derived) → Untaken i before.usage → Untaken i d.usage → UntakenAfter i (part s kind c cs before d)
   part_leaves kind c [] before d h k = h
@@ -113,7 +113,7 @@ module _ (s : Setup) (i : ℕ) where
   awaiting_leaves false d h = tt
 
   -- the cancel handle doesn't stand for it
-  cancel_leaves : (o : Option NotificationId) (d : Derived) → (o ≡ Some (CompletionId i) → ⊥) → Untaken i d.usage → Untaken i (cancel_taken o (record d { tracked = [] })).usage
+  cancel_leaves : (o : Option NotificationId) (d : Derived) → (o ≡ Some (CompletionId i) → ⊥) → Untaken i d.usage → Untaken i (with_cancel_taken o (record d { tracked = [] })).usage
   cancel_leaves None d apart h = h
   cancel_leaves (Some id) d apart h = (untaken_by i id (λ e. apart (ap (λ x. Some x) e)), h)
 
@@ -131,25 +131,25 @@ module _ (s : Setup) (i : ℕ) where
 
   cancelling_leaves : (ids : List (List ℕ)) (d : Derived) → NoHandle i d → Untaken i d.usage → UntakenAfter i (cancelling s ids d)
   cancelling_leaves [] d none h = cancel_leaves (id_at 1 d.handles) d (none 1) h
-  cancelling_leaves (id ∷ ids) d none h = sent_leaves id (missing 0 0 0 d.counters) d h
+  cancelling_leaves (id ∷ ids) d none h = sent_leaves id (missing_number 0 0 0 d.counters) d h
 
   cancelled_leaves : (handles : List ℕ) (d : Derived) → NoHandle i d → Untaken i d.usage → UntakenAfter i (cancelled s handles d)
   cancelled_leaves [] d none h = cancelling_leaves (invocation_ids d.tracked) d none h
-  cancelled_leaves (handle ∷ handles) d none h = id_leaves (present_for s.options.signal_delivery (id_at handle d.handles) (ready_in s d)) d h
+  cancelled_leaves (handle ∷ handles) d none h = id_leaves (present_result_for s.options.signal_delivery (id_at handle d.handles) (ready_in s d)) d h
 
   awaited_leaves : (b : Bool) (future : UnresolvedFuture) (d : Derived) → NoHandle i d → Untaken i d.usage → UntakenAfter i (awaited s b future d)
-  awaited_leaves true future d none h = cancelled_leaves (unresolved d.tracked) d none h
+  awaited_leaves true future d none h = cancelled_leaves (unresolved_handles d.tracked) d none h
   awaited_leaves false future d none h = awaiting_leaves (is_awake s future d) d h
 
-  noted_leaves : (handle : NotificationHandle) (id : NotificationId) (value : Value) (o : Option (List TrackedCall)) (d : Derived) → (id ≡ CompletionId i → ⊥) → Untaken i d.usage → UntakenAfter i (value_noted handle id value o d)
+  noted_leaves : (handle : NotificationHandle) (id : NotificationId) (value : Value) (o : Option (List TrackedCall)) (d : Derived) → (id ≡ CompletionId i → ⊥) → Untaken i d.usage → UntakenAfter i (take_noting_id handle id value o d)
   noted_leaves handle id value None d apart h = tt
   noted_leaves handle id value (Some tracked) d apart h = (untaken_by i id apart, h)
 
-  value_leaves : (handle : NotificationHandle) (id : NotificationId) (o : Option Value) (d : Derived) → (id ≡ CompletionId i → ⊥) → Untaken i d.usage → UntakenAfter i (value_taken handle id o d)
+  value_leaves : (handle : NotificationHandle) (id : NotificationId) (o : Option Value) (d : Derived) → (id ≡ CompletionId i → ⊥) → Untaken i d.usage → UntakenAfter i (take_of_value handle id o d)
   value_leaves handle id None d apart h = tt
-  value_leaves handle id (Some value) d apart h = noted_leaves handle id value (noted handle.0 (id_of_value value) d.tracked) d apart h
+  value_leaves handle id (Some value) d apart h = noted_leaves handle id value (id_noted handle.0 (id_of_value value) d.tracked) d apart h
 
-  result_leaves : (handle : NotificationHandle) (id : Option NotificationId) (o : Option NotificationResult) (d : Derived) → (id ≡ Some (CompletionId i) → ⊥) → Untaken i d.usage → UntakenAfter i (result_taken handle id o d)
+  result_leaves : (handle : NotificationHandle) (id : Option NotificationId) (o : Option NotificationResult) (d : Derived) → (id ≡ Some (CompletionId i) → ⊥) → Untaken i d.usage → UntakenAfter i (take_of_result handle id o d)
   result_leaves handle (Some id) (Some result) d apart h = value_leaves handle id (value_of result) d (λ e. apart (ap (λ x. Some x) e)) h
   result_leaves handle (Some id) None d apart h = h
   result_leaves handle None o d apart h = h
@@ -159,15 +159,15 @@ module _ (s : Setup) (i : ℕ) where
   asked_leaves (ask.Commands kind first second) d none h =
       let t = turn_after s d.parts first (second ∷ []) d in
       turn_leaves kind (refused_before t.command t.behind t.before.counters) t d (turn_splits s d.parts first (second ∷ []) d).usage h
-  asked_leaves (ask.Read r) d none h = reading_leaves r (missing 1 0 1 d.counters) d h
+  asked_leaves (ask.Read r) d none h = reading_leaves r (missing_number 1 0 1 d.counters) d h
   asked_leaves ask.Awakeable d none h = making_leaves (skips_replay s.options.journal_replay) d h
   asked_leaves (ask.Signal name) d none h = signal_leaves name (missing_signals 0 1 d.counters) d h
   asked_leaves (ask.Await future) d none h = awaited_leaves (is_cancelled_in s d) future d none h
-  asked_leaves (ask.Take handle) d none h = result_leaves handle (id_at handle.0 d.handles) (present_for s.options.signal_delivery (id_at handle.0 d.handles) (ready_in s d)) d (none handle.0) h
+  asked_leaves (ask.Take handle) d none h = result_leaves handle (id_at handle.0 d.handles) (present_result_for s.options.signal_delivery (id_at handle.0 d.handles) (ready_in s d)) d (none handle.0) h
   asked_leaves (ask.Completed handle) d none h = h
   asked_leaves ask.End d none h = tt
 
-  brought_leaves : (id : ℕ) (result : Option NotificationResult) (d : Derived) → Untaken i d.usage → Untaken i (brought id result d).usage
+  brought_leaves : (id : ℕ) (result : Option NotificationResult) (d : Derived) → Untaken i d.usage → Untaken i (with_read_result id result d).usage
   brought_leaves id None d h = h
   brought_leaves id (Some result) d h = h
 
@@ -219,15 +219,15 @@ item_of [] ys k id e = inr (k, e)
 item_of (x ∷ xs) ys zero id e = inl e
 item_of (x ∷ xs) ys (suc k) id e = item_of xs ys k id e
 
-all_bound : (version : Version) (completions signals : ℕ) (steps : List Step) (k i : ℕ) → item k (ids_given version completions signals steps) ≡ Some (CompletionId i) → i < 1 + completions + total (completion_ids version) steps
+all_bound : (version : Version) (completions signals : ℕ) (steps : List Step) (k i : ℕ) → item k (ids_of_steps version completions signals steps) ≡ Some (CompletionId i) → i < 1 + completions + total (completion_ids version) steps
 all_bound version completions signals [] k i e = none_some e
 all_bound version completions signals (st ∷ steps) k i e =
     let n = completion_ids version st in
     let more = total (completion_ids version) steps in
     ⊎_elim
     (λ (x : item k (given_for (1 + completions) (17 + signals) (ask_of version st)) ≡ Some (CompletionId i)). let l = given_bound (1 + completions) (17 + signals) (ask_of version st) k i x in less completions n more l)
-    (λ (x : (j : ℕ) × (item j (ids_given version (completions + n) (signals + signal_ids version st) steps) ≡ Some (CompletionId i))). let l = all_bound version (completions + n) (signals + signal_ids version st) steps x.0 i x.1 in later completions n more l)
-    (item_of (given_for (1 + completions) (17 + signals) (ask_of version st)) (ids_given version (completions + n) (signals + signal_ids version st) steps) k (CompletionId i) e)
+    (λ (x : (j : ℕ) × (item j (ids_of_steps version (completions + n) (signals + signal_ids version st) steps) ≡ Some (CompletionId i))). let l = all_bound version (completions + n) (signals + signal_ids version st) steps x.0 i x.1 in later completions n more l)
+    (item_of (given_for (1 + completions) (17 + signals) (ask_of version st)) (ids_of_steps version (completions + n) (signals + signal_ids version st) steps) k (CompletionId i) e)
   where
     less : (a n more : ℕ) → i < 1 + a + n → i < 1 + a + (n + more)
     less a n more l = omega (arith, l)
@@ -261,7 +261,7 @@ module _ (s : Setup) (m : Meaning) (input : InputCommand) (ns : List Notificatio
   none_stands : (k : ℕ) (z : Point) → after s m k begun ≡ Some z → z.derived.counters.completion ≤ i → NoHandle i z.derived
   none_stands k z e late handle at = ⊎_elim
       (λ (x : (handle ≡ 1) × (CompletionId i ≡ SignalId 1)). absurd (let y = x.1 in cc))
-      (λ (x : (j : ℕ) × (handle ≡ 17 + j) × (item j (ids_given s.version 0 0 (calls_for m z.answers)) ≡ Some (CompletionId i))).
+      (λ (x : (j : ℕ) × (handle ≡ 17 + j) × (item j (ids_of_steps s.version 0 0 (calls_for m z.answers)) ≡ Some (CompletionId i))).
       beyond z.derived.counters.completion (total (completion_ids s.version) (calls_for m z.answers)) (told_sums s m k input ns cs z e).0 late (all_bound s.version 0 0 (calls_for m z.answers) x.0 i x.2))
       (handles_stand s m k input ns cs z e handle (CompletionId i) at)
     where
@@ -291,11 +291,11 @@ module _ (s : Setup) (m : Meaning) (input : InputCommand) (ns : List Notificatio
 -- ---- what came is known
 
 -- another id's results stay
-first_stays : (j id : NotificationId) → same_id j id ≡ false → (ns : List Notification) → has_result_among id (without_first j ns) ≡ has_result_among id ns
+first_stays : (j id : NotificationId) → same_id j id ≡ false → (ns : List Notification) → has_result_among id (without_oldest j ns) ≡ has_result_among id ns
 first_stays j id apart [] = refl
 first_stays j id apart (n ∷ ns) = by_test (same_id n.id j) refl (first_stays j id apart ns)
   where
-    by_test : (b : Bool) → same_id n.id j ≡ b → has_result_among id (without_first j ns) ≡ has_result_among id ns → has_result_among id (cond b ns (n ∷ without_first j ns)) ≡ (same_id n.id id || has_result_among id ns)
+    by_test : (b : Bool) → same_id n.id j ≡ b → has_result_among id (without_oldest j ns) ≡ has_result_among id ns → has_result_among id (cond b ns (n ∷ without_oldest j ns)) ≡ (same_id n.id id || has_result_among id ns)
     by_test true e ih = ap (λ b. b || has_result_among id ns) (sym (ap (λ x. same_id x id) (same_is n.id j e) ∙ apart))
     by_test false e ih = ap (λ b. same_id n.id id || b) ih
 
@@ -310,7 +310,7 @@ all_stay j id apart (n ∷ ns) = by_test (same_id n.id j) refl (all_stay j id ap
 left_stays : (delivery : SignalDelivery) (j id : NotificationId) → same_id j id ≡ false → (ns : List Notification) → has_result_among id (left_among delivery j ns) ≡ has_result_among id ns
 left_stays delivery j id apart ns = by_test (is_listed delivery j)
   where
-    by_test : (b : Bool) → has_result_among id (cond b (without_first j ns) (without_all j ns)) ≡ has_result_among id ns
+    by_test : (b : Bool) → has_result_among id (cond b (without_oldest j ns) (without_all j ns)) ≡ has_result_among id ns
     by_test true = first_stays j id apart ns
     by_test false = all_stay j id apart ns
 
@@ -322,10 +322,10 @@ has_append id (x ∷ xs) ys = by_test (same_id x.id id) (has_append id xs ys)
     by_test true ih = refl
     by_test false ih = ih
 
-came_ready : (delivery : SignalDelivery) (i : ℕ) (us : List Usage) → Untaken i us → has_result_among (CompletionId i) (arrivals_in us) ≡ true → has_result (CompletionId i) (ready_after delivery us) ≡ true
+came_ready : (delivery : SignalDelivery) (i : ℕ) (us : List Usage) → Untaken i us → has_result_among (CompletionId i) (arrivals_in us) ≡ true → has_result (CompletionId i) (ready_by_usage delivery us) ≡ true
 came_ready delivery i [] untaken h = absurd (cc)
 came_ready delivery i (Used n ∷ us) untaken h =
-    let r = ready_after delivery us in
+    let r = ready_by_usage delivery us in
     ap (λ b. b || has_result_among (CompletionId i) r.eager) (has_append (CompletionId i) r.delivered (n ∷ []))
     ∙ by_tests (has_result_among (CompletionId i) (arrivals_in us)) (same_id n.id (CompletionId i)) (has_result_among (CompletionId i) r.delivered) (has_result_among (CompletionId i) r.eager) (sym (has_append (CompletionId i) (arrivals_in us) (n ∷ [])) ∙ h) (came_ready delivery i us untaken)
   where
@@ -335,7 +335,7 @@ came_ready delivery i (Used n ∷ us) untaken h =
     by_tests true false false e h ih = ih refl
     by_tests false false false e h ih = absurd (cc)
 came_ready delivery i (Read id result ∷ us) untaken h =
-    let r = ready_after delivery us in
+    let r = ready_by_usage delivery us in
     ap (λ b. has_result_among (CompletionId i) (without_all (CompletionId id) r.delivered) || b) (has_append (CompletionId i) r.eager (record { id = CompletionId id; result = result } ∷ []))
     ∙ by_test (same_id (CompletionId id) (CompletionId i)) refl (has_result_among (CompletionId i) r.eager) (came_ready delivery i us untaken h)
   where
@@ -349,11 +349,11 @@ came_ready delivery i (Read id result ∷ us) untaken h =
     none_more false true h = refl
     none_more false false h = absurd (cc)
 
-    by_test : (b : Bool) → same_id (CompletionId id) (CompletionId i) ≡ b → (e : Bool) → (has_result_among (CompletionId i) (ready_after delivery us).delivered || e) ≡ true → (has_result_among (CompletionId i) (without_all (CompletionId id) (ready_after delivery us).delivered) || (e || (b || false))) ≡ true
-    by_test true same e there = any_true (has_result_among (CompletionId i) (without_all (CompletionId id) (ready_after delivery us).delivered)) e
-    by_test false apart e there = none_more _ e (ap (λ b. b || e) (all_stay (CompletionId id) (CompletionId i) apart (ready_after delivery us).delivered) ∙ there)
+    by_test : (b : Bool) → same_id (CompletionId id) (CompletionId i) ≡ b → (e : Bool) → (has_result_among (CompletionId i) (ready_by_usage delivery us).delivered || e) ≡ true → (has_result_among (CompletionId i) (without_all (CompletionId id) (ready_by_usage delivery us).delivered) || (e || (b || false))) ≡ true
+    by_test true same e there = any_true (has_result_among (CompletionId i) (without_all (CompletionId id) (ready_by_usage delivery us).delivered)) e
+    by_test false apart e there = none_more _ e (ap (λ b. b || e) (all_stay (CompletionId id) (CompletionId i) apart (ready_by_usage delivery us).delivered) ∙ there)
 came_ready delivery i (Taken id ∷ us) untaken h =
-    let r = ready_after delivery us in
+    let r = ready_by_usage delivery us in
     (λ k. left_stays delivery id (CompletionId i) untaken.0 r.delivered k || left_stays delivery id (CompletionId i) untaken.0 r.eager k) ∙ came_ready delivery i us untaken.1 h
 
 of_same : (i : ℕ) (id : NotificationId) → is_of i id ≡ same_id id (CompletionId i)

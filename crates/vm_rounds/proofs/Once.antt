@@ -13,7 +13,7 @@ use Rattle.journal_values.specs.declared.notification.NotificationId.{Notificati
 use Rattle.journal_values.specs.declared.notification.NotificationId.TheVariants.{CompletionId, SignalId, SignalName}
 use Rattle.journal_values.specs.declared.notification.NotificationResult.{NotificationResult}
 use Rattle.vm_asks.specs.Carried.{carried}
-use Rattle.vm_model.specs.Carried.{AreCarried, ComeOnce, is_among, is_carried, read_carries}
+use Rattle.vm_model.specs.Carried.{AreCarried, ComeOnce, is_id_among, is_carried, read_carries}
 use Rattle.vm_model.specs.Journal.{messages_in, read_before}
 use Rattle.vm_model.proofs.Results.{results_behind, same_is}
 use Rattle.vm_attempt.specs.Journals.{commands_among}
@@ -78,7 +78,7 @@ by_two true b one other before e = absurd (cc)
 by_two false b one other before e = by_one b other before e
 
 -- a command that doesn't carry the id leaves what completes it
-pub completes_not : (id : ℕ) (m : Message) (before : Option Completes) → is_among id (carried m) ≡ false → completes_by id m before ≡ before
+pub completes_not : (id : ℕ) (m : Message) (before : Option Completes) → is_id_among id (carried m) ≡ false → completes_by id m before ≡ before
 completes_not id (message.Sleep c) before e = by_one (c.result_completion_id == id) completes.AnyResult before e
 completes_not id (message.GetLazyState c) before e = by_one (c.result_completion_id == id) completes.AnyResult before e
 completes_not id (message.GetLazyStateKeys c) before e = by_one (c.result_completion_id == id) completes.AnyResult before e
@@ -99,7 +99,7 @@ completes_none id (c ∷ cs) before e = by_read (message_in c.ty c.body) e (comp
     by_read : (o : Option Message) → (read_carries id o || is_carried id cs) ≡ false → (is_carried id cs ≡ false → completes_among id (messages_in cs) before ≡ before) → completes_among id (read_before o (messages_in cs)) before ≡ before
     by_read None h ih = ih h
     by_read (Some m) h ih =
-        let x = none_true (is_among id (carried m)) (is_carried id cs) h in
+        let x = none_true (is_id_among id (carried m)) (is_carried id cs) h in
         ap (completes_among id (messages_in cs)) (completes_not id m before x.0) ∙ ih x.1
 
 -- what a stored command completes, it carries

@@ -18,7 +18,7 @@ use Rattle.runs.specs.Pending.{has_handle}
 use Rattle.vm_parts.specs.declared.run_state.KeptProposal.{KeptProposal}
 use Rattle.vm_parts.specs.declared.run_state.PendingRun.{PendingRun}
 use Rattle.vm_asks.specs.Carried.{AreBelow}
-use Rattle.vm_model.specs.Carried.{is_among}
+use Rattle.vm_model.specs.Carried.{is_id_among}
 use Rattle.vm_store.specs.Arrivals.{completes_id}
 use Rattle.vm_store.specs.declared.storing.Written.{Written}
 use Rattle.vm_store.specs.declared.storing.Written.TheVariants.{Command, Proposal}
@@ -70,7 +70,7 @@ ids_join us ws = ap (map kept_id) (flat_map-append proposal_in_item us ws) ∙ m
 pub record MayPropose (ns : List Notification) (cs : List RawMessage) (ps : List ℕ) (id : ℕ) : Type 0 where
   pub run : has_run id cs ≡ true
   pub free : completes_id id ns ≡ false
-  pub new : is_among id ps ≡ false
+  pub new : is_id_among id ps ≡ false
 
 -- each proposal among these items may be made after those before it
 abbrev pub ProposeWell : List Notification → List RawMessage → List ℕ → List Written → Type 0
@@ -99,7 +99,7 @@ propose_none ns cs ps (Proposal p ∷ ws) none = absurd (cc)
 -- Each of these ids is less than the next one, each may be proposed, and each is there once.
 abbrev pub ArePending : ℕ → List Notification → List RawMessage → List ℕ → List ℕ → Type 0
 ArePending next ns cs ps [] = Unit {0}
-ArePending next ns cs ps (id ∷ ids) = (id < next) × MayPropose ns cs ps id × (is_among id ids ≡ false) × ArePending next ns cs ps ids
+ArePending next ns cs ps (id ∷ ids) = (id < next) × MayPropose ns cs ps id × (is_id_among id ids ≡ false) × ArePending next ns cs ps ids
 
 less_more : (a b c : ℕ) → a < b → b ≤ c → a < c
 less_more a b c h k = omega (arith, h, k)
@@ -127,20 +127,20 @@ more_differs : (a b : ℕ) → b < a → (a == b) ≡ false
 more_differs a b h = grind (arith, nat_tests)
 
 -- what is greater than all isn't among them
-pub below_none : (next : ℕ) (ids : List ℕ) → AreBelow next ids → is_among next ids ≡ false
+pub below_none : (next : ℕ) (ids : List ℕ) → AreBelow next ids → is_id_among next ids ≡ false
 below_none next [] h = refl
-below_none next (id ∷ ids) h = ap (λ b. b || is_among next ids) (less_differs id next h.0) ∙ below_none next ids h.1
+below_none next (id ∷ ids) h = ap (λ b. b || is_id_among next ids) (less_differs id next h.0) ∙ below_none next ids h.1
 
-pub among_append : (id : ℕ) (xs ys : List ℕ) → is_among id (xs ++ ys) ≡ (is_among id xs || is_among id ys)
+pub among_append : (id : ℕ) (xs ys : List ℕ) → is_id_among id (xs ++ ys) ≡ (is_id_among id xs || is_id_among id ys)
 among_append id [] ys = refl
 among_append id (x ∷ xs) ys = by_test (x == id) (among_append id xs ys)
   where
-    by_test : (b : Bool) → is_among id (xs ++ ys) ≡ (is_among id xs || is_among id ys) → (b || is_among id (xs ++ ys)) ≡ ((b || is_among id xs) || is_among id ys)
+    by_test : (b : Bool) → is_id_among id (xs ++ ys) ≡ (is_id_among id xs || is_id_among id ys) → (b || is_id_among id (xs ++ ys)) ≡ ((b || is_id_among id xs) || is_id_among id ys)
     by_test true ih = refl
     by_test false ih = ih
 
 -- not among some, and not another one
-among_not : (id : ℕ) (xs : List ℕ) (other : ℕ) → is_among id xs ≡ false → (other == id) ≡ false → is_among id (xs ++ other ∷ []) ≡ false
+among_not : (id : ℕ) (xs : List ℕ) (other : ℕ) → is_id_among id xs ≡ false → (other == id) ≡ false → is_id_among id (xs ++ other ∷ []) ≡ false
 among_not id xs other h k = among_append id xs (other ∷ []) ∙ (λ i. h i || (k i || false))
 
 pub pending_below : (next : ℕ) (ns : List Notification) (cs : List RawMessage) (ps ids : List ℕ) → ArePending next ns cs ps ids → AreBelow next ids
@@ -162,28 +162,28 @@ same_differs : (a b : ℕ) → (a == b) ≡ false → (b == a) ≡ false
 same_differs a b h = grind (arith, nat_tests)
 
 -- others stay pending once a result is proposed for another id
-others_stay : (next : ℕ) (ns : List Notification) (cs : List RawMessage) (ps ids : List ℕ) (other : ℕ) → is_among other ids ≡ false → ArePending next ns cs ps ids → ArePending next ns cs (ps ++ other ∷ []) ids
+others_stay : (next : ℕ) (ns : List Notification) (cs : List RawMessage) (ps ids : List ℕ) (other : ℕ) → is_id_among other ids ≡ false → ArePending next ns cs ps ids → ArePending next ns cs (ps ++ other ∷ []) ids
 others_stay next ns cs ps [] other apart h = tt
 others_stay next ns cs ps (id ∷ ids) other apart h =
-    let x = either_false (id == other) (is_among other ids) apart in
+    let x = either_false (id == other) (is_id_among other ids) apart in
     let m = h.1 in
     (h.0, record { run = m.run; free = m.free; new = among_not id ps other m.new (same_differs id other x.0) }, h.2, others_stay next ns cs ps ids other x.1 h.3)
 
-among_without : (id : ℕ) (told : NotificationHandle) (runs : List PendingRun) → is_among id (run_ids runs) ≡ false → is_among id (run_ids (without_first (has_handle told) runs)) ≡ false
+among_without : (id : ℕ) (told : NotificationHandle) (runs : List PendingRun) → is_id_among id (run_ids runs) ≡ false → is_id_among id (run_ids (without_first (has_handle told) runs)) ≡ false
 among_without id told [] h = refl
-among_without id told (x ∷ runs) h = by_test (has_handle told x) (either_false (run_id x == id) (is_among id (run_ids runs)) h) (among_without id told runs)
+among_without id told (x ∷ runs) h = by_test (has_handle told x) (either_false (run_id x == id) (is_id_among id (run_ids runs)) h) (among_without id told runs)
   where
-    by_test : (b : Bool) → ((run_id x == id) ≡ false) × (is_among id (run_ids runs) ≡ false) → (is_among id (run_ids runs) ≡ false → is_among id (run_ids (without_first (has_handle told) runs)) ≡ false)
-        → is_among id (run_ids (if b then runs else x ∷ without_first (has_handle told) runs)) ≡ false
+    by_test : (b : Bool) → ((run_id x == id) ≡ false) × (is_id_among id (run_ids runs) ≡ false) → (is_id_among id (run_ids runs) ≡ false → is_id_among id (run_ids (without_first (has_handle told) runs)) ≡ false)
+        → is_id_among id (run_ids (if b then runs else x ∷ without_first (has_handle told) runs)) ≡ false
     by_test true e ih = e.1
-    by_test false e ih = ap (λ b. b || is_among id (run_ids (without_first (has_handle told) runs))) e.0 ∙ ih e.1
+    by_test false e ih = ap (λ b. b || is_id_among id (run_ids (without_first (has_handle told) runs))) e.0 ∙ ih e.1
 
 -- what a run's result leaves: its id could be proposed, and the others can be still
 pub record Told (next : ℕ) (ns : List Notification) (cs : List RawMessage) (ps ids left : List ℕ) (run : PendingRun) : Type 0 where
   pub may : MayPropose ns cs ps (run_id run)
   pub below : run_id run < next
   pub others : ArePending next ns cs (ps ++ run_id run ∷ []) left
-  pub among : (id : ℕ) → is_among id ids ≡ false → (run_id run == id) ≡ false
+  pub among : (id : ℕ) → is_id_among id ids ≡ false → (run_id run == id) ≡ false
 
 pub told_at : (next : ℕ) (ns : List Notification) (cs : List RawMessage) (ps : List ℕ) (told : NotificationHandle) (runs : List PendingRun) (run : PendingRun) → find (has_handle told) runs ≡ Some run → ArePending next ns cs ps (run_ids runs) → Told next ns cs ps (run_ids runs) (run_ids (without_first (has_handle told) runs)) run
 told_at next ns cs ps told [] run found h = absurd (cc)
@@ -200,7 +200,7 @@ told_at next ns cs ps told (x ∷ runs) run found h = by_test (has_handle told x
           may = subst (λ (r : PendingRun). MayPropose ns cs ps (run_id r)) same h.1;
           below = subst (λ (r : PendingRun). run_id r < next) same h.0;
           others = first run same;
-          among = λ id e. ap (λ (r : PendingRun). run_id r == id) (sym same) ∙ (either_false (run_id x == id) (is_among id (run_ids runs)) e).0;
+          among = λ id e. ap (λ (r : PendingRun). run_id r == id) (sym same) ∙ (either_false (run_id x == id) (is_id_among id (run_ids runs)) e).0;
         }
     by_test false is more =
         let t = more is h.3 in
@@ -209,5 +209,5 @@ told_at next ns cs ps told (x ∷ runs) run found h = by_test (has_handle told x
           may = t.may;
           below = t.below;
           others = (h.0, record { run = m.run; free = m.free; new = among_not (run_id x) ps (run_id run) m.new (t.among (run_id x) h.2) }, among_without (run_id x) told runs h.2, t.others);
-          among = λ id e. t.among id (either_false (run_id x == id) (is_among id (run_ids runs)) e).1;
+          among = λ id e. t.among id (either_false (run_id x == id) (is_id_among id (run_ids runs)) e).1;
         }

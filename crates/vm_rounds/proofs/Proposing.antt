@@ -38,7 +38,7 @@ use Rattle.vm_types.specs.declared.values.Input.{Input}
 use Rattle.vm_parts.specs.declared.context.Counters.{Counters}
 use Rattle.vm_parts.specs.declared.run_state.KeptProposal.{KeptProposal}
 use Rattle.vm_parts.specs.declared.run_state.PendingRun.{PendingRun}
-use Rattle.vm_parts.specs.Counting.{missing}
+use Rattle.vm_parts.specs.Counting.{missing_number}
 use Rattle.vm_parts.specs.Deliveries.{id_at}
 use Rattle.vm_parts.specs.Outboxes.{WholeFrames}
 use Rattle.vm_parts.proofs.Outboxes.{all_whole, bytes_of}
@@ -54,10 +54,10 @@ use Rattle.vm_machine.specs.Proposals.{Proposes as MayCome, Settled, SettledAt, 
 use Rattle.vm_machine.specs.Skips.{counters_past, skipped, skips_replay}
 use Rattle.vm_machine.proofs.Calling.{answers_first, called_from}
 use Rattle.invocation_vm.specs.Frames.{Garbage, Rest, Tail, frames_of}
-use Rattle.invocation_vm.specs.Views.{StarvesAmong, View, after_closing, after_input, all_received, brought, consumed, has_failed, left_by, left_over, received, spoiled}
+use Rattle.invocation_vm.specs.Views.{StarvesAmong, View, after_closing, after_input, all_received, messages_in_bytes, consumed, has_failed, left_by, left_over, received, spoiled}
 use Rattle.invocation_vm.proofs.Feeds.{among_output}
 use Rattle.vm_model.specs.Calls.{Meaning}
-use Rattle.vm_model.specs.Carried.{is_among}
+use Rattle.vm_model.specs.Carried.{is_id_among}
 use Rattle.vm_model.specs.Journal.{stored_form}
 use Rattle.vm_store.specs.declared.storing.Written.{Written}
 use Rattle.vm_store.specs.declared.storing.Written.TheVariants.{Proposal}
@@ -70,7 +70,7 @@ use Rattle.vm_steps.specs.declared.progress.Reply.TheVariants as reply
 use Rattle.journal_protocol.specs.Bodies.{proposal_in}
 use Rattle.vm_steps.specs.Heard.{proposals_among, proposed_by}
 use Rattle.vm_steps.specs.Record.{Record}
-use Rattle.vm_steps.specs.Stepping.{Advances, Asks, CloseDoes, Closes, FeedDoes, Feeds, FinishDoes, Finishes, LacksMemory, Reads, StepAt, StepDoes, StepFrom, StepUnless, future_in, kept, kept_at, newly_proposed, noted, noted_at, replied, step_asked, taken_from, with_vm}
+use Rattle.vm_steps.specs.Stepping.{Advances, MakesStep, CloseDoes, InputIsClosed, FeedDoes, FeedsPiece, FinishDoes, CompletesRun, LacksMemory, InputIsRead, StepAt, StepDoes, StepFrom, StepUnless, future_in, with_piece_kept, kept_at, newly_proposed, failed_run_noted, noted_at, replied, step_asked, output_taken, with_vm}
 use Rattle.vm_steps.specs.Steps.{StepMade}
 use Rattle.vm_attempt.specs.Blames.{fault_among}
 use Rattle.vm_attempt.specs.Journals.{is_acknowledgement, is_command_frame, is_notification}
@@ -150,7 +150,7 @@ module _ (ns : List Notification) (cs : List RawMessage) (ws more : List Written
       let below = s.below alive in
       let pending = s.pending alive in
       let new : MayPropose ns (cs ++ flat_map command_in (ws ++ more)) (proposed_ids (ws ++ more)) (next_of v) =
-      record { run = run; free = free; new = ap (λ l. is_among (next_of v) l) (same_ids ws more none) ∙ below_none (next_of v) (proposed_ids ws) below } in
+      record { run = run; free = free; new = ap (λ l. is_id_among (next_of v) l) (same_ids ws more none) ∙ below_none (next_of v) (proposed_ids ws) below } in
       record {
         well = well_more s.well;
         below = λ _. subst (AreBelow (next_of w)) (sym (same_ids ws more none)) (below_later (next_of v) (next_of w) (proposed_ids ws) (grown (next_of v) (next_of w) c.next) below);
@@ -240,7 +240,7 @@ module _ (ns : List Notification) (cs : List RawMessage) (old : Record) (p : Pro
   }
 
   -- the output is taken
-  pub take_proposes : WholeFrames old.vm.machine.output → Proposes ns cs (taken_from old)
+  pub take_proposes : WholeFrames old.vm.machine.output → Proposes ns cs (output_taken old)
   take_proposes f =
       let a = all_sent f in
       record {
@@ -339,17 +339,17 @@ kept_same None Processing piece r = (refl, refl)
 kept_same None Closed piece r = (refl, refl)
 
 -- a piece is fed
-feeds_propose : (ns : List Notification) (cs : List RawMessage) (piece : List ℕ) (old : Record) (result : Result Unit AllocError) (new : Record) → Proposes ns cs old → Feeds piece old result new → Proposes ns cs new
+feeds_propose : (ns : List Notification) (cs : List RawMessage) (piece : List ℕ) (old : Record) (result : Result Unit AllocError) (new : Record) → Proposes ns cs old → FeedsPiece piece old result new → Proposes ns cs new
 feeds_propose ns cs piece old (Ok t) new p does =
     let k = kept_same old.vm.machine.failure old.vm.machine.phase piece old in
     let q = input_quiet old.vm piece in
-    subst (Proposes ns cs) (sym does) (goes_on ns cs old p (with_vm (after_input old.vm piece) (kept piece old)) q.messages k.0 q.output q.proposals (input_lives old.vm piece) (λ _ is. sym k.1 ∙ is))
+    subst (Proposes ns cs) (sym does) (goes_on ns cs old p (with_vm (after_input old.vm piece) (with_piece_kept piece old)) q.messages k.0 q.output q.proposals (input_lives old.vm piece) (λ _ is. sym k.1 ∙ is))
 feeds_propose ns cs piece old (Err e) new p does =
     ⊎_elim
     (λ (x : new ≡ record old { starved = true }). subst (Proposes ns cs) (sym x) (goes_quietly ns cs old p (record old { starved = true }) refl refl (lives_same old.vm.machine) refl))
-    (λ (x : (w : View) × StarvesAmong (brought old.vm piece) old.vm.machine w.machine × (new ≡ with_vm w (kept piece old))).
+    (λ (x : (w : View) × StarvesAmong (messages_in_bytes old.vm piece) old.vm.machine w.machine × (new ≡ with_vm w (with_piece_kept piece old))).
     let k = kept_same old.vm.machine.failure old.vm.machine.phase piece old in
-    subst (Proposes ns cs) (sym x.2) (goes_quietly ns cs old p (with_vm x.0 (kept piece old)) k.0 (among_output _ old.vm.machine x.0.machine x.1) (among_lives _ old.vm.machine x.0.machine x.1) k.1))
+    subst (Proposes ns cs) (sym x.2) (goes_quietly ns cs old p (with_vm x.0 (with_piece_kept piece old)) k.0 (among_output _ old.vm.machine x.0.machine x.1) (among_lives _ old.vm.machine x.0.machine x.1) k.1))
     does
 
 pub feed_proposes : (ns : List Notification) (cs : List RawMessage) (piece : List ℕ) (old : Record) (result : Result Unit AllocError) (new : Record) → Proposes ns cs old → FeedDoes old.starved piece old result new → Proposes ns cs new
@@ -360,7 +360,7 @@ feed_proposes ns cs piece old result new p does = by_test old.starved does
     by_test false d = feeds_propose ns cs piece old result new p d
 
 -- the input is closed
-closes_propose : (ns : List Notification) (cs : List RawMessage) (old : Record) (result : Result Unit AllocError) (new : Record) → Proposes ns cs old → Closes old result new → Proposes ns cs new
+closes_propose : (ns : List Notification) (cs : List RawMessage) (old : Record) (result : Result Unit AllocError) (new : Record) → Proposes ns cs old → InputIsClosed old result new → Proposes ns cs new
 closes_propose ns cs old (Ok t) new p does =
     let q = closing_quiet old.vm in
     subst (Proposes ns cs) (sym does) (goes_on ns cs old p (record old { closed = true; vm = after_closing old.vm }) q.messages refl q.output q.proposals (closing_lives old.vm) (λ _ is. is))
@@ -414,7 +414,7 @@ past_stays None v = tt
 past_stays (Some id) v = numbered_stays (counters_past (length (drop 1 v.commands)) id v.counters) v
 
 by_stays : (b : Bool) (v : Machine) → RunsStay v (input_by b v)
-by_stays false v = counted_stays (missing 0 0 0 v.counters) v
+by_stays false v = counted_stays (missing_number 0 0 0 v.counters) v
 by_stays true v = past_stays (past_all v.counters.completion (drop 1 v.commands)) v
 
 input_stays : (v : Machine) → RunsStay v (input_step v)
@@ -448,7 +448,7 @@ sound_read ns cs ws answers answers' v w live none late runs s =
       early = λ _ is. absurd (late is);
     })
 
-reads_propose : (ns : List Notification) (cs : List RawMessage) (old : Record) (result : Result Progress Error) (new : Record) → old.vm.machine.failure ≡ None → old.answers ≡ [] → Proposes ns cs old → Reads old result new → Proposes ns cs new
+reads_propose : (ns : List Notification) (cs : List RawMessage) (old : Record) (result : Result Progress Error) (new : Record) → old.vm.machine.failure ≡ None → old.answers ≡ [] → Proposes ns cs old → InputIsRead old result new → Proposes ns cs new
 reads_propose ns cs old (Ok made) new live none p (stepped, (input, w, does, is)) =
     let done = done_of old.vm.machine (input_step old.vm.machine) input w.machine live does.0 in
     let runs = stay_done old.vm.machine input w.machine (subst (RunsStay old.vm.machine) done (input_stays old.vm.machine)) in
@@ -527,7 +527,7 @@ module _ (ns : List Notification) (cs : List RawMessage) (old : Record) (p : Pro
           let there : has_run id cs ≡ true = subst (λ (x : List RawMessage). has_run id x ≡ true) (sym k.1) (run_behind id k.0 (raw ∷ rest) first) in
           called_proposes new sends.messages taken sends.output sends.proposals c (run_front id cs (flat_map command_in (ws ++ items sends.messages)) there) late
 
-  asks_propose : (m : Meaning) (result : Result Progress Error) (new : Record) → IsLive old.vm.machine → old.answers ≢ [] → Asks m old result new → Proposes ns cs new
+  asks_propose : (m : Meaning) (result : Result Progress Error) (new : Record) → IsLive old.vm.machine → old.answers ≢ [] → MakesStep m old result new → Proposes ns cs new
   asks_propose m result new is_live answered (x, w, does, is, made) = subst (Proposes ns cs) (sym is) (by_reply x (step_leaves (step_asked m old) old.vm.machine is_live x w.machine does.0.0) does)
     where
       more : (a : Answer) → old.answers ++ a ∷ [] ≡ [] → ⊥
@@ -559,10 +559,10 @@ module _ (ns : List Notification) (cs : List RawMessage) (m : Meaning) (old : Re
   advances_propose live =
       ⊎_elim
       (λ (x : LacksMemory old result new). subst (Proposes ns cs) (sym x.1) (goes_quietly ns cs old p (record old { starved = true }) refl refl (lives_same old.vm.machine) refl))
-      (λ (o : ((old.answers ≡ []) × Reads old result new) ⊎ ((old.answers ≢ []) × Asks m old result new)).
+      (λ (o : ((old.answers ≡ []) × InputIsRead old result new) ⊎ ((old.answers ≢ []) × MakesStep m old result new)).
       ⊎_elim
-      (λ (x : (old.answers ≡ []) × Reads old result new). reads_propose ns cs old result new live.failure x.0 p x.1)
-      (λ (x : (old.answers ≢ []) × Asks m old result new). asks_propose ns cs old p live.failure (knows live x.0) m result new live x.0 x.1)
+      (λ (x : (old.answers ≡ []) × InputIsRead old result new). reads_propose ns cs old result new live.failure x.0 p x.1)
+      (λ (x : (old.answers ≢ []) × MakesStep m old result new). asks_propose ns cs old p live.failure (knows live x.0) m result new live x.0 x.1)
       o)
 
   step_at_proposes : (ph : Phase) → old.vm.machine.failure ≡ None → old.vm.machine.phase ≡ ph → StepAt ph m old result new → Proposes ns cs new
@@ -747,9 +747,9 @@ module _ (ns : List Notification) (cs : List RawMessage) (handle : NotificationH
   noted_at_same (Some e) = (refl, refl)
   noted_at_same None = (refl, refl)
 
-  finishes_propose : (result : Result Unit Error) (new : Record) → Finishes handle exit policy old result new → Proposes ns cs new
+  finishes_propose : (result : Result Unit Error) (new : Record) → CompletesRun handle exit policy old result new → Proposes ns cs new
   finishes_propose (Ok t) new (w, does, is) = subst (Proposes ns cs) (sym is) (done_proposes machine.failure refl t w.machine (record old { proposed = old.proposed ++ newly_proposed old.vm.machine w.machine; vm = w }) does.0 refl refl refl)
-  finishes_propose (Err e) new (w, does, is) = let n = noted_at_same machine.failure in subst (Proposes ns cs) (sym is) (failed_proposes machine.failure refl e w.machine (with_vm w (noted (Err e) handle old)) does.0 n.0 n.1 refl)
+  finishes_propose (Err e) new (w, does, is) = let n = noted_at_same machine.failure in subst (Proposes ns cs) (sym is) (failed_proposes machine.failure refl e w.machine (with_vm w (failed_run_noted (Err e) handle old)) does.0 n.0 n.1 refl)
 
   pub finish_proposes : (result : Result Unit Error) (new : Record) → FinishDoes old.starved handle exit policy old result new → Proposes ns cs new
   finish_proposes result new does = by_test old.starved does

@@ -17,7 +17,7 @@ use Rattle.vm_steps.specs.declared.progress.Progress.TheVariants as progress
 use Rattle.vm_steps.specs.declared.progress.Reply.{Reply}
 use Rattle.vm_steps.specs.declared.progress.Reply.TheVariants as reply
 use Rattle.vm_steps.specs.Record.{Record}
-use Rattle.vm_steps.specs.Stepping.{Advances, Asks, LacksMemory, Reads, StepAt, StepDoes, StepFrom, StepUnless, future_in, progress_of, replied, step_asked}
+use Rattle.vm_steps.specs.Stepping.{Advances, MakesStep, LacksMemory, InputIsRead, StepAt, StepDoes, StepFrom, StepUnless, future_in, progress_of, replied, step_asked}
 use Rattle.vm_attempt.specs.Told.{IsLive}
 use Rattle.vm_attempt.proofs.Erring.{called_failed}
 use Rattle.vm_attempt.proofs.Sending.{IsLeft, step_leaves}
@@ -148,7 +148,7 @@ module _ (m : Meaning) (old : Record) (result : Result Progress Error) (new : Re
     quiet = tells_error no_memory (Err no_memory);
   })
 
-  reads_rests : old.starved ≡ false → old.vm.machine.failure ≡ None → (x : Result Progress Error) → Reads old x new → may_go_on x ≡ false → ComesToRest x new
+  reads_rests : old.starved ≡ false → old.vm.machine.failure ≡ None → (x : Result Progress Error) → InputIsRead old x new → may_go_on x ≡ false → ComesToRest x new
   reads_rests starved live (Ok made) d h = absurd (cc (sym h ∙ ap (λ (p : Progress). may_go_on (Ok p)) d.0))
   reads_rests starved live (Err e) (w, does, is) h =
       ⊎_elim
@@ -156,7 +156,7 @@ module _ (m : Meaning) (old : Record) (result : Result Progress Error) (new : Re
       (λ (x : IsStarved old.vm.machine e w.machine). failed_rests e (unwrap_or old.vm.machine.failure no_memory) new (ap (λ (z : Record). z.starved) is ∙ starved) (ap (λ (z : Record). z.vm.machine.failure) is ∙ x.failure))
       does.0
 
-  asks_rests : old.starved ≡ false → IsLive old.vm.machine → Asks m old result new → may_go_on result ≡ false → ComesToRest result new
+  asks_rests : old.starved ≡ false → IsLive old.vm.machine → MakesStep m old result new → may_go_on result ≡ false → ComesToRest result new
   asks_rests starved live (x, w, does, is, made) h = subst (λ z. ComesToRest z new) (sym made) (by_reply x (step_leaves (step_asked m old) old.vm.machine live x w.machine does.0.0) is (ap may_go_on (sym made) ∙ h))
     where
       over_rests : (p : Progress) → new ≡ record old { over = Some p; vm = w } → w.machine.failure ≡ old.vm.machine.failure → ComesToRest (Ok p) new
@@ -178,10 +178,10 @@ module _ (m : Meaning) (old : Record) (result : Result Progress Error) (new : Re
   advances_rests starved live d h =
       ⊎_elim
       (λ (x : LacksMemory old result new). memory_rests x.0 (ap (λ (z : Record). z.starved) x.1))
-      (λ (o : ((old.answers ≡ []) × Reads old result new) ⊎ ((old.answers ≢ []) × Asks m old result new)).
+      (λ (o : ((old.answers ≡ []) × InputIsRead old result new) ⊎ ((old.answers ≢ []) × MakesStep m old result new)).
       ⊎_elim
-      (λ (x : (old.answers ≡ []) × Reads old result new). reads_rests starved live.failure result x.1 h)
-      (λ (x : (old.answers ≢ []) × Asks m old result new). asks_rests starved live x.1 h)
+      (λ (x : (old.answers ≡ []) × InputIsRead old result new). reads_rests starved live.failure result x.1 h)
+      (λ (x : (old.answers ≢ []) × MakesStep m old result new). asks_rests starved live x.1 h)
       o)
       d
 

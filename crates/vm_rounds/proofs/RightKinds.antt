@@ -17,7 +17,7 @@ use Rattle.journal_values.specs.declared.notification.NotificationResult.TheVari
 use Rattle.vm_asks.specs.Carried.{all_carried, carried, carried_by, read_carried}
 use Rattle.vm_parts.specs.declared.context.StateMap.{StateMap}
 use Rattle.vm_model.specs.Calls.{Meaning, Setup}
-use Rattle.vm_model.specs.Carried.{AreOfTheirKind, IsInvocationId, is_among, is_carried, is_for_invocation, names_invocation, read_carries}
+use Rattle.vm_model.specs.Carried.{AreOfTheirKind, IsInvocationId, is_id_among, is_carried, is_for_invocation, names_invocation, read_carries}
 use Rattle.vm_model.specs.Histories.{History, IsPrefix}
 use Rattle.vm_model.specs.Journal.{input_read_from, messages_in, notifications_in, read_before}
 use Rattle.vm_model.proofs.Results.{same_is}
@@ -79,7 +79,7 @@ invocation_completes low id [] vs h named some = absurd (some refl)
 invocation_completes low id (c ∷ us) vs h named some =
     by_read (message_in c.ty c.body) h named some (invocation_completes low id us vs (rises_behind low (carried_by c) (all_carried (us ++ vs)) h))
   where
-    none_behind : (m : Message) → Rises low (carried m ++ all_carried (us ++ vs)) → is_among id (carried m) ≡ true → is_carried id (us ++ vs) ≡ false
+    none_behind : (m : Message) → Rises low (carried m ++ all_carried (us ++ vs)) → is_id_among id (carried m) ≡ true → is_carried id (us ++ vs) ≡ false
     none_behind m rises among = carried_is id (us ++ vs) ∙ only_once low id (carried m) (all_carried (us ++ vs)) rises among
 
     front_none : (xs ys : List RawMessage) → is_carried id (xs ++ ys) ≡ false → is_carried id xs ≡ false
@@ -94,7 +94,7 @@ invocation_completes low id (c ∷ us) vs h named some =
     is_named true b e f = refl
     is_named false b e f = absurd (let z : false ≡ true = sym f ∙ e in cc)
 
-    by_carries : (m : Message) (b : Bool) → is_among id (carried m) ≡ b → Rises low (carried m ++ all_carried (us ++ vs)) → (names_invocation id (Some m) || is_for_invocation id (us ++ vs)) ≡ true
+    by_carries : (m : Message) (b : Bool) → is_id_among id (carried m) ≡ b → Rises low (carried m ++ all_carried (us ++ vs)) → (names_invocation id (Some m) || is_for_invocation id (us ++ vs)) ≡ true
         → (completes_among id (messages_in us) (completes_by id m None) ≡ None → ⊥)
         → (is_for_invocation id (us ++ vs) ≡ true → (completes_among id (messages_in us) None ≡ None → ⊥) → completes_among id (messages_in us) None ≡ Some completes.InvocationId)
         → completes_among id (messages_in us) (completes_by id m None) ≡ Some completes.InvocationId
@@ -116,7 +116,7 @@ invocation_completes low id (c ∷ us) vs h named some =
         → (is_for_invocation id (us ++ vs) ≡ true → (completes_among id (messages_in us) None ≡ None → ⊥) → completes_among id (messages_in us) None ≡ Some completes.InvocationId)
         → completes_among id (read_before o (messages_in us)) None ≡ Some completes.InvocationId
     by_read None rises named some ih = ih named some
-    by_read (Some m) rises named some ih = by_carries m (is_among id (carried m)) refl rises named some ih
+    by_read (Some m) rises named some ih = by_carries m (is_id_among id (carried m)) refl rises named some ih
 
 -- ---- the results of a journal
 

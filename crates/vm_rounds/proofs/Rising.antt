@@ -23,10 +23,10 @@ use Rattle.vm_asks.specs.declared.state_read.StateRead.TheVariants as reads
 use Rattle.vm_asks.specs.Asks.{all_ids, ask_of}
 use Rattle.vm_asks.specs.Carried.{all_carried, carried, carried_by, read_carried}
 use Rattle.vm_asks.specs.Requests.{ids_of, with_ids}
-use Rattle.vm_asks.specs.StateReads.{eager_form, eager_type, lazy_form, lazy_type, read_as, read_by, recorded_as, result_in}
+use Rattle.vm_asks.specs.StateReads.{eager_form, eager_type, lazy_form, lazy_type, read_in_form, read_by, recorded_as, result_in}
 use Rattle.vm_model.specs.Calls.{Demand, Meaning, Setup}
 use Rattle.vm_model.specs.Calls.Demand.{Exactly, Reads}
-use Rattle.vm_model.specs.Carried.{is_among, is_carried, read_carries}
+use Rattle.vm_model.specs.Carried.{is_id_among, is_carried, read_carries}
 use Rattle.vm_model.specs.Moves.{Point, after, start}
 use Rattle.vm_model.specs.Sums.{calls_for, completion_ids, completion_ids_in, total}
 use Rattle.vm_model.specs.Uses.{StandFor, Stands, all_needed, cancels_needed, needed, needed_by}
@@ -75,47 +75,47 @@ rises_behind low [] ys h = h
 rises_behind low (x ∷ xs) ys h = let l = h.0 in rises_less (x + 1) low ys (omega (arith, l)) (rises_behind (x + 1) xs ys h.1)
 
 -- an id among those that rise from a number on isn't less
-among_from : (low id : ℕ) (ids : List ℕ) → Rises low ids → is_among id ids ≡ true → low ≤ id
+among_from : (low id : ℕ) (ids : List ℕ) → Rises low ids → is_id_among id ids ≡ true → low ≤ id
 among_from low id [] h among = absurd (cc)
 among_from low id (x ∷ xs) h among = by_test (x == id) refl among (among_from (x + 1) id xs h.1)
   where
-    by_test : (b : Bool) → (x == id) ≡ b → (b || is_among id xs) ≡ true → (is_among id xs ≡ true → x + 1 ≤ id) → low ≤ id
+    by_test : (b : Bool) → (x == id) ≡ b → (b || is_id_among id xs) ≡ true → (is_id_among id xs ≡ true → x + 1 ≤ id) → low ≤ id
     by_test true same e ih = let is = eqb-true x id same in let l = h.0 in omega (arith, is, l)
     by_test false same e ih = let l = h.0 in let k = ih e in omega (arith, l, k)
 
-not_again : (x id : ℕ) (ids : List ℕ) → (x == id) ≡ true → Rises (x + 1) ids → is_among id ids ≡ false
-not_again x id ids same h = by_test (is_among id ids) refl
+not_again : (x id : ℕ) (ids : List ℕ) → (x == id) ≡ true → Rises (x + 1) ids → is_id_among id ids ≡ false
+not_again x id ids same h = by_test (is_id_among id ids) refl
   where
-    by_test : (b : Bool) → is_among id ids ≡ b → b ≡ false
+    by_test : (b : Bool) → is_id_among id ids ≡ b → b ≡ false
     by_test false e = refl
     by_test true e = let l = among_from (x + 1) id ids h e in let is = eqb-true x id same in absurd (omega (arith, l, is))
 
 -- what is among the first of them isn't among the later ones
-pub only_once : (low id : ℕ) (xs ys : List ℕ) → Rises low (xs ++ ys) → is_among id xs ≡ true → is_among id ys ≡ false
+pub only_once : (low id : ℕ) (xs ys : List ℕ) → Rises low (xs ++ ys) → is_id_among id xs ≡ true → is_id_among id ys ≡ false
 only_once low id [] ys h among = absurd (cc)
 only_once low id (x ∷ xs) ys h among = by_test (x == id) refl among (only_once (x + 1) id xs ys h.1)
   where
-    by_test : (b : Bool) → (x == id) ≡ b → (b || is_among id xs) ≡ true → (is_among id xs ≡ true → is_among id ys ≡ false) → is_among id ys ≡ false
+    by_test : (b : Bool) → (x == id) ≡ b → (b || is_id_among id xs) ≡ true → (is_id_among id xs ≡ true → is_id_among id ys ≡ false) → is_id_among id ys ≡ false
     by_test true same e ih = not_again x id ys same (rises_behind (x + 1) xs ys h.1)
     by_test false same e ih = ih e
 
 -- ---- the ids that commands carry
 
-among_append : (id : ℕ) (xs ys : List ℕ) → is_among id (xs ++ ys) ≡ (is_among id xs || is_among id ys)
+among_append : (id : ℕ) (xs ys : List ℕ) → is_id_among id (xs ++ ys) ≡ (is_id_among id xs || is_id_among id ys)
 among_append id [] ys = refl
 among_append id (x ∷ xs) ys = by_test (x == id) (among_append id xs ys)
   where
-    by_test : (b : Bool) → is_among id (xs ++ ys) ≡ (is_among id xs || is_among id ys) → (b || is_among id (xs ++ ys)) ≡ ((b || is_among id xs) || is_among id ys)
+    by_test : (b : Bool) → is_id_among id (xs ++ ys) ≡ (is_id_among id xs || is_id_among id ys) → (b || is_id_among id (xs ++ ys)) ≡ ((b || is_id_among id xs) || is_id_among id ys)
     by_test true ih = refl
     by_test false ih = ih
 
-pub carried_is : (id : ℕ) (cs : List RawMessage) → is_carried id cs ≡ is_among id (all_carried cs)
+pub carried_is : (id : ℕ) (cs : List RawMessage) → is_carried id cs ≡ is_id_among id (all_carried cs)
 carried_is id [] = refl
 carried_is id (c ∷ cs) = by_read (message_in c.ty c.body) (carried_is id cs)
   where
-    by_read : (o : Option Message) → is_carried id cs ≡ is_among id (all_carried cs) → (read_carries id o || is_carried id cs) ≡ is_among id (read_carried o ++ all_carried cs)
+    by_read : (o : Option Message) → is_carried id cs ≡ is_id_among id (all_carried cs) → (read_carries id o || is_carried id cs) ≡ is_id_among id (read_carried o ++ all_carried cs)
     by_read None ih = ih
-    by_read (Some m) ih = ap (λ b. is_among id (carried m) || b) ih ∙ sym (among_append id (carried m) (all_carried cs))
+    by_read (Some m) ih = ap (λ b. is_id_among id (carried m) || b) ih ∙ sym (among_append id (carried m) (all_carried cs))
 
 -- ---- what a recorded command carries that stands for what is needed
 
@@ -181,7 +181,7 @@ form_equal form n result e = by_test (header_equal n form true) e
 read_carries_its : (r : StateRead) (id : ℕ) (raw : RawMessage) (result : Option NotificationResult) → recorded_as r id raw ≡ Ok result → (carried_by raw ≡ id ∷ []) ⊎ (carried_by raw ≡ [])
 read_carries_its r id raw result e = by_type (type_number raw.ty == type_number (lazy_type r)) (type_number raw.ty == type_number (eager_type r)) (message_in raw.ty raw.body) e
   where
-    by_type : (lazy eager : Bool) (o : Option Message) → read_as (if lazy then Some (lazy_form r id) else if eager then Some (eager_form r) else None) o ≡ Ok result → (read_carried o ≡ id ∷ []) ⊎ (read_carried o ≡ [])
+    by_type : (lazy eager : Bool) (o : Option Message) → read_in_form (if lazy then Some (lazy_form r id) else if eager then Some (eager_form r) else None) o ≡ Ok result → (read_carried o ≡ id ∷ []) ⊎ (read_carried o ≡ [])
     by_type true eager None h = absurd (cc)
     by_type true eager (Some n) h = inl (lazy_carries r id n (form_equal (lazy_form r id) n result h))
     by_type false true None h = absurd (cc)

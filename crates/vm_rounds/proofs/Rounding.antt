@@ -16,7 +16,7 @@ use Rattle.vm_types.specs.declared.steps.Answer.{Answer}
 use Rattle.vm_model.specs.Calls.{Meaning}
 use Rattle.vm_model.specs.Journal.{Entry, commands_in, messages_in, notifications_in, stored_form}
 use Rattle.vm_model.specs.Moves.{changed_by, start as first_point}
-use Rattle.vm_model.specs.Histories.{History, Honest, IsAllOf, IsTrueOf, Knowledge, Whole, behind}
+use Rattle.vm_model.specs.Histories.{History, Honest, IsAllOf, IsTrueOf, Knowledge, Whole, after_head}
 use Rattle.vm_model.specs.HonestRounds.{Attempted, HonestRound, IsHanded, IsOneRun, IsToldOn}
 use Rattle.vm_model.specs.SoundHistories.{SoundHistory}
 use Rattle.vm_model.proofs.Honesty.{honest_rounds, whole_round, whole_rounds}
@@ -120,7 +120,7 @@ attempt_along m w round old report new j d =
     let first : Along m w.version bytes (stored_form (start_message w round old)) old j framed [] (begin d.alloc w round old) = record {
       going = begun w.version bytes old (fresh_record (made d.alloc w.options w.version)) j refl refl refl refl;
       written = sym (ap commands_among none);
-      came = sym (drop_nil (length (notes_in old)) _ (ap (λ l. arriving (acknowledged_from w.version []) (behind l)) none));
+      came = sym (drop_nil (length (notes_in old)) _ (ap (λ l. arriving (acknowledged_from w.version []) (after_head l)) none));
       order = λ n h. absurd (omega (arith, h));
     } in
     events_go_along m w.version bytes (stored_form (start_message w round old)) old j framed round.events (begin d.alloc w round old) d.ran.now [] d.ran.happen first
@@ -185,7 +185,7 @@ entries_grow old new added e = ap journal_entries e ∙ entries_append old added
 
 -- each of the rounds hands out this much, over any journal
 abbrev pub HandsOut : Knowledge → Setting → List Round → Type 0
-HandsOut K w rounds = AllByRecursion (λ r. (journal : List (List ℕ)) → Begins (journal_entries journal) → K (start_handed (start_for w r journal)) (messages_in (behind (commands_in (journal_entries journal))))) rounds
+HandsOut K w rounds = AllByRecursion (λ r. (journal : List (List ℕ)) → Begins (journal_entries journal) → K (start_handed (start_for w r journal)) (messages_in (after_head (commands_in (journal_entries journal))))) rounds
 
 -- What is so of journals lasts over rounds, where so much of the state is handed out: such a journal is a history, and an honest round leaves
 -- one of which it is so.
@@ -195,7 +195,7 @@ pub record Lasts (K : Knowledge) (P : List Entry → Type 0) (m : Meaning) (w : 
 
 -- what a round hands out, as its attempt has it
 pub round_handed : (K : Knowledge) (m : Meaning) (w : Setting) (q : Round) (qs : List Round) (old : List (List ℕ)) (report : ReportView) (mid : List (List ℕ)) → HandsOut K w (q ∷ qs) → History (setup_of w) m (base_of w) (journal_entries old) → (d : RoundDoes m w q old report mid) → IsHanded K (journal_entries old) (attempt_of m w q old report mid d)
-round_handed K m w q qs old report mid hands past d = subst (λ x. K x (messages_in (behind (commands_in (journal_entries old))))) (sym (round_gives m w q old report mid d).0) (hands.0 old (history_begins (setup_of w) m (base_of w) (journal_entries old) past))
+round_handed K m w q qs old report mid hands past d = subst (λ x. K x (messages_in (after_head (commands_in (journal_entries old))))) (sym (round_gives m w q old report mid d).0) (hands.0 old (history_begins (setup_of w) m (base_of w) (journal_entries old) past))
 
 -- it is so of the journal after a round too
 pub round_lasts : (K : Knowledge) (P : List Entry → Type 0) (m : Meaning) (w : Setting) (q : Round) (qs : List Round) (old : List (List ℕ)) (report : ReportView) (mid : List (List ℕ)) → ReplaysAndQueues w.options → Lasts K P m w → HandsOut K w (q ∷ qs) → IsJournal old → P (journal_entries old) → RoundDoes m w q old report mid → P (journal_entries mid)
@@ -230,7 +230,7 @@ whole_lasts m w = record {
 -- ---- what is handed out
 
 -- what a journal's commands say changes the base as those after the input
-said_behind : (w : Setting) (journal : List (List ℕ)) → Begins (journal_entries journal) → state_after w journal ≡ changed_by (messages_in (behind (commands_in (journal_entries journal)))) (base_of w)
+said_behind : (w : Setting) (journal : List (List ℕ)) → Begins (journal_entries journal) → state_after w journal ≡ changed_by (messages_in (after_head (commands_in (journal_entries journal)))) (base_of w)
 said_behind w journal b = ap (λ l. changed_by l (base_of w)) (said_are journal ∙ ap messages_in (sym (commands_same (journal_frames journal)))) ∙ input_says (journal_entries journal) b (base_of w)
 
 pub hands_honest : (w : Setting) (rounds : List Round) → HandsOut (Honest (base_of w)) w rounds

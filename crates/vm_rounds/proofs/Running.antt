@@ -18,7 +18,7 @@ use Rattle.vm_machine.specs.Inputs.{coverage_of}
 use Rattle.vm_model.specs.Calls.{Meaning, Setup}
 use Rattle.vm_model.specs.Carried.{AreCarried, ComeOnce}
 use Rattle.vm_model.specs.Deliveries.{HasNoTwo}
-use Rattle.vm_model.specs.Histories.{Handed, History, IsPrefix, Made, behind}
+use Rattle.vm_model.specs.Histories.{Handed, History, IsPrefix, Made, after_head}
 use Rattle.vm_model.specs.Journal.{Entry, input_read_from, notifications_in}
 use Rattle.vm_model.specs.Moves.{Point, later, start as first_point}
 use Rattle.vm_model.proofs.Once.{run_once, still_carried}
@@ -110,7 +110,7 @@ module _ (m : Meaning) (w : Setting) (begin_bytes : List ℕ) (raw : RawMessage)
       let others = arriving P J.others in
       let all : arriving P (J.entries ++ J.others) ≡ notes_in old ++ others =
       ap (λ l. arriving P (l ++ J.others)) (sym entries) ∙ arriving_append P (journal_frames old) J.others ∙ (λ i. (arriving_notified P (journal_frames old) none ∙ sym (notes_are old)) i ++ arriving (kept_all P (journal_frames old) none i) J.others) in
-      let later : delivered w.version old now.attempt ≡ others = ap (λ l. drop (length (notes_in old)) (arriving P (behind l))) J.frames ∙ ap (drop (length (notes_in old))) all ∙ new_behind (notes_in old) others in
+      let later : delivered w.version old now.attempt ≡ others = ap (λ l. drop (length (notes_in old)) (arriving P (after_head l))) J.frames ∙ ap (drop (length (notes_in old))) all ∙ new_behind (notes_in old) others in
       record {
         start = is_st;
         state = entries_found J.start.state J.state J.reads_state ∙ ap (λ (x : Start). state_entries x.state) is_st;

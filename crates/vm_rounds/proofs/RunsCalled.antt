@@ -22,7 +22,7 @@ use Rattle.await_trees.specs.declared.handle.NotificationHandle.{NotificationHan
 use Rattle.await_trees.specs.Handles.{handles_of}
 use Rattle.await_trees.specs.Tree.{Tree, leaf, tree_of}
 use Rattle.runs.specs.Firsts.{with_first}
-use Rattle.runs.specs.Pending.{is_executing_in, may_execute, started}
+use Rattle.runs.specs.Pending.{is_executing_in, may_execute, run_started}
 use Rattle.vm_types.specs.declared.steps.Step.{Step}
 use Rattle.vm_types.specs.declared.steps.Step.TheVariants as step
 use Rattle.vm_types.specs.declared.types.AwaitResponse.{AwaitResponse}
@@ -33,10 +33,10 @@ use Rattle.vm_types.specs.Options.{ends_awaits}
 use Rattle.vm_types.specs.Values.{value_of}
 use Rattle.vm_parts.specs.declared.run_state.PendingRun.{PendingRun}
 use Rattle.vm_parts.specs.declared.run_state.TrackedCall.{TrackedCall}
-use Rattle.vm_parts.specs.Counting.{missing, missing_signals, next_index}
-use Rattle.vm_parts.specs.Deliveries.{id_at, present_for, taken_by}
+use Rattle.vm_parts.specs.Counting.{missing_number, missing_signals, next_index}
+use Rattle.vm_parts.specs.Deliveries.{id_at, present_result_for, taken_by}
 use Rattle.vm_parts.specs.Ephemerals.{any_in_flight}
-use Rattle.vm_parts.specs.Tracked.{id_of_result, id_of_value, invocation_ids, noted, unresolved}
+use Rattle.vm_parts.specs.Tracked.{id_of_result, id_of_value, invocation_ids, id_noted, unresolved_handles}
 use Rattle.vm_asks.specs.declared.asks.Ask.{Ask}
 use Rattle.vm_asks.specs.declared.asks.Ask.TheVariants as ask
 use Rattle.vm_asks.specs.declared.asks.AnswerKind.{AnswerKind}
@@ -48,17 +48,17 @@ use Rattle.vm_asks.specs.StateReads.{eager_type, lazy_type, name_read, own_form,
 use Rattle.vm_machine.specs.declared.machine.Machine.{Machine}
 use Rattle.vm_machine.specs.declared.phase.Phase.{Phase}
 use Rattle.vm_machine.specs.declared.phase.Phase.TheVariants.{WaitingStart, WaitingReplayEntries, Replaying, Processing, Closed}
-use Rattle.vm_machine.specs.Commands.{CanBeRead, about_next, carried_out, commanded, commanded_unless, compared, counted, entered, handed_out, ignores_payloads, issued, knows_next, phase_after, popped, popped_from, prepared, replayed, runs_after, written}
+use Rattle.vm_machine.specs.Commands.{CanBeRead, about_next, carried_out, commanded, commanded_unless, compared, command_if_counted, entered, handed_out, ignores_payloads, issued, knows_next, phase_after, popped, popped_from, prepared, replayed, runs_after, written}
 use Rattle.vm_machine.specs.Inputs.{end_at, end_step}
 use Rattle.vm_machine.specs.Outcomes.{CalledBy, DoesBy, Outcome, Done, Failed, ◌>>=◌, about_last, called, called_at, refused, settled}
 use Rattle.vm_machine.specs.Phases.{is_processing, is_replaying, is_running, state_fault}
-use Rattle.vm_machine.specs.Reads.{own_result, read_back as read_again, read_counted, read_numbered, read_popped, read_step, read_written, with_result}
+use Rattle.vm_machine.specs.Reads.{own_result, read_back as read_again, read_counted, read_numbered, read_popped, read_step, read_written, with_read_ready}
 use Rattle.vm_machine.specs.Signals.{awakeable_counted, awakeable_step, signal_counted, signal_step}
 use Rattle.vm_machine.specs.Several.{BehindFirst, MakesAll, MakesOne, answered_so, commanded_before, foreseen, foreseen_unless, missing_for, numbers_left}
 use Rattle.vm_machine.specs.Skips.{skips_replay}
 use Rattle.vm_machine.specs.Takes.{result_taken, take_step, taken_at, value_noted, value_taken}
 use Rattle.vm_machine.proofs.Calling.{answers_first, called_from}
-use Rattle.vm_awaits.specs.Awaits.{Awaits, AwaitsAt, AwaitsBy, Behind, Ends, EndsBy, Gathers, ReadsId, StaysPending, Tries, id_read, is_cancelled, or_cancelled, pending_in_replay, pending_on, result_at, waits_by, waits_on, with_used}
+use Rattle.vm_awaits.specs.Awaits.{Awaits, AwaitsAt, AwaitsBy, Behind, AwaitCompletes, EndsBy, Gathers, ReadsId, StaysPending, Tries, next_id_known, is_cancelled, or_cancelled, pending_in_replay, pending_on, result_at, waits_by, waits_on, with_used}
 use Rattle.vm_awaits.specs.Cancels.{AwaitsWhole, Cancels, FinishesIf, Onward, SendsCancel, sends_cancels}
 use Rattle.vm_awaits.proofs.Cancelling.{read_known, woken_used}
 use Rattle.invocation_vm.specs.Calls.{new_awakeable_step}
@@ -77,11 +77,11 @@ run_ids runs = map run_id runs
 abbrev pub SameRuns : Machine → Machine → Type 0
 SameRuns v w = run_ids w.runs ≡ run_ids v.runs
 
-started_same : (any : List ℕ) (runs : List PendingRun) → run_ids (with_first (may_execute any) started runs) ≡ run_ids runs
+started_same : (any : List ℕ) (runs : List PendingRun) → run_ids (with_first (may_execute any) run_started runs) ≡ run_ids runs
 started_same any [] = refl
 started_same any (x ∷ runs) = by_test (may_execute any x) (started_same any runs)
   where
-    by_test : (b : Bool) → run_ids (with_first (may_execute any) started runs) ≡ run_ids runs → run_ids (if b then started x ∷ runs else x ∷ with_first (may_execute any) started runs) ≡ run_id x ∷ run_ids runs
+    by_test : (b : Bool) → run_ids (with_first (may_execute any) run_started runs) ≡ run_ids runs → run_ids (if b then run_started x ∷ runs else x ∷ with_first (may_execute any) run_started runs) ≡ run_id x ∷ run_ids runs
     by_test true same = refl
     by_test false same = ap (λ l. run_id x ∷ l) same
 
@@ -163,7 +163,7 @@ runs_behind m v = runs_after m (record { 0 = v.counters.handle }) v.counters.com
 abbrev Commanded : Message → Machine → Machine → Type 0
 Commanded m v w = Carried (with_ids v.counters.completion m) v (runs_behind m v) (v.counters.completion + ids_of m) w
 
-counts : (o : Option NamedFault) (m : Message) (unstable : Bool) (v : Machine) → Leaves (Commanded m v) (counted o m unstable v)
+counts : (o : Option NamedFault) (m : Message) (unstable : Bool) (v : Machine) → Leaves (Commanded m v) (command_if_counted o m unstable v)
 counts (Some name) m unstable v = tt
 counts None m unstable v = carries v (record { 0 = v.counters.handle }) (with_ids v.counters.completion m) (ignores_payloads v.options.non_determinism_checks unstable) (prepared m v) refl refl refl
 
@@ -171,8 +171,8 @@ issues : (m : Message) (unstable : Bool) (v : Machine) → Leaves (Commanded m v
 unfolding issued
 issues m unstable v = by_test (is_running v.phase)
   where
-    by_test : (b : Bool) → Leaves (Commanded m v) (if b then counted (missing (ids_of m) 0 (ids_of m) v.counters) m unstable v else (let w = entered (shown_type m) (name_of m) v in Failed (about_last (state_fault v.phase) w) w))
-    by_test true = counts (missing (ids_of m) 0 (ids_of m) v.counters) m unstable v
+    by_test : (b : Bool) → Leaves (Commanded m v) (if b then command_if_counted (missing_number (ids_of m) 0 (ids_of m) v.counters) m unstable v else (let w = entered (shown_type m) (name_of m) v in Failed (about_last (state_fault v.phase) w) w))
+    by_test true = counts (missing_number (ids_of m) 0 (ids_of m) v.counters) m unstable v
     by_test false = tt
 
 commands : (refusal : Option NamedFault) (m : Message) (unstable : Bool) (v : Machine) → Leaves (Commanded m v) (commanded_unless refusal m unstable v)
@@ -260,7 +260,7 @@ all_same c (b ∷ bs) handle v w plain (first, mid, makes, on) = by_first (λ gi
 
 -- ---- state reads
 
-put_same : (id : ℕ) (o : Option NotificationResult) (v w : Machine) → SameRuns v w → SameRuns v (with_result id o w)
+put_same : (id : ℕ) (o : Option NotificationResult) (v w : Machine) → SameRuns v w → SameRuns v (with_read_ready id o w)
 put_same id None v w h = h
 put_same id (Some result) v w h = h
 
@@ -293,8 +293,8 @@ state_reads : (r : StateRead) (v : Machine) → Leaves (SameRuns v) (read_step r
 unfolding read_step
 state_reads r v = by_test (is_running v.phase)
   where
-    by_test : (b : Bool) → Leaves (SameRuns v) (if b then read_counted (missing 1 0 1 v.counters) r v else Failed (about_next (state_fault v.phase) (lazy_type r) [] v) v)
-    by_test true = reads_counted (missing 1 0 1 v.counters) r v
+    by_test : (b : Bool) → Leaves (SameRuns v) (if b then read_counted (missing_number 1 0 1 v.counters) r v else Failed (about_next (state_fault v.phase) (lazy_type r) [] v) v)
+    by_test true = reads_counted (missing_number 1 0 1 v.counters) r v
     by_test false = tt
 
 -- ---- calls without a command
@@ -333,7 +333,7 @@ noted_values value (Some tracked) v u s = s
 
 values : (handle : ℕ) (o : Option Value) (v u : Machine) → SameRuns v u → Leaves (SameRuns v) (value_taken handle o u)
 values handle None v u s = tt
-values handle (Some value) v u s = noted_values value (noted handle (id_of_value value) u.tracked) v u s
+values handle (Some value) v u s = noted_values value (id_noted handle (id_of_value value) u.tracked) v u s
 
 results : (handle : ℕ) (o : Option NotificationResult) (v u : Machine) → SameRuns v u → Leaves (SameRuns v) (result_taken handle o u)
 results handle None v u s = s
@@ -345,7 +345,7 @@ takes handle v = by_test (is_running v.phase)
   where
     by_test : (b : Bool) → Leaves (SameRuns v) (if b then taken_at handle (id_at handle v.results.handles) v else refused (state_fault v.phase) v)
     by_test true =
-        let found = present_for v.options.signal_delivery (id_at handle v.results.handles) v.results.ready in
+        let found = present_result_for v.options.signal_delivery (id_at handle v.results.handles) v.results.ready in
         results handle found v (record v { results = taken_by v.options.signal_delivery handle (id_at handle v.results.handles) found v.results }) refl
     by_test false = tt
 
@@ -378,7 +378,7 @@ module _ (left : Tree) (v u : Machine) (same : SameRuns v u) where
 
 tries : (t : Tree) (v : Machine) (x : Outcome (Result AwaitResponse Error)) → Tries t v x → Leaves (SameRuns v) x
 tries t v x = ⊎_elim
-    (λ (y : Ends t v x). subst (Leaves (SameRuns v)) (sym y.2) refl)
+    (λ (y : AwaitCompletes t v x). subst (Leaves (SameRuns v)) (sym y.2) refl)
     (λ (y : StaysPending t v x). subst (Leaves (SameRuns v)) (sym y.2) (pends y.0 v (with_used (length v.results.queued) v) refl))
 
 woken_same : (t : Tree) (v w : Machine) → Tries t v (Done (Ok AnyCompleted) w) → SameRuns v w
@@ -402,13 +402,13 @@ behind v Next (Done (Ok (EphemeralNotificationReady id)) w) o h f on = subst (Le
 behind v Next (Done (Err e) w) o h f on = subst (Leaves (SameRuns v)) (sym on) h
 behind v Next (Failed e w) o h f on = subst (Leaves (SameRuns v)) (sym on) h
 
-id_reads : (id : Option (List ℕ)) (v : Machine) → Leaves (SameRuns v) (id_read id v)
+id_reads : (id : Option (List ℕ)) (v : Machine) → Leaves (SameRuns v) (next_id_known id v)
 id_reads None v = tt
 id_reads (Some id) v = refl
 
 reads_id : (handle : ℕ) (v : Machine) (o : Outcome (Result AwaitResponse Error)) → ReadsId handle v o → Leaves (SameRuns v) o
 reads_id handle v o (first, tried, on) =
-    behind v (λ w p. p ≡ id_read (option_and_then id_of_result (result_at handle w)) w) first o (tries (leaf handle) v first tried)
+    behind v (λ w p. p ≡ next_id_known (option_and_then id_of_result (result_at handle w)) w) first o (tries (leaf handle) v first tried)
     (λ w is next. leaves_behind v w o (woken_same (leaf handle) v w (subst (Tries (leaf handle) v) is tried)) (subst (Leaves (SameRuns w)) (sym next) (id_reads (option_and_then id_of_result (result_at handle w)) w))) on
 
 gathers : (handles : List ℕ) (v : Machine) (o : Outcome (Result AwaitResponse Error)) → Gathers handles v o → Leaves (SameRuns v) o
@@ -418,7 +418,7 @@ gathers (handle ∷ handles) v o (first, reads, on) =
     (λ w is next. leaves_behind v w o (read_same handle v w (subst (ReadsId handle v) is reads)) (gathers handles w o next)) on
 
 ends_by : (b : Bool) (v : Machine) (o : Outcome (Result AwaitResponse Error)) → EndsBy b v o → Leaves (SameRuns v) o
-ends_by true v o comes = gathers (unresolved v.tracked) v o comes
+ends_by true v o comes = gathers (unresolved_handles v.tracked) v o comes
 ends_by false v o comes = subst (Leaves (SameRuns v)) (sym comes) refl
 
 awaits_by : (b : Bool) (t : Tree) (v : Machine) (o : Outcome (Result AwaitResponse Error)) → AwaitsBy b t v o → Leaves (SameRuns v) o

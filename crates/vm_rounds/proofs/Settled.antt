@@ -17,7 +17,7 @@ use Rattle.journal_streams.proofs.Alone.{read_back}
 use Rattle.journal_values.specs.declared.notification.Notification.{Notification}
 use Rattle.runs.specs.Kept.{is_for}
 use Rattle.vm_parts.specs.declared.run_state.KeptProposal.{KeptProposal}
-use Rattle.vm_machine.specs.Inputs.{completion_of}
+use Rattle.vm_machine.specs.Inputs.{acknowledged_completion}
 use Rattle.journal_errors.specs.Versions.{is_from_v7}
 use Rattle.vm_model.specs.Carried.{AreCarried, is_carried}
 use Rattle.vm_model.specs.Journal.{stored_form}
@@ -59,7 +59,7 @@ proposal_in_item (Proposal p) = p ∷ []
 
 -- the completion of a proposal
 abbrev pub completion : KeptProposal → Notification
-completion p = completion_of p.completion_id p
+completion p = acknowledged_completion p.completion_id p
 
 five : (n : ℕ) → (n == 5) ≡ true → n ≡ 5
 five n h = grind (arith, nat_tests)
@@ -368,7 +368,7 @@ acknowledged_brings p whole =
     let here : find (is_for p.completion_id) (p ∷ []) ≡ Some p = ap (λ b. cond b (Some p) None) (same_number p.completion_id) in (
       ((λ _. subst (IsOfKept (p ∷ [])) (sym reads) (ap is_some here)), tt),
       ap (unacknowledged (p ∷ [])) reads ∙ ap (λ b. if b then [] else p ∷ []) (same_number p.completion_id),
-      ap (λ o. notified_by (acknowledged_as (p ∷ []) o) []) reads ∙ ap (λ o. notified_by (option_map (completion_of p.completion_id) o) []) here,
+      ap (λ o. notified_by (acknowledged_as (p ∷ []) o) []) reads ∙ ap (λ o. notified_by (option_map (acknowledged_completion p.completion_id) o) []) here,
     )
 
 answer_brings : (version : Version) (p : KeptProposal) → IsAnswered version p → Brings version (p ∷ []) (answer_frame version p ∷ []) (completion p ∷ [])

@@ -15,7 +15,7 @@ use Rattle.journal_values.specs.declared.notification.NotificationId.TheVariants
 use Rattle.journal_values.specs.declared.notification.NotificationResult.{NotificationResult}
 use Rattle.vm_asks.specs.Carried.{all_carried, carried, carried_by, read_carried}
 use Rattle.vm_parts.specs.declared.run_state.KeptProposal.{KeptProposal}
-use Rattle.vm_model.specs.Carried.{is_among, is_carried, read_carries}
+use Rattle.vm_model.specs.Carried.{is_id_among, is_carried, read_carries}
 use Rattle.vm_model.specs.Journal.{messages_in, read_before}
 use Rattle.vm_attempt.specs.Journals.{commands_among, is_command_frame}
 use Rattle.vm_attempt.proofs.Numbers.{carried_append}
@@ -78,8 +78,8 @@ run_completes low id (c ∷ cs) before rises h = by_read (message_in c.ty c.body
     by_read None is rises h ih = ih before h
     by_read (Some m) is rises h ih = by_test (read_runs id (Some m)) refl h
       where
-        here : read_runs id (Some m) ≡ true → is_among id (carried_by c) ≡ true
-        here runs = ap (λ o. is_among id (read_carried o)) is ∙ runs_carry id (Some m) runs
+        here : read_runs id (Some m) ≡ true → is_id_among id (carried_by c) ≡ true
+        here runs = ap (λ o. is_id_among id (read_carried o)) is ∙ runs_carry id (Some m) runs
 
         by_test : (b : Bool) → read_runs id (Some m) ≡ b → (b || has_run id cs) ≡ true → completes_among id (messages_in cs) (completes_by id m before) ≡ Some completes.Proposal
         by_test true runs e =
@@ -91,7 +91,7 @@ run_completes low id (c ∷ cs) before rises h = by_read (message_in c.ty c.body
 
 -- Each id that these notifications complete was completed by those from the beginning, or by a proposal, or a command that isn't a run's carries it.
 abbrev pub IsExplained : List Notification → List RawMessage → List ℕ → List Notification → Type 0
-IsExplained ns cs ps notes = (id : ℕ) → completes_id id notes ≡ true → (completes_id id ns ≡ true) ⊎ ((is_among id ps ≡ true) ⊎ ((is_carried id cs ≡ true) × (has_run id cs ≡ false)))
+IsExplained ns cs ps notes = (id : ℕ) → completes_id id notes ≡ true → (completes_id id ns ≡ true) ⊎ ((is_id_among id ps ≡ true) ⊎ ((is_carried id cs ≡ true) × (has_run id cs ≡ false)))
 
 pub completed_append : (id : ℕ) (xs ys : List Notification) → completes_id id (xs ++ ys) ≡ (completes_id id xs || completes_id id ys)
 completed_append id [] ys = refl
@@ -102,7 +102,7 @@ completed_append id (x ∷ xs) ys = by_test (is_of id x.id) (completed_append id
     by_test false ih = ih
 
 carried_join : (id : ℕ) (xs ys : List RawMessage) → is_carried id (xs ++ ys) ≡ (is_carried id xs || is_carried id ys)
-carried_join id xs ys = carried_is id (xs ++ ys) ∙ ap (is_among id) (carried_append xs ys) ∙ among_append id (all_carried xs) (all_carried ys) ∙ (λ i. sym (carried_is id xs) i || sym (carried_is id ys) i)
+carried_join id xs ys = carried_is id (xs ++ ys) ∙ ap (is_id_among id) (carried_append xs ys) ∙ among_append id (all_carried xs) (all_carried ys) ∙ (λ i. sym (carried_is id xs) i || sym (carried_is id ys) i)
 
 run_join : (id : ℕ) (xs ys : List RawMessage) → has_run id (xs ++ ys) ≡ (has_run id xs || has_run id ys)
 run_join id [] ys = refl
@@ -121,9 +121,9 @@ may_be_stored ns cs ps notes id may all = by_test (completes_id id notes) refl
     by_test true e =
         ⊎_elim
         (λ (x : completes_id id ns ≡ true). absurd (let z : true ≡ false = sym x ∙ may.free in cc))
-        (λ (y : (is_among id ps ≡ true) ⊎ ((is_carried id cs ≡ true) × (has_run id cs ≡ false))).
+        (λ (y : (is_id_among id ps ≡ true) ⊎ ((is_carried id cs ≡ true) × (has_run id cs ≡ false))).
         ⊎_elim
-        (λ (x : is_among id ps ≡ true). absurd (let z : true ≡ false = sym x ∙ may.new in cc))
+        (λ (x : is_id_among id ps ≡ true). absurd (let z : true ≡ false = sym x ∙ may.new in cc))
         (λ (x : (is_carried id cs ≡ true) × (has_run id cs ≡ false)). absurd (let z : true ≡ false = sym may.run ∙ x.1 in cc))
         y)
         (all id e)
@@ -133,9 +133,9 @@ explained_commands : (ns : List Notification) (cs more : List RawMessage) (ps : 
 explained_commands ns cs more ps notes rises all id e =
     ⊎_elim
     (λ (x : completes_id id ns ≡ true). inl x)
-    (λ (y : (is_among id ps ≡ true) ⊎ ((is_carried id cs ≡ true) × (has_run id cs ≡ false))).
+    (λ (y : (is_id_among id ps ≡ true) ⊎ ((is_carried id cs ≡ true) × (has_run id cs ≡ false))).
     ⊎_elim
-    (λ (x : is_among id ps ≡ true). inr (inl x))
+    (λ (x : is_id_among id ps ≡ true). inr (inl x))
     (λ (x : (is_carried id cs ≡ true) × (has_run id cs ≡ false)).
     let apart : is_carried id more ≡ false = carried_is id more ∙ only_once 1 id (all_carried cs) (all_carried more) (subst (Rises 1) (carried_append cs more) rises) (sym (carried_is id cs) ∙ x.0) in
     inr (inr (carried_join id cs more ∙ either (is_carried id cs) (is_carried id more) x.0, run_join id cs more ∙ (λ i. x.1 i || not_run id more apart i))))
@@ -143,8 +143,8 @@ explained_commands ns cs more ps notes rises all id e =
     (all id e)
 
 -- one notification more
-explained_note : (ns : List Notification) (cs : List RawMessage) (ps qs : List ℕ) (notes : List Notification) (n : Notification) → ((id : ℕ) → is_among id ps ≡ true → is_among id qs ≡ true)
-    → ((id : ℕ) → n.id ≡ CompletionId id → (is_among id qs ≡ true) ⊎ ((is_carried id cs ≡ true) × (has_run id cs ≡ false))) → IsExplained ns cs ps notes → IsExplained ns cs qs (notes ++ n ∷ [])
+explained_note : (ns : List Notification) (cs : List RawMessage) (ps qs : List ℕ) (notes : List Notification) (n : Notification) → ((id : ℕ) → is_id_among id ps ≡ true → is_id_among id qs ≡ true)
+    → ((id : ℕ) → n.id ≡ CompletionId id → (is_id_among id qs ≡ true) ⊎ ((is_carried id cs ≡ true) × (has_run id cs ≡ false))) → IsExplained ns cs ps notes → IsExplained ns cs qs (notes ++ n ∷ [])
 explained_note ns cs ps qs notes n more new all id e = by_test (completes_id id notes) refl (sym (completed_append id notes (n ∷ [])) ∙ e)
   where
     of_id : (x : NotificationId) → is_of id x ≡ true → x ≡ CompletionId id
@@ -156,13 +156,13 @@ explained_note ns cs ps qs notes n more new all id e = by_test (completes_id id 
     only true h = refl
     only false h = h
 
-    by_test : (b : Bool) → completes_id id notes ≡ b → (b || (is_of id n.id || false)) ≡ true → (completes_id id ns ≡ true) ⊎ ((is_among id qs ≡ true) ⊎ ((is_carried id cs ≡ true) × (has_run id cs ≡ false)))
+    by_test : (b : Bool) → completes_id id notes ≡ b → (b || (is_of id n.id || false)) ≡ true → (completes_id id ns ≡ true) ⊎ ((is_id_among id qs ≡ true) ⊎ ((is_carried id cs ≡ true) × (has_run id cs ≡ false)))
     by_test true there h =
         ⊎_elim
         (λ (x : completes_id id ns ≡ true). inl x)
-        (λ (y : (is_among id ps ≡ true) ⊎ ((is_carried id cs ≡ true) × (has_run id cs ≡ false))).
+        (λ (y : (is_id_among id ps ≡ true) ⊎ ((is_carried id cs ≡ true) × (has_run id cs ≡ false))).
         ⊎_elim
-        (λ (x : is_among id ps ≡ true). inr (inl (more id x)))
+        (λ (x : is_id_among id ps ≡ true). inr (inl (more id x)))
         (λ (x : (is_carried id cs ≡ true) × (has_run id cs ≡ false)). inr (inr x))
         y)
         (all id there)
@@ -206,15 +206,15 @@ module _ (version : Version) (ns : List Notification) (first : RawMessage) where
       record {
         commands = journal_commands journal x first cs [] s.commands enter.0 ∙ ap (λ l. first ∷ l) (append-nil cs);
         explained = subst (IsExplained ns cs (ps ++ p.completion_id ∷ [])) (sym notes)
-            (explained_note ns cs ps (ps ++ p.completion_id ∷ []) (notes_in journal) (completion p) (λ id h. among_append id ps (p.completion_id ∷ []) ∙ either (is_among id ps) (is_among id (p.completion_id ∷ [])) h) (λ id is. inl (newest id is)) s.explained);
+            (explained_note ns cs ps (ps ++ p.completion_id ∷ []) (notes_in journal) (completion p) (λ id h. among_append id ps (p.completion_id ∷ []) ∙ either (is_id_among id ps) (is_id_among id (p.completion_id ∷ [])) h) (λ id is. inl (newest id is)) s.explained);
         rises = s.rises;
         well = s.well.1;
       }
     where
-      newest : (id : ℕ) → (completion p).id ≡ CompletionId id → is_among id (ps ++ p.completion_id ∷ []) ≡ true
+      newest : (id : ℕ) → (completion p).id ≡ CompletionId id → is_id_among id (ps ++ p.completion_id ∷ []) ≡ true
       newest id is =
           let same : p.completion_id ≡ id = cc in
-          among_append id ps (p.completion_id ∷ []) ∙ or_else (is_among id ps) (is_among id (p.completion_id ∷ [])) (either (p.completion_id == id) false (eq-eqb p.completion_id id same))
+          among_append id ps (p.completion_id ∷ []) ∙ or_else (is_id_among id ps) (is_id_among id (p.completion_id ∷ [])) (either (p.completion_id == id) false (eq-eqb p.completion_id id same))
 
   -- items are stored
   pub items_stored : (us ws : List Written) (journal : List (List ℕ)) (cs : List RawMessage) (ps : List ℕ) → AllByRecursion (IsItem version) us → Stands ns first journal cs ps (us ++ ws) → Stands ns first (journal ++ map stored_as us) (cs ++ flat_map command_in us) (ps ++ proposed_ids us) ws
@@ -318,4 +318,4 @@ module _ (version : Version) (ns : List Notification) (first : RawMessage) where
       explained_note ns cs ps ps (notes_in journal) n (λ id h. h) (λ id is. inr (behind_first id (carried id is), arrival_apart x journal cs n reads commands rises e id is)) all
     where
       behind_first : (id : ℕ) → is_carried id (commands_among (journal_frames journal)) ≡ true → is_carried id cs ≡ true
-      behind_first id h = carried_is id cs ∙ ap (is_among id) (ap (λ l. l ++ all_carried cs) (sym none)) ∙ sym (carried_is id (first ∷ cs)) ∙ ap (is_carried id) (sym commands) ∙ h
+      behind_first id h = carried_is id cs ∙ ap (is_id_among id) (ap (λ l. l ++ all_carried cs) (sym none)) ∙ sym (carried_is id (first ∷ cs)) ∙ ap (is_carried id) (sym commands) ∙ h

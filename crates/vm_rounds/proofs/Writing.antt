@@ -37,7 +37,7 @@ use Rattle.vm_steps.specs.declared.progress.Progress.{Progress}
 use Rattle.vm_steps.specs.declared.progress.Reply.{Reply}
 use Rattle.vm_steps.specs.declared.progress.Reply.TheVariants as reply
 use Rattle.vm_steps.specs.Record.{Record, bytes_written}
-use Rattle.vm_steps.specs.Stepping.{Advances, Asks, CloseDoes, Closes, FeedDoes, Feeds, FinishDoes, Reads, StepAt, StepDoes, StepFrom, StepUnless, future_in, kept_at, replied, step_asked, with_vm}
+use Rattle.vm_steps.specs.Stepping.{Advances, MakesStep, CloseDoes, InputIsClosed, FeedDoes, FeedsPiece, FinishDoes, InputIsRead, StepAt, StepDoes, StepFrom, StepUnless, future_in, kept_at, replied, step_asked, with_vm}
 use Rattle.vm_steps.specs.Steps.{AllCarried, Awaited, Performs, PerformsBy, mapped}
 use Rattle.vm_laws.proofs.Outputs.{all_writes, whole_writes}
 use Rattle.vm_attempt.proofs.Finishing.{finished}
@@ -116,13 +116,13 @@ replied_vm r future (Ok reply.Suspended) w = (refl, refl)
 replied_vm r future (Ok reply.Ended) w = (refl, refl)
 replied_vm r future (Err e) w = (refl, refl)
 
-reads_wrote : (r : Record) (result : Result Progress Error) (new : Record) → Reads r result new → Wrote r new
+reads_wrote : (r : Record) (result : Result Progress Error) (new : Record) → InputIsRead r result new → Wrote r new
 reads_wrote r (Ok g) new h =
     let w = h.1.1 in
     wrote_vm r new w (ap (λ x. x.taken) h.1.3) (ap (λ x. x.vm) h.1.3) (does_extend (called (input_step r.vm.machine) r.vm.machine) (Ok h.1.0) r.vm.machine w.machine (input_writes r.vm.machine) h.1.2.0)
 reads_wrote r (Err e) new (w, calls, is) = wrote_vm r new w (ap (λ x. x.taken) is) (ap (λ x. x.vm) is) (does_extend (called (input_step r.vm.machine) r.vm.machine) (Err e) r.vm.machine w.machine (input_writes r.vm.machine) calls.0)
 
-asks_wrote : (m : Meaning) (r : Record) (result : Result Progress Error) (new : Record) → Asks m r result new → Wrote r new
+asks_wrote : (m : Meaning) (r : Record) (result : Result Progress Error) (new : Record) → MakesStep m r result new → Wrote r new
 asks_wrote m r result new (answer, w, made, is, told) =
     let st = step_asked m r in
     let f = replied_vm r (future_in st) answer w in
@@ -163,7 +163,7 @@ kept_vm r piece w None WaitingReplayEntries = refl
 kept_vm r piece w None Replaying = refl
 kept_vm r piece w None Processing = refl
 
-feeds_wrote : (piece : List ℕ) (r : Record) (result : Result Unit AllocError) (new : Record) → Feeds piece r result new → Wrote r new
+feeds_wrote : (piece : List ℕ) (r : Record) (result : Result Unit AllocError) (new : Record) → FeedsPiece piece r result new → Wrote r new
 feeds_wrote piece r (Ok t) new d =
     let q = input_quiet r.vm piece in
     wrote_vm r new (after_input r.vm piece) (ap (λ x. x.taken) d ∙ kept_vm r piece (after_input r.vm piece) r.vm.machine.failure r.vm.machine.phase) (ap (λ x. x.vm) d) (map encoding q.messages, q.output)
@@ -182,7 +182,7 @@ left_extends : {A : Type 0} (o : Outcome A) (v : Machine) → EventWrites v o �
 left_extends (Done a w) v h = (map encoding h.messages, h.output)
 left_extends (Failed e w) v h = (map encoding h.messages, h.output)
 
-closes_wrote : (r : Record) (result : Result Unit AllocError) (new : Record) → Closes r result new → Wrote r new
+closes_wrote : (r : Record) (result : Result Unit AllocError) (new : Record) → InputIsClosed r result new → Wrote r new
 closes_wrote r (Ok t) new d = wrote_vm r new (after_closing r.vm) (ap (λ x. x.taken) d) (ap (λ x. x.vm) d) (left_extends (called (close_step r.vm.machine) r.vm.machine) r.vm.machine (close_writes r.vm.machine))
 closes_wrote r (Err e) new (w, dead, d) = wrote_vm r new w (ap (λ x. x.taken) d) (ap (λ x. x.vm) d) (extends_same r.vm.machine w.machine (among_output _ r.vm.machine w.machine dead))
 

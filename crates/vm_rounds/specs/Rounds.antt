@@ -25,7 +25,7 @@ use Rattle.vm_steps.specs.declared.progress.Progress.{Progress}
 use Rattle.vm_steps.specs.Heard.{proposals_in}
 use Rattle.vm_steps.specs.Record.{Record, bytes_written, heard}
 use Rattle.vm_attempt.specs.Told.{AnswersAreTold, NumbersFreshly, Premises, written_by}
-use Rattle.vm_steps.specs.Stepping.{CloseDoes, FeedDoes, FinishDoes, StepDoes, fresh_record, taken_from}
+use Rattle.vm_steps.specs.Stepping.{CloseDoes, FeedDoes, FinishDoes, StepDoes, fresh_record, output_taken}
 use Rattle.vm_store.specs.declared.types.Event.{Event}
 use Rattle.vm_store.specs.declared.types.Event.TheVariants as event
 use Rattle.vm_store.specs.declared.types.Round.{Round}
@@ -124,7 +124,7 @@ Happens m (event.Store n) old new =
       output = old.output
           ++ concat old.attempt.vm.machine.output;
       unstored = unstored;
-      attempt = taken_from old.attempt;
+      attempt = output_taken old.attempt;
     })
     × WholeFrames old.attempt.vm.machine.output
     × (old.attempt.proposed ≡ proposals_in (bytes_written old.attempt))
@@ -344,7 +344,8 @@ pub record ReplaysAndQueues (options : VMOptions) : Type 0 where
 abbrev pub AreWhole : List Round → Type 0
 AreWhole rounds = AllByRecursion (λ r. r.partial ≡ false) rounds
 
--- The answers of the handler's run over a journal, and those of these reports: one begins the other.
+-- The answers of the handler's run over a journal, and those of these reports: one begins the
+-- other.
 abbrev pub TellsAlong : Setup → Meaning → List Entry → List ReportView → Type 0
 TellsAlong s m journal reports =
     (first : RawMessage) (input : InputCommand) (rest : List RawMessage) (p : Point)

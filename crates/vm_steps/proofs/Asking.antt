@@ -10,7 +10,7 @@ use Rattle.vm_steps.specs.declared.progress.Reply.{Reply}
 use Rattle.vm_steps.specs.declared.progress.Reply.TheVariants as reply
 use Rattle.vm_steps.specs.Record.{Record}
 use Rattle.vm_steps.specs.Steps.{StepMade}
-use Rattle.vm_steps.specs.Stepping.{Meaning, step_asked, asked_from, future_in, replied, progress_of, Advances}
+use Rattle.vm_steps.specs.Stepping.{StepFunction, step_asked, asked_from, future_in, replied, progress_of, Advances}
 
 -- the VM's view before doesn't matter to the record after
 settled_vm : (r : Record) (answers : List Answer) (mid : View) (future : Option UnresolvedFuture) (given : Result Reply Error) (w : View)
@@ -22,7 +22,7 @@ settled_vm r answers mid future (Ok reply.Suspended) w = refl
 settled_vm r answers mid future (Ok reply.Ended) w = refl
 settled_vm r answers mid future (Err e) w = refl
 
-pub asks_made : (meaning : Meaning) (old : Record) (answers : List Answer) (mid w : View) (step : Step) (future : Option UnresolvedFuture) (given : Result Reply Error) (result : Result Progress Error) (new : Record)
+pub asks_made : (meaning : StepFunction) (old : Record) (answers : List Answer) (mid w : View) (step : Step) (future : Option UnresolvedFuture) (given : Result Reply Error) (result : Result Progress Error) (new : Record)
     → answers ≡ old.answers → step ≡ asked_from old.waiting (meaning answers) → future ≡ future_in step → StepMade step given old.vm w
     → new ≡ replied (record old { answers = answers; vm = mid }) future given w → (answers ≡ [] → ⊥) → result ≡ progress_of given → Advances meaning old result new
 asks_made meaning old answers mid w step future given result new same is kept done left some made =

@@ -23,7 +23,7 @@ use Rattle.vm_parts.specs.Outboxes.{WholeFrames}
 use Rattle.vm_machine.specs.declared.phase.Phase.{Phase}
 use Rattle.vm_machine.specs.declared.phase.Phase.TheVariants.{WaitingStart, WaitingReplayEntries, Replaying, Processing, Closed}
 use Rattle.vm_machine.specs.Inputs.{input_step}
-use Rattle.invocation_vm.specs.Views.{StarvesAmong, brought, View, Calls, after_input, after_closing}
+use Rattle.invocation_vm.specs.Views.{StarvesAmong, messages_in_bytes, View, Calls, after_input, after_closing}
 use Rattle.vm_steps.specs.declared.progress.Fed.{Fed}
 use Rattle.vm_steps.specs.declared.progress.Progress.{Progress}
 use Rattle.vm_steps.specs.declared.progress.Progress.TheVariants as progress
@@ -36,8 +36,8 @@ use Rattle.vm_steps.specs.Record.{AttemptView, Record, bytes_written}
 use Rattle.vm_steps.specs.Steps.{StepMade}
 
 -- a handler's step after these answers
-abbrev pub Meaning : Type 0
-Meaning = List Answer → Step
+abbrev pub StepFunction : Type 0
+StepFunction = List Answer → Step
 
 -- an attempt that was fed nothing
 abbrev pub fresh_record : View → Record
@@ -83,7 +83,7 @@ asked_from (Some future) s = step.Await future
 asked_from None s = s
 
 -- the step that is made next
-abbrev pub step_asked : Meaning → Record → Step
+abbrev pub step_asked : StepFunction → Record → Step
 step_asked meaning r = asked_from r.waiting (meaning r.answers)
 
 -- the progress that a reply is
@@ -114,29 +114,29 @@ abbrev pub LacksMemory : Record → Result Progress Error → Record → Type 0
 LacksMemory old result new = (result ≡ Err no_memory) × (new ≡ record old { starved = true })
 
 -- the input is read; it is the first answer
-abbrev pub Reads : Record → Result Progress Error → Record → Type 0
-Reads old (Ok made) new =
+abbrev pub InputIsRead : Record → Result Progress Error → Record → Type 0
+InputIsRead old (Ok made) new =
     (made ≡ progress.Stepped)
     × ((input : Input) × (w : View) × Calls input_step (Ok input) old.vm w
     × (new ≡ record old { answers = answer.Input input ∷ []; vm = w }))
-Reads old (Err e) new = (w : View) × Calls input_step (Err e) old.vm w
+InputIsRead old (Err e) new = (w : View) × Calls input_step (Err e) old.vm w
     × (new ≡ record old { vm = w })
 
 -- the step is made
-abbrev pub Asks : Meaning → Record → Result Progress Error → Record → Type 0
-Asks meaning old result new =
+abbrev pub MakesStep : StepFunction → Record → Result Progress Error → Record → Type 0
+MakesStep meaning old result new =
     (r : Result Reply Error) × (w : View) × StepMade (step_asked meaning old) r old.vm w
     × (new ≡ replied old (future_in (step_asked meaning old)) r w) × (result ≡ progress_of r)
 
 -- the handler runs: memory is lacking, or the input is read, or the step is made
-abbrev pub Advances : Meaning → Record → Result Progress Error → Record → Type 0
+abbrev pub Advances : StepFunction → Record → Result Progress Error → Record → Type 0
 Advances meaning old result new =
     LacksMemory old result new
-    ⊎ (((old.answers ≡ []) × Reads old result new)
-    ⊎ ((old.answers ≢ []) × Asks meaning old result new))
+    ⊎ (((old.answers ≡ []) × InputIsRead old result new)
+    ⊎ ((old.answers ≢ []) × MakesStep meaning old result new))
 
 -- a step in this phase
-abbrev pub StepAt : Phase → Meaning → Record → Result Progress Error → Record → Type 0
+abbrev pub StepAt : Phase → StepFunction → Record → Result Progress Error → Record → Type 0
 StepAt WaitingStart meaning old result new = (result ≡ Ok progress.NotReady) × (new ≡ old)
 StepAt WaitingReplayEntries meaning old result new = (result ≡ Ok progress.NotReady) × (new ≡ old)
 StepAt Closed meaning old result new = (result ≡ Err (named_error fault.Closed None)) × (new ≡ old)
@@ -144,7 +144,8 @@ StepAt Replaying meaning old result new = Advances meaning old result new
 StepAt Processing meaning old result new = Advances meaning old result new
 
 -- a step, unless the VM has failed or the attempt is over
-abbrev pub StepUnless : Option Error → Option Progress → Meaning → Record → Result Progress Error
+abbrev pub StepUnless : Option Error → Option Progress → StepFunction → Record
+    → Result Progress Error
     → Record → Type 0
 StepUnless (Some e) over meaning old result new = ((result ≡ Err e) ⊎ (result ≡ Err no_memory))
     × (new ≡ old)
@@ -154,13 +155,13 @@ StepUnless None None meaning old result new = StepAt old.vm.machine.phase meanin
 -- What a step does, the first of these that holds: after the attempt's own want of memory that;
 -- after an error of the VM that; after Suspended or Ended that; not ready while the VM waits; the
 -- input is read; the step is made.
-abbrev pub StepFrom : Bool → Meaning → Record → Result Progress Error → Record → Type 0
+abbrev pub StepFrom : Bool → StepFunction → Record → Result Progress Error → Record → Type 0
 StepFrom true meaning old result new = (result ≡ Err no_memory) × (new ≡ old)
 StepFrom false meaning old result new =
     StepUnless old.vm.machine.failure old.over meaning old result new
 
 -- a step, unless the attempt's own memory was lacking
-abbrev pub StepDoes : Meaning → Record → Result Progress Error → Record → Type 0
+abbrev pub StepDoes : StepFunction → Record → Result Progress Error → Record → Type 0
 StepDoes meaning old result new = StepFrom old.starved meaning old result new
 
 -- a step by which the handler waits for input, or is suspended
@@ -198,8 +199,8 @@ kept_at None Closed piece r = record r { late = r.late ++ fed_now piece r ∷ []
 kept_at None _ piece r = record r { fed = r.fed ++ fed_now piece r ∷ [] }
 
 -- a piece is kept as long as the VM takes it
-abbrev pub kept : List ℕ → Record → Record
-kept piece r = kept_at r.vm.machine.failure r.vm.machine.phase piece r
+abbrev pub with_piece_kept : List ℕ → Record → Record
+with_piece_kept piece r = kept_at r.vm.machine.failure r.vm.machine.phase piece r
 
 -- the record with another view of its VM
 abbrev pub with_vm : View → Record → Record
@@ -207,28 +208,29 @@ with_vm w r = record r { vm = w }
 
 -- The piece is kept and handed to the VM; or there is no memory for keeping it; or the VM finds
 -- none.
-abbrev pub Feeds : List ℕ → Record → Result Unit AllocError → Record → Type 0
-Feeds piece old (Ok t) new = new ≡ with_vm (after_input old.vm piece) (kept piece old)
-Feeds piece old (Err e) new =
+abbrev pub FeedsPiece : List ℕ → Record → Result Unit AllocError → Record → Type 0
+FeedsPiece piece old (Ok t) new = new
+    ≡ with_vm (after_input old.vm piece) (with_piece_kept piece old)
+FeedsPiece piece old (Err e) new =
     (new ≡ record old { starved = true })
-    ⊎ ((w : View) × StarvesAmong (brought old.vm piece) old.vm.machine w.machine
-    × (new ≡ with_vm w (kept piece old)))
+    ⊎ ((w : View) × StarvesAmong (messages_in_bytes old.vm piece) old.vm.machine w.machine
+    × (new ≡ with_vm w (with_piece_kept piece old)))
 
 -- what a piece does: nothing after the attempt's own want of memory
 abbrev pub FeedDoes : Bool → List ℕ → Record → Result Unit AllocError → Record → Type 0
 FeedDoes true piece old result new = (result ≡ Ok tt) × (new ≡ old)
-FeedDoes false piece old result new = Feeds piece old result new
+FeedDoes false piece old result new = FeedsPiece piece old result new
 
 -- the input is closed, or the VM finds no memory
-abbrev pub Closes : Record → Result Unit AllocError → Record → Type 0
-Closes old (Ok t) new = new ≡ record old { closed = true; vm = after_closing old.vm }
-Closes old (Err e) new = (w : View) × StarvesAmong [] old.vm.machine w.machine
+abbrev pub InputIsClosed : Record → Result Unit AllocError → Record → Type 0
+InputIsClosed old (Ok t) new = new ≡ record old { closed = true; vm = after_closing old.vm }
+InputIsClosed old (Err e) new = (w : View) × StarvesAmong [] old.vm.machine w.machine
     × (new ≡ record old { closed = true; vm = w })
 
 -- what closing the input does
 abbrev pub CloseDoes : Bool → Record → Result Unit AllocError → Record → Type 0
 CloseDoes true old result new = (result ≡ Ok tt) × (new ≡ old)
-CloseDoes false old result new = Closes old result new
+CloseDoes false old result new = InputIsClosed old result new
 
 -- ---- results of runs
 
@@ -243,39 +245,44 @@ noted_at (Some e) handle r = r
 noted_at None handle r = record r { failed_by = Some handle }
 
 -- the run is noted where telling its result was answered by an error
-abbrev pub noted : Result Unit Error → NotificationHandle → Record → Record
-noted (Ok t) handle r = r
-noted (Err e) handle r = noted_at r.vm.machine.failure handle r
+abbrev pub failed_run_noted : Result Unit Error → NotificationHandle → Record → Record
+failed_run_noted (Ok t) handle r = r
+failed_run_noted (Err e) handle r = noted_at r.vm.machine.failure handle r
 
 -- What executing a run came to is told to the VM; the run is noted where that failed the VM.
-abbrev pub Tells : NotificationHandle → RunExitResult → RetryPolicy → Record → Result Unit Error
+abbrev pub ReportsRunResult : NotificationHandle → RunExitResult → RetryPolicy → Record
+    → Result Unit Error
     → Record → Type 0
-Tells handle exit policy old result new = (w : View)
-    × CallsProposal handle exit policy result old.vm w × (new ≡ with_vm w (noted result handle old))
+ReportsRunResult handle exit policy old result new = (w : View)
+    × CallsProposal handle exit policy result old.vm w
+    × (new ≡ with_vm w (failed_run_noted result handle old))
 
 -- the same, unless the attempt's own memory was lacking
 abbrev pub TellsUnless : Bool → NotificationHandle → RunExitResult → RetryPolicy → Record
     → Result Unit Error → Record → Type 0
 TellsUnless true handle exit policy old result new = (result ≡ Err no_memory) × (new ≡ old)
-TellsUnless false handle exit policy old result new = Tells handle exit policy old result new
+TellsUnless false handle exit policy old result new =
+    ReportsRunResult handle exit policy old result new
 
 -- What executing a run came to is told to the VM. Where it answers, what it has written may propose
 -- a result; else the run is noted where that failed the VM.
-abbrev pub Finishes : NotificationHandle → RunExitResult → RetryPolicy → Record → Result Unit Error
+abbrev pub CompletesRun : NotificationHandle → RunExitResult → RetryPolicy → Record
+    → Result Unit Error
     → Record → Type 0
-Finishes handle exit policy old (Ok t) new =
+CompletesRun handle exit policy old (Ok t) new =
     (w : View) × CallsProposal handle exit policy (Ok t) old.vm w
     × (new ≡ record old {
       proposed = old.proposed ++ newly_proposed old.vm.machine w.machine;
       vm = w;
     })
-Finishes handle exit policy old (Err e) new = Tells handle exit policy old (Err e) new
+CompletesRun handle exit policy old (Err e) new = ReportsRunResult handle exit policy old (Err e)
+    new
 
 -- what telling it does: nothing after the attempt's own want of memory
 abbrev pub FinishDoes : Bool → NotificationHandle → RunExitResult → RetryPolicy → Record
     → Result Unit Error → Record → Type 0
 FinishDoes true handle exit policy old result new = (result ≡ Err no_memory) × (new ≡ old)
-FinishDoes false handle exit policy old result new = Finishes handle exit policy old result new
+FinishDoes false handle exit policy old result new = CompletesRun handle exit policy old result new
 
 -- ---- output
 
@@ -284,11 +291,11 @@ abbrev pub emptied : View → View
 emptied v = record v { machine = record v.machine { output = [] } }
 
 -- all bytes that wait are taken
-abbrev pub taken_from : Record → Record
-taken_from r = record r { taken = r.taken ++ concat r.vm.machine.output ∷ []; vm = emptied r.vm }
+abbrev pub output_taken : Record → Record
+output_taken r = record r { taken = r.taken ++ concat r.vm.machine.output ∷ []; vm = emptied r.vm }
 
 -- the bytes that wait are taken, which are whole frames; or nothing is changed
 abbrev pub Takes : Record → Result (List ℕ) AllocError → Record → Type 0
-Takes old (Ok bytes) new = (bytes ≡ concat old.vm.machine.output) × (new ≡ taken_from old)
+Takes old (Ok bytes) new = (bytes ≡ concat old.vm.machine.output) × (new ≡ output_taken old)
     × WholeFrames old.vm.machine.output
 Takes old (Err e) new = new ≡ old

@@ -40,8 +40,8 @@ result_mapped f (Ok a) = Ok (f a)
 result_mapped f (Err e) = Err e
 
 -- a call that has a command: the answer is by its first handle
-abbrev pub carried : Command → Machine → Outcome Reply
-carried c v =
+abbrev pub commanded_reply : Command → Machine → Outcome Reply
+commanded_reply c v =
     mapped (λ handle. reply.Answer (command_answer c.message handle)) (called (commanded c v) v)
 
 -- A call that has several commands: what it may come to, as a reply; the answer is by its first
@@ -53,8 +53,8 @@ AllCarried kind c cs v (Done given w) = (handle : NotificationHandle)
 AllCarried kind c cs v (Failed e w) = MakesAll c cs (Err e) v w
 
 -- an awakeable: the answer is its id and its handle
-abbrev pub awakeable_made : Machine → Outcome Reply
-awakeable_made v = mapped (λ awakeable. reply.Answer (answer.Awakeable awakeable))
+abbrev pub awakeable_reply_step : Machine → Outcome Reply
+awakeable_reply_step v = mapped (λ awakeable. reply.Answer (answer.Awakeable awakeable))
     (called (new_awakeable_step v) v)
 
 -- a named signal: the answer is its handle
@@ -88,12 +88,12 @@ taken handle v =
     mapped (λ value. reply.Answer (answer.Taken value)) (called (take_step handle.0 v) v)
 
 -- the handler ends
-abbrev pub ended : Machine → Outcome Reply
-ended v = mapped (λ _. reply.Ended) (called (end_step v) v)
+abbrev pub end_reply : Machine → Outcome Reply
+end_reply v = mapped (λ _. reply.Ended) (called (end_step v) v)
 
 -- whether a handle is completed: that is answered at once
-abbrev pub completed : NotificationHandle → Machine → Outcome Reply
-completed handle v = Done (reply.Answer (answer.Completed (is_completed handle.0 v))) v
+abbrev pub completed_reply : NotificationHandle → Machine → Outcome Reply
+completed_reply handle v = Done (reply.Answer (answer.Completed (is_completed handle.0 v))) v
 
 -- it comes to what the call does, and to nothing else
 abbrev pub ComesTo : (Machine → Outcome Reply) → Machine → Outcome Reply → Type 0
@@ -101,15 +101,15 @@ ComesTo call v o = o ≡ call v
 
 -- what the call may come to that is asked for
 abbrev pub PerformsBy : Ask → Machine → Outcome Reply → Type 0
-PerformsBy (ask.Command c) = ComesTo (carried c)
+PerformsBy (ask.Command c) = ComesTo (commanded_reply c)
 PerformsBy (ask.Commands kind first second) = AllCarried kind first (second ∷ [])
-PerformsBy ask.Awakeable = ComesTo awakeable_made
+PerformsBy ask.Awakeable = ComesTo awakeable_reply_step
 PerformsBy (ask.Read r) = ComesTo (read_made r)
 PerformsBy (ask.Signal name) = ComesTo (signalled name)
 PerformsBy (ask.Await future) = Awaited future
 PerformsBy (ask.Take handle) = ComesTo (taken handle)
-PerformsBy (ask.Completed handle) = ComesTo (completed handle)
-PerformsBy ask.End = ComesTo ended
+PerformsBy (ask.Completed handle) = ComesTo (completed_reply handle)
+PerformsBy ask.End = ComesTo end_reply
 
 -- what the call of a step may come to
 abbrev pub Performs : Step → Machine → Outcome Reply → Type 0

@@ -3,7 +3,7 @@ ghost use Rattle.std.specs.Prelude.{◌≡◌, ◌≤◌, ◌+◌, IfOk, OnOk, O
 ghost use Rattle.journal_errors.specs.Errors.{no_memory};
 ghost use Rattle.vm_parts.specs.Outboxes.{WholeFrames};
 ghost use Rattle.invocation_vm.specs.Seen.{seen};
-ghost use Rattle.vm_steps.specs.Stepping.{fresh_record, replied, future_in, progress_of, asked_from, Advances, StepDoes, FeedDoes, CloseDoes, TellsUnless, Takes, output_len, kept};
+ghost use Rattle.vm_steps.specs.Stepping.{fresh_record, replied, future_in, progress_of, asked_from, Advances, StepDoes, FeedDoes, CloseDoes, TellsUnless, Takes, output_len, with_piece_kept};
 
 use crate::handler::Handler;
 use crate::perform::perform;
@@ -187,7 +187,8 @@ impl<H: Handler> Inner<H> {
 
     /// Keeps a piece, unless the VM has failed.
     fn keep(&mut self, piece: &Bytes) -> Result<(), AllocError>
-        ensures ok { OnOk result (the_fields self.new ≡ kept piece.now (the_fields self.old)) }
+        ensures ok { OnOk result (the_fields self.new
+            ≡ with_piece_kept piece.now (the_fields self.old)) }
         ensures err { OnErr result (the_fields self.new ≡ the_fields self.old) }
         ensures vm { seen self.new.vm ≡ seen self.old.vm }
         ensures handler { self.new.handler ≡ self.old.handler }

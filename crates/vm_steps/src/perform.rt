@@ -4,7 +4,7 @@ ghost use Rattle.vm_asks.specs.Asks.{AnswerTakes, all_ids};
 ghost use Rattle.vm_machine.specs.Commands.{CanBeRead};
 ghost use Rattle.vm_machine.specs.Reads.{ReadCanBeRead};
 ghost use Rattle.invocation_vm.specs.Seen.{seen};
-ghost use Rattle.vm_steps.specs.Steps.{AllCarried, Asked, Awaited, ComesTo, StepMade, await_reply, awakeable_made, carried, ended, read_made, signalled, taken};
+ghost use Rattle.vm_steps.specs.Steps.{AllCarried, Asked, Awaited, ComesTo, StepMade, await_reply, awakeable_reply_step, commanded_reply, end_reply, read_made, signalled, taken};
 
 use crate::progress::Reply;
 use invocation_vm::{AwaitResponse, CoreVM, NotificationHandle, UnresolvedFuture, VM, VMResult};
@@ -15,7 +15,7 @@ use wire::Text;
 
 #[tactic(auto, using(crate::proofs::Replies::replies, crate::proofs::Replies::replies_sent, vm_machine::proofs::Answering::handles_fit))]
 fn carry(vm: &mut CoreVM, command: Command) -> VMResult<Reply>
-    ensures does { Asked (ComesTo (carried command)) result (seen vm.old) (seen vm.new) }
+    ensures does { Asked (ComesTo (commanded_reply command)) result (seen vm.old) (seen vm.new) }
     ensures sent { OnOk result (CanBeRead command.message (seen vm.old).machine) }
 {
     let kind = command.answer_kind();
@@ -38,7 +38,7 @@ fn carry_both(vm: &mut CoreVM, kind: AnswerKind, first: Command, second: Command
 
 #[tactic(auto, using(crate::proofs::Replies::replies))]
 fn awakeable(vm: &mut CoreVM) -> VMResult<Reply>
-    ensures { Asked (ComesTo awakeable_made) result (seen vm.old) (seen vm.new) }
+    ensures { Asked (ComesTo awakeable_reply_step) result (seen vm.old) (seen vm.new) }
 {
     match vm.sys_awakeable() {
         Ok(awakeable) => Ok(Reply::Answer(Answer::Awakeable(awakeable))),
@@ -79,7 +79,7 @@ fn take(vm: &mut CoreVM, handle: NotificationHandle) -> VMResult<Reply>
 
 #[tactic(auto, using(crate::proofs::Replies::replies))]
 fn end(vm: &mut CoreVM) -> VMResult<Reply>
-    ensures { Asked (ComesTo ended) result (seen vm.old) (seen vm.new) }
+    ensures { Asked (ComesTo end_reply) result (seen vm.old) (seen vm.new) }
 {
     match vm.sys_end() {
         Ok(()) => Ok(Reply::Ended),

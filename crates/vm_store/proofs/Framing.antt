@@ -10,7 +10,7 @@ use Rattle.journal_streams.specs.Frames.{NextFrame, Whole, Partial, Malformed, n
 use Rattle.journal_messages.specs.Reading.{message_in, notification_in}
 use Rattle.journal_errors.specs.Types.{type_number}
 use Rattle.journal_streams.proofs.Cuts.{whole_spelled}
-use Rattle.invocation_vm.specs.Frames.{Tail, Rest, Garbage, frames_from, frames_of, joined}
+use Rattle.invocation_vm.specs.Frames.{Tail, Rest, Garbage, frames_from, frames_of, frames_joined}
 use Rattle.invocation_vm.proofs.Cuts.{frames_of-append, frames_of-next}
 use Rattle.vm_model.specs.Journal.{Entry, messages_in, read_before}
 use Rattle.vm_attempt.specs.Journals.{AcknowledgesNothing, as_entries, commands_among, is_acknowledgement, is_command_frame, is_notification, notifications_among, notified_by, recorded_by, told_by}
@@ -24,19 +24,19 @@ AreFrames bytes raws = frames_of bytes ≡ (raws, Rest [])
 
 -- frames after frames
 pub join : (a b : List ℕ) (ra rb : List RawMessage) → AreFrames a ra → AreFrames b rb → AreFrames (a ++ b) (ra ++ rb)
-join a b ra rb ea eb = frames_of-append a b ∙ ap (λ (p : List RawMessage × Tail). joined p b) ea ∙ ap (λ (p : List RawMessage × Tail). (ra ++ p.0, p.1)) eb
+join a b ra rb ea eb = frames_of-append a b ∙ ap (λ (p : List RawMessage × Tail). frames_joined p b) ea ∙ ap (λ (p : List RawMessage × Tail). (ra ++ p.0, p.1)) eb
 
 abbrev pub in_front : List RawMessage → List RawMessage × Tail → List RawMessage × Tail
 in_front seen p = (seen ++ p.0, p.1)
 
-joined_front : (seen : List RawMessage) (p : List RawMessage × Tail) (more : List ℕ) → joined (in_front seen p) more ≡ in_front seen (joined p more)
+joined_front : (seen : List RawMessage) (p : List RawMessage × Tail) (more : List ℕ) → frames_joined (in_front seen p) more ≡ in_front seen (frames_joined p more)
 joined_front seen (fs, Rest bytes) more = ap (λ l. (l, (frames_of (bytes ++ more)).1)) (append_assoc seen fs (frames_of (bytes ++ more)).0)
 joined_front seen (fs, Garbage) more = refl
 
 -- what was seen stays in front as the output grows
 pub front_grows : (whole rest more : List ℕ) (seen : List RawMessage) → frames_of whole ≡ in_front seen (frames_of rest) → frames_of (whole ++ more) ≡ in_front seen (frames_of (rest ++ more))
 front_grows whole rest more seen e =
-    frames_of-append whole more ∙ ap (λ (p : List RawMessage × Tail). joined p more) e ∙ joined_front seen (frames_of rest) more ∙ ap (in_front seen) (sym (frames_of-append rest more))
+    frames_of-append whole more ∙ ap (λ (p : List RawMessage × Tail). frames_joined p more) e ∙ joined_front seen (frames_of rest) more ∙ ap (in_front seen) (sym (frames_of-append rest more))
 
 -- one frame
 pub next_framed : (a rest : List ℕ) (raw : RawMessage) → next_of a ≡ Whole raw rest → frames_of a ≡ in_front (raw ∷ []) (frames_of rest)

@@ -10,7 +10,7 @@ use Rattle.journal_messages.specs.declared.message.RawMessage.{RawMessage}
 use Rattle.journal_messages.specs.Message.{IsWhole, encoding}
 use Rattle.invocation_vm.specs.Frames.{frames_of}
 use Rattle.vm_parts.specs.declared.run_state.KeptProposal.{KeptProposal}
-use Rattle.vm_machine.specs.Inputs.{completion_of}
+use Rattle.vm_machine.specs.Inputs.{acknowledged_completion}
 use Rattle.journal_errors.specs.Versions.{is_from_v7}
 use Rattle.journal_protocol.specs.Bodies.{proposal_in}
 use Rattle.vm_steps.specs.Heard.{is_proposal}
@@ -54,7 +54,7 @@ written_from bytes = written_among (frames_of bytes).0
 
 -- the completion of a run, with the result that is proposed
 abbrev pub completion_message : KeptProposal → Message
-completion_message p = message.Notification (completion_of p.completion_id p)
+completion_message p = message.Notification (acknowledged_completion p.completion_id p)
 
 -- the acknowledgement of a proposal
 abbrev pub acknowledgement : ℕ → Message

@@ -29,28 +29,31 @@ pub awakeable_exact : Exact (awakeables.ghosts).eq
 awakeable_exact = exact_on (λ a. (a.id, a.handle)) (λ p. record { id = p.0; handle = p.1 })
     (λ _. refl) (exact_pair bytes_decides handle_exact)
 
-pub failure_exact : Exact (failures.ghosts).eq
-failure_exact = exact_on
+pub terminal_failure_exact : Exact (failures.ghosts).eq
+terminal_failure_exact = exact_on
     (λ f. (f.code, (f.message, f.metadata)))
     (λ (code, (message, metadata)). record { code = code; message = message; metadata = metadata })
     (λ _. refl)
     (exact_pair Decides-eqb (exact_pair bytes_decides
     (pointwise_decides (exact_pair bytes_decides bytes_decides))))
 
-pub value_exact : Exact (values.ghosts).eq
-value_exact value.Void value.Void = (λ _. refl, λ _. refl)
-value_exact (value.Success x) (value.Success y) =
+pub answer_value_exact : Exact (values.ghosts).eq
+answer_value_exact value.Void value.Void = (λ _. refl, λ _. refl)
+answer_value_exact (value.Success x) (value.Success y) =
     (λ e. ap value.Success ((bytes_decides x y).0 e), λ e. (bytes_decides x y).1 cc)
-value_exact (value.Failure x) (value.Failure y) =
-    (λ e. ap value.Failure ((failure_exact x y).0 e), λ e. (failure_exact x y).1 cc)
-value_exact (value.StateKeys x) (value.StateKeys y) = (
+answer_value_exact (value.Failure x) (value.Failure y) = (
+  λ e. ap value.Failure ((terminal_failure_exact x y).0 e),
+  λ e. (terminal_failure_exact x y).1
+      cc,
+)
+answer_value_exact (value.StateKeys x) (value.StateKeys y) = (
   λ e. ap value.StateKeys ((pointwise_decides bytes_decides x y).0 e),
   λ e.
       (pointwise_decides bytes_decides x y).1 cc,
 )
-value_exact (value.InvocationId x) (value.InvocationId y) =
+answer_value_exact (value.InvocationId x) (value.InvocationId y) =
     (λ e. ap value.InvocationId ((bytes_decides x y).0 e), λ e. (bytes_decides x y).1 cc)
-value_exact _ _ = (λ e. absurd cc, λ e. absurd cc)
+answer_value_exact _ _ = (λ e. absurd cc, λ e. absurd cc)
 
 pub input_exact : Exact (inputs.ghosts).eq
 input_exact = exact_on

@@ -1,5 +1,5 @@
 //! Whose `==` says whether two values are the same.
-ghost use Rattle.vm_types.specs.Same.{awakeable_exact, failure_exact, input_exact, relationship_exact, target_exact, type_exact, value_exact};
+ghost use Rattle.vm_types.specs.Same.{awakeable_exact, terminal_failure_exact, input_exact, relationship_exact, target_exact, type_exact, answer_value_exact};
 
 use crate::{
     AwakeableHandle, CommandRelationship, CommandType, Input, Target, TerminalFailure, Value,
@@ -27,9 +27,9 @@ impl Exact for Target {
 }
 
 impl Exact for TerminalFailure {
-    ghost compares = { failure_exact };
+    ghost compares = { terminal_failure_exact };
 }
 
 impl Exact for Value {
-    ghost compares = { value_exact };
+    ghost compares = { answer_value_exact };
 }

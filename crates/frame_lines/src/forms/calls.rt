@@ -1,5 +1,5 @@
 //! The commands on other invocations, signals, promises, runs and time.
-ghost use Rattle.frame_lines.specs.Forms.{call, call_request, complete_awakeable, complete_promise, invocation, one_way_call, promise, run, send_signal, sleep};
+ghost use Rattle.frame_lines.specs.Forms.{call_fields, call_request_fields, complete_awakeable_fields, complete_promise_fields, invocation_fields, one_way_call_fields, promise_fields, run_fields, send_signal_fields, sleep_fields};
 
 use crate::forms::{Form, print_field, values_of};
 use bytes::Bytes;
@@ -14,7 +14,7 @@ use std::alloc::{AllocError, Global};
 use wire::{Fault, Items, Text};
 
 impl Form for SleepCommand {
-    ghost fields = { sleep };
+    ghost fields = { sleep_fields };
 
     fn print(&self, line: &mut Line, is_first: bool) -> Result<bool, AllocError> {
         let is_first = print_field(line, is_first, "wake_up_time", &self.wake_up_time)?;
@@ -41,7 +41,7 @@ impl Form for SleepCommand {
 }
 
 impl Form for CallRequest {
-    ghost fields = { call_request };
+    ghost fields = { call_request_fields };
 
     fn print(&self, line: &mut Line, is_first: bool) -> Result<bool, AllocError> {
         let is_first = print_field(line, is_first, "service_name", &self.service_name)?;
@@ -129,7 +129,7 @@ impl Form for CallRequest {
 }
 
 impl Form for CallCommand {
-    ghost fields = { call };
+    ghost fields = { call_fields };
 
     fn print(&self, line: &mut Line, is_first: bool) -> Result<bool, AllocError> {
         let is_first = self.request.print(line, is_first)?;
@@ -222,7 +222,7 @@ impl Form for CallCommand {
 }
 
 impl Form for OneWayCallCommand {
-    ghost fields = { one_way_call };
+    ghost fields = { one_way_call_fields };
 
     fn print(&self, line: &mut Line, is_first: bool) -> Result<bool, AllocError> {
         let is_first = self.request.print(line, is_first)?;
@@ -307,7 +307,7 @@ impl Form for OneWayCallCommand {
 }
 
 impl Form for CompleteAwakeableCommand {
-    ghost fields = { complete_awakeable };
+    ghost fields = { complete_awakeable_fields };
 
     fn print(&self, line: &mut Line, is_first: bool) -> Result<bool, AllocError> {
         let is_first = print_field(line, is_first, "awakeable_id", &self.awakeable_id)?;
@@ -327,7 +327,7 @@ impl Form for CompleteAwakeableCommand {
 }
 
 impl Form for SendSignalCommand {
-    ghost fields = { send_signal };
+    ghost fields = { send_signal_fields };
 
     fn print(&self, line: &mut Line, is_first: bool) -> Result<bool, AllocError> {
         let is_first = print_field(
@@ -354,7 +354,7 @@ impl Form for SendSignalCommand {
 }
 
 impl Form for PromiseCommand {
-    ghost fields = { promise };
+    ghost fields = { promise_fields };
 
     fn print(&self, line: &mut Line, is_first: bool) -> Result<bool, AllocError> {
         let is_first = print_field(line, is_first, "key", &self.key)?;
@@ -379,7 +379,7 @@ impl Form for PromiseCommand {
 }
 
 impl Form for CompletePromiseCommand {
-    ghost fields = { complete_promise };
+    ghost fields = { complete_promise_fields };
 
     fn print(&self, line: &mut Line, is_first: bool) -> Result<bool, AllocError> {
         let is_first = print_field(line, is_first, "key", &self.key)?;
@@ -406,7 +406,7 @@ impl Form for CompletePromiseCommand {
 }
 
 impl Form for RunCommand {
-    ghost fields = { run };
+    ghost fields = { run_fields };
 
     fn print(&self, line: &mut Line, is_first: bool) -> Result<bool, AllocError> {
         let is_first = print_field(line, is_first, "name", &self.name)?;
@@ -431,7 +431,7 @@ impl Form for RunCommand {
 }
 
 impl Form for InvocationCommand {
-    ghost fields = { invocation };
+    ghost fields = { invocation_fields };
 
     fn print(&self, line: &mut Line, is_first: bool) -> Result<bool, AllocError> {
         let is_first = print_field(line, is_first, "target", &self.target)?;

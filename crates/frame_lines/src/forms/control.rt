@@ -1,5 +1,5 @@
 //! The messages that begin and end an attempt, and what it tells of itself.
-ghost use Rattle.frame_lines.specs.Forms.{awaiting_on, error, propose_run_completion, propose_run_completion_ack, start, suspension};
+ghost use Rattle.frame_lines.specs.Forms.{awaiting_on_fields, error_fields, propose_run_completion_fields, propose_run_completion_ack_fields, start_fields, suspension_fields};
 
 use crate::forms::{Form, print_field, values_of};
 use bytes::Bytes;
@@ -13,7 +13,7 @@ use std::alloc::{AllocError, Global};
 use wire::{Fault, Items, Text};
 
 impl Form for Start {
-    ghost fields = { start };
+    ghost fields = { start_fields };
 
     fn print(&self, line: &mut Line, is_first: bool) -> Result<bool, AllocError> {
         let is_first = print_field(line, is_first, "id", &self.id)?;
@@ -117,7 +117,7 @@ impl Form for Start {
 }
 
 impl Form for Suspension {
-    ghost fields = { suspension };
+    ghost fields = { suspension_fields };
 
     fn print(&self, line: &mut Line, is_first: bool) -> Result<bool, AllocError> {
         Ok(print_field(line, is_first, "future", &self.future)?)
@@ -131,7 +131,7 @@ impl Form for Suspension {
 }
 
 impl Form for AwaitingOn {
-    ghost fields = { awaiting_on };
+    ghost fields = { awaiting_on_fields };
 
     fn print(&self, line: &mut Line, is_first: bool) -> Result<bool, AllocError> {
         let is_first = print_field(line, is_first, "future", &self.future)?;
@@ -156,7 +156,7 @@ impl Form for AwaitingOn {
 }
 
 impl Form for ErrorMessage {
-    ghost fields = { error };
+    ghost fields = { error_fields };
 
     fn print(&self, line: &mut Line, is_first: bool) -> Result<bool, AllocError> {
         let is_first = print_field(line, is_first, "code", &self.code)?;
@@ -213,7 +213,7 @@ impl Form for ErrorMessage {
 }
 
 impl Form for ProposeRunCompletion {
-    ghost fields = { propose_run_completion };
+    ghost fields = { propose_run_completion_fields };
 
     fn print(&self, line: &mut Line, is_first: bool) -> Result<bool, AllocError> {
         let is_first = print_field(line, is_first, "id", &self.id)?;
@@ -228,7 +228,7 @@ impl Form for ProposeRunCompletion {
 }
 
 impl Form for ProposeRunCompletionAck {
-    ghost fields = { propose_run_completion_ack };
+    ghost fields = { propose_run_completion_ack_fields };
 
     fn print(&self, line: &mut Line, is_first: bool) -> Result<bool, AllocError> {
         Ok(print_field(line, is_first, "id", &self.id)?)

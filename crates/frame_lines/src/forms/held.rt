@@ -1,5 +1,5 @@
 //! What stands in a choice's brackets.
-ghost use Rattle.frame_lines.specs.Choices.{failure, idempotency_id, workflow_id};
+ghost use Rattle.frame_lines.specs.Choices.{failure_fields, idempotency_id_fields, workflow_id_fields};
 
 use crate::forms::{Form, print_field, values_of};
 use journal_calls::{IdempotencyId, WorkflowId};
@@ -9,7 +9,7 @@ use std::alloc::{AllocError, Global};
 use wire::{Fault, Items, Text};
 
 impl Form for Failure {
-    ghost fields = { failure };
+    ghost fields = { failure_fields };
 
     fn print(&self, line: &mut Line, is_first: bool) -> Result<bool, AllocError> {
         let is_first = print_field(line, is_first, "code", &self.code)?;
@@ -31,7 +31,7 @@ impl Form for Failure {
 }
 
 impl Form for WorkflowId {
-    ghost fields = { workflow_id };
+    ghost fields = { workflow_id_fields };
 
     fn print(&self, line: &mut Line, is_first: bool) -> Result<bool, AllocError> {
         let is_first = print_field(line, is_first, "name", &self.name)?;
@@ -49,7 +49,7 @@ impl Form for WorkflowId {
 }
 
 impl Form for IdempotencyId {
-    ghost fields = { idempotency_id };
+    ghost fields = { idempotency_id_fields };
 
     fn print(&self, line: &mut Line, is_first: bool) -> Result<bool, AllocError> {
         let is_first = print_field(line, is_first, "service_name", &self.service_name)?;

@@ -1,5 +1,5 @@
 //! What comes in for an attempt, and the read whose result the journal doesn't keep.
-ghost use Rattle.frame_lines.specs.Forms.{get_state_ephemeral_command, get_state_ephemeral_notification, notification};
+ghost use Rattle.frame_lines.specs.Forms.{get_state_ephemeral_command_fields, get_state_ephemeral_notification_fields, notification_fields};
 
 use crate::forms::{Form, print_field, values_of};
 use journal_state::{GetStateEphemeralCommand, GetStateEphemeralNotification, VoidOrValue};
@@ -9,7 +9,7 @@ use std::alloc::{AllocError, Global};
 use wire::{Fault, Text};
 
 impl Form for GetStateEphemeralCommand {
-    ghost fields = { get_state_ephemeral_command };
+    ghost fields = { get_state_ephemeral_command_fields };
 
     fn print(&self, line: &mut Line, is_first: bool) -> Result<bool, AllocError> {
         let is_first = print_field(line, is_first, "id", &self.id)?;
@@ -24,7 +24,7 @@ impl Form for GetStateEphemeralCommand {
 }
 
 impl Form for GetStateEphemeralNotification {
-    ghost fields = { get_state_ephemeral_notification };
+    ghost fields = { get_state_ephemeral_notification_fields };
 
     fn print(&self, line: &mut Line, is_first: bool) -> Result<bool, AllocError> {
         let is_first = print_field(line, is_first, "id", &self.id)?;
@@ -41,7 +41,7 @@ impl Form for GetStateEphemeralNotification {
 }
 
 impl Form for Notification {
-    ghost fields = { notification };
+    ghost fields = { notification_fields };
 
     fn print(&self, line: &mut Line, is_first: bool) -> Result<bool, AllocError> {
         let is_first = print_field(line, is_first, "id", &self.id)?;

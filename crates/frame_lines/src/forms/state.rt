@@ -1,5 +1,5 @@
 //! The commands on a handler's input, state and output.
-ghost use Rattle.frame_lines.specs.Forms.{clear_all_state, clear_state, get_eager_state, get_eager_state_keys, get_lazy_state, get_lazy_state_keys, input, output, set_state};
+ghost use Rattle.frame_lines.specs.Forms.{clear_all_state_fields, clear_state_fields, get_eager_state_fields, get_eager_state_keys_fields, get_lazy_state_fields, get_lazy_state_keys_fields, input_fields, output_fields, set_state_fields};
 
 use crate::forms::{Form, print_field, values_of};
 use bytes::Bytes;
@@ -14,7 +14,7 @@ use std::alloc::{AllocError, Global};
 use wire::{Fault, Items, Text};
 
 impl Form for InputCommand {
-    ghost fields = { input };
+    ghost fields = { input_fields };
 
     fn print(&self, line: &mut Line, is_first: bool) -> Result<bool, AllocError> {
         let is_first = print_field(line, is_first, "headers", &self.headers)?;
@@ -31,7 +31,7 @@ impl Form for InputCommand {
 }
 
 impl Form for GetEagerStateCommand {
-    ghost fields = { get_eager_state };
+    ghost fields = { get_eager_state_fields };
 
     fn print(&self, line: &mut Line, is_first: bool) -> Result<bool, AllocError> {
         let is_first = print_field(line, is_first, "name", &self.name)?;
@@ -49,7 +49,7 @@ impl Form for GetEagerStateCommand {
 }
 
 impl Form for GetLazyStateCommand {
-    ghost fields = { get_lazy_state };
+    ghost fields = { get_lazy_state_fields };
 
     fn print(&self, line: &mut Line, is_first: bool) -> Result<bool, AllocError> {
         let is_first = print_field(line, is_first, "name", &self.name)?;
@@ -76,7 +76,7 @@ impl Form for GetLazyStateCommand {
 }
 
 impl Form for GetEagerStateKeysCommand {
-    ghost fields = { get_eager_state_keys };
+    ghost fields = { get_eager_state_keys_fields };
 
     fn print(&self, line: &mut Line, is_first: bool) -> Result<bool, AllocError> {
         let is_first = print_field(line, is_first, "value", &self.value)?;
@@ -93,7 +93,7 @@ impl Form for GetEagerStateKeysCommand {
 }
 
 impl Form for GetLazyStateKeysCommand {
-    ghost fields = { get_lazy_state_keys };
+    ghost fields = { get_lazy_state_keys_fields };
 
     fn print(&self, line: &mut Line, is_first: bool) -> Result<bool, AllocError> {
         let is_first = print_field(
@@ -118,7 +118,7 @@ impl Form for GetLazyStateKeysCommand {
 }
 
 impl Form for SetStateCommand {
-    ghost fields = { set_state };
+    ghost fields = { set_state_fields };
 
     fn print(&self, line: &mut Line, is_first: bool) -> Result<bool, AllocError> {
         let is_first = print_field(line, is_first, "name", &self.name)?;
@@ -136,7 +136,7 @@ impl Form for SetStateCommand {
 }
 
 impl Form for ClearStateCommand {
-    ghost fields = { clear_state };
+    ghost fields = { clear_state_fields };
 
     fn print(&self, line: &mut Line, is_first: bool) -> Result<bool, AllocError> {
         let is_first = print_field(line, is_first, "name", &self.name)?;
@@ -151,7 +151,7 @@ impl Form for ClearStateCommand {
 }
 
 impl Form for ClearAllStateCommand {
-    ghost fields = { clear_all_state };
+    ghost fields = { clear_all_state_fields };
 
     fn print(&self, line: &mut Line, is_first: bool) -> Result<bool, AllocError> {
         Ok(print_field(line, is_first, "name", &self.name)?)
@@ -165,7 +165,7 @@ impl Form for ClearAllStateCommand {
 }
 
 impl Form for OutputCommand {
-    ghost fields = { output };
+    ghost fields = { output_fields };
 
     fn print(&self, line: &mut Line, is_first: bool) -> Result<bool, AllocError> {
         Ok(print_field(line, is_first, "result", &self.result)?)

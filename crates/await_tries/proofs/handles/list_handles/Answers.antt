@@ -1,7 +1,7 @@
 use Rattle.std.proofs.Common.{rules, ℕ, ◌≡◌, ◌+◌, ◌∷◌, ◌++◌, [], List, Option, Some, reverse, refl, sym, ap, subst, ◌∙◌}
 use Rattle.await_trees.specs.Handles.{handles_of, handles_in}
 use Rattle.await_tries.specs.declared.walk.Row.{Row}
-use Rattle.await_tries.specs.Left.{Left, IsWhole}
+use Rattle.await_tries.specs.Left.{Left, IsTreeLeft}
 use Rattle.await_tries.specs.Spells.{node_at}
 use Rattle.await_tries.specs.Walks.{coming, Sound, Steps}
 use Rattle.await_tries.proofs.Walking.{on_top, started, is_inner, inner_next, steps_fewer, steps_within}
@@ -12,7 +12,7 @@ loop-rows-init c =
     let ns = c.nodes-nodes.result.now in
     let kids = c.kids-kids.result.now in
     let left : Left = record { nodes = ns; kids = kids } in
-    let whole : IsWhole left = rw (c.nodes-nodes.ensures.nodes, c.kids-kids.ensures) c.nodes-nodes.ensures.whole in
+    let whole : IsTreeLeft left = rw (c.nodes-nodes.ensures.nodes, c.kids-kids.ensures) c.nodes-nodes.ensures.whole in
     let row : Row = record { place = (node_at ns 0).first; end = (node_at ns 0).first + (node_at ns 0).count } in
     let (k, label) = is_inner (node_at ns 0).label c.in_default.not-Leaf in
     let start = started left k row whole label refl refl in

@@ -1,7 +1,7 @@
 use Rattle.std.proofs.Common.{◌≡◌, ◌<◌, ◌+◌, [], length, drop, ap, ◌∙◌, arith}
 use Rattle.std.proofs.lemmas.List.{drop_all}
 use Rattle.journal_attempt.specs.declared.future.FutureNode.{FutureNode}
-use Rattle.await_tries.specs.Heads.{bare, with_id, with_children}
+use Rattle.await_tries.specs.Heads.{bare, with_leaf_id, with_children}
 use Rattle.await_tries.specs.Message.{ids}
 use Rattle.await_tries.specs.Walks.{reads}
 use Rattle.await_tries.proofs.Heading.{whole_head, leaf_turn, inner_turn}
@@ -21,7 +21,7 @@ loop-child-preserved c =
     let few = c.loop-child.invariant.few in
     elim c.match-nodes-child.branch [
       | in-Leaf+in_ok-put_id-in-Leaf w ↦
-          let put : after ≡ with_id (id w.in-Leaf.handle) head = w.head-is ∙ w.in_ok-put_id-in-Leaf.ensures ∙ ap (λ o. with_id o head) w.find.ensures in
+          let put : after ≡ with_leaf_id (id w.in-Leaf.handle) head = w.head-is ∙ w.in_ok-put_id-in-Leaf.ensures ∙ ap (λ o. with_leaf_id o head) w.find.ensures in
           let same : after.nested ≡ head.nested = ap (λ (z : FutureNode). z.nested) put in
           record {
             few = omega arith;

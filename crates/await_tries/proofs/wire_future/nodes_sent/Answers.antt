@@ -2,7 +2,7 @@ use Rattle.std.proofs.Common.{rules, ℕ, ◌≡◌, ◌+◌, ◌∷◌, ◌++�
 use Rattle.journal_attempt.specs.declared.future.FutureNode.{FutureNode}
 use Rattle.await_trees.specs.Wires.{head_of, nested, sent}
 use Rattle.await_tries.specs.declared.walk.Row.{Row}
-use Rattle.await_tries.specs.Left.{Left, IsWhole}
+use Rattle.await_tries.specs.Left.{Left, IsTreeLeft}
 use Rattle.await_tries.specs.Message.{ids}
 use Rattle.await_tries.specs.Spells.{node_at, children}
 use Rattle.await_tries.specs.Walks.{reads, coming, Sound, Steps}
@@ -15,7 +15,7 @@ loop-rows-init c =
     let kids = c.kids-kids.result.now in
     let id = ids c.args.results.now in
     let left : Left = record { nodes = ns; kids = kids } in
-    let whole : IsWhole left = rw (c.nodes-nodes.ensures.nodes, c.kids-kids.ensures) c.nodes-nodes.ensures.whole in
+    let whole : IsTreeLeft left = rw (c.nodes-nodes.ensures.nodes, c.kids-kids.ensures) c.nodes-nodes.ensures.whole in
     let row : Row = record { place = (node_at ns 0).first; end = (node_at ns 0).first + (node_at ns 0).count } in
     let k = c.in-Inner.kind in
     let start = started left k row whole c.in-Inner.is refl refl in

@@ -1,12 +1,12 @@
 use Rattle.std.proofs.Common.{[], arith, refl}
 use Rattle.std.proofs.lemmas.Grind.{common_steps}
-use Rattle.lines.specs.Pieces.{behind}
+use Rattle.lines.specs.Pieces.{nesting_after}
 use Rattle.frame_lines.specs.Notation.{SaysInside}
 use Rattle.frame_lines.proofs.Growing.{zip_more}
 use Rattle.frame_lines.proofs.value.items_of.Goals as goal
 
 pub pieces-requires : goal.pieces-requires
-unfolding behind
+unfolding nesting_after
 pieces-requires g c = refl
 
 pub loop-piece-preserved : goal.loop-piece-preserved

@@ -1,6 +1,6 @@
 use Rattle.std.proofs.Common.{rules, ◌≡◌, ◌≢◌, ◌+◌, ◌-◌, length, take, drop, get_or, ap, sym, ◌∙◌, arith, Some, length-drop}
 use Rattle.std.proofs.Math.Seq.{take-length}
-use Rattle.lines.specs.Pieces.{behind, outside}
+use Rattle.lines.specs.Pieces.{nesting_after, outside}
 use Rattle.lines.proofs.Closing.{on_err, unclosed_within, unclosed_end, blank_closed}
 use Rattle.lines.proofs.Wording.{IsCutToWords, ascii_more, words_within, words_plain, words_all}
 use Rattle.lines.proofs.pieces.words_in.Goals as goal
@@ -11,7 +11,7 @@ loop-i-preserved c =
     let text = c.args.text.now in
     let i = c.loop-i.i in
     let to = c.plain_end-i.result in
-    let e : behind (Some c.loop-i.nesting) (get_or text i 0) ≡ Some c.in_ok-nesting.nesting = search rules in
+    let e : nesting_after (Some c.loop-i.nesting) (get_or text i 0) ≡ Some c.in_ok-nesting.nesting = search rules in
     let here : get_or text i 0 ≡ 32 → Some c.loop-i.nesting ≢ outside = elim c.else-text-i-eq32.branch [
       | else-text-i-eq32-via-then-text-i-eq32+else-is_none w ↦ search rules
       | else-text-i-eq32-via-else-text-i-eq32 w ↦ λ s. absurd (w.if-text-i-eq32.false s)

@@ -1,5 +1,5 @@
 use Rattle.std.proofs.Common.{length}
-use Rattle.vm_parts.specs.Tracked.{unresolved}
+use Rattle.vm_parts.specs.Tracked.{unresolved_handles}
 use Rattle.vm_awaits.proofs.Cancelling.{Gathered}
 use Rattle.vm_awaits.proofs.awaits.gather_ids.Given as goal
 
@@ -7,4 +7,4 @@ abbrev pub invariant-loop-handle : goal.invariant-loop-handle
 invariant-loop-handle l = Gathered l.initial.machine l.machine
 
 abbrev pub decreases-loop-handle : goal.decreases-loop-handle
-decreases-loop-handle l = length (unresolved l.machine.tracked)
+decreases-loop-handle l = length (unresolved_handles l.machine.tracked)

@@ -1,7 +1,7 @@
 use Rattle.std.proofs.Common.{ap, get_or, sym, take, ◌∙◌}
 use Rattle.std.specs.Option.{option_map, option_or}
 use Rattle.std.proofs.lemmas.List.{take_more}
-use Rattle.runs.specs.Settling.{run_command}
+use Rattle.runs.specs.Settling.{run_as_related}
 use Rattle.vm_awaits.specs.Awaits.{last_run}
 use Rattle.vm_machine.specs.Proposals.{run_at}
 use Rattle.vm_awaits.proofs.Waiting.{last_related_behind}
@@ -14,6 +14,6 @@ loop-handle-preserved c =
     let v = c.args.machine.now in
     c.or-found.ensures
     ∙ ap (λ o. option_or o c.loop-handle.found) c.in_ok-related_run.ensures
-    ∙ ap (λ o. option_or (option_map run_command (run_at (get_or handles i 0) v)) o) c.loop-handle.invariant
+    ∙ ap (λ o. option_or (option_map run_as_related (run_at (get_or handles i 0) v)) o) c.loop-handle.invariant
     ∙ sym (last_related_behind (take i handles) (get_or handles i 0) v)
-    ∙ ap (λ hs. option_map run_command (last_run hs v)) (sym (take_more handles i 0 c.loop-handle-test.true))
+    ∙ ap (λ hs. option_map run_as_related (last_run hs v)) (sym (take_more handles i 0 c.loop-handle-test.true))

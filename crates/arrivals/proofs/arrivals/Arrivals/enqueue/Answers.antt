@@ -1,5 +1,5 @@
 use Rattle.std.proofs.Common.{ap, ◌∙◌, take, drop}
-use Rattle.arrivals.specs.Entries.{given}
+use Rattle.arrivals.specs.Entries.{not_taken}
 use Rattle.arrivals.proofs.Moves.{grown_or_not, grown, where_ok, same_came}
 use Rattle.arrivals.proofs.arrivals.Arrivals.enqueue.Goals as goal
 
@@ -13,4 +13,4 @@ returns-clause-ok c =
     let s = c.self.inside in
     let g = grown s.seen s.log c.args.notification c.self.invariant.0 c.self.invariant.1 in
     where_ok c.push.result (λ e.
-    rw (← c.self.view_is) (same_came _ _ (ap (λ z. given (drop s.seen z)) e ∙ g.queued) (ap (λ z. given (take s.seen z)) e ∙ g.delivered))) c.push.ensures.ok
+    rw (← c.self.view_is) (same_came _ _ (ap (λ z. not_taken (drop s.seen z)) e ∙ g.queued) (ap (λ z. not_taken (take s.seen z)) e ∙ g.delivered))) c.push.ensures.ok

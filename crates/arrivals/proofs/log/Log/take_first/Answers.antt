@@ -1,6 +1,6 @@
 use Rattle.std.proofs.Common.{[], sym, ap, ◌∙◌, take, drop, arith}
 use Rattle.std.proofs.lemmas.List.{get_or_read}
-use Rattle.arrivals.specs.Entries.{given}
+use Rattle.arrivals.specs.Entries.{not_taken}
 use Rattle.arrivals.specs.Results.{first}
 use Rattle.arrivals.specs.declared.log.Entry.{Entry}
 use Rattle.arrivals.proofs.Entries.{cleared_by}
@@ -17,7 +17,7 @@ pub returns-in_err-slot-clause-left : goal.returns-in_err-slot-clause-left
 returns-in_err-slot-clause-left c =
     let s = c.self.inside in
     let none = no_slot s.entries.items s.index s.slots.items c.args.id.now c.args.seen c.self.invariant (sym c.in_err-slot.ensures) in
-    rw (← c.self.view_is) (sym (no_first c.args.id.now (given (take c.args.seen s.entries.items)) none))
+    rw (← c.self.view_is) (sym (no_first c.args.id.now (not_taken (take c.args.seen s.entries.items)) none))
 
 pub returns-in_err-place-clause-found : goal.returns-in_err-place-clause-found
 returns-in_err-place-clause-found c =
@@ -35,7 +35,7 @@ returns-in_err-place-clause-left c =
     let below = (at_slot s.entries.items s.index s.slots.items c.args.id.now c.in_ok-slot.slot c.self.invariant slot).0 in
     let read = get_or_read s.slots.items c.in_ok-slot.slot c.index.result.now below c.index.ensures [] in
     let none = no_front s.entries.items s.index s.slots.items c.args.id.now c.args.seen c.self.invariant c.in_ok-slot.slot slot (sym (c.in_err-place.ensures ∙ ap first read)) in
-    rw (← c.self.view_is) (sym (no_first c.args.id.now (given (take c.args.seen s.entries.items)) none))
+    rw (← c.self.view_is) (sym (no_first c.args.id.now (not_taken (take c.args.seen s.entries.items)) none))
 
 pub returns-then-place-seen-clause-found : goal.returns-then-place-seen-clause-found
 returns-then-place-seen-clause-found c =
@@ -53,7 +53,7 @@ returns-then-place-seen-clause-left c =
     let below = (at_slot s.entries.items s.index s.slots.items c.args.id.now c.in_ok-slot.slot c.self.invariant slot).0 in
     let read = get_or_read s.slots.items c.in_ok-slot.slot c.index.result.now below c.index.ensures [] in
     let none = no_early s.entries.items s.index s.slots.items c.args.id.now c.args.seen c.self.invariant c.in_ok-slot.slot c.in_ok-place.place slot (sym (c.in_ok-place.ensures ∙ ap first read)) c.if-place-seen.true in
-    rw (← c.self.view_is) (sym (no_first c.args.id.now (given (take c.args.seen s.entries.items)) none))
+    rw (← c.self.view_is) (sym (no_first c.args.id.now (not_taken (take c.args.seen s.entries.items)) none))
 
 pub index_mut-entry-requires : goal.index_mut-entry-requires
 index_mut-entry-requires c =

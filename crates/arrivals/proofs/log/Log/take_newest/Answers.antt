@@ -1,21 +1,21 @@
 use Rattle.std.proofs.Common.{◌<◌, length, take, sym, ap, ◌∙◌, arith}
 use Rattle.arrivals.specs.Results.{newest_after, results_of, without_all}
-use Rattle.arrivals.specs.Entries.{given}
+use Rattle.arrivals.specs.Entries.{not_taken}
 use Rattle.arrivals.proofs.Tracking.{one_taken, all_next, no_all, no_first, none_is}
 use Rattle.arrivals.proofs.log.Log.take_newest.Goals as goal
 
 pub loop-result-smaller : goal.loop-result-smaller
 loop-result-smaller c =
-    let before = given (take c.args.seen c.loop-result.self) in
-    let after = given (take c.args.seen c.take_first.new.self) in
+    let before = not_taken (take c.args.seen c.loop-result.self) in
+    let after = not_taken (take c.args.seen c.take_first.new.self) in
     let e = ap length (one_taken c.args.id.now before after c.in-Some.result c.in-Some.ensures.found c.in-Some.ensures.left) in
     let below : length (results_of c.args.id.now after) < length (results_of c.args.id.now before) = omega arith in
     below
 
 pub loop-result-preserved : goal.loop-result-preserved
 loop-result-preserved c =
-    let before = given (take c.args.seen c.loop-result.self) in
-    let after = given (take c.args.seen c.take_first.new.self) in
+    let before = not_taken (take c.args.seen c.loop-result.self) in
+    let after = not_taken (take c.args.seen c.take_first.new.self) in
     let i = c.loop-result.invariant in
     record {
       found = i.found ∙ ap (newest_after c.loop-result.found) (one_taken c.args.id.now before after c.in-Some.result c.in-Some.ensures.found c.in-Some.ensures.left);
@@ -28,6 +28,6 @@ pub returns-clause-left : goal.returns-clause-left
 returns-clause-left c =
     let i = c.loop-result.invariant in
     let e = c.in_default.ensures in
-    let ready = given (take c.args.seen c.loop-result.self) in
+    let ready = not_taken (take c.args.seen c.loop-result.self) in
     let none = none_is (results_of c.args.id.now ready) (sym e.found) in
     e.left ∙ no_first c.args.id.now ready none ∙ sym (i.left ∙ no_all c.args.id.now ready none)

@@ -5,7 +5,7 @@ use Rattle.std.specs.Map.{keys_of, values_of}
 use Rattle.std.specs.Ordering.{nat_cmp}
 use Rattle.vm_parts.specs.declared.run_state.PendingRun.{PendingRun}
 use Rattle.runs.specs.Firsts.{with_first}
-use Rattle.runs.specs.Pending.{has_handle, started}
+use Rattle.runs.specs.Pending.{has_handle, run_started}
 use Rattle.runs.proofs.Entries.{changed, unchanged}
 use Rattle.runs.proofs.Rising.{AtHandles, at_changed, handles_say}
 use Rattle.runs.proofs.ordered_runs.OrderedRuns.execute.Goals as goal
@@ -20,15 +20,15 @@ invariant_of-self-2 c =
     let h = c.args.handle in
     let es = c.self.inside.by_handle.entries in
     let run = c.in-Some.run'.now in
-    let writes = c.get_mut.follows.holds (started run) in
-    (subst AtHandles (sym writes.0) (at_changed (is_at (nat_cmp h)) run (started run) es (sym c.in-Some.ensures.value) refl c.self.invariant.0), writes.4)
+    let writes = c.get_mut.follows.holds (run_started run) in
+    (subst AtHandles (sym writes.0) (at_changed (is_at (nat_cmp h)) run (run_started run) es (sym c.in-Some.ensures.value) refl c.self.invariant.0), writes.4)
 
 pub returns-in_default : goal.returns-in_default
 returns-in_default c =
     let h = c.args.handle in
     let es = c.self.inside.by_handle.entries in
     let p = has_handle (record { 0 = h }) in
-    ap (λ (m : BTreeMap ℕ PendingRun). values_of m.entries) c.get_mut.follows.holds-at-none ∙ sym (unchanged p started (is_at (nat_cmp h)) es (handles_say h es c.self.invariant.0) (sym c.in_default.ensures.value)) ∙ ap (with_first p started) c.self.view_is
+    ap (λ (m : BTreeMap ℕ PendingRun). values_of m.entries) c.get_mut.follows.holds-at-none ∙ sym (unchanged p run_started (is_at (nat_cmp h)) es (handles_say h es c.self.invariant.0) (sym c.in_default.ensures.value)) ∙ ap (with_first p run_started) c.self.view_is
 
 pub returns : goal.returns
 returns c =
@@ -36,5 +36,5 @@ returns c =
     let es = c.self.inside.by_handle.entries in
     let run = c.in-Some.run'.now in
     let p = has_handle (record { 0 = h }) in
-    let writes = c.get_mut.follows.holds (started run) in
-    ap values_of writes.0 ∙ changed p started (is_at (nat_cmp h)) run es (handles_say h es c.self.invariant.0) (sym c.in-Some.ensures.value) ∙ ap (with_first p started) c.self.view_is
+    let writes = c.get_mut.follows.holds (run_started run) in
+    ap values_of writes.0 ∙ changed p run_started (is_at (nat_cmp h)) run es (handles_say h es c.self.invariant.0) (sym c.in-Some.ensures.value) ∙ ap (with_first p run_started) c.self.view_is

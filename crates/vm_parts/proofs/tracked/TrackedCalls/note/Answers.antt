@@ -1,6 +1,6 @@
 use Rattle.std.proofs.Common.{◌≡◌, None, refl}
 use Rattle.std.specs.Option.{option_copied}
-use Rattle.vm_parts.specs.Tracked.{IsAt, IsBetween, noted}
+use Rattle.vm_parts.specs.Tracked.{IsTrackedAt, IsBetween, id_noted}
 use Rattle.vm_parts.proofs.Tracking.{IsTracking-known, noted-at, noted-between, noted-none}
 use Rattle.vm_parts.proofs.tracked.TrackedCalls.note.Goals as goal
 
@@ -13,8 +13,8 @@ returns-in_default-clause-ok c =
 pub returns-in_default-id-clause-ok : goal.returns-in_default-id-clause-ok
 returns-in_default-id-clause-ok c =
     let calls = c.self.inside.calls.items in
-    let at : IsAt c.args.handle calls c.in-Ok.place = rw (← c.deref.ensures.value) c.in-Ok.ensures in
-    let none : noted c.args.handle None calls ≡ None = noted-none c.args.handle calls c.in-Ok.place at in
+    let at : IsTrackedAt c.args.handle calls c.in-Ok.place = rw (← c.deref.ensures.value) c.in-Ok.ensures in
+    let none : id_noted c.args.handle None calls ≡ None = noted-none c.args.handle calls c.in-Ok.place at in
     (rw (c.in_default-id.is, ← c.self.view_is) none, refl)
 
 pub invariant_of-self : goal.invariant_of-self
@@ -25,6 +25,6 @@ invariant_of-self c =
 pub returns-clause-ok : goal.returns-clause-ok
 returns-clause-ok c =
     let calls = c.self.inside.calls.items in
-    let at : IsAt c.args.handle calls c.in-Ok.place = rw (← c.deref.ensures.value) c.in-Ok.ensures in
+    let at : IsTrackedAt c.args.handle calls c.in-Ok.place = rw (← c.deref.ensures.value) c.in-Ok.ensures in
     rw (c.in-Some.is, ← c.self.view_is, ← c.in_ok-id.ensures)
     (noted-at c.args.handle c.in_ok-id.id calls c.in-Ok.place c.index_mut.result.now c.self.invariant.ascend at c.index_mut.ensures.value)
