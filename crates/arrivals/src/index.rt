@@ -4,10 +4,10 @@ ghost use Rattle.arrivals.specs.Ids.{same_id, slot_of, held_for_ids};
 ghost use Rattle.arrivals.specs.Numbers.{most_for_one};
 
 use crate::numbers::Numbers;
-use journal_values::NotificationId;
+use journal_protocol::NotificationId;
+use plain::Text;
 use std::alloc::{AllocError, Global};
 use std::collections::BTreeMap;
-use wire::Text;
 
 /// Which slot each id has, where it has one.
 #[derive(Drop)]

@@ -3,10 +3,10 @@
 
 use crate::steps::{output, sleep};
 use bytes::Bytes;
+use plain::Text;
 use std::alloc::{AllocError, Global};
 use vm_attempt::Handler;
 use vm_parts::{Answer, NotificationHandle, PayloadOptions, Step, UnresolvedFuture};
-use wire::Text;
 
 /// Clears the key "a", sets the key "b" to "x", sleeps to 1000 ms, awaits the sleep, takes its result, writes an empty
 /// output and ends.

@@ -4,10 +4,10 @@ ghost use Rattle.std.specs.Prelude.{◌≡◌};
 ghost use Rattle.attempt_bench.specs.Steps.{sleep_step, output_step};
 
 use bytes::Bytes;
+use plain::Text;
 use std::alloc::Global;
 use std::time::Duration;
 use vm_parts::{NonEmptyValue, PayloadOptions, Step};
-use wire::Text;
 
 /// A sleep to 1000 ms.
 pub fn sleep(alloc: Global) -> Step

@@ -8,9 +8,9 @@ use crate::handle::NotificationHandle;
 use crate::listing::list_nodes;
 use crate::nodes::{Label, Node};
 use crate::tree::UnresolvedFuture;
-use journal_attempt::FutureKind;
+use journal_protocol::FutureKind;
+use plain::Items;
 use std::alloc::{AllocError, Global};
-use wire::Items;
 
 /// A node of a kind over children.
 pub fn node_over(kind: FutureKind, children: Items<UnresolvedFuture>) -> UnresolvedFuture

@@ -3,8 +3,8 @@ ghost use Rattle.std.specs.Prelude.{◌≡◌, ◌+◌, MatchOption};
 ghost use Rattle.await_trees.specs.Counts.{count, in_row, in_some, Fewer};
 
 use crate::tree::UnresolvedFuture;
+use plain::Items;
 use std::mem;
-use wire::Items;
 
 /// The last tree of a row, where one is left.
 fn last_of(row: Option<Vec<UnresolvedFuture>>) -> Option<(UnresolvedFuture, Vec<UnresolvedFuture>)>

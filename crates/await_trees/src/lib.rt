@@ -14,7 +14,7 @@ pub mod tree;
 
 pub use copying::node_over;
 pub use handle::{CANCEL_NOTIFICATION_HANDLE, NotificationHandle};
-pub use journal_attempt::FutureKind;
+pub use journal_protocol::FutureKind;
 pub use listing::list_nodes;
 pub use nodes::{Label, Node};
 pub use outcome::Outcome;

@@ -6,9 +6,9 @@ ghost use Rattle.await_trees.specs.Preorder.{preorder, preorders};
 
 use crate::nodes::{Label, Node};
 use crate::tree::UnresolvedFuture;
-use journal_attempt::FutureKind;
+use journal_protocol::FutureKind;
+use plain::Items;
 use std::alloc::{AllocError, Global};
-use wire::Items;
 
 fn inner(kind: FutureKind, children: &Items<UnresolvedFuture>) -> (Node, &[UnresolvedFuture])
     ensures node { result.0 ≡ record {

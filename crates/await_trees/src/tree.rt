@@ -5,9 +5,9 @@ use crate::copying::copy_of;
 use crate::handle::NotificationHandle;
 use crate::letting_go::turn;
 use crate::showing::show;
+use plain::Items;
 use std::alloc::AllocError;
 use std::fmt;
-use wire::Items;
 
 /// What a handler awaits.
 pub enum UnresolvedFuture {

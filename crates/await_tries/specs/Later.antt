@@ -1,8 +1,8 @@
 -- A tree and its residual, over all later arrivals.
 use Rattle.std.specs.Prelude.{ℕ, ◌≡◌, ◌<◌, ◌≤◌, true, false, List, [], ◌++◌, ◌+◌, length, None}
-use Rattle.journal_values.specs.declared.notification.Notification.{Notification}
-use Rattle.journal_values.specs.declared.notification.NotificationId.{NotificationId}
-use Rattle.journal_values.specs.declared.notification.NotificationId.TheVariants.{CompletionId}
+use Rattle.journal_protocol.specs.Notification.{Notification}
+use Rattle.journal_protocol.specs.NotificationId.{NotificationId}
+use Rattle.journal_protocol.specs.NotificationId.TheVariants.{CompletionId}
 use Rattle.arrivals.specs.Results.{results_of}
 use Rattle.vm_types.specs.declared.options.SignalDelivery.{SignalDelivery}
 use Rattle.vm_types.specs.declared.options.SignalDelivery.TheVariants.{Queued}

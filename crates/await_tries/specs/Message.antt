@@ -1,7 +1,7 @@
 -- What a suspension tells, over all later arrivals.
 use Rattle.std.specs.Prelude.{ℕ, ◌≡◌, ◌+◌, List, take, length, Option}
-use Rattle.journal_values.specs.declared.notification.Notification.{Notification}
-use Rattle.journal_values.specs.declared.notification.NotificationId.{NotificationId}
+use Rattle.journal_protocol.specs.Notification.{Notification}
+use Rattle.journal_protocol.specs.NotificationId.{NotificationId}
 use Rattle.arrivals.specs.Results.{results_of, first}
 use Rattle.vm_types.specs.declared.options.SignalDelivery.{SignalDelivery}
 use Rattle.vm_parts.specs.Arrived.{Arrived}

@@ -12,11 +12,10 @@ ghost use Rattle.await_tries.specs.Walks.{reads};
 use crate::residue::Residue;
 use crate::walk::{Row, next_node};
 use await_trees::{FutureKind, Label, Node};
-use journal_attempt::{Future, FutureNode};
-use journal_values::NotificationId;
+use journal_protocol::{Future, FutureNode, NotificationId};
+use plain::{Items, copy_of};
 use std::alloc::{AllocError, Global};
 use vm_parts::AsyncResults;
-use wire::{Items, copy_of};
 
 /// A node that waits for nothing yet.
 fn bare(alloc: Global, kind: FutureKind) -> FutureNode

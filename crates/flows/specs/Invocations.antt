@@ -1,7 +1,7 @@
 -- Calls about other invocations, as code.
 use Rattle.std.specs.Prelude.{List, ℕ, None, Option, Some}
 use Rattle.std.specs.declared.time.Duration.{Duration}
-use Rattle.journal_calls.specs.declared.invocations.InvocationTarget.TheVariants as target
+use Rattle.journal_protocol.specs.InvocationTarget.TheVariants as target
 use Rattle.vm_types.specs.declared.steps.Step.TheVariants as step
 use Rattle.await_trees.specs.declared.handle.NotificationHandle.{NotificationHandle}
 use Rattle.await_trees.specs.declared.tree.UnresolvedFuture.TheVariants.{Single}

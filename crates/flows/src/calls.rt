@@ -6,10 +6,10 @@ ghost use Rattle.flows.specs.Follows.{Follows};
 use crate::context::Context;
 use crate::exit::Exit;
 use bytes::Bytes;
+use plain::Items;
 use std::alloc::{AllocError, Global};
 use std::time::Duration;
 use vm_types::{NotificationHandle, UnresolvedFuture};
-use wire::Items;
 
 /// Two handles, to be awaited together.
 fn both(

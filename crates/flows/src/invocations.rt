@@ -2,18 +2,18 @@
 ghost use Rattle.std.specs.Prelude.{◌≡◌, IfOk};
 ghost use Rattle.flows.specs.Follows.{Follows};
 ghost use Rattle.flows.specs.Invocations.{attach, cancel, output, send_at, start_attach, start_output};
-ghost use Rattle.journal_calls.specs.declared.invocations.InvocationTarget.TheVariants as target;
+ghost use Rattle.journal_protocol.specs.InvocationTarget.TheVariants as target;
 
 use crate::answers::{handle_in, unit_in};
 use crate::context::{Context, target};
 use crate::exit::Exit;
 use bytes::Bytes;
+use plain::Text;
 use std::alloc::{AllocError, Global};
 use std::time::Duration;
 use vm_types::{
     AttachInvocationTarget, Boxed, NotificationHandle, PayloadOptions, Step, UnresolvedFuture,
 };
-use wire::Text;
 
 /// The invocation of this id.
 fn invocation(alloc: Global, id: &str) -> Result<Boxed<AttachInvocationTarget>, AllocError>

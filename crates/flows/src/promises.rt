@@ -6,10 +6,10 @@ use crate::answers::{awakeable_in, handle_in, unit_in};
 use crate::context::Context;
 use crate::exit::Exit;
 use bytes::Bytes;
+use plain::Text;
 use vm_types::{
     AwakeableHandle, NonEmptyValue, NotificationHandle, PayloadOptions, Step, UnresolvedFuture,
 };
-use wire::Text;
 
 impl<'a> Context<'a> {
     /// Makes an awakeable: hand its id to whoever completes it, and wait for its handle (`value`).

@@ -3,10 +3,10 @@ use Rattle.std.proofs.Common.{◌≡◌, ◌≢◌, ◌<◌, ◌+◌, ℕ, List,
 use Rattle.std.proofs.lemmas.Bool.{cases_lt}
 use Rattle.std.proofs.lemmas.Slice.Eq.{bytes_eq-Decides}
 use Rattle.std.specs.Cmp.Lexicographic.{pointwise}
-use Rattle.journal_errors.specs.declared.types.MessageType.{MessageType}
-use Rattle.journal_errors.specs.declared.types.MessageType.TheVariants as type
-use Rattle.journal_errors.specs.Types.{type_at, type_number}
-use Rattle.journal_streams.proofs.Numbers.{type_found}
+use Rattle.journal_protocol.specs.MessageType.{MessageType}
+use Rattle.journal_protocol.specs.MessageType.TheVariants as type
+use Rattle.journal_protocol.specs.Types.{type_at, type_number}
+use Rattle.journal_protocol.proofs.Facts.{type_found}
 use Rattle.frame_lines.specs.Names.{type_word}
 
 -- each type has a number below 31

@@ -2,8 +2,8 @@
 use Rattle.std.proofs.Common.{◌≡◌, ◌≢◌, ◌++◌, ◌+◌, ℕ, List, [], ◌∷◌, length, refl, sym, ap, subst, ◌∙◌, append_assoc, arith}
 use Rattle.std.proofs.lemmas.List.{length-append, append-nil}
 use Rattle.std.proofs.lemmas.List.Concat.{flat_map-cons}
-use Rattle.journal_messages.specs.declared.message.RawMessage.{RawMessage}
-use Rattle.journal_streams.specs.Frames.{Whole, next_of}
+use Rattle.journal_protocol.specs.RawMessage.{RawMessage}
+use Rattle.journal_protocol.specs.Frames.{Whole, next_of}
 use Rattle.frame_lines.specs.Printed.{frame_text}
 use Rattle.frame_lines.specs.Runs.{ArePrinted, AreShown, AreShownBefore, HasNoFrame, IsBadLine, IsFirstOfLines, IsShownBy, IsUnshown, line_text, rest_lines}
 

@@ -1,26 +1,26 @@
 -- How choices stand on a line: the case, and in round brackets what it holds.
 use Rattle.std.specs.Prelude.{◌≡◌, ℕ, false, List, codes}
-use Rattle.journal_calls.specs.declared.invocations.IdempotencyId.{IdempotencyId}
-use Rattle.journal_calls.specs.declared.invocations.InvocationTarget.{InvocationTarget}
-use Rattle.journal_calls.specs.declared.invocations.InvocationTarget.TheVariants as targets
-use Rattle.journal_calls.specs.declared.invocations.WorkflowId.{WorkflowId}
-use Rattle.journal_calls.specs.declared.signals.Signal.{Signal}
-use Rattle.journal_calls.specs.declared.signals.Signal.TheVariants as signals
-use Rattle.journal_calls.specs.declared.signals.SignalResult.{SignalResult}
-use Rattle.journal_calls.specs.declared.signals.SignalResult.TheVariants as signal_results
-use Rattle.journal_errors.specs.declared.error.ErrorBehavior.{ErrorBehavior}
-use Rattle.journal_errors.specs.declared.error.ErrorBehavior.TheVariants as behaviors
-use Rattle.journal_state.specs.declared.state.VoidOrValue.{VoidOrValue}
-use Rattle.journal_state.specs.declared.state.VoidOrValue.TheVariants as voids
-use Rattle.journal_values.specs.declared.notification.NotificationId.{NotificationId}
-use Rattle.journal_values.specs.declared.notification.NotificationId.TheVariants as ids
-use Rattle.journal_values.specs.declared.notification.NotificationResult.{NotificationResult}
-use Rattle.journal_values.specs.declared.notification.NotificationResult.TheVariants as results
-use Rattle.journal_values.specs.declared.parts.Failure.{Failure}
-use Rattle.journal_values.specs.declared.parts.ValueOrFailure.{ValueOrFailure}
-use Rattle.journal_values.specs.declared.parts.ValueOrFailure.TheVariants as values
-use Rattle.journal_attempt.specs.declared.future.FutureKind.{FutureKind}
-use Rattle.journal_attempt.specs.declared.future.FutureKind.TheVariants as kinds
+use Rattle.journal_protocol.specs.IdempotencyId.{IdempotencyId}
+use Rattle.journal_protocol.specs.InvocationTarget.{InvocationTarget}
+use Rattle.journal_protocol.specs.InvocationTarget.TheVariants as targets
+use Rattle.journal_protocol.specs.WorkflowId.{WorkflowId}
+use Rattle.journal_protocol.specs.Signal.{Signal}
+use Rattle.journal_protocol.specs.Signal.TheVariants as signals
+use Rattle.journal_protocol.specs.SignalResult.{SignalResult}
+use Rattle.journal_protocol.specs.SignalResult.TheVariants as signal_results
+use Rattle.journal_protocol.specs.ErrorBehavior.{ErrorBehavior}
+use Rattle.journal_protocol.specs.ErrorBehavior.TheVariants as behaviors
+use Rattle.journal_protocol.specs.VoidOrValue.{VoidOrValue}
+use Rattle.journal_protocol.specs.VoidOrValue.TheVariants as voids
+use Rattle.journal_protocol.specs.NotificationId.{NotificationId}
+use Rattle.journal_protocol.specs.NotificationId.TheVariants as ids
+use Rattle.journal_protocol.specs.NotificationResult.{NotificationResult}
+use Rattle.journal_protocol.specs.NotificationResult.TheVariants as results
+use Rattle.journal_protocol.specs.Failure.{Failure}
+use Rattle.journal_protocol.specs.ValueOrFailure.{ValueOrFailure}
+use Rattle.journal_protocol.specs.ValueOrFailure.TheVariants as values
+use Rattle.journal_protocol.specs.FutureKind.{FutureKind}
+use Rattle.journal_protocol.specs.FutureKind.TheVariants as kinds
 use Rattle.frame_lines.specs.Notation.{Fields, HoldsAfterWord, HoldsFields, Notation, bracketed, bytes_notation, field, holding, list_notation, nothing, number, optional, pair, string}
 
 -- a choice has no default

@@ -1,11 +1,10 @@
 -- Which frame the words of a line show.
-use Rattle.std.specs.Prelude.{◌≡◌, ◌⊎◌, ◌<◌, ◌^◌, ℕ, List, [], ◌∷◌, ◌++◌, codes}
+use Rattle.std.specs.Prelude.{◌≡◌, ◌⊎◌, ◌<◌, ◌^◌, ℕ, List, [], ◌∷◌, codes}
 use Rattle.std.specs.Borrow.{Bor}
 use Rattle.std.specs.Str.Parse.{digits_value}
-use Rattle.wire.specs.Format.{u16s, bytes}
-use Rattle.journal_errors.specs.declared.types.MessageType.{MessageType}
-use Rattle.journal_messages.specs.declared.message.Message.{Message}
-use Rattle.journal_messages.specs.Message.{encoding, type_of}
+use Rattle.journal_protocol.specs.Frames.{numbered_frame, encoding, type_of}
+use Rattle.journal_protocol.specs.MessageType.{MessageType}
+use Rattle.journal_protocol.specs.Message.{Message}
 use Rattle.lines.specs.Atoms.{IsAtom, IsNumber}
 use Rattle.lines.specs.Pieces.{AreWords}
 use Rattle.frame_lines.specs.Messages.{AreFieldsOf}
@@ -17,7 +16,7 @@ pub record IsRaw (number body frame : List ℕ) : Type 0 where
   pub numeral : IsNumber number
   pub fits : digits_value 10 number < 2 ^ 16
   pub is_body : IsAtom body bytes_of
-  pub is : frame ≡ u16s (digits_value 10 number) ++ bytes bytes_of
+  pub is : frame ≡ numbered_frame (digits_value 10 number) bytes_of
 
 -- a frame as it is, by the words behind `raw`
 abbrev pub AreRaw : List (Bor (List ℕ)) → List ℕ → Type 0

@@ -1,6 +1,6 @@
 -- How a future is printed. Which future a text says is not said here.
 use Rattle.std.specs.Prelude.{ℕ, ◌==◌, ◌-◌, nat_lt, if◌then◌else◌, List, [], ◌∷◌, ◌++◌, codes, true}
-use Rattle.journal_attempt.specs.declared.future.FutureNode.{FutureNode}
+use Rattle.journal_protocol.specs.FutureNode.{FutureNode}
 use Rattle.frame_lines.specs.Choices.{choice, kind_notation}
 use Rattle.frame_lines.specs.Notation.{Fields, Notation, field, list_notation, nothing, number, put_all, string}
 

@@ -1,7 +1,7 @@
 -- The names that types of messages have on a line.
 use Rattle.std.specs.Prelude.{ℕ, List, codes}
-use Rattle.journal_errors.specs.declared.types.MessageType.{MessageType}
-use Rattle.journal_errors.specs.declared.types.MessageType.TheVariants as type
+use Rattle.journal_protocol.specs.MessageType.{MessageType}
+use Rattle.journal_protocol.specs.MessageType.TheVariants as type
 
 -- the word for a type
 unfoldable pub type_word : MessageType → List ℕ

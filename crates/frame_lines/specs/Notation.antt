@@ -8,7 +8,7 @@ use Rattle.lines.specs.Atoms.{IsAtom, IsText, quoted}
 use Rattle.lines.specs.Pieces.{ArePieces, AreWords, AreWordsWithin, IsWithin}
 use Rattle.line_parts.specs.Fields.{are_named, text_behind, texts_named}
 use Rattle.line_parts.specs.Words.{IsNumberOf, text_at}
-use Rattle.journal_values.specs.declared.parts.Header.{Header}
+use Rattle.journal_protocol.specs.Header.{Header}
 
 -- A type's values: how they are printed, which of them are a default, whose field is left out, and
 -- which value a text says.

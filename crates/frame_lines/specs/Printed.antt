@@ -1,10 +1,10 @@
 -- The line of a frame.
 use Rattle.std.specs.Prelude.{ℕ, List, ◌++◌, Option, Some, None, codes}
 use Rattle.std.specs.Fmt.{decimal}
-use Rattle.journal_errors.specs.Types.{type_number}
-use Rattle.journal_messages.specs.Reading.{message_in}
-use Rattle.journal_messages.specs.declared.message.Message.{Message}
-use Rattle.journal_messages.specs.declared.message.RawMessage.{RawMessage}
+use Rattle.journal_protocol.specs.Types.{type_number}
+use Rattle.journal_protocol.specs.Bodies.{message_in}
+use Rattle.journal_protocol.specs.Message.{Message}
+use Rattle.journal_protocol.specs.RawMessage.{RawMessage}
 use Rattle.lines.specs.Atoms.{hexed}
 use Rattle.frame_lines.specs.Messages.{message_text}
 

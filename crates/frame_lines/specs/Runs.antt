@@ -3,8 +3,8 @@ use Rattle.std.specs.Prelude.{◌≡◌, ◌≢◌, ◌⊎◌, ◌+◌, ℕ, Lis
 use Rattle.std.specs.Io.KnownBytes.{Appends}
 use Rattle.std.specs.Str.{IsTrimAscii, IsUtf8}
 use Rattle.std.specs.declared.io.Error.{Error as IoError}
-use Rattle.journal_messages.specs.declared.message.RawMessage.{RawMessage}
-use Rattle.journal_streams.specs.Frames.{Malformed, Partial, Whole, next_of}
+use Rattle.journal_protocol.specs.RawMessage.{RawMessage}
+use Rattle.journal_protocol.specs.Frames.{Malformed, Partial, Whole, next_of}
 use Rattle.streams.specs.Streams.{AppendsSome}
 use Rattle.frame_lines.specs.FrameLines.{LineShows, LineShowsAsIs}
 use Rattle.frame_lines.specs.Printed.{frame_text, rest_text}

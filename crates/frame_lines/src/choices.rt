@@ -8,16 +8,15 @@ ghost use Rattle.frame_lines.specs.Notation.{AreFields, IsBehind, SaysInside, cl
 use crate::forms::Form;
 use crate::value::Value;
 use bytes::Bytes;
-use journal_attempt::FutureKind;
-use journal_calls::{InvocationTarget, Signal, SignalResult};
-use journal_errors::ErrorBehavior;
-use journal_state::VoidOrValue;
-use journal_values::{NotificationId, NotificationResult, ValueOrFailure};
+use journal_protocol::{
+    ErrorBehavior, FutureKind, InvocationTarget, NotificationId, NotificationResult, Signal,
+    SignalResult, ValueOrFailure, VoidOrValue,
+};
 use line_parts::fields::text_behind;
 use lines::line::Line;
 use lines::pieces::{between, words};
+use plain::Fault;
 use std::alloc::{AllocError, Global};
-use wire::Fault;
 
 /// Writes a case with a value in its brackets.
 fn print_holding<T: Value>(word: &str, value: &T, line: &mut Line) -> Result<(), AllocError>

@@ -1,6 +1,6 @@
 //! A frame as a line, and a line as a frame.
 ghost use Rattle.std.specs.Prelude.{◌≡◌, ◌++◌, IfErr, IfOk, OnOk};
-ghost use Rattle.wire.specs.Format.{u16s, bytes};
+ghost use Rattle.journal_protocol.specs.Frames.{numbered_frame};
 ghost use Rattle.lines.specs.Atoms.{IsAtom};
 ghost use Rattle.lines.specs.Readings.{Blames};
 ghost use Rattle.frame_lines.specs.Printed.{frame_text, raw_text, rest_text};
@@ -9,13 +9,12 @@ ghost use Rattle.frame_lines.specs.FrameLines.{Encodes, IsRaw, LineShows, LineSh
 use crate::message::{parse_message, print_message};
 use crate::type_names::type_named;
 use bytes::Bytes;
-use journal_errors::MessageType;
-use journal_messages::{Encoder, RawMessage};
+use journal_protocol::{Encoder, MessageType, RawMessage};
 use lines::atoms::{bytes_of, number_of};
 use lines::line::Line;
 use lines::pieces::words;
+use plain::Fault;
 use std::alloc::{AllocError, Global};
-use wire::{Fault, Wire};
 
 /// Writes the type's number and the body of a frame.
 fn print_raw(raw: &RawMessage, line: &mut Line) -> Result<(), AllocError>
@@ -55,12 +54,9 @@ fn frame_of_message(alloc: Global, ty: MessageType, words: &[&[u8]]) -> Result<B
 
 /// A frame of any type and any body.
 fn raw_frame(alloc: Global, number: u16, body: &Bytes) -> Result<Bytes, AllocError>
-    ensures { IfOk result (λ frame. frame ≡ u16s number ++ bytes body.now) }
+    ensures { IfOk result (λ frame. frame ≡ numbered_frame number body.now) }
 {
-    let mut frame = Vec::new(alloc);
-    number.put(&mut frame)?;
-    body.put(&mut frame)?;
-    Ok(Bytes::from_vec(frame)?)
+    Encoder::new(alloc).encode_raw(number, body)
 }
 
 /// The bytes of an atom, shared.

@@ -15,8 +15,8 @@ pub mod state;
 use crate::value::Value;
 use line_parts::fields::{are_named, field_of};
 use lines::line::Line;
+use plain::Fault;
 use std::alloc::{AllocError, Global};
-use wire::Fault;
 
 /// Writes a field, if it isn't left out, behind a blank unless it is the first. Answers whether the next is the first.
 #[tactic(auto, unfolding(crate::specs::Notation::put))]

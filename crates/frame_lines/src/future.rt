@@ -1,15 +1,15 @@
 //! What an attempt waits for, as it is written on a line.
 ghost use Rattle.std.specs.Prelude.{◌≡◌, ◌∷◌, ◌++◌, ◌==◌, if◌then◌else◌, List, OnOk, codes, reverse};
-ghost use Rattle.journal_attempt.specs.declared.future.FutureNode.{FutureNode};
+ghost use Rattle.journal_protocol.specs.FutureNode.{FutureNode};
 ghost use Rattle.frame_lines.specs.Futures.{ends_text, future_notation, future_text, node_head_text, left_then, node_fields, nodes_text};
 
 use crate::forms::{Form, print_field, values_of};
 use crate::nested::{Begun, begun_of};
 use crate::value::Value;
-use journal_attempt::{Future, FutureKind, FutureNode};
+use journal_protocol::{Future, FutureKind, FutureNode};
 use lines::line::Line;
+use plain::{Fault, Items, Text};
 use std::alloc::{AllocError, Global};
-use wire::{Fault, Items, Text};
 
 /// What a future waits for itself, without those that nest in it.
 impl Form for FutureNode {

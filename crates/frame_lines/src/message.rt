@@ -1,30 +1,23 @@
 //! A message as a line.
 ghost use Rattle.std.specs.Prelude.{◌≡◌, ◌++◌, false, IfOk, OnOk};
-ghost use Rattle.journal_messages.specs.Message.{type_of};
+ghost use Rattle.journal_protocol.specs.Frames.{type_of};
 ghost use Rattle.frame_lines.specs.Messages.{AreFieldsOf, fields_of, message_text};
 ghost use Rattle.frame_lines.specs.Notation.{put_all};
 
 use crate::forms::Form;
 use crate::type_names::name_of;
-use journal_attempt::{
-    AwaitingOn, InputCommand, OutputCommand, ProposeRunCompletion, ProposeRunCompletionAck,
-    RunCommand, SleepCommand, Start, Suspension,
-};
-use journal_calls::{
-    CallCommand, CompleteAwakeableCommand, CompletePromiseCommand, InvocationCommand,
-    OneWayCallCommand, PromiseCommand, SendSignalCommand,
-};
-use journal_errors::{ErrorMessage, MessageType};
-use journal_messages::Message;
-use journal_state::{
-    ClearAllStateCommand, ClearStateCommand, GetEagerStateCommand, GetEagerStateKeysCommand,
+use journal_protocol::{
+    AwaitingOn, CallCommand, ClearAllStateCommand, ClearStateCommand, CompleteAwakeableCommand,
+    CompletePromiseCommand, ErrorMessage, GetEagerStateCommand, GetEagerStateKeysCommand,
     GetLazyStateCommand, GetLazyStateKeysCommand, GetStateEphemeralCommand,
-    GetStateEphemeralNotification, SetStateCommand,
+    GetStateEphemeralNotification, InputCommand, InvocationCommand, Message, MessageType,
+    Notification, OneWayCallCommand, OutputCommand, PromiseCommand, ProposeRunCompletion,
+    ProposeRunCompletionAck, RunCommand, SendSignalCommand, SetStateCommand, SleepCommand, Start,
+    Suspension,
 };
-use journal_values::Notification;
 use lines::line::Line;
+use plain::Fault;
 use std::alloc::{AllocError, Global};
-use wire::Fault;
 
 /// Writes the message's fields behind its name.
 #[tactic(auto, unfolding(crate::specs::Messages::fields_of))]

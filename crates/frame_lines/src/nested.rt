@@ -1,7 +1,7 @@
 //! The text of a future cut into those that nest in it, in one pass: each is read where it stands, however deep.
 use lines::pieces::first_word;
+use plain::Fault;
 use std::alloc::Global;
-use wire::Fault;
 
 /// A future without those that nest in it: the texts of its other fields, and how many nest in it, if it says so.
 #[derive(Drop)]

@@ -1,22 +1,20 @@
 //! The two runs of the program: a stream of frames to lines, and lines to a stream of frames.
 ghost use Rattle.std.specs.Prelude.{◌≡◌, ◌++◌, ◌<◌, length, IfErr, IfOk, IfSome, IfNone, IsTrue, ◌↔◌, OnErr, OnOk};
 ghost use Rattle.std.specs.Io.KnownBytes.{IsAtEnd};
-ghost use Rattle.journal_streams.specs.Frames.{Whole, next_of};
-ghost use Rattle.journal_messages.specs.Message.{frame};
-ghost use Rattle.wire.specs.declared.fault.Fault.TheVariants.{Malformed};
+ghost use Rattle.journal_protocol.specs.Frames.{Whole, next_of, frame};
+ghost use Rattle.plain.specs.declared.fault.Fault.TheVariants.{Malformed};
 ghost use Rattle.frame_lines.specs.Printed.{frame_text};
 ghost use Rattle.frame_lines.specs.Runs.{AddsToOutput, AreShown, ArePrinted, HasNoFrame, IsBadFor, IsBadLine, IsComment, IsFirstOfLines, IsShownBy, IsShownInside, IsUnshown, IsUnshownInside, NoneIsBad, Tells, line_text, rest_lines};
 
 use crate::entry::{frame_of, print_frame, print_rest};
 use crate::run_end::RunEnd;
 use bytes::Bytes;
-use journal_messages::RawMessage;
-use journal_streams::Decoder;
+use journal_protocol::{Decoder, RawMessage};
 use lines::line::Line;
 use memchr::memchr;
+use plain::Fault;
 use std::alloc::{AllocError, Global};
 use streams::{Sink, Source};
-use wire::Fault;
 
 /// Adds the line of a frame.
 fn add_frame_line(alloc: Global, raw: &RawMessage, text: &mut Line) -> Result<(), AllocError>

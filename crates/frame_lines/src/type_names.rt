@@ -1,9 +1,9 @@
 //! The names of the types of messages.
 ghost use Rattle.std.specs.Prelude.{◌≡◌, ◌≢◌, IfNone, IfSome};
-ghost use Rattle.journal_errors.specs.declared.types.MessageType.{MessageType};
+ghost use Rattle.journal_protocol.specs.MessageType.{MessageType};
 ghost use Rattle.frame_lines.specs.Names.{type_word};
 
-use journal_errors::MessageType;
+use journal_protocol::MessageType;
 
 /// The name that the type has on a line.
 #[tactic(auto, unfolding(crate::specs::Names::type_word))]

@@ -4,13 +4,13 @@ ghost use Rattle.line_parts.specs.Words.{IsNumberOf, text_at};
 ghost use Rattle.frame_lines.specs.Notation.{Notation, SayItems, SaysInside, SaysPair, bytes_notation, flag_notation, header_notation, list_notation, items_text, number, optional, pair, string};
 
 use bytes::Bytes;
-use journal_values::Header;
+use journal_protocol::Header;
 use line_parts::atoms::{shared_of, text_of, u32_of};
 use lines::atoms::number_of;
 use lines::line::Line;
 use lines::pieces::{between, pieces, words_within};
+use plain::{Fault, Items, Text};
 use std::alloc::{AllocError, Global};
-use wire::{Fault, Items, Text};
 
 /// A type whose values stand behind a field's name.
 pub trait Value: Drop {

@@ -3,10 +3,10 @@ ghost use Rattle.std.specs.Prelude.{◌≡◌, IfOk};
 ghost use Rattle.handlers.specs.Calls.{two_awaited, plain_call, call_until, plain_target};
 
 use bytes::Bytes;
+use plain::{Items, Text};
 use std::alloc::{AllocError, Global};
 use std::time::Duration;
 use vm_parts::{Boxed, NotificationHandle, PayloadOptions, Step, Target, UnresolvedFuture};
-use wire::{Items, Text};
 
 /// A service's handler, without a key.
 fn target(alloc: Global, service: &str, handler: &str) -> Result<Target, AllocError>

@@ -5,10 +5,10 @@ ghost use Rattle.handlers.specs.Counter.{count_in, count_of, count_of_value, nex
 
 use crate::answers::{cancelled_output, handle_at, is_cancelled_at};
 use bytes::Bytes;
+use plain::Text;
 use std::alloc::{AllocError, Global};
 use vm_attempt::Handler;
 use vm_parts::{Answer, NonEmptyValue, PayloadOptions, Step, UnresolvedFuture, Value};
-use wire::Text;
 
 /// Reads the count, awaits and takes it, writes the number that follows, and answers it.
 #[derive(Debug, Drop)]

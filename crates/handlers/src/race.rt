@@ -8,11 +8,11 @@ use crate::answers::{
 };
 use crate::calls::{call, two_awaited};
 use bytes::Bytes;
+use plain::Text;
 use std::alloc::{AllocError, Global};
 use std::time::Duration;
 use vm_attempt::Handler;
 use vm_parts::{Answer, NonEmptyValue, NotificationHandle, PayloadOptions, Step, UnresolvedFuture};
-use wire::Text;
 
 /// Sleeps, calls, awaits the first of both and takes its result, writes what the call gave, or "timeout", and ends.
 #[derive(Debug, Drop)]

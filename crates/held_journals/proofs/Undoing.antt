@@ -1,7 +1,7 @@
 -- What was known at the last commit is known after an error, too; and what is stored of an output
 -- when nothing was to be appended before.
 use Rattle.std.proofs.Common.{◌≡◌, ℕ, List, [], length, ◌==◌, Bool, false, refl, sym, ◌∙◌, subst}
-use Rattle.journal_errors.specs.declared.version.Version.{Version}
+use Rattle.journal_protocol.specs.Version.{Version}
 use Rattle.vm_store.specs.declared.types.RoundFault.{RoundFault}
 use Rattle.stored_journals.specs.Ids.{known_kept}
 use Rattle.stored_journals.specs.Known.{IsKnown}

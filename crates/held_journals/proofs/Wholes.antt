@@ -2,8 +2,8 @@
 use Rattle.std.proofs.Common.{◌≡◌, ℕ, List, [], ◌∷◌, ◌++◌, map, length, ◌==◌, Bool, true, refl, sym, ap, ◌∙◌, subst, arith, append-nil}
 use Rattle.std.specs.List.{flat_map}
 use Rattle.std.proofs.lemmas.Bool.Decides.{nat_tests}
-use Rattle.journal_errors.specs.declared.version.Version.{Version}
-use Rattle.journal_messages.specs.declared.message.RawMessage.{RawMessage}
+use Rattle.journal_protocol.specs.Version.{Version}
+use Rattle.journal_protocol.specs.RawMessage.{RawMessage}
 use Rattle.invocation_vm.specs.Frames.{Rest, Tail, frames_of}
 use Rattle.vm_store.specs.declared.storing.Written.{Written}
 use Rattle.vm_store.specs.Storing.{NoneFaults, stored_as, waits_behind, written_among, written_from}

@@ -1,11 +1,11 @@
 -- Rows: entries of a journal as a runtime stores them.
 use Rattle.std.specs.Prelude.{ℕ, false, List, length, Option, Some, None, is_some}
 use Rattle.std.specs.Option.{unwrap_or}
-use Rattle.journal_errors.specs.Types.{type_number}
-use Rattle.journal_messages.specs.declared.message.RawMessage.{RawMessage}
-use Rattle.journal_values.specs.declared.notification.Notification.{Notification}
-use Rattle.journal_values.specs.declared.notification.NotificationId.{NotificationId}
-use Rattle.journal_values.specs.declared.notification.NotificationId.TheVariants.{CompletionId, SignalId, SignalName}
+use Rattle.journal_protocol.specs.Types.{type_number}
+use Rattle.journal_protocol.specs.RawMessage.{RawMessage}
+use Rattle.journal_protocol.specs.Notification.{Notification}
+use Rattle.journal_protocol.specs.NotificationId.{NotificationId}
+use Rattle.journal_protocol.specs.NotificationId.TheVariants.{CompletionId, SignalId, SignalName}
 use Rattle.vm_store.specs.Entries.{frame_in, note_in}
 use Rattle.held_journals.specs.declared.row.Row.{Row}
 use Rattle.held_journals.specs.declared.status.Status.{Status}

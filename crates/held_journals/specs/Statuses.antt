@@ -1,8 +1,8 @@
 -- The numbers by which C sees how a call of a journal ended: those of a VM's calls where they say
 -- the same.
 use Rattle.std.specs.Prelude.{ℕ, ◌==◌, if◌then◌else◌, Option, Some, None}
-use Rattle.journal_errors.specs.declared.version.Version.{Version}
-use Rattle.journal_errors.specs.declared.version.Version.TheVariants as version
+use Rattle.journal_protocol.specs.Version.{Version}
+use Rattle.journal_protocol.specs.Version.TheVariants as version
 use Rattle.vm_store.specs.declared.types.RoundFault.{RoundFault}
 use Rattle.vm_store.specs.declared.types.RoundFault.TheVariants as round_fault
 use Rattle.held_journals.specs.declared.status.Status.{Status}

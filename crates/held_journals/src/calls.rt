@@ -11,7 +11,7 @@ use crate::journal::HeldJournal;
 use crate::loose::Loose;
 use crate::row::{Row, Stored, answer_store, no_row};
 use crate::status::Status;
-use journal_errors::Version;
+use journal_protocol::Version;
 use std::alloc::Global;
 use vm_store::types::RoundFault;
 

@@ -7,7 +7,7 @@ ghost use Rattle.held_journals.specs.declared.status.Status.TheVariants.{Done};
 
 use crate::status::Status;
 use bytes::Bytes;
-use journal_values::{Notification, NotificationId};
+use journal_protocol::{Notification, NotificationId};
 use std::alloc::{AllocError, Global};
 use vm_store::entry::{frame_in, note_in};
 

@@ -1,9 +1,9 @@
 -- Bytes that come in two pieces do what they do in one.
 use Rattle.std.proofs.Common.{◌≡◌, ℕ, zero, suc, ◌≤◌, true, List, [], ◌∷◌, ◌++◌, length, Option, Some, None, sym, ap, refl, ◌∙◌, arith, append_assoc}
 use Rattle.std.specs.Prelude.{is_some}
-use Rattle.journal_errors.specs.declared.error.Error.{Error}
-use Rattle.journal_messages.specs.declared.message.RawMessage.{RawMessage}
-use Rattle.journal_streams.specs.Frames.{NextFrame, Whole, Partial, Malformed, next_of}
+use Rattle.journal_protocol.specs.Error.{Error}
+use Rattle.journal_protocol.specs.RawMessage.{RawMessage}
+use Rattle.journal_protocol.specs.Frames.{NextFrame, Whole, Partial, Malformed, next_of}
 use Rattle.journal_protocol.proofs.Facts.{malformed_more, nothing_is_partial, whole_more, whole_shorter}
 use Rattle.vm_machine.specs.declared.machine.Machine.{Machine}
 use Rattle.vm_machine.specs.Outcomes.{called, called_at}

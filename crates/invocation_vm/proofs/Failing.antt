@@ -5,14 +5,14 @@ use Rattle.retries.specs.declared.policy.RetryPolicy.{RetryPolicy}
 use Rattle.std.proofs.Common.{◌≡◌, inl, inr, Option, Some, None, List, refl, sym, ap, ◌∙◌, subst}
 use Rattle.std.specs.Prelude.{Bool, true, false, not, ◌&&◌, is_some, Result, Ok, Err}
 use Rattle.std.specs.declared.alloc.AllocError.{AllocError}
-use Rattle.journal_errors.specs.declared.error.Error.{Error}
-use Rattle.journal_messages.specs.declared.message.RawMessage.{RawMessage}
+use Rattle.journal_protocol.specs.Error.{Error}
+use Rattle.journal_protocol.specs.RawMessage.{RawMessage}
 use Rattle.await_trees.specs.declared.handle.NotificationHandle.{NotificationHandle}
 use Rattle.await_trees.specs.declared.tree.UnresolvedFuture.{UnresolvedFuture}
 use Rattle.await_trees.specs.Tree.{tree_of}
 use Rattle.vm_awaits.specs.Awaits.{Awaits}
 use Rattle.vm_awaits.specs.Cancels.{FollowsFirstPart}
-use Rattle.journal_errors.specs.Errors.{no_memory}
+use Rattle.journal_protocol.specs.Errors.{no_memory}
 use Rattle.vm_types.specs.declared.types.AwaitResponse.{AwaitResponse}
 use Rattle.vm_machine.specs.declared.machine.Machine.{Machine}
 use Rattle.vm_machine.specs.Outcomes.{Outcome, Done, Failed, CalledAt, CalledBy, Does, DoesBy, called, flattened}

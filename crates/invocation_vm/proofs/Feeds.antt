@@ -3,11 +3,11 @@ use Rattle.std.proofs.Common.{◌≡◌, inl, inr, ℕ, true, false, List, [], �
 use Rattle.std.specs.Prelude.{IsSome, OnErr, is_some, ◌++◌}
 use Rattle.std.proofs.lemmas.Bool.{false≢true}
 use Rattle.std.specs.declared.alloc.AllocError.{AllocError}
-use Rattle.journal_messages.specs.declared.message.RawMessage.{RawMessage}
-use Rattle.journal_errors.specs.declared.error.Error.{Error}
-use Rattle.journal_errors.specs.Errors.{no_memory}
-use Rattle.journal_streams.specs.Frames.{Whole, Partial, Malformed, next_of}
-use Rattle.journal_streams.proofs.Cuts.{whole_shorter}
+use Rattle.journal_protocol.specs.RawMessage.{RawMessage}
+use Rattle.journal_protocol.specs.Error.{Error}
+use Rattle.journal_protocol.specs.Errors.{no_memory}
+use Rattle.journal_protocol.specs.Frames.{Whole, Partial, Malformed, next_of}
+use Rattle.journal_protocol.proofs.Facts.{whole_shorter}
 use Rattle.vm_parts.specs.declared.context.Counters.{Counters}
 use Rattle.vm_machine.specs.declared.fault.Fault.{Fault}
 use Rattle.vm_machine.specs.declared.fault.Fault.TheVariants as fault

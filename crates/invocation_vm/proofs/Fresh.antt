@@ -1,7 +1,7 @@
 -- The completion ids after an input that was read, if recorded commands are skipped.
 use Rattle.std.proofs.Common.{◌≡◌, true, Option, Some, None, Result, Ok, Err, refl, sym, ap, ◌∙◌}
 use Rattle.std.specs.Prelude.{OnOk}
-use Rattle.journal_errors.specs.declared.error.Error.{Error}
+use Rattle.journal_protocol.specs.Error.{Error}
 use Rattle.vm_types.specs.declared.values.Input.{Input}
 use Rattle.vm_asks.specs.Carried.{AreBelow, all_carried}
 use Rattle.vm_machine.specs.declared.machine.Machine.{Machine}

@@ -1,7 +1,7 @@
 -- The frames of a run of bytes.
 use Rattle.std.specs.Prelude.{ℕ, zero, suc, List, [], ◌∷◌, ◌++◌, length}
-use Rattle.journal_messages.specs.declared.message.RawMessage.{RawMessage}
-use Rattle.journal_streams.specs.Frames.{NextFrame, Whole, Partial, Malformed, next_of}
+use Rattle.journal_protocol.specs.RawMessage.{RawMessage}
+use Rattle.journal_protocol.specs.Frames.{NextFrame, Whole, Partial, Malformed, next_of}
 
 -- what follows the last whole frame: the beginning of one, or bytes that no frame begins with
 pub data Tail : Type 0 where

@@ -1,12 +1,12 @@
 -- Which version a request asks for, and the VM that is made for it.
 use Rattle.std.specs.Prelude.{◌≡◌, ℕ, List, [], ◌∷◌, codes, Option, Some, None, Result, Ok, Err}
 use Rattle.std.proofs.Common.{Global}
-use Rattle.journal_errors.specs.declared.error.Error.{Error}
-use Rattle.journal_errors.specs.declared.faults.NamedFault.TheVariants as fault
-use Rattle.journal_errors.specs.declared.version.Version.{Version}
-use Rattle.journal_errors.specs.declared.version.Version.TheVariants.{V1, V2, V3, V4, V5, V6, V7, V8}
-use Rattle.journal_errors.specs.Errors.{named_error, no_memory}
-use Rattle.journal_errors.specs.Versions.{content_type, version_of}
+use Rattle.journal_protocol.specs.Error.{Error}
+use Rattle.journal_protocol.specs.NamedFault.TheVariants as fault
+use Rattle.journal_protocol.specs.Version.{Version}
+use Rattle.journal_protocol.specs.Version.TheVariants.{V1, V2, V3, V4, V5, V6, V7, V8}
+use Rattle.journal_protocol.specs.Errors.{named_error, no_memory}
+use Rattle.journal_protocol.specs.Versions.{content_type, version_of}
 use Rattle.vm_types.specs.declared.options.VMOptions.{VMOptions}
 use Rattle.vm_types.specs.declared.values.ResponseHead.{ResponseHead}
 use Rattle.vm_machine.specs.Making.{fresh}

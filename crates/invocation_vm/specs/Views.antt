@@ -2,9 +2,9 @@
 use Rattle.std.specs.Prelude.{◌≡◌, ◌⊎◌, ◌<◌, ℕ, Bool, true, false, if◌then◌else◌, List, [], ◌∷◌, ◌++◌, length, Option, None, is_some, Result, Err, OnOk, OnErr, IfOk}
 use Rattle.std.specs.List.{concat}
 use Rattle.std.specs.declared.alloc.AllocError.{AllocError}
-use Rattle.journal_errors.specs.declared.error.Error.{Error}
-use Rattle.journal_messages.specs.declared.message.RawMessage.{RawMessage}
-use Rattle.journal_errors.specs.Errors.{no_memory}
+use Rattle.journal_protocol.specs.Error.{Error}
+use Rattle.journal_protocol.specs.RawMessage.{RawMessage}
+use Rattle.journal_protocol.specs.Errors.{no_memory}
 use Rattle.vm_types.specs.declared.command_type.CommandRelationship.{CommandRelationship}
 use Rattle.vm_parts.specs.Outboxes.{WholeStream}
 use Rattle.vm_machine.specs.declared.machine.Machine.{Machine}

@@ -18,8 +18,8 @@ use crate::shared::{
 use crate::versions::{response_head, version_in};
 use crate::vm::VM;
 use bytes::Bytes;
-use journal_errors::{Error, HeaderMap, NamedFault, Version};
-use journal_streams::Decoder;
+use journal_protocol::{Decoder, Error, HeaderMap, NamedFault, Version};
+use plain::Text;
 use retries::RetryPolicy;
 use runs::{RunExitResult, RunHandle};
 use std::alloc::{AllocError, Global};
@@ -35,7 +35,6 @@ use vm_parts::{
     PayloadOptions, ResponseHead, SendHandle, State, StateKey, Step, Target, TrackedCall,
     UnresolvedFuture, VMOptions, VMResult, Value,
 };
-use wire::Text;
 
 /// The invocation VM.
 pub struct CoreVM {

@@ -1,16 +1,16 @@
 //! Bytes that come in: the decoder's frames are handed to the machine, one after another.
 ghost use Rattle.std.specs.Prelude.{◌≡◌, ◌++◌, List, ℕ, IfOk, OnErr, None};
-ghost use Rattle.journal_errors.specs.Errors.{no_memory};
+ghost use Rattle.journal_protocol.specs.Errors.{no_memory};
 ghost use Rattle.vm_machine.specs.Outcomes.{IsStarved};
-ghost use Rattle.journal_streams.specs.Frames.{Malformed, next_of};
+ghost use Rattle.journal_protocol.specs.Frames.{Malformed, next_of};
 ghost use Rattle.invocation_vm.specs.Frames.{frames_of};
 ghost use Rattle.invocation_vm.specs.Seen.{seen};
 ghost use Rattle.invocation_vm.specs.Views.{View, Goes, Leaves, consumed, after_input};
 
 use crate::core_vm::CoreVM;
+use plain::Fault;
 use std::alloc::AllocError;
 use vm_inputs::{receive, receive_malformed};
-use wire::Fault;
 
 impl CoreVM {
     /// Takes one frame; answers whether there may be more.

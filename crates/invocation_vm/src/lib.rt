@@ -9,9 +9,10 @@ mod vm;
 
 pub use core_vm::CoreVM;
 pub use feed::any_cut;
-pub use journal_calls::{IdempotencyId, WorkflowId};
-pub use journal_errors::{Error, ErrorBehavior, HeaderMap, Version};
-pub use journal_values::Header;
+pub use journal_protocol::{
+    Error, ErrorBehavior, Header, HeaderMap, IdempotencyId, Version, WorkflowId,
+};
+pub use plain::{Items, Text};
 pub use retries::{EntryRetryInfo, Fraction, OnMaxAttempts, RetryPolicy};
 pub use runs::{RunExitResult, RunHandle};
 pub use vm::VM;
@@ -23,4 +24,3 @@ pub use vm_parts::{
     ResponseHead, SendHandle, SignalDelivery, State, Target, TerminalFailure, UnresolvedFuture,
     VMOptions, VMResult, Value,
 };
-pub use wire::{Items, Text};

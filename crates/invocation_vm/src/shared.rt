@@ -6,7 +6,8 @@ ghost use Rattle.vm_machine.specs.Outcomes.{Gives};
 ghost use Rattle.invocation_vm.specs.Calls.{name_or_empty, new_awakeable_step, result_by, run_handle};
 ghost use Rattle.vm_machine.specs.Several.{answered_so};
 
-use journal_errors::NamedFault;
+use journal_protocol::NamedFault;
+use plain::Text;
 use runs::RunHandle;
 use std::alloc::Global;
 use vm_asks::asks::{call_handles, deadline_handles, send_handle};
@@ -18,7 +19,6 @@ use vm_parts::{
     AwaitResponse, AwakeableHandle, CallHandle, DeadlineCallHandle, NotificationHandle, SendHandle,
     VMResult,
 };
-use wire::Text;
 
 /// An absent name is empty.
 pub(crate) fn name_text(alloc: Global, name: Option<String>) -> Text

@@ -2,11 +2,10 @@
 ghost use Rattle.std.specs.Prelude.{◌≡◌, codes, IfOk};
 ghost use Rattle.invocation_vm.specs.Making.{supported, version_in, response_head};
 
-use journal_errors::{Error, HeaderMap, NamedFault, Version};
-use journal_values::Header;
+use journal_protocol::{Error, Header, HeaderMap, NamedFault, Version};
+use plain::{Items, Text};
 use std::alloc::{AllocError, Global};
 use vm_parts::ResponseHead;
-use wire::{Items, Text};
 
 /// Refuses a version that is not supported.
 fn supported(version: Version) -> Result<Version, Error>

@@ -17,7 +17,7 @@ ghost use Rattle.invocation_vm.specs.Making.{Makes, response_head, version_in};
 ghost use Rattle.invocation_vm.specs.Views.{View, Calls, Leaves, TakesOutput, after_closing, after_error, after_input, messages_in_bytes};
 
 use bytes::Bytes;
-use journal_errors::{Error, HeaderMap};
+use journal_protocol::{Error, HeaderMap};
 use retries::RetryPolicy;
 use runs::{RunExitResult, RunHandle};
 use std::alloc::{AllocError, Global};

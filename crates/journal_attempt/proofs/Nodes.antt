@@ -5,8 +5,8 @@ use Rattle.std.proofs.lemmas.List.{append-nil, length-append, length-drop}
 use Rattle.std.proofs.Math.Seq.{drop-cons}
 use Rattle.wire.specs.Format.{read_then}
 use Rattle.wire.specs.Reads.{Reads}
-use Rattle.wire.specs.declared.fault.Fault.{Fault}
-use Rattle.wire.specs.declared.fault.Fault.TheVariants.{Memory, Malformed}
+use Rattle.wire.specs.Fault.{Fault}
+use Rattle.wire.specs.Fault.TheVariants.{Memory, Malformed}
 use Rattle.wire.proofs.Read.{read_on, push_on, items_begin}
 use Rattle.journal_attempt.specs.declared.future.FutureNode.{FutureNode}
 use Rattle.journal_attempt.specs.Futures.{node, node_long, node_format, are_whole, read_nodes, read_future, future_valid, future_format, IsFuture}

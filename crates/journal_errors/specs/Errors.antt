@@ -3,8 +3,8 @@ use Rattle.std.specs.Prelude.{ℕ, ◌/◌, ◌^◌, ◌-◌, min, List, [], ◌
 use Rattle.std.specs.Option.{option_map}
 use Rattle.std.specs.Duration.{as_nanos}
 use Rattle.std.specs.declared.time.Duration.{Duration}
-use Rattle.wire.specs.declared.fault.Fault.{Fault}
-use Rattle.wire.specs.declared.fault.Fault.TheVariants.{Memory, Malformed}
+use Rattle.wire.specs.Fault.{Fault}
+use Rattle.wire.specs.Fault.TheVariants.{Memory, Malformed}
 use Rattle.journal_errors.specs.declared.error.Error.{Error}
 use Rattle.journal_errors.specs.declared.error.RelatedCommand.{RelatedCommand}
 use Rattle.journal_errors.specs.declared.error.ErrorBehavior.TheVariants.{Retry}

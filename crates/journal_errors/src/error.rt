@@ -1,6 +1,6 @@
 //! The errors of the layer. One that a named fault makes takes no memory, so want of memory has a form.
 ghost use Rattle.std.specs.Prelude.{◌≡◌, [], Some, None, IfOk, string_bytes};
-ghost use Rattle.wire.specs.declared.fault.Fault.TheVariants as wire_fault;
+ghost use Rattle.wire.specs.Fault.TheVariants as wire_fault;
 ghost use Rattle.journal_errors.specs.Errors.{plain_error, named_error, no_memory, fault_error, error_message, name_if_any, capped_millis};
 
 use crate::{ErrorMessage, MessageType, NamedFault, Said};

@@ -1,2 +1,11 @@
 pub mod Framing
 pub mod Reading
+pub mod Alone
+pub mod Numbers
+pub mod Frames
+pub mod Streams
+pub mod Cuts
+pub mod SameHeader
+pub mod Erased
+pub mod Own
+pub mod Typed

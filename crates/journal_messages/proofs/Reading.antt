@@ -5,8 +5,8 @@ use Rattle.std.specs.Option.{option_map}
 use Rattle.wire.specs.Format.{Format}
 use Rattle.wire.specs.Forms.{nothing_format}
 use Rattle.wire.specs.Reads.{Read, read_all}
-use Rattle.wire.specs.declared.fault.Fault.{Fault}
-use Rattle.wire.specs.declared.fault.Fault.TheVariants.{Memory, Malformed}
+use Rattle.wire.specs.Fault.{Fault}
+use Rattle.wire.specs.Fault.TheVariants.{Memory, Malformed}
 use Rattle.wire.proofs.Read.{all_read, all_is, some_none}
 use Rattle.journal_attempt.specs.Bodies.{start_format, suspension_format, propose_run_completion_format, propose_run_completion_ack_format, awaiting_on_format, input_format, sleep_format, run_format, output_format}
 use Rattle.journal_errors.specs.Bodies.{error_format}

@@ -2,8 +2,8 @@
 use Rattle.std.specs.Prelude.{◌≡◌, ℕ, ◌+◌, ◌<◌, ◌^◌, List, [], ◌++◌, length, take, drop, Result, Ok, Err}
 use Rattle.std.specs.Int.{w64, from_be_bytes}
 use Rattle.wire.specs.Format.{u16s, bytes}
-use Rattle.wire.specs.declared.fault.Fault.{Fault}
-use Rattle.wire.specs.declared.fault.Fault.TheVariants.{Memory, Malformed}
+use Rattle.wire.specs.Fault.{Fault}
+use Rattle.wire.specs.Fault.TheVariants.{Memory, Malformed}
 use Rattle.journal_errors.specs.Types.{type_number}
 use Rattle.journal_errors.specs.declared.types.MessageType.{MessageType}
 use Rattle.journal_errors.specs.declared.types.MessageType.TheVariants as type

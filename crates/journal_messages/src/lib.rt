@@ -1,6 +1,35 @@
-//! Messages of all types: writing one as a frame, and reading the body of one.
+//! Messages of all types: writing one as a frame, reading the body of one, a stream of frames however it was cut, and replay's
+//! comparison. The types of the bodies are passed on.
 #![tactic(auto)]
 
+mod decoder;
+mod header_equality;
 mod message;
+mod stream;
+mod waiting;
 
+pub use decoder::Decoder;
+pub use header_equality::header_eq;
+pub use journal_attempt::{
+    AwaitingOn, Future, FutureKind, FutureNode, InputCommand, OutputCommand, ProposeRunCompletion,
+    ProposeRunCompletionAck, RunCommand, SleepCommand, Start, Suspension,
+};
+pub use journal_calls::{
+    CallCommand, CallRequest, CompleteAwakeableCommand, CompletePromiseCommand, IdempotencyId,
+    InvocationCommand, InvocationTarget, OneWayCallCommand, PromiseCommand, SendSignalCommand,
+    Signal, SignalResult, WorkflowId,
+};
+pub use journal_errors::{
+    Error, ErrorBehavior, ErrorMessage, HeaderMap, MessageType, NamedFault, RelatedCommand, Said,
+    Version,
+};
+pub use journal_state::{
+    ClearAllStateCommand, ClearStateCommand, GetEagerStateCommand, GetEagerStateKeysCommand,
+    GetLazyStateCommand, GetLazyStateKeysCommand, GetStateEphemeralCommand,
+    GetStateEphemeralNotification, SetStateCommand, VoidOrValue,
+};
+pub use journal_values::{
+    Failure, Header, Notification, NotificationId, NotificationResult, ValueOrFailure,
+};
 pub use message::{Encoder, Message, RawMessage};
+pub use stream::messages_of;

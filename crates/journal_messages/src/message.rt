@@ -3,8 +3,7 @@ ghost use Rattle.std.specs.Prelude.{◌≡◌, ◌==◌, ◌++◌, IfOk, OnOk};
 ghost use Rattle.journal_errors.specs.Types.{type_number};
 ghost use Rattle.wire.specs.Reads.{Read};
 ghost use Rattle.journal_messages.specs.Reading.{acknowledgement_in, body_as, ephemeral_notification_in, input_in, message_in, notification_in, proposal_in, start_in};
-ghost use Rattle.journal_messages.specs.Message.{IsWhole};
-ghost use Rattle.journal_messages.specs.Message.{body, encoding, frame, numbered_frame, type_of, IsValid, DecodesTo, Decodes};
+ghost use Rattle.journal_messages.specs.Message.{IsWhole, body, encoding, frame, numbered_frame, type_of, IsValid, DecodesTo, Decodes};
 
 use bytes::Bytes;
 use journal_attempt::{

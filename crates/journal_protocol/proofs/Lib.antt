@@ -1,3 +1,1 @@
 pub mod Facts
-mod Typed
-mod Own

@@ -1,3 +1,3 @@
 -- Replay's comparison of messages.
-unfoldable pub use Rattle.journal_equality.specs.HeaderEqual.{header_equal}
-pub use Rattle.journal_equality.specs.HeaderEqual.{request_equal}
+unfoldable pub use Rattle.journal_messages.specs.HeaderEqual.{header_equal}
+pub use Rattle.journal_messages.specs.HeaderEqual.{request_equal}

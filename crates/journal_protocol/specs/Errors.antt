@@ -1,2 +1,2 @@
 -- Errors, and the message of one.
-pub use Rattle.journal_errors.specs.Errors.{error_message, fault_error, named_error, no_memory}
+pub use Rattle.journal_messages.specs.Errors.{error_message, fault_error, named_error, no_memory}

@@ -1,2 +1,2 @@
 -- The nodes of a future as a message holds them.
-pub use Rattle.journal_attempt.specs.Futures.{IsFuture, are_whole}
+pub use Rattle.journal_messages.specs.Futures.{IsFuture, are_whole}

@@ -1,2 +1,2 @@
 -- The types of messages, by their numbers.
-pub use Rattle.journal_errors.specs.Types.{type_at, type_number}
+pub use Rattle.journal_messages.specs.Types.{type_at, type_number}

@@ -1,25 +1,25 @@
 //! Laws of frames and messages, as functions that do nothing.
 ghost use Rattle.std.specs.Prelude.{◌≡◌, ◌<◌, ◌^◌, ◌++◌, [], Bool, List, Some, length, true, ℕ};
-ghost use Rattle.journal_attempt.specs.declared.commands.InputCommand.{InputCommand};
-ghost use Rattle.journal_attempt.specs.declared.runs.ProposeRunCompletion.{ProposeRunCompletion};
-ghost use Rattle.journal_attempt.specs.declared.runs.ProposeRunCompletionAck.{ProposeRunCompletionAck};
-ghost use Rattle.journal_attempt.specs.declared.start.Start.{Start};
-ghost use Rattle.journal_equality.specs.HeaderEqual.{header_equal};
-ghost use Rattle.journal_errors.specs.Types.{type_at, type_number};
-ghost use Rattle.journal_errors.specs.declared.types.MessageType.{MessageType};
-ghost use Rattle.journal_errors.specs.declared.types.MessageType.TheVariants as type;
+ghost use Rattle.journal_messages.specs.InputCommand.{InputCommand};
+ghost use Rattle.journal_messages.specs.ProposeRunCompletion.{ProposeRunCompletion};
+ghost use Rattle.journal_messages.specs.ProposeRunCompletionAck.{ProposeRunCompletionAck};
+ghost use Rattle.journal_messages.specs.Start.{Start};
+ghost use Rattle.journal_messages.specs.HeaderEqual.{header_equal};
+ghost use Rattle.journal_messages.specs.Types.{type_at, type_number};
+ghost use Rattle.journal_messages.specs.MessageType.{MessageType};
+ghost use Rattle.journal_messages.specs.MessageType.TheVariants as type;
 ghost use Rattle.journal_messages.specs.Message.{IsWhole, body, encoding, frame, frame_size, type_of};
 ghost use Rattle.journal_messages.specs.Reading.{acknowledgement_in, input_in, message_in, notification_in, proposal_in, start_in};
 ghost use Rattle.journal_messages.specs.declared.message.Message.{Message};
 ghost use Rattle.journal_messages.specs.declared.message.Message.TheVariants as message;
 ghost use Rattle.journal_messages.specs.declared.message.RawMessage.{RawMessage};
-ghost use Rattle.journal_state.specs.declared.state.GetEagerStateCommand.{GetEagerStateCommand};
-ghost use Rattle.journal_state.specs.declared.state.SetStateCommand.{SetStateCommand};
-ghost use Rattle.journal_streams.specs.Frames.{Malformed, Partial, Whole, next_of};
-ghost use Rattle.journal_values.specs.declared.notification.Notification.{Notification};
+ghost use Rattle.journal_messages.specs.GetEagerStateCommand.{GetEagerStateCommand};
+ghost use Rattle.journal_messages.specs.SetStateCommand.{SetStateCommand};
+ghost use Rattle.journal_messages.specs.Frames.{Malformed, Partial, Whole, next_of};
+ghost use Rattle.journal_messages.specs.Notification.{Notification};
 
 /// A frame is read off the front of a stream, whatever follows; so is a message's encoding.
-#[tactic(auto, using(journal_streams::proofs::Cuts::whole_spelled, journal_streams::proofs::Alone::framed, journal_streams::proofs::Alone::nothing_is_partial))]
+#[tactic(auto, using(journal_messages::proofs::Cuts::whole_spelled, journal_messages::proofs::Alone::framed, journal_messages::proofs::Alone::nothing_is_partial))]
 pub fn frames_are_read_off()
     ensures frame { (ty : MessageType) (b rest : List ℕ) → length b < 2 ^ 64
         → next_of (frame ty b ++ rest) ≡ Whole (record { ty = ty; body = b }) rest }
@@ -29,7 +29,7 @@ pub fn frames_are_read_off()
 {}
 
 /// The length of the frame at the front is known from its bytes, whatever follows. No frame is empty.
-#[tactic(auto, using(journal_messages::proofs::Framing::frame_sized, journal_messages::proofs::Framing::frame_there, journal_streams::proofs::Streams::frame_long))]
+#[tactic(auto, using(journal_messages::proofs::Framing::frame_sized, journal_messages::proofs::Framing::frame_there, journal_messages::proofs::Streams::frame_long))]
 pub fn frames_have_their_length()
     ensures size { (ty : MessageType) (b rest : List ℕ) → length b < 2 ^ 64
         → frame_size (frame ty b ++ rest) ≡ length (frame ty b) }
@@ -44,9 +44,15 @@ pub fn encodings_are_of_one_form()
     ensures body { (m n : Message) → encoding m ≡ encoding n → IsWhole n → body m ≡ body n }
 {}
 
+/// No encoding begins another's. So messages with equal encodings are equal.
+pub fn no_encoding_begins_another()
+    ensures { (a b : Message) (rest : List ℕ) → IsWhole a → IsWhole b
+        → encoding a ++ rest ≡ encoding b → a ≡ b }
+{}
+
 /// What is at the front of a stream doesn't change by bytes that follow, once it is a whole frame or none. What is left after a
 /// frame is shorter.
-#[tactic(auto, using(journal_streams::proofs::Cuts::whole_more, journal_streams::proofs::Cuts::malformed_more, journal_streams::proofs::Cuts::whole_shorter))]
+#[tactic(auto, using(journal_messages::proofs::Cuts::whole_more, journal_messages::proofs::Cuts::malformed_more, journal_messages::proofs::Cuts::whole_shorter))]
 pub fn bytes_are_cut_anywhere()
     ensures whole { (bs more : List ℕ) (raw : RawMessage) (rest : List ℕ)
         → next_of bs ≡ Whole raw rest → next_of (bs ++ more) ≡ Whole raw (rest ++ more) }
@@ -57,13 +63,13 @@ pub fn bytes_are_cut_anywhere()
 {}
 
 /// A message that fits its frame is read back from its body.
-#[tactic(auto, using(journal_streams::proofs::Alone::read_back))]
+#[tactic(auto, using(journal_messages::proofs::Alone::read_back))]
 pub fn messages_are_read_back()
     ensures { (m : Message) → IsWhole m → message_in (type_of m) (body m) ≡ Some m }
 {}
 
 /// The bodies that are read one by one: each message of these types that fits its frame is read back.
-#[tactic(auto, using(journal_streams::proofs::Alone::start_back, journal_streams::proofs::Alone::input_back, journal_streams::proofs::Alone::notification_back, journal_streams::proofs::Alone::acknowledgement_back, journal_streams::proofs::Alone::proposal_back))]
+#[tactic(auto, using(journal_messages::proofs::Alone::start_back, journal_messages::proofs::Alone::input_back, journal_messages::proofs::Alone::notification_back, journal_messages::proofs::Alone::acknowledgement_back, journal_messages::proofs::Alone::proposal_back))]
 pub fn bodies_are_read_back()
     ensures start { (a : Start) → IsWhole (message.Start a)
         → start_in (body (message.Start a)) ≡ Some a }
@@ -80,7 +86,7 @@ pub fn bodies_are_read_back()
 
 /// What is read of a command's own body says what the command says, if the two have one name and one key: the value that a
 /// command sets, and the result of an eager read. This holds too where the command doesn't fit its frame.
-#[tactic(auto, using(crate::proofs::Own::value_said, crate::proofs::Own::result_said))]
+#[tactic(auto, using(journal_messages::proofs::Own::value_said, journal_messages::proofs::Own::result_said))]
 pub fn stored_messages_keep_what_they_say()
     ensures value { (a b : SetStateCommand) → a.name ≡ b.name → a.key ≡ b.key
         → message_in type.SetStateCommand (body (message.SetState b)) ≡ Some (message.SetState a)
@@ -92,21 +98,22 @@ pub fn stored_messages_keep_what_they_say()
 {}
 
 /// A message that is read has the type of its frame.
-#[tactic(auto, using(crate::proofs::Typed::type_read))]
+#[tactic(auto, using(journal_messages::proofs::Typed::type_read))]
 pub fn read_messages_have_their_type()
     ensures { (ty : MessageType) (b : List ℕ) (m : Message) → message_in ty b ≡ Some m → type_of m
         ≡ ty }
 {}
 
-/// Types with one number are one type, and each type is found by its number.
-#[tactic(auto, using(journal_streams::proofs::Numbers::one_number, journal_streams::proofs::Numbers::type_found))]
+/// Types with one number are one type, and each type is found by its number, which takes two bytes.
+#[tactic(auto, using(journal_messages::proofs::Numbers::one_number, journal_messages::proofs::Numbers::small_number, journal_messages::proofs::Numbers::type_found))]
 pub fn types_have_their_numbers()
     ensures found { (ty : MessageType) → type_at (type_number ty) ≡ Some ty }
     ensures one { (a b : MessageType) → type_number a ≡ type_number b → a ≡ b }
+    ensures small { (ty : MessageType) → type_number ty < 2 ^ 16 }
 {}
 
 /// Each message is header-equal to itself.
-#[tactic(auto, using(journal_equality::proofs::SameHeader::same_header))]
+#[tactic(auto, using(journal_messages::proofs::SameHeader::same_header))]
 pub fn messages_equal_themselves()
     ensures { (m : Message) (ignore : Bool) → header_equal m m ignore ≡ true }
 {}

@@ -5,32 +5,21 @@
 
 mod laws;
 
-pub use journal_attempt::{
-    AwaitingOn, Future, FutureKind, FutureNode, InputCommand, OutputCommand, ProposeRunCompletion,
-    ProposeRunCompletionAck, RunCommand, SleepCommand, Start, Suspension,
-};
-pub use journal_calls::{
-    CallCommand, CallRequest, CompleteAwakeableCommand, CompletePromiseCommand, IdempotencyId,
-    InvocationCommand, InvocationTarget, OneWayCallCommand, PromiseCommand, SendSignalCommand,
-    Signal, SignalResult, WorkflowId,
-};
-pub use journal_equality::header_eq;
-pub use journal_errors::{
-    Error, ErrorBehavior, ErrorMessage, HeaderMap, MessageType, NamedFault, RelatedCommand, Said,
-    Version,
-};
-pub use journal_messages::{Encoder, Message, RawMessage};
-pub use journal_state::{
-    ClearAllStateCommand, ClearStateCommand, GetEagerStateCommand, GetEagerStateKeysCommand,
-    GetLazyStateCommand, GetLazyStateKeysCommand, GetStateEphemeralCommand,
-    GetStateEphemeralNotification, SetStateCommand, VoidOrValue,
-};
-pub use journal_streams::{Decoder, messages_of};
-pub use journal_values::{
-    Failure, Header, Notification, NotificationId, NotificationResult, ValueOrFailure,
+pub use journal_messages::{
+    AwaitingOn, CallCommand, CallRequest, ClearAllStateCommand, ClearStateCommand,
+    CompleteAwakeableCommand, CompletePromiseCommand, Decoder, Encoder, Error, ErrorBehavior,
+    ErrorMessage, Failure, Future, FutureKind, FutureNode, GetEagerStateCommand,
+    GetEagerStateKeysCommand, GetLazyStateCommand, GetLazyStateKeysCommand,
+    GetStateEphemeralCommand, GetStateEphemeralNotification, Header, HeaderMap, IdempotencyId,
+    InputCommand, InvocationCommand, InvocationTarget, Message, MessageType, NamedFault,
+    Notification, NotificationId, NotificationResult, OneWayCallCommand, OutputCommand,
+    PromiseCommand, ProposeRunCompletion, ProposeRunCompletionAck, RawMessage, RelatedCommand,
+    RunCommand, Said, SendSignalCommand, SetStateCommand, Signal, SignalResult, SleepCommand,
+    Start, Suspension, ValueOrFailure, Version, VoidOrValue, WorkflowId, header_eq, messages_of,
 };
 pub use laws::{
     bodies_are_read_back, bytes_are_cut_anywhere, encodings_are_of_one_form, frames_are_read_off,
     frames_have_their_length, messages_are_read_back, messages_equal_themselves,
-    read_messages_have_their_type, stored_messages_keep_what_they_say, types_have_their_numbers,
+    no_encoding_begins_another, read_messages_have_their_type, stored_messages_keep_what_they_say,
+    types_have_their_numbers,
 };

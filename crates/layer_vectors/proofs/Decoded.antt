@@ -1,13 +1,12 @@
 -- The message at the front, once its parts are read.
 use Rattle.std.proofs.Common.{◌≡◌, ℕ, ◌+◌, ◌≤◌, List, length, take, drop, Option, Some, None, Result, Ok, Err, refl, ap, ◌∙◌}
 use Rattle.std.specs.Int.{w16, w32, from_be_bytes}
-use Rattle.wire.specs.Reads.{Read}
-use Rattle.wire.specs.declared.fault.Fault.{Fault}
-use Rattle.wire.specs.declared.fault.Fault.TheVariants as fault
-use Rattle.journal_errors.specs.Types.{type_at}
-use Rattle.journal_errors.specs.declared.types.MessageType.{MessageType}
-use Rattle.journal_messages.specs.Reading.{message_in}
-use Rattle.journal_messages.specs.declared.message.Message.{Message}
+use Rattle.journal_protocol.specs.Bodies.{Read, message_in}
+use Rattle.plain.specs.declared.fault.Fault.{Fault}
+use Rattle.plain.specs.declared.fault.Fault.TheVariants as fault
+use Rattle.journal_protocol.specs.Types.{type_at}
+use Rattle.journal_protocol.specs.MessageType.{MessageType}
+use Rattle.journal_protocol.specs.Message.{Message}
 use Rattle.layers.specs.Layers.{IsFrontRead, Malformed, Whole, layer_fault}
 use Rattle.layers.specs.Own.{front_if}
 use Rattle.layer_vectors.specs.Laws.{whole_frame}

@@ -1,14 +1,12 @@
 -- The frame of a message in the VM's own layer, read off again.
 use Rattle.std.proofs.Common.{◌≡◌, List, [], ◌++◌, ℕ, Err, refl, sym, ap, ◌∙◌}
 use Rattle.std.proofs.lemmas.List.{append-nil}
-use Rattle.journal_messages.specs.Message.{IsWhole, body, encoding, type_of}
-use Rattle.journal_messages.specs.declared.message.Message.{Message}
-use Rattle.journal_messages.specs.declared.message.RawMessage.{RawMessage}
-use Rattle.journal_streams.specs.Frames.{Malformed, NextFrame, Partial, Whole, next_of}
-use Rattle.journal_streams.specs.Stream.{NextIs}
-use Rattle.journal_streams.proofs.Alone as alone
-use Rattle.wire.specs.declared.fault.Fault.{Fault}
-use Rattle.wire.specs.declared.fault.Fault.TheVariants as fault
+use Rattle.journal_protocol.specs.Frames.{IsWhole, body, encoding, type_of, Malformed, NextFrame, Partial, Whole, next_of, NextIs}
+use Rattle.journal_protocol.specs.Message.{Message}
+use Rattle.journal_protocol.specs.RawMessage.{RawMessage}
+use Rattle.journal_protocol.proofs.Facts as alone
+use Rattle.plain.specs.declared.fault.Fault.{Fault}
+use Rattle.plain.specs.declared.fault.Fault.TheVariants as fault
 use Rattle.layers.specs.Layers.{layer_fault}
 use Rattle.layers.specs.declared.layer.LayerFault.TheVariants.{Memory}
 

@@ -6,13 +6,13 @@ use Rattle.std.proofs.lemmas.List.{drop-drop, length-append, length-drop, take-a
 use Rattle.std.proofs.lemmas.Nat.{from_be_bytes-to_be_bytes_2, from_be_bytes-to_be_bytes_4}
 use Rattle.std.proofs.lemmas.Bool.Decides.{nat_tests}
 use Rattle.std.proofs.Math.Seq.{take-append_seam}
-use Rattle.journal_errors.specs.Types.{type_at, type_number}
-use Rattle.journal_errors.specs.declared.types.MessageType.{MessageType}
-use Rattle.journal_messages.specs.Message.{body, type_of}
-use Rattle.journal_messages.specs.Reading.{message_in}
-use Rattle.journal_messages.specs.declared.message.Message.{Message}
-use Rattle.journal_streams.proofs.Alone as alone
-use Rattle.journal_streams.proofs.Numbers.{small_number, type_found}
+use Rattle.journal_protocol.specs.Types.{type_at, type_number}
+use Rattle.journal_protocol.specs.MessageType.{MessageType}
+use Rattle.journal_protocol.specs.Frames.{body, type_of}
+use Rattle.journal_protocol.specs.Bodies.{message_in}
+use Rattle.journal_protocol.specs.Message.{Message}
+use Rattle.journal_protocol.proofs.Facts as alone
+use Rattle.journal_protocol.proofs.Facts.{small_number, type_found}
 use Rattle.layers.specs.Layers.{Front, Whole, Partial, Malformed}
 use Rattle.layers.specs.Own.{front_if, malformed_if, rest_if, whole_if}
 use Rattle.layer_vectors.specs.declared.short.Short.{Short}

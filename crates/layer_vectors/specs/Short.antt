@@ -2,11 +2,11 @@
 -- number.
 use Rattle.std.specs.Prelude.{ℕ, ◌+◌, ◌<◌, ◌^◌, nat_lt, if◌then◌else◌, List, [], ◌∷◌, ◌++◌, length, take, drop, Bool, true, false, Option, Some, None}
 use Rattle.std.specs.Int.{w16, w32, to_be_bytes, from_be_bytes}
-use Rattle.journal_errors.specs.Types.{type_at, type_number}
-use Rattle.journal_errors.specs.declared.types.MessageType.{MessageType}
-use Rattle.journal_messages.specs.Message.{IsWhole, body, type_of}
-use Rattle.journal_messages.specs.Reading.{message_in}
-use Rattle.journal_messages.specs.declared.message.Message.{Message}
+use Rattle.journal_protocol.specs.Types.{type_at, type_number}
+use Rattle.journal_protocol.specs.MessageType.{MessageType}
+use Rattle.journal_protocol.specs.Frames.{IsWhole, body, type_of}
+use Rattle.journal_protocol.specs.Bodies.{message_in}
+use Rattle.journal_protocol.specs.Message.{Message}
 use Rattle.layers.specs.Layers.{Front, Whole, Partial, Malformed}
 use Rattle.layers.specs.Own.{front_if}
 use Rattle.layer_vectors.specs.declared.short.Short.{Short}

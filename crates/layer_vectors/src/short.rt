@@ -1,16 +1,14 @@
 //! Messages in other bytes: lengths in four bytes, the type after the body, and a body that is spelled in two ways.
 ghost use Rattle.std.specs.Prelude.{◌≡◌, ◌<◌, ◌≤◌, ◌+◌, ◌^◌, drop, IfErr, IfOk, length, MatchOption, take};
 ghost use Rattle.std.specs.Int.{from_be_bytes, w16, w32};
-ghost use Rattle.journal_errors.specs.Types.{type_at};
-ghost use Rattle.journal_messages.specs.Message.{IsWhole, body, type_of};
+ghost use Rattle.journal_protocol.specs.Types.{type_at};
+ghost use Rattle.journal_protocol.specs.Frames.{IsWhole, body, type_of};
 ghost use Rattle.layers.specs.Layers.{Partial};
 ghost use Rattle.layers.specs.declared.layer.LayerFault.TheVariants.{Memory};
 ghost use Rattle.layer_vectors.specs.Short.{body_in, short_front};
 
 use bytes::Bytes;
-use journal_errors::MessageType;
-use journal_messages::{Encoder, Message, RawMessage};
-use journal_streams::Decoder;
+use journal_protocol::{Decoder, Encoder, Message, MessageType, RawMessage};
 use layers::{Layer, LayerFault};
 use std::alloc::{AllocError, Global};
 

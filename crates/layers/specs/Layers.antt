@@ -1,9 +1,9 @@
 -- What a layer of messages says, and what a translation of one into another is.
 use Rattle.std.specs.Prelude.{◌≡◌, ℕ, ◌≤◌, List, [], ◌∷◌, ◌++◌, length, drop, Option, Some, None, Result, Ok, Err}
 use Rattle.std.specs.List.{flat_map}
-use Rattle.wire.specs.declared.fault.Fault.{Fault}
-use Rattle.wire.specs.declared.fault.Fault.TheVariants as fault
-use Rattle.journal_messages.specs.declared.message.Message.{Message}
+use Rattle.plain.specs.declared.fault.Fault.{Fault}
+use Rattle.plain.specs.declared.fault.Fault.TheVariants as fault
+use Rattle.journal_protocol.specs.Message.{Message}
 use Rattle.layers.specs.declared.layer.LayerFault.{LayerFault}
 use Rattle.layers.specs.declared.layer.LayerFault.TheVariants.{Memory, Malformed as BadBytes, TooLong}
 

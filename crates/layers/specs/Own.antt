@@ -1,13 +1,11 @@
 -- The layer that the VM speaks: a frame by its type's number, its body's length and its body.
 use Rattle.std.proofs.Common.{◌≡◌, ℕ, ◌<◌, List, ◌++◌, length, Option, Some, None, refl, subst}
-use Rattle.journal_messages.specs.Message.{IsWhole, body, encoding, type_of}
-use Rattle.journal_messages.specs.Reading.{message_in}
-use Rattle.journal_messages.specs.declared.message.Message.{Message}
-use Rattle.journal_messages.specs.declared.message.RawMessage.{RawMessage}
-use Rattle.journal_streams.specs.Frames.{NextFrame, next_of}
-use Rattle.journal_streams.specs.Frames as frame
-use Rattle.journal_streams.proofs.Alone as alone
-use Rattle.journal_streams.proofs.Cuts as cuts
+use Rattle.journal_protocol.specs.Frames.{IsWhole, body, encoding, type_of, NextFrame, next_of}
+use Rattle.journal_protocol.specs.Bodies.{message_in}
+use Rattle.journal_protocol.specs.Message.{Message}
+use Rattle.journal_protocol.specs.RawMessage.{RawMessage}
+use Rattle.journal_protocol.specs.Frames as frame
+use Rattle.journal_protocol.proofs.Facts as law
 use Rattle.layers.specs.Layers.{Front, Whole, Partial, Malformed}
 
 -- the message that a frame's body spells, if there is one
@@ -28,7 +26,7 @@ own_front bs = front_of (next_of bs)
 
 pub own_read_back : (m : Message) (rest : List ℕ) → IsWhole m
     → own_front (encoding m ++ rest) ≡ Whole m rest
-own_read_back m rest w = rw (alone.framed m rest w, alone.read_back m w) refl
+own_read_back m rest w = rw (law.framed m rest w, law.read_back m w) refl
 
 pub whole_if : (o : Option Message) (rest : List ℕ) (m : Message) (next more : List ℕ)
     → front_if o rest ≡ Whole m next → front_if o (rest ++ more) ≡ Whole m (next ++ more)
@@ -43,7 +41,7 @@ malformed_if None rest next e = refl
 whole_of : (x : NextFrame) (bs more : List ℕ) (m : Message) (rest : List ℕ) → next_of bs ≡ x
     → front_of x ≡ Whole m rest → own_front (bs ++ more) ≡ Whole m (rest ++ more)
 whole_of (frame.Whole raw next) bs more m rest h e =
-    rw (cuts.whole_more bs more raw next h)
+    rw (law.whole_more bs more raw next h)
     (whole_if (message_in raw.ty raw.body) next m rest more e)
 whole_of frame.Partial bs more m rest h e = absurd cc
 whole_of frame.Malformed bs more m rest h e = absurd cc
@@ -55,10 +53,10 @@ own_whole_stays bs more m rest e = whole_of (next_of bs) bs more m rest refl e
 malformed_of : (x : NextFrame) (bs more : List ℕ) → next_of bs ≡ x
     → front_of x ≡ Malformed → own_front (bs ++ more) ≡ Malformed
 malformed_of (frame.Whole raw next) bs more h e =
-    rw (cuts.whole_more bs more raw next h)
+    rw (law.whole_more bs more raw next h)
     (malformed_if (message_in raw.ty raw.body) next (next ++ more) e)
 malformed_of frame.Partial bs more h e = absurd cc
-malformed_of frame.Malformed bs more h e = rw (cuts.malformed_more bs more h) refl
+malformed_of frame.Malformed bs more h e = rw (law.malformed_more bs more h) refl
 
 pub own_malformed_stays : (bs more : List ℕ)
     → own_front bs ≡ Malformed → own_front (bs ++ more) ≡ Malformed
@@ -73,7 +71,7 @@ shorter_of : (x : NextFrame) (bs : List ℕ) (m : Message) (rest : List ℕ) →
     → front_of x ≡ Whole m rest → length rest < length bs
 shorter_of (frame.Whole raw next) bs m rest h e =
     subst (λ z. length z < length bs) (rest_if (message_in raw.ty raw.body) next m rest e)
-    (cuts.whole_shorter bs raw next h)
+    (law.whole_shorter bs raw next h)
 shorter_of frame.Partial bs m rest h e = absurd cc
 shorter_of frame.Malformed bs m rest h e = absurd cc
 

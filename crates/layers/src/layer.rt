@@ -1,11 +1,11 @@
 //! What a layer is: the bytes of a message's frame, the message at the front of a stream, and the laws of both.
 ghost use Rattle.std.specs.Prelude.{◌≡◌};
-ghost use Rattle.journal_messages.specs.declared.message.Message.{Message};
+ghost use Rattle.journal_protocol.specs.Message.{Message};
 
 use bytes::Bytes;
-use journal_messages::Message;
+use journal_protocol::Message;
+use plain::Fault;
 use std::alloc::{AllocError, Global};
-use wire::Fault;
 
 /// Why a message or a stream was refused.
 #[derive(Clone, Copy, Debug, PartialEq, Eq)]
@@ -45,7 +45,7 @@ impl From<Fault> for LayerFault {
 pub trait Layer {
     ghost use Rattle.std.specs.Prelude.{◌≡◌, ◌++◌, ◌<◌, List, length, ℕ};
     ghost use Rattle.layers.specs.Layers.{Encoded, Front, IsFrontRead, Malformed, Whole};
-    ghost use Rattle.journal_messages.specs.declared.message.Message.{Message};
+    ghost use Rattle.journal_protocol.specs.Message.{Message};
 
     /// The bytes of a message's frame. A layer may spell a message in several ways; each value of the type writes one.
     ghost frame: { Self → Message → List ℕ };

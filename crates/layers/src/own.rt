@@ -3,8 +3,7 @@ ghost use Rattle.std.specs.Prelude.{◌≡◌};
 
 use crate::layer::{Layer, LayerFault};
 use bytes::Bytes;
-use journal_messages::{Encoder, Message};
-use journal_streams::Decoder;
+use journal_protocol::{Decoder, Encoder, Message};
 use std::alloc::Global;
 
 /// This repository's own bytes of messages.
@@ -14,7 +13,7 @@ pub struct Own {
 }
 
 impl Layer for Own {
-    ghost use Rattle.journal_messages.specs.Message.{IsWhole, encoding};
+    ghost use Rattle.journal_protocol.specs.Frames.{IsWhole, encoding};
     ghost use Rattle.layers.specs.Own.{own_malformed_stays, own_front, own_read_back, own_rest_is_shorter, own_whole_stays};
 
     ghost frame = { λ _. encoding };

@@ -1,6 +1,6 @@
 -- Words that name none of an option's values.
 use Rattle.std.proofs.Common.{◌≢◌, ℕ, true, false, List, codes}
-use Rattle.wire.specs.declared.fault.Fault.{Fault}
+use Rattle.plain.specs.declared.fault.Fault.{Fault}
 use Rattle.lines.specs.Readings.{Blames}
 use Rattle.vm_types.specs.declared.options.AwaitingOnPolicy.{AwaitingOnPolicy}
 use Rattle.vm_types.specs.declared.options.AwaitingOnPolicy.TheVariants as awaiting

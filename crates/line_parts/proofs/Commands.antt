@@ -2,7 +2,7 @@
 use Rattle.std.proofs.Common.{◌≡◌, ◌≢◌, ◌<◌, ℕ, List, [], ◌∷◌, None, find, length, drop, get_or, ap, sym, subst, ◌∙◌, arith, nat_eq, Option}
 use Rattle.std.specs.Borrow.{Bor}
 use Rattle.std.specs.Cmp.Lexicographic.{pointwise}
-use Rattle.wire.specs.declared.fault.Fault.{Fault}
+use Rattle.plain.specs.declared.fault.Fault.{Fault}
 use Rattle.vm_types.specs.declared.command_type.CommandType.{CommandType}
 use Rattle.vm_types.specs.declared.command_type.CommandType.TheVariants as command
 use Rattle.lines.specs.Pieces.{AreWordsWithin}

@@ -5,8 +5,8 @@ use Rattle.std.proofs.lemmas.List.Elements.{filter-append}
 use Rattle.std.specs.Duration.{as_nanos}
 use Rattle.std.specs.declared.time.Duration.{Duration}
 use Rattle.std.specs.Borrow.{Bor}
-use Rattle.wire.specs.declared.fault.Fault.{Fault}
-use Rattle.wire.specs.declared.fault.Fault.TheVariants.{Malformed}
+use Rattle.plain.specs.declared.fault.Fault.{Fault}
+use Rattle.plain.specs.declared.fault.Fault.TheVariants.{Malformed}
 use Rattle.lines.specs.Atoms.{IsAtom, IsText}
 use Rattle.lines.specs.Readings.{Blames}
 use Rattle.line_parts.specs.Fields.{IsOptional, IsRequired, IsSet}

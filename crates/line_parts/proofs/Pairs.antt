@@ -1,13 +1,13 @@
 -- Words in brackets that aren't what a text is to say.
 use Rattle.std.proofs.Common.{◌≡◌, ◌≢◌, ◌<◌, ◌∙◌, ℕ, zero, suc, List, [], ◌∷◌, Option, Some, None, length, get_or, refl, subst, sym, arith}
 use Rattle.std.specs.Borrow.{Bor}
-use Rattle.wire.specs.declared.fault.Fault.{Fault}
-use Rattle.wire.specs.declared.fault.Fault.TheVariants.{Malformed}
+use Rattle.plain.specs.declared.fault.Fault.{Fault}
+use Rattle.plain.specs.declared.fault.Fault.TheVariants.{Malformed}
 use Rattle.lines.specs.Atoms.{IsText}
 use Rattle.lines.specs.Pieces.{AreWordsWithin}
 use Rattle.lines.specs.Readings.{Blames}
 use Rattle.lines.proofs.Once.{Same, words_within_once}
-use Rattle.journal_values.specs.declared.parts.Header.{Header}
+use Rattle.journal_protocol.specs.Header.{Header}
 use Rattle.line_parts.specs.Fields.{text_behind, texts_named}
 use Rattle.line_parts.specs.Targets.{AreHeaders}
 use Rattle.line_parts.specs.Values.{ArePairs, IsPair}

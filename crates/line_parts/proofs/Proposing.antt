@@ -1,8 +1,8 @@
 -- Words that propose nothing.
 use Rattle.std.proofs.Common.{◌≡◌, ◌≢◌, ◌<◌, ◌-◌, ◌⊎◌, inl, inr, ℕ, zero, suc, Bool, true, false, if◌then◌else◌, List, [], ◌∷◌, codes, length, take, drop, get_or, ap, refl, sym, subst, ◌∙◌, arith}
 use Rattle.std.specs.Borrow.{Bor}
-use Rattle.wire.specs.declared.fault.Fault.{Fault}
-use Rattle.wire.specs.declared.fault.Fault.TheVariants.{Malformed}
+use Rattle.plain.specs.declared.fault.Fault.{Fault}
+use Rattle.plain.specs.declared.fault.Fault.TheVariants.{Malformed}
 use Rattle.retries.specs.declared.policy.RetryPolicy.TheVariants as policy
 use Rattle.runs.specs.declared.types.RunExitResult.{RunExitResult}
 use Rattle.runs.specs.declared.types.RunExitResult.TheVariants as exit

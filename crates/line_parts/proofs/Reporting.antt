@@ -1,10 +1,10 @@
 -- Words that report no error.
 use Rattle.std.proofs.Common.{get_or, ◌≡◌, ◌≢◌, ℕ, false, List, Option, Some, None, codes, drop, sym, subst, ap, ◌∙◌, arith}
 use Rattle.std.specs.Borrow.{Bor}
-use Rattle.wire.specs.declared.fault.Fault.{Fault}
-use Rattle.wire.specs.declared.fault.Fault.TheVariants.{Malformed}
-use Rattle.journal_errors.specs.declared.error.ErrorBehavior.{ErrorBehavior}
-use Rattle.journal_errors.specs.declared.error.ErrorBehavior.TheVariants as behavior
+use Rattle.plain.specs.declared.fault.Fault.{Fault}
+use Rattle.plain.specs.declared.fault.Fault.TheVariants.{Malformed}
+use Rattle.journal_protocol.specs.ErrorBehavior.{ErrorBehavior}
+use Rattle.journal_protocol.specs.ErrorBehavior.TheVariants as behavior
 use Rattle.vm_types.specs.declared.command_type.CommandRelationship.{CommandRelationship}
 use Rattle.vm_types.specs.declared.command_type.CommandRelationship.TheVariants as relationship
 use Rattle.lines.specs.Atoms.{IsText}

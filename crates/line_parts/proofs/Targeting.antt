@@ -1,10 +1,10 @@
 -- Words that name no invocation.
 use Rattle.std.proofs.Common.{◌≡◌, ℕ, List, codes, drop}
 use Rattle.std.specs.Borrow.{Bor}
-use Rattle.wire.specs.declared.fault.Fault.{Fault}
-use Rattle.wire.specs.declared.fault.Fault.TheVariants.{Malformed}
-use Rattle.journal_calls.specs.declared.invocations.InvocationTarget.{InvocationTarget}
-use Rattle.journal_calls.specs.declared.invocations.InvocationTarget.TheVariants as target
+use Rattle.plain.specs.declared.fault.Fault.{Fault}
+use Rattle.plain.specs.declared.fault.Fault.TheVariants.{Malformed}
+use Rattle.journal_protocol.specs.InvocationTarget.{InvocationTarget}
+use Rattle.journal_protocol.specs.InvocationTarget.TheVariants as target
 use Rattle.lines.specs.Readings.{Blames}
 use Rattle.line_parts.specs.Targets.{HasKeyAndScope, IsCallOf, IsWorkflow, NamesBehind}
 use Rattle.line_parts.specs.Words.{AreThreeTexts, AreTwoTexts, IsOneText}

@@ -4,7 +4,7 @@ use Rattle.std.proofs.lemmas.List.{append_cancel_right}
 use Rattle.std.specs.Duration.{as_nanos, max_nanos}
 use Rattle.std.specs.declared.time.Duration.{Duration}
 use Rattle.std.specs.Str.Parse.{AllDigits, IsNumeral, digits_value}
-use Rattle.wire.specs.declared.fault.Fault.{Fault}
+use Rattle.plain.specs.declared.fault.Fault.{Fault}
 use Rattle.lines.specs.Readings.{Blames}
 use Rattle.line_parts.specs.Values.{IsTime}
 

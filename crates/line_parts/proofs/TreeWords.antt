@@ -1,9 +1,9 @@
 -- The words of a tree's text: kinds, and where a word ends.
 use Rattle.std.proofs.Common.{◌≡◌, ◌<◌, ℕ, zero, suc, true, false, List, [], ◌∷◌, None, find, length, take, drop, get_or, nat_eq, refl, ap, arith}
 use Rattle.std.specs.Cmp.Lexicographic.{pointwise}
-use Rattle.wire.specs.declared.fault.Fault.{Fault}
-use Rattle.journal_attempt.specs.declared.future.FutureKind.{FutureKind}
-use Rattle.journal_attempt.specs.declared.future.FutureKind.TheVariants.{FirstCompleted as OfFirst, AllCompleted as OfAll, FirstSucceededOrAllFailed as OfAny, AllSucceededOrFirstFailed as OfEvery, Unknown as OfUnknown}
+use Rattle.plain.specs.declared.fault.Fault.{Fault}
+use Rattle.journal_protocol.specs.FutureKind.{FutureKind}
+use Rattle.journal_protocol.specs.FutureKind.TheVariants.{FirstCompleted as OfFirst, AllCompleted as OfAll, FirstSucceededOrAllFailed as OfAny, AllSucceededOrFirstFailed as OfEvery, Unknown as OfUnknown}
 use Rattle.lines.specs.Readings.{Blames}
 use Rattle.line_parts.specs.OpenNodes.{behind_word, is_break, word_of}
 use Rattle.line_parts.specs.Trees.{IsKind, kind_name}

@@ -4,9 +4,9 @@ use Rattle.std.specs.Prelude.{◌≡◌, ℕ, true, List, [], ◌∷◌, drop, l
 use Rattle.std.proofs.Common.{Global}
 use Rattle.std.specs.declared.string.String.{String}
 use Rattle.std.specs.declared.time.Duration.{Duration}
-use Rattle.journal_errors.specs.declared.error.Error.{Error}
-use Rattle.journal_errors.specs.declared.error.ErrorBehavior.{ErrorBehavior}
-use Rattle.journal_errors.specs.declared.error.ErrorBehavior.TheVariants as behavior
+use Rattle.journal_protocol.specs.Error.{Error}
+use Rattle.journal_protocol.specs.ErrorBehavior.{ErrorBehavior}
+use Rattle.journal_protocol.specs.ErrorBehavior.TheVariants as behavior
 use Rattle.vm_types.specs.declared.command_type.CommandType.{CommandType}
 use Rattle.vm_types.specs.declared.command_type.CommandType.TheVariants as command
 use Rattle.vm_types.specs.declared.command_type.CommandRelationship.{CommandRelationship}

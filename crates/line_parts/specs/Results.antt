@@ -2,7 +2,7 @@
 use Rattle.std.specs.Prelude.{◌≡◌, ℕ, Bool, true, List, [], ◌∷◌, drop, codes}
 use Rattle.std.specs.Borrow.{Bor}
 use Rattle.std.specs.declared.time.Duration.{Duration}
-use Rattle.journal_errors.specs.declared.error.Error.{Error}
+use Rattle.journal_protocol.specs.Error.{Error}
 use Rattle.retries.specs.declared.policy.RetryPolicy.TheVariants as policy
 use Rattle.runs.specs.declared.types.RunExitResult.{RunExitResult}
 use Rattle.runs.specs.declared.types.RunExitResult.TheVariants as exit

@@ -3,11 +3,11 @@ use Rattle.std.specs.Prelude.{◌≡◌, ℕ, true, List, [], ◌∷◌, drop, O
 use Rattle.std.specs.Borrow.{Bor}
 use Rattle.std.specs.List.{AllZip}
 use Rattle.std.specs.declared.time.Duration.{Duration}
-use Rattle.journal_calls.specs.declared.invocations.IdempotencyId.{IdempotencyId}
-use Rattle.journal_calls.specs.declared.invocations.WorkflowId.{WorkflowId}
-use Rattle.journal_calls.specs.declared.invocations.InvocationTarget.{InvocationTarget}
-use Rattle.journal_calls.specs.declared.invocations.InvocationTarget.TheVariants as target
-use Rattle.journal_values.specs.declared.parts.Header.{Header}
+use Rattle.journal_protocol.specs.IdempotencyId.{IdempotencyId}
+use Rattle.journal_protocol.specs.WorkflowId.{WorkflowId}
+use Rattle.journal_protocol.specs.InvocationTarget.{InvocationTarget}
+use Rattle.journal_protocol.specs.InvocationTarget.TheVariants as target
+use Rattle.journal_protocol.specs.Header.{Header}
 use Rattle.lines.specs.Atoms.{IsText}
 use Rattle.vm_types.specs.declared.options.PayloadOptions.{PayloadOptions}
 use Rattle.vm_types.specs.declared.values.Target.{Target}

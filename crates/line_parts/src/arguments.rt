@@ -10,10 +10,10 @@ use crate::atoms::{duration_of, ephemeral_id_of, handle_of, shared_of, text_of};
 use crate::fields::{are_named, field_of};
 use crate::words::{behind, text_in};
 use bytes::Bytes;
+use plain::{Fault, Text};
 use std::alloc::{AllocError, Global};
 use std::time::Duration;
 use vm_parts::{EphemeralCompletionId, NotificationHandle, PayloadOptions};
-use wire::{Fault, Text};
 
 /// The options behind a command's arguments.
 #[derive(Drop)]

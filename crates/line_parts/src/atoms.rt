@@ -11,10 +11,10 @@ ghost use Rattle.line_parts.specs.Words.{IsNumberOf};
 
 use bytes::Bytes;
 use lines::atoms::{bytes_of, number_of};
+use plain::{Fault, Text};
 use std::alloc::Global;
 use std::time::Duration;
 use vm_parts::{EphemeralCompletionId, NotificationHandle};
-use wire::{Fault, Text};
 
 /// The bytes of an atom, shared.
 pub fn shared_of(alloc: Global, text: &[u8]) -> Result<Bytes, Fault>

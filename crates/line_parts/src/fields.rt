@@ -3,7 +3,7 @@ ghost use Rattle.std.specs.Prelude.{◌≡◌, ◌<◌, [], ◌∷◌, length, I
 ghost use Rattle.std.specs.List.{list_all, list_any};
 ghost use Rattle.line_parts.specs.Fields.{is_named, text_behind, texts_named};
 
-use wire::Fault;
+use plain::Fault;
 
 /// The text behind the name that a word begins with.
 #[tactic(auto, unfolding(crate::specs::Fields::text_behind))]

@@ -9,11 +9,11 @@ ghost use Rattle.line_parts.specs.VmOptions.{AreOptions, ArePolicies, IsAwaiting
 
 use crate::atoms::u64_of;
 use crate::fields::{are_named, field_of};
+use plain::Fault;
 use vm_parts::{
     AwaitingOnPolicy, ImplicitCancellationOption, JournalMismatchRetryBehavior, JournalReplay,
     NonDeterministicChecksOption, SignalDelivery, VMOptions,
 };
-use wire::Fault;
 
 /// The built-in cancel signal ends awaits, and cancels these children too.
 fn cancelling(calls: bool, one_way_calls: bool) -> ImplicitCancellationOption

@@ -12,10 +12,10 @@ use crate::arguments::{optional_duration, without_flag};
 use crate::atoms::{duration_of, u32_of};
 use crate::fields::{are_named, field_of, text_behind};
 use lines::pieces::words_within;
+use plain::Fault;
 use retries::{Fraction, OnMaxAttempts, RetryPolicy};
 use std::alloc::Global;
 use std::time::Duration;
-use wire::Fault;
 
 /// What policies with a delay have in common.
 #[derive(Drop)]

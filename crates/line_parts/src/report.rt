@@ -1,6 +1,6 @@
 //! The words behind `error`: what the handler's runner reports.
 ghost use Rattle.std.specs.Prelude.{◌≡◌, [], IfErr, IfOk, codes, string_bytes};
-ghost use Rattle.journal_errors.specs.declared.error.ErrorBehavior.TheVariants as behavior;
+ghost use Rattle.journal_protocol.specs.ErrorBehavior.TheVariants as behavior;
 ghost use Rattle.lines.specs.Atoms.{IsText};
 ghost use Rattle.lines.specs.Readings.{Blames};
 ghost use Rattle.line_parts.specs.Fields.{IsOptional, IsSet, are_named, texts_named};
@@ -11,12 +11,12 @@ use crate::arguments::optional_duration;
 use crate::atoms::{string_of, text_of};
 use crate::fields::{are_named, field_of, text_behind};
 use crate::words::{behind, string_in, u16_in, u32_in};
-use journal_errors::{Error, ErrorBehavior};
+use journal_protocol::{Error, ErrorBehavior};
 use lines::pieces::words_within;
+use plain::{Fault, Text};
 use std::alloc::Global;
 use std::time::Duration;
 use vm_parts::{CommandRelationship, CommandType};
-use wire::{Fault, Text};
 
 /// The options of an error but the command that it relates to.
 #[derive(Drop)]

@@ -10,13 +10,13 @@ use crate::policies::policy_in;
 use crate::report::error_of;
 use crate::values::value_of;
 use crate::words::{behind, but_first, time_in, u32_in};
-use journal_errors::Error;
+use journal_protocol::Error;
+use plain::Fault;
 use retries::RetryPolicy;
 use runs::RunExitResult;
 use std::alloc::Global;
 use std::time::Duration;
 use vm_parts::{NonEmptyValue, NotificationHandle};
-use wire::Fault;
 
 /// The result of a run, as it is proposed.
 #[derive(Drop)]

@@ -5,10 +5,10 @@ ghost use Rattle.line_parts.specs.Targets.{HasKeyAndScope, HasScope, IsCallOf, I
 
 use crate::arguments::{optional_text, text_alone, three_texts, two_texts};
 use crate::fields::are_named;
-use journal_calls::{IdempotencyId, WorkflowId};
+use journal_protocol::{IdempotencyId, WorkflowId};
+use plain::{Fault, Text};
 use std::alloc::Global;
 use vm_parts::AttachInvocationTarget;
-use wire::{Fault, Text};
 
 /// `[scope=T]` alone.
 fn scope_of(alloc: Global, words: &[&[u8]]) -> Result<Option<Text>, Fault>

@@ -3,13 +3,13 @@ ghost use Rattle.std.specs.Prelude.{◌≡◌, ◌≢◌, ◌++◌, ◌<◌, ℕ
 ghost use Rattle.lines.specs.Readings.{Blames};
 ghost use Rattle.line_parts.specs.OpenNodes.{GoesOn, StandsAt, behind_word, is_break, word_of};
 ghost use Rattle.line_parts.specs.Trees.{IsKind, SpellsClosely, SpellsFuture, kind_name, without_blanks};
-ghost use Rattle.wire.specs.declared.fault.Fault.TheVariants.{Malformed};
+ghost use Rattle.plain.specs.declared.fault.Fault.TheVariants.{Malformed};
 
 use crate::atoms::handle_of;
 use await_trees::{FutureKind, node_over};
+use plain::{Fault, Items};
 use std::alloc::{AllocError, Global};
 use vm_parts::UnresolvedFuture;
-use wire::{Fault, Items};
 
 /// A node whose closing bracket hasn't been read, with its children so far.
 #[derive(Drop)]

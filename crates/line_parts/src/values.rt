@@ -6,9 +6,9 @@ ghost use Rattle.line_parts.specs.Values.{ArePairs, HasValue, IsFailure, IsPair,
 use crate::arguments::{bytes_alone, two_texts};
 use crate::words::{behind, text_in, u16_in};
 use lines::pieces::words_within;
+use plain::{Fault, Items, Text};
 use std::alloc::Global;
 use vm_parts::{NonEmptyValue, PayloadOptions, TerminalFailure};
-use wire::{Fault, Items, Text};
 
 /// `{T T}`.
 #[tactic(auto, using(crate::proofs::Pairs::unbraced_blamed, crate::proofs::Pairs::count_blamed, crate::proofs::Pairs::texts_blamed))]

@@ -7,9 +7,9 @@ ghost use Rattle.line_parts.specs.Words.{IsNumberOf, words_after_first, text_at}
 
 use crate::atoms::{duration_of, shared_of, string_of, text_of, u16_of, u32_of};
 use bytes::Bytes;
+use plain::{Fault, Text};
 use std::alloc::Global;
 use std::time::Duration;
-use wire::{Fault, Text};
 
 /// `T` at this place.
 #[tactic(auto, using(crate::proofs::Missing::text_blamed_at, crate::proofs::Missing::no_text_at))]

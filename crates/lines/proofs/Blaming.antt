@@ -6,8 +6,8 @@ use Rattle.std.proofs.lemmas.Str.{IsUtf8-from_ascii}
 use Rattle.std.proofs.lemmas.Str.Parse.{digit_from_value}
 use Rattle.std.specs.Str.{IsUtf8}
 use Rattle.std.specs.Str.Parse.{AllDigits, IsNumeral}
-use Rattle.wire.specs.declared.fault.Fault.{Fault}
-use Rattle.wire.specs.declared.fault.Fault.TheVariants.{Memory}
+use Rattle.plain.specs.declared.fault.Fault.{Fault}
+use Rattle.plain.specs.declared.fault.Fault.TheVariants.{Memory}
 use Rattle.lines.specs.Atoms.{IsAtom, IsText, Spells, first_char, first_hex}
 use Rattle.lines.specs.Pieces.{IsWithin}
 use Rattle.lines.specs.Readings.{Blames, One, Two, Three}
@@ -67,7 +67,7 @@ begins_with a b xs ys e differ = differ (ap (λ t. get_or t 0 0) e)
 pub hex_blamed : (text digits : List ℕ) (fault : Fault) → text ≡ 48 ∷ 120 ∷ digits → Blames (Spells first_hex digits) fault → Blames (IsAtom text) fault
 hex_blamed text digits fault e blames = record { nothing = λ bad bytes atom. go bad bytes atom }
   where
-    go : fault ≡ Rattle.wire.specs.declared.fault.Fault.TheVariants.Malformed → (bytes : List ℕ) → IsAtom text bytes → ⊥
+    go : fault ≡ Rattle.plain.specs.declared.fault.Fault.TheVariants.Malformed → (bytes : List ℕ) → IsAtom text bytes → ⊥
     go bad bytes (inl (inside, q, s)) = begins_with 34 48 (inside ++ 34 ∷ []) (120 ∷ digits) (sym q ∙ e) (λ same. absurd (omega arith))
     go bad bytes (inr (others, q, s)) = blames.nothing bad bytes (subst (λ ds. Spells first_hex ds bytes) (ap (drop 2) (sym q ∙ e)) s)
 
@@ -75,7 +75,7 @@ hex_blamed text digits fault e blames = record { nothing = λ bad bytes atom. go
 pub unquoted_blamed : (text : List ℕ) (fault : Fault) → ((digits : List ℕ) → text ≡ 48 ∷ 120 ∷ digits → ⊥) → Blames (IsWithin 34 34 text) fault → Blames (IsAtom text) fault
 unquoted_blamed text fault other blames = record { nothing = λ bad bytes atom. go bad bytes atom }
   where
-    go : fault ≡ Rattle.wire.specs.declared.fault.Fault.TheVariants.Malformed → (bytes : List ℕ) → IsAtom text bytes → ⊥
+    go : fault ≡ Rattle.plain.specs.declared.fault.Fault.TheVariants.Malformed → (bytes : List ℕ) → IsAtom text bytes → ⊥
     go bad bytes (inl (inside, q, s)) = blames.nothing bad inside q
     go bad bytes (inr (others, q, s)) = other others q
 
@@ -83,7 +83,7 @@ unquoted_blamed text fault other blames = record { nothing = λ bad bytes atom. 
 pub quoted_blamed : (text inside : List ℕ) (fault : Fault) → ((digits : List ℕ) → text ≡ 48 ∷ 120 ∷ digits → ⊥) → IsWithin 34 34 text inside → Blames (Spells first_char inside) fault → Blames (IsAtom text) fault
 quoted_blamed text inside fault other e blames = record { nothing = λ bad bytes atom. go bad bytes atom }
   where
-    go : fault ≡ Rattle.wire.specs.declared.fault.Fault.TheVariants.Malformed → (bytes : List ℕ) → IsAtom text bytes → ⊥
+    go : fault ≡ Rattle.plain.specs.declared.fault.Fault.TheVariants.Malformed → (bytes : List ℕ) → IsAtom text bytes → ⊥
     go bad bytes (inl (within, q, s)) =
         blames.nothing bad bytes (subst (λ t. Spells first_char t bytes) (append_cancel_right within inside (34 ∷ []) (ap (drop 1) (sym q ∙ e))) s)
     go bad bytes (inr (others, q, s)) = other others q

@@ -1,7 +1,7 @@
 -- What a text is read as.
 use Rattle.std.specs.Prelude.{◌≡◌}
-use Rattle.wire.specs.declared.fault.Fault.{Fault}
-use Rattle.wire.specs.declared.fault.Fault.TheVariants.{Malformed}
+use Rattle.plain.specs.declared.fault.Fault.{Fault}
+use Rattle.plain.specs.declared.fault.Fault.TheVariants.{Malformed}
 
 -- a fault that blames the text is right: nothing is what the text says
 pub record Blames {A : Type 0} (Says : A → Type 0) (fault : Fault) : Type 0 where

@@ -7,8 +7,8 @@ ghost use Rattle.lines.specs.Readings.{Blames};
 
 use crate::pieces::between;
 use memchr::memchr2;
+use plain::Fault;
 use std::alloc::Global;
-use wire::Fault;
 
 /// The number of decimal digits.
 pub fn number_of(text: &[u8]) -> Option<u64>

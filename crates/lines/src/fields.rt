@@ -1,7 +1,7 @@
 //! The fields of a line or of a bracket, each with its name.
 use crate::pieces::{between, words};
+use plain::Fault;
 use std::alloc::Global;
-use wire::Fault;
 
 #[derive(Drop)]
 struct Field<'a> {

@@ -2,12 +2,12 @@
 ghost use Rattle.std.specs.Prelude.{◌≡◌, ◌≢◌, ◌++◌, ◌<◌, ◌≤◌, ◌-◌, ◌^◌, ℕ, IfOk, IfErr, OnOk, IfSome, IfNone, IsAscii, IsTrue, ◌↔◌, Some, None, length};
 ghost use Rattle.lines.specs.declared.pieces.Charset.TheVariants.{Ascii};
 ghost use Rattle.lines.specs.declared.pieces.Quotes.TheVariants.{Escaped};
-ghost use Rattle.wire.specs.declared.fault.Fault.TheVariants.{Malformed};
+ghost use Rattle.plain.specs.declared.fault.Fault.TheVariants.{Malformed};
 ghost use Rattle.lines.specs.Readings.{Blames};
 ghost use Rattle.lines.specs.Pieces.{ArePieces, AreWords, AreWordsWithin, ArePlain, IsWithin, nesting_after, outside, place, with_word};
 
+use plain::Fault;
 use std::alloc::{AllocError, Global};
-use wire::Fault;
 
 #[derive(Clone, Copy, PartialEq, Eq)]
 enum Quotes {

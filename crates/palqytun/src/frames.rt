@@ -1,10 +1,11 @@
 //! Frames by name, for tests: the results that arrive, and the entries that a journal holds.
 use bytes::Bytes;
-use journal_attempt::OutputCommand;
-use journal_messages::{Encoder, Message};
-use journal_values::{Failure, Notification, NotificationId, NotificationResult, ValueOrFailure};
+use journal_protocol::{
+    Encoder, Failure, Message, Notification, NotificationId, NotificationResult, OutputCommand,
+    ValueOrFailure,
+};
+use plain::{Items, Text};
 use std::alloc::{AllocError, Global};
-use wire::{Items, Text};
 
 /// The result of the command that carries this completion id; ids count from 1.
 fn completion(alloc: Global, id: u32, outcome: NotificationResult) -> Result<Bytes, AllocError> {

@@ -4,11 +4,11 @@ pub use crate::frames::{
 };
 use bytes::Bytes;
 use invocation_vm::{VMOptions, Version};
+use plain::{Items, Text};
 use std::alloc::{AllocError, Global};
 use std::test::Fail;
 use vm_attempt::Handler;
 pub use vm_rounds::{Event, Identity, Report, Round, RoundFault, World, run_rounds};
-use wire::{Items, Text};
 
 fn fail(fault: RoundFault) -> Fail {
     Fail::new(format_args!("the rounds stopped: {fault}"))

@@ -1,6 +1,6 @@
 // The ends of the counters: a call looks for every number that it needs before it takes one, and a counter at the greatest number
 // hands nothing out. No run comes there, so the machine of a VM is put there: the VM's calls are this machine's, by their contracts.
-use journal_errors::{Error, RelatedCommand, Version};
+use journal_protocol::{Error, RelatedCommand, Version};
 use requests::parse::parse;
 use requests::request::{Call, Request};
 use std::alloc::Global;

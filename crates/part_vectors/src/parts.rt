@@ -1,12 +1,12 @@
 // The small public types, where they are copied or shown. Conversions, names and defaults are in their contracts.
 use crate::trees::rows::{expect, texts_of};
+use plain::{Items, Text};
 use runs::RunHandle;
 use std::alloc::{AllocError, Global};
 use std::test::Fail;
 use vm_parts::{
     CommandType, NonEmptyValue, NotificationHandle, TerminalFailure, UnresolvedFuture, Value,
 };
-use wire::{Items, Text};
 
 fn is_failure(value: &Value, code: u16, text: &str) -> bool {
     match value {

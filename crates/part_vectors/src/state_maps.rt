@@ -1,9 +1,9 @@
 // The state map: each of its calls once.
 use bytes::Bytes;
+use plain::Text;
 use std::alloc::{AllocError, Global};
 use std::test::Fail;
 use vm_parts::{Known, StateCoverage, StateKey, StateMap};
-use wire::Text;
 
 /// A state to which each key was set, in this order.
 fn state_of(

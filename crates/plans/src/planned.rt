@@ -3,13 +3,13 @@ ghost use Rattle.std.specs.Prelude.{◌≡◌, IfOk};
 ghost use Rattle.plans.specs.Planned.{planned_step};
 
 use bytes::Bytes;
-use journal_calls::{IdempotencyId, InvocationTarget, WorkflowId};
+use journal_protocol::{IdempotencyId, InvocationTarget, WorkflowId};
+use plain::{Text, copy_of};
 use std::alloc::{AllocError, Global};
 use std::time::Duration;
 use vm_parts::{
     Boxed, NonEmptyValue, NotificationHandle, PayloadOptions, Step, Target, UnresolvedFuture,
 };
-use wire::{Text, copy_of};
 
 /// A step of a plan: a `Step` that holds nothing in a box, so that it can be copied.
 #[derive(Debug, Drop)]

@@ -6,9 +6,9 @@ use crate::frame_rows::{control_rows, expect, frame_rows, other_rows, parts_of, 
 use crate::reading::{encoded, frame_in, whole_in};
 use bytes::Bytes;
 use journal_protocol::{Message, RawMessage};
+use plain::Fault;
 use std::alloc::Global;
 use std::test::Fail;
-use wire::Fault;
 
 /// What a stream of so many bytes is.
 #[derive(Clone, Copy, PartialEq)]

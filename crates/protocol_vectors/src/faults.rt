@@ -2,9 +2,10 @@
 use crate::frame_rows::expect;
 use bytes::Bytes;
 use journal_protocol::{Error, MessageType, NamedFault, Said, Version};
+use own_bytes::whole;
+use plain::{Fault, Items, Text, copy_of, is_same};
 use std::str::FromStr;
 use std::test::Fail;
-use wire::{Fault, Items, Text, copy_of, is_same, whole};
 
 static VERSIONS: [(&str, Version); 8] = [
     ("application/vnd.restate.invocation.v1", Version::V1),

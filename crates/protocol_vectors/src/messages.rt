@@ -4,12 +4,14 @@ use crate::faults::says;
 use crate::frame_rows::expect;
 use crate::reading::{encoded, first_frame, sent_in};
 use bytes::Bytes;
-use journal_attempt::{Future, FutureKind, FutureNode};
-use journal_protocol::{Decoder, Error, Message, RawMessage, header_eq, messages_of};
-use journal_values::ValueOrFailure;
+use journal_protocol::{
+    Decoder, Error, Future, FutureKind, FutureNode, Message, RawMessage, ValueOrFailure, header_eq,
+    messages_of,
+};
+use own_bytes::whole;
+use plain::{Fault, Items, Text, is_same};
 use std::alloc::{AllocError, Global};
 use std::test::Fail;
-use wire::{Fault, Items, Text, is_same, whole};
 
 // A message is owned by a list: where a function lends one of its own, its proof takes all kinds of messages apart.
 

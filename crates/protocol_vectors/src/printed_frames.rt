@@ -8,11 +8,11 @@ use frame_lines::run::{Unread, decode, encode, frames_of};
 use frame_lines::run_end::RunEnd;
 use journal_protocol::RawMessage;
 use lines::line::Line;
+use plain::Fault;
 use std::alloc::{AllocError, Global};
 use std::io::{self, Read, Write};
 use std::test::Fail;
 use streams::Plain;
-use wire::Fault;
 
 fn printed(alloc: Global, raw: &RawMessage) -> Result<Line, AllocError> {
     let mut line = Line::new(alloc);

@@ -1,9 +1,9 @@
 // Frames and messages, read and written: what several tests do, each with one thing that it lets go of.
 use bytes::Bytes;
 use journal_protocol::{Decoder, Encoder, Error, Message, RawMessage};
+use plain::Fault;
 use std::alloc::Global;
 use std::test::Fail;
-use wire::Fault;
 
 /// Takes the next piece of a stream; the frame at the front, if it is whole.
 pub fn first_frame(decoder: &mut Decoder, stream: Bytes) -> Result<Option<RawMessage>, Fault> {

@@ -1,9 +1,9 @@
 // Every body of up to two bytes, for every number of a type.
 use bytes::Bytes;
 use journal_protocol::{MessageType, RawMessage};
+use plain::Fault;
 use std::alloc::Global;
 use std::test::Fail;
-use wire::Fault;
 
 /// Whether a body is refused as no message's.
 fn is_refused(alloc: Global, ty: MessageType, body: &[u8]) -> Result<bool, Fail> {

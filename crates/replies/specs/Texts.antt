@@ -3,7 +3,7 @@ use Rattle.std.specs.Prelude.{ℕ, Bool, true, false, List, [], ◌∷◌, ◌++
 use Rattle.std.specs.Fmt.{decimal}
 use Rattle.std.specs.List.{flat_map}
 use Rattle.lines.specs.Atoms.{quoted}
-use Rattle.journal_values.specs.declared.parts.Header.{Header}
+use Rattle.journal_protocol.specs.Header.{Header}
 use Rattle.vm_types.specs.declared.values.Input.{Input}
 use Rattle.vm_types.specs.declared.values.TerminalFailure.{TerminalFailure}
 use Rattle.vm_types.specs.declared.values.Value.{Value}

@@ -5,7 +5,7 @@ ghost use Rattle.replies.specs.Replies.{awaited_text, error_text, head_text, ind
 
 use crate::shown::{Shown, labelled, spaced};
 use bytes::Bytes;
-use journal_errors::{Error, Version};
+use journal_protocol::{Error, Version};
 use lines::line::Line;
 use runs::RunHandle;
 use std::alloc::AllocError;

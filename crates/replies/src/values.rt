@@ -6,11 +6,11 @@ ghost use Rattle.replies.specs.Texts.{failure_text, flag_text, header_text, inpu
 
 use crate::shown::{Shown, labelled, listed, spaced};
 use bytes::Bytes;
-use journal_values::Header;
+use journal_protocol::Header;
 use lines::line::Line;
+use plain::Text;
 use std::alloc::AllocError;
 use vm_parts::{Input, TerminalFailure, Value};
-use wire::Text;
 
 impl Shown for bool {
     ghost text = { flag_text };

@@ -1,8 +1,8 @@
 -- Words of a `vm` line that make no VM.
 use Rattle.std.proofs.Common.{◌≡◌, ◌≢◌, ◌<◌, inl, inr, ℕ, List, [], codes, length, drop, get_or, ap, sym, subst, ◌∙◌, arith, string_bytes}
 use Rattle.std.specs.Borrow.{Bor}
-use Rattle.wire.specs.declared.fault.Fault.{Fault}
-use Rattle.wire.specs.declared.fault.Fault.TheVariants.{Malformed}
+use Rattle.plain.specs.declared.fault.Fault.{Fault}
+use Rattle.plain.specs.declared.fault.Fault.TheVariants.{Malformed}
 use Rattle.lines.specs.Atoms.{IsText}
 use Rattle.lines.specs.Readings.{Blames}
 use Rattle.requests.specs.declared.content_type.ContentType.{ContentType}

@@ -8,14 +8,14 @@ ghost use Rattle.requests.specs.Verbs.{HasCallee, IsLine, NamesTarget};
 
 use crate::request::Call;
 use bytes::Bytes;
-use journal_values::Header;
+use journal_protocol::Header;
 use line_parts::arguments::{optional_duration, optional_text, without_unstable};
 use line_parts::fields::{are_named, text_behind};
 use line_parts::values::pair_of;
 use line_parts::words::{behind, bytes_in, text_in, time_in};
+use plain::{Fault, Items, Text};
 use std::alloc::Global;
 use vm_parts::{Boxed, PayloadOptions, Step, Target};
-use wire::{Fault, Items, Text};
 
 /// What is called, and with what.
 #[derive(Drop)]

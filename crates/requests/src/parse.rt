@@ -4,7 +4,7 @@ ghost use Rattle.requests.specs.declared.request.Call.{Call};
 ghost use Rattle.requests.specs.declared.verb.Verb.TheVariants as verb;
 ghost use Rattle.requests.specs.Lines.{MakesRequest, AsksCall, AskNothing, AsksNothing, HasNoWords, HasWords, IsContentType, IsMade, MakesNothing, MakesWith, IsRequestLine, begins_with_vm, says_nothing};
 ghost use Rattle.lines.specs.Readings.{Blames};
-ghost use Rattle.wire.specs.declared.fault.Fault.TheVariants.{Malformed};
+ghost use Rattle.plain.specs.declared.fault.Fault.TheVariants.{Malformed};
 ghost use Rattle.requests.specs.Verbs.{IsAsked, IsAwaited, IsBare, IsLine};
 
 use crate::callees::{call_line, call_with_deadline_line, send_line};
@@ -24,9 +24,9 @@ use line_parts::trees::tree_of_word;
 use line_parts::values::{value_and_payload, value_of};
 use line_parts::words::{behind, bytes_in, text_in, time_in};
 use lines::pieces::{Charset, words_in};
+use plain::{Fault, Text};
 use std::alloc::{AllocError, Global};
 use vm_parts::{Boxed, Step, UnresolvedFuture, VMOptions};
-use wire::{Fault, Text};
 
 #[tactic(auto, using(lines::proofs::Blaming::first_blamed, lines::proofs::Blaming::second_blamed))]
 fn get_of(alloc: Global, arguments: &[&[u8]]) -> Result<Call, Fault>

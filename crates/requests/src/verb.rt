@@ -2,7 +2,7 @@
 ghost use Rattle.std.specs.Prelude.{◌≡◌, IfOk, IfErr, Some, None};
 ghost use Rattle.requests.specs.Verbs.{verb_name, verb_named};
 
-use wire::Fault;
+use plain::Fault;
 
 /// A call of the VM, as the first word of a line names it.
 #[derive(Clone, Copy)]

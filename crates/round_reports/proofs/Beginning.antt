@@ -1,8 +1,8 @@
 -- The world with which a script's rounds begin.
 use Rattle.std.proofs.Common.{◌≡◌, ◌≢◌, ◌⊎◌, inl, inr, ℕ, List, [], ◌∷◌, Option, Some, length, ap, refl, arith}
-use Rattle.journal_errors.specs.declared.version.Version.{Version}
-use Rattle.journal_messages.specs.Message.{encoding}
-use Rattle.journal_messages.specs.declared.message.Message.TheVariants as message
+use Rattle.journal_protocol.specs.Version.{Version}
+use Rattle.journal_protocol.specs.Frames.{encoding}
+use Rattle.journal_protocol.specs.Message.TheVariants as message
 use Rattle.vm_model.specs.Calls.{Meaning}
 use Rattle.vm_store.specs.Given.{AreGiven, GivenFaults}
 use Rattle.vm_store.specs.declared.types.RoundFault.{RoundFault}

@@ -3,9 +3,9 @@
 use Rattle.std.specs.Prelude.{◌≡◌, ◌⊎◌, ℕ, List, [], ◌∷◌, map, Option, Some, None, IfSome}
 use Rattle.std.specs.Io.KnownBytes.{Appends}
 use Rattle.std.specs.declared.io.Error.{Error as IoError}
-use Rattle.journal_messages.specs.Message.{encoding}
-use Rattle.journal_messages.specs.declared.message.Message.TheVariants as message
-use Rattle.journal_errors.specs.declared.version.Version.{Version}
+use Rattle.journal_protocol.specs.Frames.{encoding}
+use Rattle.journal_protocol.specs.Message.TheVariants as message
+use Rattle.journal_protocol.specs.Version.{Version}
 use Rattle.vm_model.specs.Calls.{Meaning}
 use Rattle.vm_rounds.specs.Inside.{report_view}
 use Rattle.vm_rounds.specs.Rounds.{RoundsDo, RoundsFault}

@@ -6,7 +6,7 @@ ghost use Rattle.round_reports.specs.Runs.{MakeNoWorld, Plays, RoundsEnd, Script
 
 use crate::report::{report_of, report_of_fault};
 use bytes::Bytes;
-use journal_errors::Version;
+use journal_protocol::Version;
 use lines::line::Line;
 use round_scripts::given::Given;
 use round_scripts::script::{Script, Unread, script_of};

@@ -1,20 +1,18 @@
 //! The report: what each round tells, and the journal behind the last.
 ghost use Rattle.std.specs.Prelude.{◌≡◌, ◌++◌, IfOk, IfSome, OnOk};
-ghost use Rattle.journal_messages.specs.Message.{frame};
+ghost use Rattle.journal_protocol.specs.Frames.{frame};
 ghost use Rattle.vm_rounds.specs.Inside.{report_view};
 ghost use Rattle.round_reports.specs.Printed.{AddsSuch, AddsSome, AreRoundTexts, IsJournalText, IsPrinted, IsRoundText, answer_line, answer_lines, answer_value, answer_word, count_text, error_line, fault_name, fault_text};
 
 use bytes::Bytes;
 use frame_lines::entry::{print_frame, print_rest};
-use journal_errors::Error;
-use journal_messages::RawMessage;
-use journal_streams::Decoder;
+use journal_protocol::{Decoder, Error, RawMessage};
 use lines::line::Line;
+use plain::Fault;
 use replies::Shown;
 use std::alloc::{AllocError, Global};
 use vm_parts::Answer;
 use vm_rounds::{Report, RoundFault, World};
-use wire::Fault;
 
 /// The word by which an answer is called.
 #[tactic(auto, unfolding(crate::specs::Printed::answer_word))]

@@ -2,14 +2,14 @@
 ghost use Rattle.std.specs.Prelude.{◌≡◌, ◌≢◌, ◌↔◌, IfSome, None, Some};
 ghost use Rattle.std.specs.Io.KnownBytes.{IsAtEnd};
 ghost use Rattle.handlers.specs.Named.{step_in_rounds};
-ghost use Rattle.journal_errors.specs.Versions.{version_of};
+ghost use Rattle.journal_protocol.specs.Versions.{version_of};
 ghost use Rattle.round_reports.specs.Runs.{ReportEnds, PlaysAll, StopsThere, RoundsSay};
 ghost use Rattle.round_reports.specs.declared.run_end.RunEnd.TheVariants as run_end;
 
 use crate::play::{Played, play_text};
 use crate::run_end::RunEnd;
 use handlers::named::Named;
-use journal_errors::Version;
+use journal_protocol::Version;
 use round_scripts::script::Unread;
 use std::alloc::Global;
 use streams::{Sink, Source};

@@ -2,7 +2,7 @@
 use Rattle.std.proofs.Common.{◌≡◌, ◌≢◌, ◌<◌, ◌∙◌, ℕ, zero, suc, List, [], ◌∷◌, Option, Some, None, length, get_or, refl, subst, arith, Global, string_bytes}
 use Rattle.std.specs.Borrow.{Bor}
 use Rattle.std.specs.declared.string.String.{String}
-use Rattle.wire.specs.declared.fault.Fault.{Fault}
+use Rattle.plain.specs.declared.fault.Fault.{Fault}
 use Rattle.lines.specs.Atoms.{IsAtom, IsText}
 use Rattle.lines.specs.Pieces.{AreWordsWithin}
 use Rattle.lines.specs.Readings.{Blames}

@@ -1,7 +1,7 @@
 -- Words that say nothing of a world.
 use Rattle.std.proofs.Common.{◌≡◌, ◌∙◌, ℕ, false, List, [], codes, sym}
 use Rattle.std.specs.Borrow.{Bor}
-use Rattle.wire.specs.declared.fault.Fault.{Fault}
+use Rattle.plain.specs.declared.fault.Fault.{Fault}
 use Rattle.lines.specs.Atoms.{IsAtom}
 use Rattle.lines.specs.Readings.{Blames}
 use Rattle.line_parts.specs.Fields.{IsSet, are_named, texts_named}

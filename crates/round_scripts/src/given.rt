@@ -11,10 +11,10 @@ use line_parts::atoms::{shared_of, string_of, text_of};
 use line_parts::fields::{are_named, field_of, text_behind};
 use line_parts::options::{policies_of, seed_in};
 use lines::pieces::words_within;
+use plain::{Fault, Text};
 use std::alloc::{AllocError, Global};
 use vm_parts::VMOptions;
 use vm_rounds::Identity;
-use wire::{Fault, Text};
 
 /// What a world is made of, but for the version of its attempts.
 #[derive(Drop)]

@@ -8,9 +8,9 @@ ghost use Rattle.round_scripts.specs.Rounds.{AreKeys, IsWholeMilliseconds, SaysR
 use line_parts::arguments::without_flag;
 use line_parts::atoms::{duration_of, text_of, u32_of};
 use line_parts::fields::{are_named, field_of, text_behind};
+use plain::{Fault, Items, Text};
 use std::alloc::Global;
 use vm_rounds::Round;
-use wire::{Fault, Items, Text};
 
 /// `[key=T]..`, among other words.
 #[tactic(auto, using(crate::proofs::Beginning::keys_blamed))]

@@ -2,7 +2,7 @@
 ghost use Rattle.std.specs.Prelude.{◌≡◌, false, codes, IfErr, IfOk};
 ghost use Rattle.lines.specs.Readings.{Blames};
 ghost use Rattle.requests.specs.Lines.{says_nothing};
-ghost use Rattle.wire.specs.declared.fault.Fault.TheVariants.{Malformed};
+ghost use Rattle.plain.specs.declared.fault.Fault.TheVariants.{Malformed};
 ghost use Rattle.round_scripts.specs.Said.{AreSteps, IsCount, IsOneCount, IsUnread, SaysLine, SayNothing, IsScriptLine, SaysBehind, SaysEvent, SaysNothing, SaysWords, ShowsBytes, are_bytes, are_frame, are_rest, is_frame};
 
 use crate::given::given_of;
@@ -14,9 +14,9 @@ use line_parts::atoms::u64_of;
 use line_parts::results::{Proposal, proposal_of};
 use line_parts::words::bytes_in;
 use lines::pieces::words;
+use plain::Fault;
 use std::alloc::Global;
 use vm_rounds::Event;
-use wire::Fault;
 
 /// A number, or the greatest one where it is `all`.
 #[tactic(auto, using(crate::proofs::Nothing::count_blamed))]

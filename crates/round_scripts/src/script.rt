@@ -1,6 +1,6 @@
 //! A whole script: the world that it makes, and its rounds with what happens in them.
 ghost use Rattle.std.specs.Prelude.{◌≡◌, IfErr, IfOk, OnOk, None, Some};
-ghost use Rattle.wire.specs.declared.fault.Fault.TheVariants.{Malformed};
+ghost use Rattle.plain.specs.declared.fault.Fault.TheVariants.{Malformed};
 ghost use Rattle.round_scripts.specs.Scripts.{Adds, AddsLine, AddsNothing, AreLinesAdded, AddsEvent, Has, HasNoPlace, IsScriptRead, IsUnreadFor, no_parts, said_parts, with_last};
 ghost use Rattle.round_scripts.specs.declared.script_line.ScriptLine.TheVariants as line;
 
@@ -8,10 +8,10 @@ use crate::given::{Given, default_given};
 use crate::parse::line_of;
 use crate::script_line::ScriptLine;
 use bytes::Bytes;
+use plain::Fault;
 use scripts::run::first_line;
 use std::alloc::{AllocError, Global};
 use vm_rounds::{Event, Round};
-use wire::Fault;
 
 /// What a whole script says.
 #[derive(Drop)]

@@ -4,27 +4,27 @@ use Rattle.vm_parts.specs.declared.context.StateMap.{StateMap}
 use Rattle.std.proofs.Common.{◌≡◌, ◌≤◌, ℕ, zero, suc, Bool, true, false, cond, length, List, [], ◌∷◌, ◌++◌, Option, Some, None, refl, sym, ap, subst, ◌∙◌, append-nil, lit<, arith}
 use Rattle.std.specs.Prelude.{◌==◌, ◌||◌, codes}
 use Rattle.std.specs.List.{flat_map}
-use Rattle.journal_attempt.specs.declared.commands.InputCommand.{InputCommand}
-use Rattle.journal_messages.specs.declared.message.Message.{Message}
-use Rattle.journal_messages.specs.declared.message.RawMessage.{RawMessage}
-use Rattle.journal_messages.specs.declared.message.Message.TheVariants as message
-use Rattle.journal_values.specs.declared.notification.Notification.{Notification}
-use Rattle.journal_values.specs.declared.notification.NotificationId.TheVariants.{CompletionId}
-use Rattle.journal_values.specs.declared.notification.NotificationResult.TheVariants as came
-use Rattle.journal_attempt.specs.declared.start.Start.{Start}
-use Rattle.journal_errors.specs.declared.version.Version.TheVariants.{V7}
-use Rattle.journal_attempt.specs.Encoding.{input as input_body, sleep_body, start_body}
-use Rattle.journal_values.specs.Encoding.{notification}
-use Rattle.journal_messages.specs.Message.{IsWhole}
-use Rattle.wire.specs.Format.{bytes, flag, list, option, read_byte, read_bytes, read_pair, read_text, read_u16, read_u32, read_u64, u16s, u32s, u64s}
+use Rattle.journal_protocol.specs.InputCommand.{InputCommand}
+use Rattle.journal_protocol.specs.Message.{Message}
+use Rattle.journal_protocol.specs.RawMessage.{RawMessage}
+use Rattle.journal_protocol.specs.Message.TheVariants as message
+use Rattle.journal_protocol.specs.Notification.{Notification}
+use Rattle.journal_protocol.specs.NotificationId.TheVariants.{CompletionId}
+use Rattle.journal_protocol.specs.NotificationResult.TheVariants as came
+use Rattle.journal_protocol.specs.Start.{Start}
+use Rattle.journal_protocol.specs.Version.TheVariants.{V7}
+use Rattle.own_bytes.specs.Bytes.{input as input_body, sleep_body, start_body}
+use Rattle.own_bytes.specs.Bytes.{notification}
+use Rattle.own_bytes.specs.Bytes.{IsWhole}
+use Rattle.own_bytes.specs.Bytes.{bytes, flag, list, option, read_byte, read_bytes, read_pair, read_text, read_u16, read_u32, read_u64, u16s, u32s, u64s}
 use Rattle.vm_types.specs.declared.steps.Step.TheVariants as step
 use Rattle.vm_types.specs.Options.{default_options}
-use Rattle.journal_attempt.specs.Bodies.{input_format}
-use Rattle.journal_equality.specs.HeaderEqual.{header_equal}
-use Rattle.journal_values.specs.Parts.{read_value}
-use Rattle.journal_messages.specs.Reading.{body_as, input_in, message_in}
+use Rattle.own_bytes.specs.Bytes.{input_format}
+use Rattle.own_bytes.specs.Bytes.{header_equal}
+use Rattle.own_bytes.specs.Bytes.{read_value}
+use Rattle.own_bytes.specs.Bytes.{body_as, input_in, message_in}
 use Rattle.std.specs.Str.{chars, is_utf8}
-use Rattle.wire.proofs.Read.{all_read}
+use Rattle.own_bytes.proofs.Facts.{all_read}
 use Rattle.std.proofs.lemmas.Option.{same_Some}
 use Rattle.vm_model.specs.Calls.{Meaning, Setup, call_of}
 use Rattle.vm_parts.specs.Deliveries.{same_id}

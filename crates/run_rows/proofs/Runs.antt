@@ -3,25 +3,25 @@ use Rattle.std.proofs.Common.{◌≡◌, ℕ, suc, true, false, List, [], ◌∷
 use Rattle.std.specs.Prelude.{◌||◌}
 use Rattle.std.specs.Prelude.{codes, option_map}
 use Rattle.std.specs.Str.{chars, is_utf8}
-use Rattle.journal_attempt.specs.declared.commands.InputCommand.{InputCommand}
-use Rattle.journal_messages.specs.declared.message.Message.TheVariants as message
-use Rattle.journal_messages.specs.declared.message.RawMessage.{RawMessage}
-use Rattle.journal_values.specs.declared.notification.Notification.{Notification}
-use Rattle.journal_values.specs.declared.notification.NotificationId.TheVariants.{CompletionId, SignalId}
-use Rattle.journal_values.specs.declared.notification.NotificationResult.{NotificationResult}
-use Rattle.journal_values.specs.declared.notification.NotificationResult.TheVariants as came
-use Rattle.journal_values.specs.declared.parts.ValueOrFailure.TheVariants as given
-use Rattle.journal_state.specs.declared.state.VoidOrValue.TheVariants as stands
-use Rattle.journal_errors.specs.declared.version.Version.TheVariants.{V7}
-use Rattle.journal_state.specs.Choices.{read_void_or_value}
-use Rattle.journal_equality.specs.HeaderEqual.{header_equal}
-use Rattle.journal_messages.specs.Reading.{body_as, message_in}
-use Rattle.journal_state.specs.Encoding.{clear_state, get_eager_state}
-use Rattle.journal_calls.specs.Choices.{read_signal, read_signal_result}
-use Rattle.journal_calls.specs.Encoding.{send_signal}
-use Rattle.journal_values.specs.Encoding.{failure}
-use Rattle.journal_attempt.specs.Encoding.{output_body, sleep_body}
-use Rattle.journal_values.specs.Parts.{read_value}
+use Rattle.journal_protocol.specs.InputCommand.{InputCommand}
+use Rattle.journal_protocol.specs.Message.TheVariants as message
+use Rattle.journal_protocol.specs.RawMessage.{RawMessage}
+use Rattle.journal_protocol.specs.Notification.{Notification}
+use Rattle.journal_protocol.specs.NotificationId.TheVariants.{CompletionId, SignalId}
+use Rattle.journal_protocol.specs.NotificationResult.{NotificationResult}
+use Rattle.journal_protocol.specs.NotificationResult.TheVariants as came
+use Rattle.journal_protocol.specs.ValueOrFailure.TheVariants as given
+use Rattle.journal_protocol.specs.VoidOrValue.TheVariants as stands
+use Rattle.journal_protocol.specs.Version.TheVariants.{V7}
+use Rattle.own_bytes.specs.Bytes.{read_void_or_value}
+use Rattle.own_bytes.specs.Bytes.{header_equal}
+use Rattle.own_bytes.specs.Bytes.{body_as, message_in}
+use Rattle.own_bytes.specs.Bytes.{clear_state, get_eager_state}
+use Rattle.own_bytes.specs.Bytes.{read_signal, read_signal_result}
+use Rattle.own_bytes.specs.Bytes.{send_signal}
+use Rattle.own_bytes.specs.Bytes.{failure}
+use Rattle.own_bytes.specs.Bytes.{output_body, sleep_body}
+use Rattle.own_bytes.specs.Bytes.{read_value}
 use Rattle.vm_types.specs.declared.steps.Answer.{Answer}
 use Rattle.vm_types.specs.declared.steps.Answer.TheVariants as answer
 use Rattle.vm_types.specs.declared.steps.Step.TheVariants as step
@@ -34,7 +34,7 @@ use Rattle.vm_types.specs.Options.{default_options}
 use Rattle.vm_parts.specs.Tracked.{unresolved_call}
 use Rattle.vm_asks.specs.Asks.{cancel_invocation_command}
 use Rattle.vm_types.specs.CommandTypes.{message_type}
-use Rattle.wire.specs.Format.{bytes, list, option, read_byte, read_bytes, read_flag, read_items, read_list, read_option, read_pair, read_text, read_u16, read_u32, read_u64, u16s, u32s, u64s}
+use Rattle.own_bytes.specs.Bytes.{bytes, list, option, read_byte, read_bytes, read_flag, read_items, read_list, read_option, read_pair, read_text, read_u16, read_u32, read_u64, u16s, u32s, u64s}
 use Rattle.await_trees.specs.Outcomes.{awake, is_done}
 use Rattle.await_trees.proofs.TreeOf.{tree_of-Single}
 use Rattle.vm_model.specs.Calls.{Derived, Setup, Meaning, counted, is_awake, is_cancelled_in, leaf_in}

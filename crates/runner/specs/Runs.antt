@@ -6,8 +6,8 @@ use Rattle.std.specs.List.{concat}
 use Rattle.std.specs.Io.KnownBytes.{Appends}
 use Rattle.std.specs.declared.alloc.AllocError.{AllocError}
 use Rattle.std.specs.declared.io.Error.{Error as IoError}
-use Rattle.journal_errors.specs.declared.error.Error.{Error}
-use Rattle.journal_errors.specs.declared.version.Version.{Version}
+use Rattle.journal_protocol.specs.Error.{Error}
+use Rattle.journal_protocol.specs.Version.{Version}
 use Rattle.vm_types.specs.Options.{default_options}
 use Rattle.vm_parts.specs.Outboxes.{WholeFrames}
 use Rattle.invocation_vm.specs.Making.{made}

@@ -1,7 +1,7 @@
 //! One run of the program: what a reader gives is fed to an attempt, and what the attempt sends goes to a writer.
 ghost use Rattle.std.specs.Prelude.{◌≡◌, ◌↔◌, ◌≢◌, IfErr, IfOk, IfSome, None, Result, Some};
 ghost use Rattle.std.specs.Io.KnownBytes.{IsAtEnd};
-ghost use Rattle.journal_errors.specs.declared.error.Error.{Error};
+ghost use Rattle.journal_protocol.specs.Error.{Error};
 ghost use Rattle.invocation_vm.specs.Making.{version_in};
 ghost use Rattle.vm_steps.specs.Stepping.{StepDoes};
 ghost use Rattle.vm_steps.specs.declared.progress.Progress.{Progress};

@@ -4,10 +4,10 @@ use Rattle.std.specs.List.{AllByRecursion}
 use Rattle.std.specs.Map.{lookup}
 use Rattle.std.specs.BTreeMap.{is_at}
 use Rattle.std.specs.Ordering.{nat_cmp}
-use Rattle.journal_values.specs.declared.notification.NotificationResult.{NotificationResult}
-use Rattle.journal_values.specs.declared.notification.NotificationResult.TheVariants as comes
-use Rattle.journal_values.specs.declared.parts.ValueOrFailure.{ValueOrFailure}
-use Rattle.journal_values.specs.declared.parts.ValueOrFailure.TheVariants as proposed
+use Rattle.journal_protocol.specs.NotificationResult.{NotificationResult}
+use Rattle.journal_protocol.specs.NotificationResult.TheVariants as comes
+use Rattle.journal_protocol.specs.ValueOrFailure.{ValueOrFailure}
+use Rattle.journal_protocol.specs.ValueOrFailure.TheVariants as proposed
 use Rattle.vm_parts.specs.declared.run_state.KeptProposal.{KeptProposal}
 
 -- of the run that this id completes

@@ -1,6 +1,6 @@
 -- `==` of the handles of runs says whether two are the same.
 use Rattle.std.specs.Prelude.{refl}
-use Rattle.wire.specs.Same.{Exact, exact_bool, exact_pair, exact_on}
+use Rattle.plain.specs.Same.{Exact, exact_bool, exact_pair, exact_on}
 use Rattle.vm_types.specs.Same.{handle_exact}
 use Rattle.runs.specs.contracts.types.RunHandlePartialEq.TheImpl as runs
 

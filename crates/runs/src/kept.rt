@@ -5,7 +5,7 @@ ghost use Rattle.runs.specs.Firsts.{without_first};
 ghost use Rattle.runs.specs.Kept.{completion_result, is_for, result_of};
 
 use crate::ordered_proposals::OrderedProposals;
-use journal_values::{NotificationResult, ValueOrFailure};
+use journal_protocol::{NotificationResult, ValueOrFailure};
 use std::alloc::{AllocError, Global};
 use std::marker::Model;
 use vm_parts::KeptProposal;

@@ -6,10 +6,10 @@ ghost use Rattle.runs.specs.Firsts.{with_first, without_first};
 ghost use Rattle.runs.specs.Pending.{handle_of, has_handle, run_info, is_executing, is_executing_in, is_one_of, may_execute, run_started, to_execute};
 
 use crate::ordered_runs::OrderedRuns;
+use plain::Text;
 use std::alloc::{AllocError, Global};
 use std::marker::Model;
 use vm_parts::{NotificationHandle, PendingRun, RunExecution};
-use wire::Text;
 
 /// The runs that were called after one whose handle isn't above all handles before it: in a machine there are none, since
 /// handles rise. Contracts see their list.

@@ -2,7 +2,7 @@
 ghost use Rattle.runs.specs.Same.{run_exact};
 
 use crate::types::RunHandle;
-use wire::Exact;
+use plain::Exact;
 
 impl Exact for RunHandle {
     ghost compares = { run_exact };

@@ -1,19 +1,20 @@
 //! What becomes of a run's result: it is proposed, or an error ends the attempt.
 ghost use Rattle.std.specs.Prelude.{◌≡◌, ◌∷◌, IfOk, Some};
 ghost use Rattle.std.specs.Duration.{as_nanos};
-ghost use Rattle.journal_errors.specs.declared.error.ErrorBehavior.TheVariants as behavior;
+ghost use Rattle.journal_protocol.specs.ErrorBehavior.TheVariants as behavior;
 ghost use Rattle.retries.specs.Policies.{in_nanos};
 ghost use Rattle.runs.specs.Settling.{SettlesRun, FailsAs, count_with, nanos_with, run_as_related, as_terminal_failure};
 
 use crate::types::RunExitResult;
-use journal_errors::{Error, ErrorBehavior, MessageType, RelatedCommand};
-use journal_values::{Failure, ValueOrFailure};
+use journal_protocol::{
+    Error, ErrorBehavior, Failure, MessageType, RelatedCommand, ValueOrFailure,
+};
+use plain::{Items, Text};
 use retries::{EntryRetryInfo, NextRetry, RetryPolicy};
 use std::alloc::{AllocError, Global};
 use std::time::Duration;
 use vm_parts::{PendingRun, StartInfo};
 use vm_types::values::write_failure;
-use wire::{Items, Text};
 
 /// What becomes of a run's result.
 #[derive(Drop)]

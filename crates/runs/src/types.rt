@@ -3,7 +3,7 @@ ghost use Rattle.std.specs.Prelude.{◌≡◌};
 ghost use Rattle.runs.specs.Settling.{exit_has_metadata};
 
 use bytes::Bytes;
-use journal_errors::Error;
+use journal_protocol::Error;
 use std::time::Duration;
 use vm_parts::{NotificationHandle, TerminalFailure};
 

@@ -1,7 +1,7 @@
 -- A VM that was made as a line asks for it.
 use Rattle.std.proofs.Common.{◌≡◌, Some, Result, Ok, Err, Global, ap, ◌∙◌}
-use Rattle.journal_errors.specs.declared.error.Error.{Error}
-use Rattle.journal_errors.specs.declared.version.Version.{Version}
+use Rattle.journal_protocol.specs.Error.{Error}
+use Rattle.journal_protocol.specs.Version.{Version}
 use Rattle.vm_types.specs.declared.options.VMOptions.{VMOptions}
 use Rattle.invocation_vm.specs.declared.core_vm.CoreVM.{CoreVM}
 use Rattle.invocation_vm.specs.Making.{Makes}

@@ -1,9 +1,9 @@
 -- What a line of the script does to the VM, and what it is answered.
 use Rattle.std.specs.Prelude.{◌≡◌, codes, Option, Some, None, Result, Ok, Err}
 use Rattle.std.proofs.Common.{Global}
-use Rattle.journal_errors.specs.declared.error.Error.{Error}
-use Rattle.journal_errors.specs.declared.version.Version.{Version}
-use Rattle.journal_errors.specs.Errors.{no_memory}
+use Rattle.journal_protocol.specs.Error.{Error}
+use Rattle.journal_protocol.specs.Version.{Version}
+use Rattle.journal_protocol.specs.Errors.{no_memory}
 use Rattle.vm_types.specs.declared.options.VMOptions.{VMOptions}
 use Rattle.invocation_vm.specs.declared.core_vm.CoreVM.{CoreVM}
 use Rattle.invocation_vm.specs.Making.{made, version_in}

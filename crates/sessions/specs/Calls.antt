@@ -1,8 +1,8 @@
 -- What a call of a session's VM from C does, whichever it is, and how its reply is read.
 use Rattle.std.specs.Prelude.{◌≡◌, ◌<◌, ◌++◌, ℕ, List, length, drop, Option, Some, None, Result, Ok, Err}
 use Rattle.std.proofs.Common.{Global}
-use Rattle.journal_errors.specs.declared.error.Error.{Error}
-use Rattle.journal_errors.specs.declared.version.Version.{Version}
+use Rattle.journal_protocol.specs.Error.{Error}
+use Rattle.journal_protocol.specs.Version.{Version}
 use Rattle.vm_types.specs.declared.options.VMOptions.{VMOptions}
 use Rattle.scripts.specs.Performed.{VmIsMade}
 use Rattle.invocation_vm.specs.declared.core_vm.CoreVM.{CoreVM}

@@ -1,12 +1,12 @@
 -- What C is told of a reply: numbers at once, and its parts one by one.
 use Rattle.std.specs.Prelude.{◌==◌, ◌/◌, ◌%◌, ◌-◌, ℕ, ℤ, pos, negsuc, Bool, true, false, if◌then◌else◌, List, length, slice_get, Option, Some, None}
 use Rattle.std.specs.Option.{option_map}
-use Rattle.journal_errors.specs.Types.{type_number}
-use Rattle.journal_errors.specs.declared.error.Error.{Error}
-use Rattle.journal_errors.specs.declared.error.RelatedCommand.{RelatedCommand}
-use Rattle.journal_errors.specs.declared.version.Version.{Version}
-use Rattle.journal_errors.specs.declared.version.Version.TheVariants as version
-use Rattle.journal_values.specs.declared.parts.Header.{Header}
+use Rattle.journal_protocol.specs.Types.{type_number}
+use Rattle.journal_protocol.specs.Error.{Error}
+use Rattle.journal_protocol.specs.RelatedCommand.{RelatedCommand}
+use Rattle.journal_protocol.specs.Version.{Version}
+use Rattle.journal_protocol.specs.Version.TheVariants as version
+use Rattle.journal_protocol.specs.Header.{Header}
 use Rattle.vm_types.specs.declared.steps.Answer.{Answer}
 use Rattle.vm_types.specs.declared.steps.Answer.TheVariants as answer
 use Rattle.vm_types.specs.declared.types.AwaitResponse.{AwaitResponse}

@@ -3,11 +3,10 @@ ghost use Rattle.std.specs.Prelude.{◌≡◌, slice_get};
 ghost use Rattle.std.specs.Option.{option_copied};
 ghost use Rattle.sessions.specs.Replies.{one_part, in_answer, in_error, in_failure, in_headers, in_input, in_pairs, in_taken, in_value, part_of};
 
-use journal_errors::Error;
-use journal_values::Header;
+use journal_protocol::{Error, Header};
+use plain::Text;
 use replies::Reply;
 use vm_parts::{Answer, Input, TerminalFailure, Value};
-use wire::Text;
 
 /// The bytes of a text.
 fn bytes_of(text: &Text) -> &[u8]

@@ -4,7 +4,7 @@ ghost use Rattle.sessions.specs.Replies.{with_rows, error_told, error_numbers, f
 
 use crate::kind::Kind;
 use crate::status::Status;
-use journal_errors::{Error, Version};
+use journal_protocol::{Error, Version};
 use replies::Reply;
 use vm_parts::{Answer, AwaitResponse, State, Value};
 

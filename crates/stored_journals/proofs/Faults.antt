@@ -1,7 +1,7 @@
 -- The fault of what is stored after the one journal that is known.
 use Rattle.std.proofs.Common.{◌≡◌, ◌⊎◌, inl, inr, ⊎_elim, ℕ, List, ◌++◌, [], take, Result, Ok, Err}
 use Rattle.std.specs.Prelude.{IfErr}
-use Rattle.journal_errors.specs.declared.version.Version.{Version}
+use Rattle.journal_protocol.specs.Version.{Version}
 use Rattle.vm_store.specs.declared.types.RoundFault.{RoundFault}
 use Rattle.vm_store.specs.declared.types.RoundFault.TheVariants as round_fault
 use Rattle.vm_store.specs.Storing.{FirstFault, written_from}

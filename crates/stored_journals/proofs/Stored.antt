@@ -2,15 +2,14 @@
 use Rattle.std.proofs.Common.{◌≡◌, ℕ, ◌<◌, ◌≤◌, ◌^◌, ◌-◌, Bool, true, false, cond, List, [], ◌∷◌, ◌++◌, length, take, Option, Some, None, sym, ap, ◌∙◌, subst, arith, append_assoc}
 use Rattle.std.specs.Prelude.{if◌then◌else◌}
 use Rattle.std.specs.Option.{option_map}
-use Rattle.journal_errors.specs.declared.version.Version.{Version}
-use Rattle.journal_messages.specs.declared.message.Message.{Message}
-use Rattle.journal_messages.specs.declared.message.Message.TheVariants as message
-use Rattle.journal_messages.specs.declared.message.RawMessage.{RawMessage}
-use Rattle.journal_messages.specs.Message.{IsWhole, encoding}
-use Rattle.journal_messages.specs.Reading.{message_in, notification_in}
-use Rattle.journal_streams.proofs.Alone.{read_back}
-use Rattle.journal_streams.proofs.Cuts.{whole_shorter}
-use Rattle.journal_values.specs.declared.notification.Notification.{Notification}
+use Rattle.journal_protocol.specs.Version.{Version}
+use Rattle.journal_protocol.specs.Message.{Message}
+use Rattle.journal_protocol.specs.Message.TheVariants as message
+use Rattle.journal_protocol.specs.RawMessage.{RawMessage}
+use Rattle.journal_protocol.specs.Frames.{IsWhole, encoding}
+use Rattle.journal_protocol.specs.Bodies.{message_in, notification_in}
+use Rattle.journal_protocol.proofs.Facts.{read_back, whole_shorter}
+use Rattle.journal_protocol.specs.Notification.{Notification}
 use Rattle.vm_parts.specs.declared.run_state.KeptProposal.{KeptProposal}
 use Rattle.vm_machine.specs.Inputs.{acknowledged_completion}
 use Rattle.vm_model.specs.Journal.{stored_form}

@@ -5,7 +5,7 @@ ghost use Rattle.vm_store.specs.declared.completions.Completes.TheVariants as co
 ghost use Rattle.vm_store.specs.Arrivals.{completes_by};
 ghost use Rattle.stored_journals.specs.Known.{with_called, with_result_id};
 
-use journal_messages::Message;
+use journal_protocol::Message;
 use vm_store::completions::Completes;
 
 /// The completion ids of a command.

@@ -4,11 +4,10 @@ ghost use Rattle.vm_attempt.specs.Journals.{is_command_frame, is_notification};
 ghost use Rattle.vm_store.specs.Entries.{note_of as note_by, said_by};
 ghost use Rattle.stored_journals.specs.Journals.{note_of_part, command_of_part};
 
-use journal_messages::{Message, RawMessage};
-use journal_values::Notification;
+use journal_protocol::{Message, Notification, RawMessage};
+use plain::Fault;
 use std::alloc::{AllocError, Global};
 use vm_store::entry::{is_command_frame, is_notification};
-use wire::Fault;
 
 /// What a frame is to a journal.
 pub(crate) enum Part {

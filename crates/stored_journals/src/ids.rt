@@ -5,7 +5,7 @@ ghost use Rattle.stored_journals.specs.Ids.{Changes, SaysWith, known_kept, known
 ghost use Rattle.stored_journals.specs.Known.{carried_as, as_completed, with_called, with_result_id};
 
 use crate::known::Known;
-use journal_values::NotificationId;
+use journal_protocol::NotificationId;
 use std::alloc::{AllocError, Global};
 use std::collections::BTreeMap;
 use std::marker::Model;

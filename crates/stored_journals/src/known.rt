@@ -3,7 +3,7 @@ ghost use Rattle.std.specs.Prelude.{◌≡◌, None, Some, false, true};
 ghost use Rattle.vm_store.specs.Arrivals.{completion_fault, is_invocation_id, proposed_fault};
 ghost use Rattle.vm_store.specs.Given.{as_given};
 
-use journal_values::NotificationResult;
+use journal_protocol::NotificationResult;
 use vm_store::completions::{Completes, is_invocation_id};
 use vm_store::types::RoundFault;
 

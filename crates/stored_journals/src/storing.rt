@@ -1,8 +1,8 @@
 //! What an attempt wrote is stored: the commands and proposals among its frames, one after another.
 ghost use Rattle.std.specs.Prelude.{◌≡◌, ◌⊎◌, ◌∷◌, ◌++◌, ◌<◌, ◌^◌, ℕ, List, [], length, take, true, IfOk, IfErr, OnOk, None, Some, if◌then◌else◌};
-ghost use Rattle.journal_errors.specs.Versions.{is_from_v7};
-ghost use Rattle.journal_messages.specs.Message.{IsWhole, encoding};
-ghost use Rattle.journal_messages.specs.declared.message.Message.TheVariants as message;
+ghost use Rattle.journal_protocol.specs.Versions.{is_from_v7};
+ghost use Rattle.journal_protocol.specs.Frames.{IsWhole, encoding};
+ghost use Rattle.journal_protocol.specs.Message.TheVariants as message;
 ghost use Rattle.vm_machine.specs.Inputs.{acknowledged_completion};
 ghost use Rattle.vm_store.specs.Entries.{frame_of, note_in, note_of as note_by, said_at, said_by};
 ghost use Rattle.vm_store.specs.Storing.{acknowledgement, answer_to, completion_message, proposal_of, written_as};
@@ -14,10 +14,9 @@ ghost use Rattle.stored_journals.specs.Stored.{FaultsBy, IsStoringFault, NextFau
 use crate::frames::part_of;
 use crate::journal::StoredJournal;
 use bytes::{Bytes, BytesMut};
-use journal_errors::Version;
-use journal_messages::{Encoder, Message, RawMessage};
-use journal_streams::Decoder;
-use journal_values::{Notification, NotificationId};
+use journal_protocol::{
+    Decoder, Encoder, Message, Notification, NotificationId, RawMessage, Version,
+};
 use runs::completion_result;
 use std::alloc::{AllocError, Global};
 use vm_parts::KeptProposal;

@@ -1,7 +1,6 @@
 // A journal that is loaded, and what comes to it.
 use bytes::{Bytes, BytesMut};
-use journal_errors::Version;
-use journal_streams::Decoder;
+use journal_protocol::{Decoder, Version};
 use std::alloc::Global;
 use std::test::Fail;
 use stored_journals::{StoredJournal, store_from};

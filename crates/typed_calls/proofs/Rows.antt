@@ -1,7 +1,7 @@
 -- Rows of nodes.
 use Rattle.std.proofs.Common.{◌≡◌, ◌+◌, ◌<◌, inl, ℕ, zero, suc, get_or, le_of_suc-le-suc, not-suc-le-zero, List, [], ◌∷◌, ◌++◌, length, take, drop, refl, sym, ◌∙◌, ap, append_assoc, append-nil, length-drop, take-append-drop, arith}
-use Rattle.journal_attempt.specs.declared.future.FutureKind.{FutureKind}
-use Rattle.journal_attempt.specs.declared.future.FutureKind.TheVariants.{FirstCompleted, AllCompleted, FirstSucceededOrAllFailed, AllSucceededOrFirstFailed, Unknown}
+use Rattle.journal_protocol.specs.FutureKind.{FutureKind}
+use Rattle.journal_protocol.specs.FutureKind.TheVariants.{FirstCompleted, AllCompleted, FirstSucceededOrAllFailed, AllSucceededOrFirstFailed, Unknown}
 use Rattle.await_trees.specs.Copies.{future_node}
 use Rattle.await_trees.specs.Tree.{node, forest_of, tree_of}
 use Rattle.await_trees.specs.declared.handle.NotificationHandle.{NotificationHandle}

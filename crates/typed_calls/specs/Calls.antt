@@ -5,10 +5,10 @@ use Rattle.await_trees.specs.declared.tree.UnresolvedFuture.TheVariants.{Single}
 use Rattle.vm_types.specs.declared.steps.Answer.TheVariants as answer
 use Rattle.retries.specs.declared.policy.RetryPolicy.{RetryPolicy}
 use Rattle.runs.specs.declared.types.RunExitResult.TheVariants as exit
-use Rattle.journal_errors.specs.declared.error.Error.{Error}
+use Rattle.journal_protocol.specs.Error.{Error}
 use Rattle.vm_types.specs.declared.command_type.CommandRelationship.{CommandRelationship}
 use Rattle.std.specs.declared.time.Duration.{Duration}
-use Rattle.journal_calls.specs.declared.invocations.InvocationTarget.{InvocationTarget}
+use Rattle.journal_protocol.specs.InvocationTarget.{InvocationTarget}
 use Rattle.vm_asks.specs.Asks.{attach_invocation_command, call_command, call_handles, cancel_invocation_command, clear_all_state_command, clear_state_command, complete_awakeable_command, complete_promise_command, complete_signal_command, deadline_handles, get_invocation_output_command, get_promise_command, output_command, peek_promise_command, send_command, send_handle, set_state_command, sleep_command}
 use Rattle.vm_asks.specs.declared.state_read.StateRead.TheVariants as reads
 use Rattle.vm_machine.specs.Ephemerals.{ephemeral_step, take_ephemeral_step}

@@ -3,7 +3,7 @@ use Rattle.std.specs.Prelude.{◌≡◌, ◌*◌, ◌⊎◌, Bool, true, false, 
 use Rattle.std.specs.Duration.{as_nanos}
 use Rattle.std.specs.Str.{IsUtf8}
 use Rattle.std.specs.declared.time.Duration.{Duration}
-use Rattle.journal_values.specs.declared.parts.Header.{Header}
+use Rattle.journal_protocol.specs.Header.{Header}
 use Rattle.sessions.specs.declared.status.Status.{Status}
 use Rattle.sessions.specs.declared.status.Status.TheVariants as status
 use Rattle.typed_calls.specs.declared.given.MayLend.{MayLend}

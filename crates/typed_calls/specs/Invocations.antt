@@ -1,9 +1,9 @@
 -- Which invocation C means.
 use Rattle.std.specs.Prelude.{ℕ, ◌==◌, if◌then◌else◌, List, [], ◌∷◌, ◌++◌, Option, Some, None}
-use Rattle.journal_calls.specs.declared.invocations.WorkflowId.{WorkflowId}
-use Rattle.journal_calls.specs.declared.invocations.IdempotencyId.{IdempotencyId}
-use Rattle.journal_calls.specs.declared.invocations.InvocationTarget.{InvocationTarget}
-use Rattle.journal_calls.specs.declared.invocations.InvocationTarget.TheVariants as target
+use Rattle.journal_protocol.specs.WorkflowId.{WorkflowId}
+use Rattle.journal_protocol.specs.IdempotencyId.{IdempotencyId}
+use Rattle.journal_protocol.specs.InvocationTarget.{InvocationTarget}
+use Rattle.journal_protocol.specs.InvocationTarget.TheVariants as target
 use Rattle.typed_calls.specs.declared.invocations.GivenInvocation.{GivenInvocation}
 use Rattle.typed_calls.specs.Given.{optional_of, lent_texts}
 

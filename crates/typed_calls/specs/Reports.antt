@@ -1,8 +1,8 @@
 -- Which error C reports, and which command it relates to.
 use Rattle.std.specs.Prelude.{◌≡◌, ◌⊎◌, ◌==◌, ℕ, Bool, true, false, if◌then◌else◌, List, [], ◌∷◌, Option, Some, None}
-use Rattle.journal_errors.specs.declared.error.Error.{Error}
-use Rattle.journal_errors.specs.declared.error.ErrorBehavior.{ErrorBehavior}
-use Rattle.journal_errors.specs.declared.error.ErrorBehavior.TheVariants as behavior
+use Rattle.journal_protocol.specs.Error.{Error}
+use Rattle.journal_protocol.specs.ErrorBehavior.{ErrorBehavior}
+use Rattle.journal_protocol.specs.ErrorBehavior.TheVariants as behavior
 use Rattle.vm_types.specs.declared.command_type.CommandType.{CommandType}
 use Rattle.vm_types.specs.declared.command_type.CommandType.TheVariants as command
 use Rattle.vm_types.specs.declared.command_type.CommandRelationship.{CommandRelationship}

@@ -5,11 +5,11 @@ ghost use Rattle.std.specs.List.{flat_map};
 ghost use Rattle.typed_calls.specs.Given.{IsSpan, IsSpanIf, CannotCopy, header_of, optional_of, pair_of, lent_texts, texts_of_pair};
 
 use bytes::Bytes;
-use journal_values::Header;
+use journal_protocol::Header;
+use plain::{Items, Text};
 use sessions::Status;
 use std::alloc::Global;
 use std::time::Duration;
-use wire::{Items, Text};
 
 /// Bytes that C lends.
 #[repr(C)]

@@ -5,11 +5,11 @@ ghost use Rattle.typed_calls.specs.Reports.{IsErrorOf, IsRelatedOf, NamesNoComma
 
 use crate::given::{Lent, MayLend, optional_span, optional_text, two_strings};
 use invocation_vm::{CommandRelationship, CommandType, CoreVM, Error, ErrorBehavior, VM};
+use plain::Text;
 use replies::Reply;
 use scripts::perform::fed;
 use sessions::{Replied, Status, VmCall, keep};
 use std::alloc::Global;
-use wire::Text;
 
 /// An error. Its texts are UTF-8.
 #[repr(C)]

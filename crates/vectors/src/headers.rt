@@ -1,7 +1,7 @@
 //! The headers of a request: with a content type, without one, or such that none can be read.
 ghost use Rattle.std.specs.Prelude.{◌≡◌};
 
-use journal_errors::HeaderMap;
+use journal_protocol::HeaderMap;
 
 /// The headers of a request.
 #[derive(Clone, Copy, Debug)]

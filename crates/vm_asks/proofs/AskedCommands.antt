@@ -1,6 +1,6 @@
 -- A step asks for the command that its function makes.
 use Rattle.std.proofs.Common.{◌≡◌, ap, sym, ◌∙◌}
-use Rattle.journal_errors.specs.declared.version.Version.{Version}
+use Rattle.journal_protocol.specs.Version.{Version}
 use Rattle.vm_types.specs.declared.steps.Step.{Step}
 use Rattle.vm_asks.specs.declared.asks.AnswerKind.{AnswerKind}
 use Rattle.vm_asks.specs.declared.asks.Ask.TheVariants as ask

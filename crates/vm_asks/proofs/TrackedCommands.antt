@@ -1,7 +1,7 @@
 -- Which commands are tracked, by cases over messages.
 use Rattle.std.proofs.Common.{◌≡◌, ℕ, List, refl}
-use Rattle.journal_messages.specs.declared.message.Message.{Message}
-use Rattle.journal_messages.specs.declared.message.Message.TheVariants as message
+use Rattle.journal_protocol.specs.Message.{Message}
+use Rattle.journal_protocol.specs.Message.TheVariants as message
 use Rattle.vm_types.specs.declared.options.ImplicitCancellationOption.{ImplicitCancellationOption}
 use Rattle.vm_types.specs.declared.options.ImplicitCancellationOption.TheVariants.{Disabled}
 use Rattle.vm_asks.specs.TrackedCommands.{TracksNothing, TracksNothingElse}

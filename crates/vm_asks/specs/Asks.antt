@@ -4,20 +4,20 @@ use Rattle.std.specs.Prelude.{ℕ, zero, suc, ◌+◌, ◌<◌, ◌≤◌, ◌^�
 use Rattle.std.specs.Duration.{as_nanos}
 use Rattle.std.specs.Option.{option_or}
 use Rattle.std.specs.declared.time.Duration.{Duration}
-use Rattle.journal_calls.specs.declared.calls.CallRequest.{CallRequest}
-use Rattle.journal_errors.specs.declared.faults.NamedFault.{NamedFault}
-use Rattle.journal_errors.specs.declared.faults.NamedFault.TheVariants as fault
-use Rattle.journal_calls.specs.declared.invocations.InvocationTarget.{InvocationTarget}
-use Rattle.journal_calls.specs.declared.invocations.InvocationTarget.TheVariants as target
-use Rattle.journal_messages.specs.Commands.{IsCommand}
-use Rattle.journal_messages.specs.declared.message.Message.{Message}
-use Rattle.journal_messages.specs.declared.message.Message.TheVariants as message
-use Rattle.journal_values.specs.declared.parts.ValueOrFailure.{ValueOrFailure}
-use Rattle.journal_values.specs.declared.parts.ValueOrFailure.TheVariants as given
-use Rattle.journal_calls.specs.declared.signals.Signal.TheVariants.{Index, Name}
-use Rattle.journal_calls.specs.declared.signals.SignalResult.{SignalResult}
-use Rattle.journal_calls.specs.declared.signals.SignalResult.TheVariants as sent
-use Rattle.journal_errors.specs.declared.version.Version.{Version}
+use Rattle.journal_protocol.specs.CallRequest.{CallRequest}
+use Rattle.journal_protocol.specs.NamedFault.{NamedFault}
+use Rattle.journal_protocol.specs.NamedFault.TheVariants as fault
+use Rattle.journal_protocol.specs.InvocationTarget.{InvocationTarget}
+use Rattle.journal_protocol.specs.InvocationTarget.TheVariants as target
+use Rattle.journal_protocol.specs.Commands.{IsCommand}
+use Rattle.journal_protocol.specs.Message.{Message}
+use Rattle.journal_protocol.specs.Message.TheVariants as message
+use Rattle.journal_protocol.specs.ValueOrFailure.{ValueOrFailure}
+use Rattle.journal_protocol.specs.ValueOrFailure.TheVariants as given
+use Rattle.journal_protocol.specs.Signal.TheVariants.{Index, Name}
+use Rattle.journal_protocol.specs.SignalResult.{SignalResult}
+use Rattle.journal_protocol.specs.SignalResult.TheVariants as sent
+use Rattle.journal_protocol.specs.Version.{Version}
 use Rattle.vm_types.specs.declared.options.PayloadOptions.{PayloadOptions}
 use Rattle.vm_types.specs.declared.steps.Answer.{Answer}
 use Rattle.vm_types.specs.declared.steps.Answer.TheVariants as answer
@@ -37,7 +37,7 @@ use Rattle.vm_asks.specs.declared.asks.Ask.{Ask}
 use Rattle.vm_asks.specs.declared.asks.Ask.TheVariants as ask
 use Rattle.vm_asks.specs.declared.command.Command.{Command}
 use Rattle.vm_asks.specs.declared.state_read.StateRead.TheVariants as reads
-use Rattle.journal_errors.specs.Versions.{is_from_v6, is_from_v7}
+use Rattle.journal_protocol.specs.Versions.{is_from_v6, is_from_v7}
 use Rattle.vm_asks.specs.Requests.{ids_of}
 
 -- ---- checks

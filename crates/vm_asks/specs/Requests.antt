@@ -1,11 +1,11 @@
 -- What a message asks for as a command: how errors show it, its numbers, and what it changes. One
 -- table over messages for all calls; a message that isn't named in one takes no part in it.
 use Rattle.std.specs.Prelude.{ℕ, ◌+◌, Bool, false, if◌then◌else◌, List, []}
-use Rattle.journal_messages.specs.declared.message.Message.{Message}
-use Rattle.journal_messages.specs.declared.message.Message.TheVariants as message
-use Rattle.journal_errors.specs.declared.types.MessageType.{MessageType}
-use Rattle.journal_errors.specs.declared.types.MessageType.TheVariants as type
-use Rattle.journal_messages.specs.Message.{type_of}
+use Rattle.journal_protocol.specs.Message.{Message}
+use Rattle.journal_protocol.specs.Message.TheVariants as message
+use Rattle.journal_protocol.specs.MessageType.{MessageType}
+use Rattle.journal_protocol.specs.MessageType.TheVariants as type
+use Rattle.journal_protocol.specs.Frames.{type_of}
 use Rattle.vm_parts.specs.declared.context.StateMap.{StateMap}
 use Rattle.vm_types.specs.declared.options.ImplicitCancellationOption.{ImplicitCancellationOption}
 use Rattle.vm_parts.specs.declared.run_state.TrackedCall.{TrackedCall}

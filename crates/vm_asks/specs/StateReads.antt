@@ -1,20 +1,20 @@
 -- A state read's command: eager where the state is known, lazy where it isn't; in replay the
 -- recorded form decides.
 use Rattle.std.specs.Prelude.{ℕ, true, ◌==◌, if◌then◌else◌, List, Option, Some, None, Result, Ok, Err}
-use Rattle.journal_errors.specs.declared.faults.NamedFault.{NamedFault}
-use Rattle.journal_errors.specs.declared.faults.NamedFault.TheVariants as fault
-use Rattle.journal_messages.specs.declared.message.Message.{Message}
-use Rattle.journal_messages.specs.declared.message.Message.TheVariants as message
-use Rattle.journal_messages.specs.declared.message.RawMessage.{RawMessage}
-use Rattle.journal_values.specs.declared.notification.NotificationResult.{NotificationResult}
-use Rattle.journal_values.specs.declared.notification.NotificationResult.TheVariants as gives
-use Rattle.journal_state.specs.declared.state.VoidOrValue.{VoidOrValue}
-use Rattle.journal_state.specs.declared.state.VoidOrValue.TheVariants as stored
-use Rattle.journal_errors.specs.declared.types.MessageType.{MessageType}
-use Rattle.journal_errors.specs.declared.types.MessageType.TheVariants as type
-use Rattle.journal_equality.specs.HeaderEqual.{header_equal}
-use Rattle.journal_messages.specs.Reading.{message_in}
-use Rattle.journal_errors.specs.Types.{type_number}
+use Rattle.journal_protocol.specs.NamedFault.{NamedFault}
+use Rattle.journal_protocol.specs.NamedFault.TheVariants as fault
+use Rattle.journal_protocol.specs.Message.{Message}
+use Rattle.journal_protocol.specs.Message.TheVariants as message
+use Rattle.journal_protocol.specs.RawMessage.{RawMessage}
+use Rattle.journal_protocol.specs.NotificationResult.{NotificationResult}
+use Rattle.journal_protocol.specs.NotificationResult.TheVariants as gives
+use Rattle.journal_protocol.specs.VoidOrValue.{VoidOrValue}
+use Rattle.journal_protocol.specs.VoidOrValue.TheVariants as stored
+use Rattle.journal_protocol.specs.MessageType.{MessageType}
+use Rattle.journal_protocol.specs.MessageType.TheVariants as type
+use Rattle.journal_protocol.specs.Equality.{header_equal}
+use Rattle.journal_protocol.specs.Bodies.{message_in}
+use Rattle.journal_protocol.specs.Types.{type_number}
 use Rattle.vm_parts.specs.declared.context.Known.{Known}
 use Rattle.vm_parts.specs.declared.context.Known.TheVariants.{Unknown, Empty, Value}
 use Rattle.vm_parts.specs.declared.context.StateMap.{StateMap}

@@ -1,11 +1,11 @@
 -- Which commands are tracked, so that a cancelled handler cancels their invocations too.
 use Rattle.std.specs.Prelude.{◌≡◌, ℕ, Bool, if◌then◌else◌, List}
-use Rattle.journal_calls.specs.declared.calls.CallCommand.{CallCommand}
-use Rattle.journal_calls.specs.declared.calls.OneWayCallCommand.{OneWayCallCommand}
-use Rattle.journal_errors.specs.declared.types.MessageType.TheVariants as type
-use Rattle.journal_messages.specs.declared.message.Message.{Message}
-use Rattle.journal_messages.specs.declared.message.Message.TheVariants as message
-use Rattle.journal_messages.specs.Message.{type_of}
+use Rattle.journal_protocol.specs.CallCommand.{CallCommand}
+use Rattle.journal_protocol.specs.OneWayCallCommand.{OneWayCallCommand}
+use Rattle.journal_protocol.specs.MessageType.TheVariants as type
+use Rattle.journal_protocol.specs.Message.{Message}
+use Rattle.journal_protocol.specs.Message.TheVariants as message
+use Rattle.journal_protocol.specs.Frames.{type_of}
 use Rattle.vm_types.specs.declared.options.ImplicitCancellationOption.{ImplicitCancellationOption}
 use Rattle.vm_types.specs.declared.options.ImplicitCancellationOption.TheVariants.{Disabled, Enabled}
 use Rattle.vm_parts.specs.declared.run_state.TrackedCall.{TrackedCall}

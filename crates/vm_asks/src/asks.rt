@@ -9,15 +9,13 @@ use crate::command::Command;
 use crate::request;
 use crate::state_read::StateRead;
 use bytes::Bytes;
-use journal_attempt::{OutputCommand, RunCommand, SleepCommand};
-use journal_calls::{
-    CallCommand, CallRequest, CompleteAwakeableCommand, CompletePromiseCommand, InvocationCommand,
-    InvocationTarget, OneWayCallCommand, PromiseCommand, SendSignalCommand, Signal, SignalResult,
+use journal_protocol::{
+    CallCommand, CallRequest, ClearAllStateCommand, ClearStateCommand, CompleteAwakeableCommand,
+    CompletePromiseCommand, InvocationCommand, InvocationTarget, Message, NamedFault,
+    OneWayCallCommand, OutputCommand, PromiseCommand, RunCommand, SendSignalCommand,
+    SetStateCommand, Signal, SignalResult, SleepCommand, ValueOrFailure, Version,
 };
-use journal_errors::{NamedFault, Version};
-use journal_messages::Message;
-use journal_state::{ClearAllStateCommand, ClearStateCommand, SetStateCommand};
-use journal_values::ValueOrFailure;
+use plain::Text;
 use std::alloc::Global;
 use std::time::Duration;
 use vm_parts::{
@@ -25,7 +23,6 @@ use vm_parts::{
     NotificationHandle, PayloadOptions, SendHandle, StateKey, Step, Target, UnresolvedFuture,
 };
 use vm_types::values::write_value;
-use wire::Text;
 
 /// What a step asks for.
 #[derive(Drop)]

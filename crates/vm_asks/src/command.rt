@@ -1,8 +1,7 @@
 //! The command of a call, without its numbers.
-ghost use Rattle.journal_messages.specs.Commands.{IsCommand};
+ghost use Rattle.journal_protocol.specs.Commands.{IsCommand};
 
-use journal_errors::NamedFault;
-use journal_messages::Message;
+use journal_protocol::{Message, NamedFault};
 
 /// A command that a call asks for.
 pub struct Command {

@@ -1,13 +1,13 @@
 //! Laws above the tables of commands, in the words of who reads the journal. A table serves the machine and what is proved of whole
 //! runs, so a slip in one of its rows would be in both; a law says what the row is for.
 ghost use Rattle.std.specs.Prelude.{◌≡◌, ℕ, ◌+◌, Bool, List, []};
-ghost use Rattle.journal_calls.specs.declared.calls.CallCommand.{CallCommand};
-ghost use Rattle.journal_calls.specs.declared.calls.OneWayCallCommand.{OneWayCallCommand};
-ghost use Rattle.journal_calls.specs.declared.signals.Signal.TheVariants.{Index};
-ghost use Rattle.journal_calls.specs.declared.signals.SignalResult.TheVariants.{Void};
-ghost use Rattle.journal_errors.specs.declared.version.Version.{Version};
-ghost use Rattle.journal_messages.specs.declared.message.Message.{Message};
-ghost use Rattle.journal_messages.specs.declared.message.Message.TheVariants as message;
+ghost use Rattle.journal_protocol.specs.CallCommand.{CallCommand};
+ghost use Rattle.journal_protocol.specs.OneWayCallCommand.{OneWayCallCommand};
+ghost use Rattle.journal_protocol.specs.Signal.TheVariants.{Index};
+ghost use Rattle.journal_protocol.specs.SignalResult.TheVariants.{Void};
+ghost use Rattle.journal_protocol.specs.Version.{Version};
+ghost use Rattle.journal_protocol.specs.Message.{Message};
+ghost use Rattle.journal_protocol.specs.Message.TheVariants as message;
 ghost use Rattle.vm_types.specs.declared.options.ImplicitCancellationOption.{ImplicitCancellationOption};
 ghost use Rattle.vm_types.specs.declared.options.ImplicitCancellationOption.TheVariants.{Disabled};
 ghost use Rattle.vm_types.specs.declared.steps.Step.{Step};

@@ -3,11 +3,10 @@ ghost use Rattle.std.specs.Prelude.{◌≡◌, ◌<◌, ◌+◌, ◌^◌, max, I
 ghost use Rattle.vm_asks.specs.Carried.{carried, past};
 ghost use Rattle.vm_asks.specs.Requests.{ids_of, is_cancelled_with, name_of, shown_type, with_ids};
 
-use journal_errors::MessageType;
-use journal_messages::Message;
+use journal_protocol::{Message, MessageType};
+use plain::{Text, copy_of};
 use std::alloc::{AllocError, Global};
 use vm_parts::ImplicitCancellationOption;
-use wire::{Text, copy_of};
 
 /// The type that errors show: a state read is shown as its lazy form.
 pub fn shown_type(message: &Message) -> MessageType

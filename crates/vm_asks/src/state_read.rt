@@ -1,20 +1,16 @@
 //! A state read's command: eager where the state is known, lazy where it isn't; in replay the recorded form decides.
 ghost use Rattle.std.specs.Prelude.{◌≡◌, true, Some, IfOk};
-ghost use Rattle.journal_messages.specs.Reading.{message_in};
+ghost use Rattle.journal_protocol.specs.Bodies.{message_in};
 ghost use Rattle.vm_asks.specs.StateReads.{eager_form, eager_type, form_of, keys_form, lazy_form, lazy_type, name_read, own_form, read_by, recorded_as, recorded_type, result_in, value_form, value_result};
 
 use bytes::Bytes;
-use journal_equality::header_eq;
-use journal_errors::{MessageType, NamedFault};
-use journal_messages::{Message, RawMessage};
-use journal_state::{
+use journal_protocol::{
     GetEagerStateCommand, GetEagerStateKeysCommand, GetLazyStateCommand, GetLazyStateKeysCommand,
-    VoidOrValue,
+    Message, MessageType, NamedFault, NotificationResult, RawMessage, VoidOrValue, header_eq,
 };
-use journal_values::NotificationResult;
+use plain::{Items, Text, copy_of};
 use std::alloc::{AllocError, Global};
 use vm_parts::{Known, StateKey, StateMap};
-use wire::{Items, Text, copy_of};
 
 /// What a handler reads of its state, and the name of the command.
 #[derive(Drop)]
@@ -115,8 +111,8 @@ fn read_by(
 {
     match raw.read(alloc) {
         Ok(recorded) => compared(form, &recorded),
-        Err(wire::Fault::Memory) => Err(AllocError),
-        Err(wire::Fault::Malformed) => Ok(Err(NamedFault::BadMessage)),
+        Err(plain::Fault::Memory) => Err(AllocError),
+        Err(plain::Fault::Malformed) => Ok(Err(NamedFault::BadMessage)),
     }
 }
 

@@ -2,17 +2,17 @@
 use Rattle.vm_model.specs.Histories.{Handed}
 use Rattle.std.proofs.Common.{◌≡◌, ◌≢◌, ◌⊎◌, ℕ, Bool, true, false, List, [], ◌∷◌, ◌++◌, Option, Some, None, Result, Ok, Err, refl, sym, ap, ◌∙◌, subst, inl, inr, ⊎_elim, Global}
 use Rattle.std.specs.Prelude.{◌==◌, if◌then◌else◌, drop, length, is_some, IsSome}
-use Rattle.journal_attempt.specs.declared.commands.InputCommand.{InputCommand}
-use Rattle.journal_errors.specs.declared.error.Error.{Error}
-use Rattle.journal_errors.specs.declared.faults.NamedFault.{NamedFault}
-use Rattle.journal_errors.specs.declared.faults.NamedFault.TheVariants as fault
-use Rattle.journal_messages.specs.declared.message.RawMessage.{RawMessage}
-use Rattle.journal_values.specs.declared.notification.Notification.{Notification}
-use Rattle.journal_errors.specs.declared.types.MessageType.TheVariants as type
-use Rattle.journal_errors.specs.declared.version.Version.{Version}
-use Rattle.journal_errors.specs.Errors.{no_memory}
-use Rattle.journal_messages.specs.Reading.{input_in}
-use Rattle.journal_errors.specs.Types.{type_number}
+use Rattle.journal_protocol.specs.InputCommand.{InputCommand}
+use Rattle.journal_protocol.specs.Error.{Error}
+use Rattle.journal_protocol.specs.NamedFault.{NamedFault}
+use Rattle.journal_protocol.specs.NamedFault.TheVariants as fault
+use Rattle.journal_protocol.specs.RawMessage.{RawMessage}
+use Rattle.journal_protocol.specs.Notification.{Notification}
+use Rattle.journal_protocol.specs.MessageType.TheVariants as type
+use Rattle.journal_protocol.specs.Version.{Version}
+use Rattle.journal_protocol.specs.Errors.{no_memory}
+use Rattle.journal_protocol.specs.Bodies.{input_in}
+use Rattle.journal_protocol.specs.Types.{type_number}
 use Rattle.vm_parts.specs.declared.context.StateMap.{StateMap}
 use Rattle.vm_types.specs.declared.options.VMOptions.{VMOptions}
 use Rattle.vm_types.specs.declared.steps.Answer.{Answer}
@@ -45,7 +45,7 @@ use Rattle.vm_model.proofs.Compared.{after_answers, attempt_is_told}
 use Rattle.vm_model.proofs.Runs.{made_after}
 use Rattle.std.specs.List.{AllByRecursion}
 use Rattle.vm_parts.specs.declared.run_state.KeptProposal.{KeptProposal}
-use Rattle.journal_errors.specs.Versions.{is_from_v7}
+use Rattle.journal_protocol.specs.Versions.{is_from_v7}
 use Rattle.vm_attempt.specs.Arrivals.{arriving, kept_after}
 use Rattle.vm_steps.specs.Heard.{acknowledged_from}
 use Rattle.vm_attempt.proofs.Arriving.{arriving_alone, kept_none}

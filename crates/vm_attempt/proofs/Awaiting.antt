@@ -9,15 +9,15 @@ use Rattle.await_trees.specs.declared.tree.UnresolvedFuture.{UnresolvedFuture}
 use Rattle.await_trees.specs.Outcomes.{awake, is_done}
 use Rattle.await_trees.specs.Tree.{Tree, leaf, node, none, more, tree_of}
 use Rattle.await_tries.specs.Leaves.{result_outcome}
-use Rattle.journal_attempt.specs.declared.future.FutureKind.TheVariants.{FirstCompleted, AllCompleted, FirstSucceededOrAllFailed, AllSucceededOrFirstFailed, Unknown}
-use Rattle.journal_errors.specs.declared.error.Error.{Error}
-use Rattle.journal_errors.specs.declared.faults.NamedFault.TheVariants as fault
-use Rattle.journal_messages.specs.declared.message.RawMessage.{RawMessage}
-use Rattle.journal_values.specs.declared.notification.Notification.{Notification}
-use Rattle.journal_values.specs.declared.notification.NotificationId.{NotificationId}
-use Rattle.journal_values.specs.declared.notification.NotificationId.TheVariants.{CompletionId}
-use Rattle.journal_values.specs.declared.notification.NotificationResult.{NotificationResult}
-use Rattle.journal_values.specs.declared.notification.NotificationResult.TheVariants as found
+use Rattle.journal_protocol.specs.FutureKind.TheVariants.{FirstCompleted, AllCompleted, FirstSucceededOrAllFailed, AllSucceededOrFirstFailed, Unknown}
+use Rattle.journal_protocol.specs.Error.{Error}
+use Rattle.journal_protocol.specs.NamedFault.TheVariants as fault
+use Rattle.journal_protocol.specs.RawMessage.{RawMessage}
+use Rattle.journal_protocol.specs.Notification.{Notification}
+use Rattle.journal_protocol.specs.NotificationId.{NotificationId}
+use Rattle.journal_protocol.specs.NotificationId.TheVariants.{CompletionId}
+use Rattle.journal_protocol.specs.NotificationResult.{NotificationResult}
+use Rattle.journal_protocol.specs.NotificationResult.TheVariants as found
 use Rattle.vm_parts.specs.declared.context.StateMap.{StateMap}
 use Rattle.vm_types.specs.declared.options.SignalDelivery.TheVariants.{Queued}
 use Rattle.vm_types.specs.declared.steps.Answer.TheVariants as answer

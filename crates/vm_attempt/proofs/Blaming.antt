@@ -2,22 +2,21 @@
 use Rattle.std.specs.List.{find}
 use Rattle.runs.specs.Kept.{is_for}
 use Rattle.vm_parts.specs.declared.run_state.KeptProposal.{KeptProposal}
-use Rattle.journal_attempt.specs.declared.runs.ProposeRunCompletionAck.{ProposeRunCompletionAck}
+use Rattle.journal_protocol.specs.ProposeRunCompletionAck.{ProposeRunCompletionAck}
 use Rattle.std.proofs.Common.{◌≡◌, ◌⊎◌, ℕ, Bool, true, false, List, [], ◌∷◌, Option, Some, None, refl, sym, ap, ◌∙◌, inl, inr, ⊎_elim}
 use Rattle.std.specs.Prelude.{◌==◌, if◌then◌else◌, is_some, IsSome}
-use Rattle.journal_errors.specs.declared.faults.NamedFault.{NamedFault}
-use Rattle.journal_errors.specs.declared.faults.NamedFault.TheVariants as fault
-use Rattle.journal_messages.specs.declared.message.RawMessage.{RawMessage}
-use Rattle.journal_state.specs.declared.state.GetStateEphemeralNotification.{GetStateEphemeralNotification}
-use Rattle.journal_state.specs.declared.state.VoidOrValue.{VoidOrValue}
-use Rattle.journal_protocol.specs.Bodies.{ephemeral_notification_in}
+use Rattle.journal_protocol.specs.NamedFault.{NamedFault}
+use Rattle.journal_protocol.specs.NamedFault.TheVariants as fault
+use Rattle.journal_protocol.specs.RawMessage.{RawMessage}
+use Rattle.journal_protocol.specs.GetStateEphemeralNotification.{GetStateEphemeralNotification}
+use Rattle.journal_protocol.specs.VoidOrValue.{VoidOrValue}
+use Rattle.journal_protocol.specs.Bodies.{ephemeral_notification_in, notification_in, start_in, acknowledgement_in}
 use Rattle.vm_machine.specs.Ephemerals.{completed_by, ephemeral_notification_step, result_comes}
-use Rattle.journal_values.specs.declared.notification.Notification.{Notification}
-use Rattle.journal_attempt.specs.declared.start.Start.{Start}
-use Rattle.journal_errors.specs.declared.version.Version.{Version}
-use Rattle.journal_errors.specs.Errors.{named_error}
-use Rattle.journal_messages.specs.Reading.{notification_in, start_in, acknowledgement_in}
-use Rattle.journal_errors.specs.Types.{type_number}
+use Rattle.journal_protocol.specs.Notification.{Notification}
+use Rattle.journal_protocol.specs.Start.{Start}
+use Rattle.journal_protocol.specs.Version.{Version}
+use Rattle.journal_protocol.specs.Errors.{named_error}
+use Rattle.journal_protocol.specs.Types.{type_number}
 use Rattle.vm_types.specs.declared.options.VMOptions.{VMOptions}
 use Rattle.vm_machine.specs.declared.machine.Machine.{Machine}
 use Rattle.vm_machine.specs.declared.phase.Phase.{Phase}

@@ -1,7 +1,7 @@
 -- What came and what was written, over each call of an attempt: whatever the options are and whatever comes.
 use Rattle.std.proofs.Common.{◌≡◌, ◌≢◌, ◌⊎◌, ℕ, true, false, List, [], ◌∷◌, ◌++◌, Option, Some, None, Result, Ok, Err, sym, ap, ◌∙◌, subst, inl, inr, ⊎_elim, Global}
 use Rattle.std.specs.declared.alloc.AllocError.{AllocError}
-use Rattle.journal_errors.specs.declared.error.Error.{Error}
+use Rattle.journal_protocol.specs.Error.{Error}
 use Rattle.vm_types.specs.declared.steps.Answer.{Answer}
 use Rattle.await_trees.specs.declared.tree.UnresolvedFuture.{UnresolvedFuture}
 use Rattle.vm_machine.specs.declared.phase.Phase.TheVariants.{Closed, Processing}
@@ -24,7 +24,7 @@ use Rattle.vm_machine.specs.Skips.{skips_replay}
 use Rattle.vm_machine.proofs.Skipping.{ReadsInput, input_is, left_alike, reads_fresh}
 use Rattle.vm_types.specs.declared.steps.Answer.TheVariants as answer
 use Rattle.vm_types.specs.declared.values.Input.{Input}
-use Rattle.journal_messages.specs.Reading.{input_in}
+use Rattle.journal_protocol.specs.Bodies.{input_in}
 use Rattle.vm_attempt.specs.Arrivals.{kept_after}
 use Rattle.vm_attempt.specs.Journals.{AcknowledgesNothing, HasAll, StillWaits, setup_for}
 use Rattle.vm_attempt.specs.Told.{Begun, JournalCame, Comes, HasCome, IsLive, Journal, Wrote, bytes_fed, commands_of, frames_fed}

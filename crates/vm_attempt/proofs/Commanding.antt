@@ -1,7 +1,7 @@
 -- What leads where a move leads: an answer, a refusal, and a call with a command.
 use Rattle.std.proofs.Common.{◌≡◌, List, [], ◌∷◌, Option, Some, None, refl, sym, ap, ◌∙◌, append-nil}
-use Rattle.journal_errors.specs.declared.faults.NamedFault.{NamedFault}
-use Rattle.journal_messages.specs.declared.message.RawMessage.{RawMessage}
+use Rattle.journal_protocol.specs.NamedFault.{NamedFault}
+use Rattle.journal_protocol.specs.RawMessage.{RawMessage}
 use Rattle.vm_parts.specs.declared.context.StateMap.{StateMap}
 use Rattle.vm_types.specs.declared.steps.Answer.{Answer}
 use Rattle.vm_machine.specs.declared.machine.Machine.{Machine}
@@ -16,7 +16,7 @@ use Rattle.vm_model.specs.Moves.{Point, longer, moved, supply}
 use Rattle.vm_attempt.specs.Agreement.{Aside, machine_at}
 use Rattle.vm_steps.specs.Steps.{IfDone, mapped}
 use Rattle.vm_attempt.proofs.Leading.{Leads, open_after, state_at}
-use Rattle.journal_messages.specs.Commands.{IsCommand}
+use Rattle.journal_protocol.specs.Commands.{IsCommand}
 use Rattle.vm_attempt.proofs.Own.{stands_for_itself}
 use Rattle.vm_attempt.proofs.Requesting.{issues}
 

@@ -3,12 +3,12 @@ use Rattle.std.proofs.Common.{◌≡◌, ◌≢◌, ◌⊎◌, ℕ, zero, suc, �
 use Rattle.std.specs.Prelude.{◌==◌, if◌then◌else◌, nat_le, unwrap_or}
 use Rattle.std.specs.declared.alloc.AllocError.{AllocError}
 use Rattle.await_trees.specs.declared.handle.NotificationHandle.{NotificationHandle}
-use Rattle.journal_errors.specs.declared.error.Error.{Error}
-use Rattle.journal_errors.specs.declared.faults.NamedFault.{NamedFault}
-use Rattle.journal_errors.specs.declared.version.Version.{Version}
-use Rattle.journal_errors.specs.Errors.{no_memory}
-use Rattle.journal_errors.specs.Types.{type_number}
-use Rattle.journal_messages.specs.declared.message.RawMessage.{RawMessage}
+use Rattle.journal_protocol.specs.Error.{Error}
+use Rattle.journal_protocol.specs.NamedFault.{NamedFault}
+use Rattle.journal_protocol.specs.Version.{Version}
+use Rattle.journal_protocol.specs.Errors.{no_memory}
+use Rattle.journal_protocol.specs.Types.{type_number}
+use Rattle.journal_protocol.specs.RawMessage.{RawMessage}
 use Rattle.vm_types.specs.declared.options.VMOptions.{VMOptions}
 use Rattle.vm_machine.specs.declared.machine.Machine.{Machine}
 use Rattle.vm_machine.specs.declared.phase.Phase.{Phase}

@@ -2,18 +2,17 @@
 use Rattle.std.proofs.Common.{◌≡◌, ℕ, ◌<◌, ◌≤◌, Bool, true, false, List, [], ◌∷◌, ◌++◌, Option, Some, None, refl, sym, ap, ◌∙◌, subst, arith}
 use Rattle.std.specs.Prelude.{◌==◌, if◌then◌else◌}
 use Rattle.std.specs.List.{find}
-use Rattle.journal_attempt.specs.declared.runs.ProposeRunCompletionAck.{ProposeRunCompletionAck}
-use Rattle.journal_attempt.specs.declared.start.Start.{Start}
-use Rattle.journal_errors.specs.declared.error.Error.{Error}
-use Rattle.journal_errors.specs.declared.faults.NamedFault.TheVariants as fault
-use Rattle.journal_errors.specs.Types.{type_number}
-use Rattle.journal_messages.specs.declared.message.RawMessage.{RawMessage}
-use Rattle.journal_state.specs.declared.state.GetStateEphemeralNotification.{GetStateEphemeralNotification}
-use Rattle.journal_state.specs.declared.state.VoidOrValue.{VoidOrValue}
-use Rattle.journal_protocol.specs.Bodies.{ephemeral_notification_in}
+use Rattle.journal_protocol.specs.ProposeRunCompletionAck.{ProposeRunCompletionAck}
+use Rattle.journal_protocol.specs.Start.{Start}
+use Rattle.journal_protocol.specs.Error.{Error}
+use Rattle.journal_protocol.specs.NamedFault.TheVariants as fault
+use Rattle.journal_protocol.specs.Types.{type_number}
+use Rattle.journal_protocol.specs.RawMessage.{RawMessage}
+use Rattle.journal_protocol.specs.GetStateEphemeralNotification.{GetStateEphemeralNotification}
+use Rattle.journal_protocol.specs.VoidOrValue.{VoidOrValue}
+use Rattle.journal_protocol.specs.Bodies.{ephemeral_notification_in, acknowledgement_in, notification_in, start_in}
 use Rattle.vm_machine.specs.Ephemerals.{completed_by, result_comes}
-use Rattle.journal_messages.specs.Reading.{acknowledgement_in, notification_in, start_in}
-use Rattle.journal_values.specs.declared.notification.Notification.{Notification}
+use Rattle.journal_protocol.specs.Notification.{Notification}
 use Rattle.runs.specs.Kept.{is_for}
 use Rattle.vm_asks.specs.Carried.{AreBelow, AreFrom, AreGreater, all_carried}
 use Rattle.vm_parts.specs.declared.context.Counters.{Counters}

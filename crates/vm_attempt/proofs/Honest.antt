@@ -5,15 +5,15 @@ use Rattle.std.specs.Prelude.{◌==◌, ◌&&◌, if◌then◌else◌, nat_le, n
 use Rattle.std.specs.List.{AllByRecursion, flat_map}
 use Rattle.std.proofs.lemmas.Bool.Decides.{nat_tests}
 use Rattle.std.proofs.lemmas.Option.{same_Some}
-use Rattle.journal_errors.specs.declared.faults.NamedFault.TheVariants as fault
-use Rattle.journal_messages.specs.declared.message.Message.TheVariants as message
-use Rattle.journal_messages.specs.declared.message.RawMessage.{RawMessage}
-use Rattle.journal_values.specs.declared.notification.Notification.{Notification}
-use Rattle.journal_attempt.specs.declared.start.Start.{Start}
-use Rattle.journal_messages.specs.Reading.{notification_in, start_in}
+use Rattle.journal_protocol.specs.NamedFault.TheVariants as fault
+use Rattle.journal_protocol.specs.Message.TheVariants as message
+use Rattle.journal_protocol.specs.RawMessage.{RawMessage}
+use Rattle.journal_protocol.specs.Notification.{Notification}
+use Rattle.journal_protocol.specs.Start.{Start}
+use Rattle.journal_protocol.specs.Bodies.{notification_in, start_in, acknowledgement_in}
 use Rattle.journal_protocol.proofs.Facts.{acknowledgement_back, notification_back, start_back}
-use Rattle.journal_messages.specs.Message.{IsWhole}
-use Rattle.journal_errors.specs.Types.{type_number}
+use Rattle.journal_protocol.specs.Frames.{IsWhole}
+use Rattle.journal_protocol.specs.Types.{type_number}
 use Rattle.vm_machine.specs.declared.phase.Phase.{Phase}
 use Rattle.vm_machine.specs.declared.phase.Phase.TheVariants.{WaitingStart, WaitingReplayEntries, Replaying, Processing, Closed}
 use Rattle.invocation_vm.specs.Frames.{Tail, Rest, Garbage, frames_of, frames_joined}
@@ -24,7 +24,7 @@ use Rattle.vm_model.specs.Moves.{Point, later, start as first_point}
 use Rattle.vm_model.specs.Carried.{AreOfTheirKind}
 use Rattle.vm_model.proofs.RightKinds.{fewer_kinds}
 use Rattle.vm_model.proofs.Runs.{made_later}
-use Rattle.journal_attempt.specs.declared.commands.InputCommand.{InputCommand}
+use Rattle.journal_protocol.specs.InputCommand.{InputCommand}
 use Rattle.vm_model.specs.Journal.{Entry, Recorded, Notified, commands_in, input_read_from, notifications_in, stored_form}
 use Rattle.vm_steps.specs.Heard.{Heard}
 use Rattle.vm_attempt.specs.Blames.{Began, IsHonest, Place, fault_by, phase_fault, notification_fault, refused_start, start_fault}
@@ -33,8 +33,7 @@ use Rattle.vm_attempt.specs.Journals.{AcknowledgesNothing, is_acknowledgement, a
 use Rattle.vm_attempt.specs.Told.{AreRightlyKinded, Journal, NoneHasTwo, arrivals, begun, bytes_fed, frames_fed, start_state}
 use Rattle.std.specs.Prelude.{IsSome}
 use Rattle.std.specs.List.{find}
-use Rattle.journal_attempt.specs.declared.runs.ProposeRunCompletionAck.{ProposeRunCompletionAck}
-use Rattle.journal_messages.specs.Reading.{acknowledgement_in}
+use Rattle.journal_protocol.specs.ProposeRunCompletionAck.{ProposeRunCompletionAck}
 use Rattle.runs.specs.Kept.{is_for}
 use Rattle.vm_model.specs.Histories.{after_head}
 use Rattle.vm_parts.specs.declared.run_state.KeptProposal.{KeptProposal}

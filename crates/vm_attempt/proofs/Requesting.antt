@@ -1,16 +1,16 @@
 -- The calls with a command, in a machine that agrees with a point.
-use Rattle.journal_values.specs.declared.notification.NotificationId.TheVariants.{CompletionId}
+use Rattle.journal_protocol.specs.NotificationId.TheVariants.{CompletionId}
 use Rattle.std.proofs.Common.{◌≡◌, Bool, true, false, List, [], ◌∷◌, ◌++◌, Option, Some, None, refl, sym, ap, ◌∙◌, subst, append-nil}
 use Rattle.std.specs.Prelude.{◌==◌, if◌then◌else◌, Result, Ok, Err}
-use Rattle.journal_errors.specs.declared.faults.NamedFault.{NamedFault}
-use Rattle.journal_errors.specs.declared.faults.NamedFault.TheVariants as fault
-use Rattle.journal_messages.specs.declared.message.Message.{Message}
-use Rattle.journal_messages.specs.declared.message.RawMessage.{RawMessage}
-use Rattle.journal_equality.specs.HeaderEqual.{header_equal}
-use Rattle.journal_messages.specs.Message.{type_of}
-use Rattle.journal_messages.specs.Reading.{message_in}
-use Rattle.journal_errors.specs.Types.{type_number}
-use Rattle.journal_values.specs.declared.notification.NotificationResult.{NotificationResult}
+use Rattle.journal_protocol.specs.NamedFault.{NamedFault}
+use Rattle.journal_protocol.specs.NamedFault.TheVariants as fault
+use Rattle.journal_protocol.specs.Message.{Message}
+use Rattle.journal_protocol.specs.RawMessage.{RawMessage}
+use Rattle.journal_protocol.specs.Equality.{header_equal}
+use Rattle.journal_protocol.specs.Frames.{type_of}
+use Rattle.journal_protocol.specs.Bodies.{message_in}
+use Rattle.journal_protocol.specs.Types.{type_number}
+use Rattle.journal_protocol.specs.NotificationResult.{NotificationResult}
 use Rattle.vm_parts.specs.declared.context.StateMap.{StateMap}
 use Rattle.vm_types.specs.declared.steps.Answer.{Answer}
 use Rattle.await_trees.specs.declared.handle.NotificationHandle.{NotificationHandle}

@@ -4,11 +4,11 @@ use Rattle.std.proofs.Common.{◌≡◌, ◌≢◌, ◌⊎◌, ℕ, true, false,
 use Rattle.std.specs.List.{concat}
 use Rattle.std.proofs.lemmas.List.Folds.{concat-append}
 use Rattle.std.specs.declared.alloc.AllocError.{AllocError}
-use Rattle.journal_errors.specs.declared.error.Error.{Error}
-use Rattle.journal_errors.specs.declared.version.Version.{Version}
-use Rattle.journal_messages.specs.declared.message.Message.{Message}
-use Rattle.journal_messages.specs.declared.message.RawMessage.{RawMessage}
-use Rattle.journal_messages.specs.Message.{encoding}
+use Rattle.journal_protocol.specs.Error.{Error}
+use Rattle.journal_protocol.specs.Version.{Version}
+use Rattle.journal_protocol.specs.Message.{Message}
+use Rattle.journal_protocol.specs.RawMessage.{RawMessage}
+use Rattle.journal_protocol.specs.Frames.{encoding}
 use Rattle.vm_types.specs.declared.options.VMOptions.{VMOptions}
 use Rattle.vm_parts.specs.declared.run_state.KeptProposal.{KeptProposal}
 use Rattle.vm_types.specs.declared.steps.Answer.TheVariants as answer

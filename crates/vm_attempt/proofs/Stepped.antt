@@ -5,15 +5,15 @@ use Rattle.vm_asks.specs.declared.state_read.StateRead.{StateRead}
 use Rattle.vm_parts.specs.declared.context.StateMap.{StateMap}
 use Rattle.std.proofs.Common.{◌≡◌, ◌⊎◌, ℕ, zero, suc, ◌+◌, Bool, true, false, cond, List, [], ◌∷◌, ◌++◌, map, Option, Some, None, Result, Ok, Err, refl, sym, ap, ◌∙◌, subst, inl, inr, ⊎_elim, append-nil}
 use Rattle.std.specs.Prelude.{if◌then◌else◌, OnOk}
-use Rattle.journal_errors.specs.declared.error.Error.{Error}
-use Rattle.journal_errors.specs.declared.faults.NamedFault.{NamedFault}
-use Rattle.journal_messages.specs.declared.message.Message.{Message}
-use Rattle.journal_messages.specs.declared.message.Message.TheVariants as message
-use Rattle.journal_messages.specs.declared.message.RawMessage.{RawMessage}
-use Rattle.journal_values.specs.declared.notification.NotificationId.{NotificationId}
-use Rattle.journal_values.specs.declared.notification.NotificationResult.{NotificationResult}
-use Rattle.journal_errors.specs.Errors.{error_message}
-use Rattle.journal_messages.specs.Message.{encoding, frame}
+use Rattle.journal_protocol.specs.Error.{Error}
+use Rattle.journal_protocol.specs.NamedFault.{NamedFault}
+use Rattle.journal_protocol.specs.Message.{Message}
+use Rattle.journal_protocol.specs.Message.TheVariants as message
+use Rattle.journal_protocol.specs.RawMessage.{RawMessage}
+use Rattle.journal_protocol.specs.NotificationId.{NotificationId}
+use Rattle.journal_protocol.specs.NotificationResult.{NotificationResult}
+use Rattle.journal_protocol.specs.Errors.{error_message}
+use Rattle.journal_protocol.specs.Frames.{encoding, frame}
 use Rattle.vm_types.specs.declared.steps.Answer.{Answer}
 use Rattle.vm_types.specs.declared.steps.Step.{Step}
 use Rattle.vm_types.specs.declared.steps.Step.TheVariants as step
@@ -36,7 +36,7 @@ use Rattle.vm_asks.specs.declared.asks.Ask.TheVariants as ask
 use Rattle.vm_asks.specs.declared.asks.AnswerKind.{AnswerKind}
 use Rattle.vm_asks.specs.declared.command.Command.{Command}
 use Rattle.vm_asks.specs.Asks.{ask_of, cancel_invocation_command}
-use Rattle.journal_messages.specs.Commands.{IsCommand}
+use Rattle.journal_protocol.specs.Commands.{IsCommand}
 use Rattle.vm_attempt.proofs.Own.{AsksCommand, asks_command, numbered_is, own_is}
 use Rattle.vm_awaits.specs.Awaits.{says_so}
 use Rattle.vm_machine.specs.Commands.{phase_after}

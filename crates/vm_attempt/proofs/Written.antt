@@ -3,10 +3,9 @@ use Rattle.std.proofs.Common.{◌≡◌, ℕ, ◌<◌, ◌^◌, cond, List, [], 
 use Rattle.std.specs.List.{AllByRecursion, concat, flat_map}
 use Rattle.std.proofs.lemmas.Grind.{flat_map-append}
 use Rattle.std.proofs.lemmas.List.Folds.{concat-append}
-use Rattle.journal_messages.specs.declared.message.Message.{Message}
-use Rattle.journal_messages.specs.declared.message.RawMessage.{RawMessage}
-use Rattle.journal_messages.specs.Message.{encoding}
-use Rattle.journal_messages.specs.Message.{IsWhole}
+use Rattle.journal_protocol.specs.Message.{Message}
+use Rattle.journal_protocol.specs.RawMessage.{RawMessage}
+use Rattle.journal_protocol.specs.Frames.{encoding, IsWhole}
 use Rattle.journal_protocol.proofs.Facts.{one_body, one_type, proposal_back, whole_spelled}
 use Rattle.vm_parts.specs.Outboxes.{WholeFrames, WholeStream}
 use Rattle.vm_parts.proofs.Outboxes.{all_whole, bytes_of}
@@ -17,8 +16,8 @@ use Rattle.vm_attempt.specs.Honest.{frame_bytes}
 use Rattle.vm_attempt.specs.Journals.{commands_among, is_command_frame}
 use Rattle.vm_steps.specs.Record.{Record, bytes_written, heard}
 use Rattle.vm_attempt.specs.Told.{BeforeInput, JournalCame, HasCome, Wrote, commands_of, written_by}
-use Rattle.journal_attempt.specs.declared.runs.ProposeRunCompletion.{ProposeRunCompletion}
-use Rattle.journal_messages.specs.declared.message.Message.TheVariants as message
+use Rattle.journal_protocol.specs.ProposeRunCompletion.{ProposeRunCompletion}
+use Rattle.journal_protocol.specs.Message.TheVariants as message
 use Rattle.vm_steps.specs.Heard.{proposals_among, proposals_in, proposed_by}
 use Rattle.vm_attempt.proofs.Quiet.{commands_append, forms_append, map_append, proposals_append}
 use Rattle.vm_attempt.specs.Fixed.{Fixed}

@@ -3,10 +3,10 @@
 use Rattle.std.specs.Prelude.{◌≡◌, true, if◌then◌else◌, IsSome, List, [], ◌∷◌, Option, Some, None}
 use Rattle.std.specs.List.{find}
 use Rattle.std.specs.Option.{option_map}
-use Rattle.journal_attempt.specs.declared.runs.ProposeRunCompletionAck.{ProposeRunCompletionAck}
-use Rattle.journal_messages.specs.declared.message.RawMessage.{RawMessage}
-use Rattle.journal_messages.specs.Reading.{acknowledgement_in, notification_in}
-use Rattle.journal_values.specs.declared.notification.Notification.{Notification}
+use Rattle.journal_protocol.specs.ProposeRunCompletionAck.{ProposeRunCompletionAck}
+use Rattle.journal_protocol.specs.RawMessage.{RawMessage}
+use Rattle.journal_protocol.specs.Bodies.{acknowledgement_in, notification_in}
+use Rattle.journal_protocol.specs.Notification.{Notification}
 use Rattle.runs.specs.Firsts.{without_first}
 use Rattle.runs.specs.Kept.{is_for}
 use Rattle.vm_parts.specs.declared.run_state.KeptProposal.{KeptProposal}

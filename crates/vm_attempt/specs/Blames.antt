@@ -1,27 +1,27 @@
 -- Why an attempt failed.
 use Rattle.std.specs.Prelude.{◌≡◌, ◌≢◌, ◌⊎◌, ℕ, ◌+◌, ◌<◌, ◌≤◌, ◌==◌, Bool, true, false, if◌then◌else◌, length, drop, List, [], ◌∷◌, ◌++◌, Option, Some, None, Result, Ok, Err}
 use Rattle.std.specs.Result.{result_err}
-use Rattle.journal_attempt.specs.declared.commands.InputCommand.{InputCommand}
-use Rattle.journal_errors.specs.declared.error.Error.{Error}
-use Rattle.journal_errors.specs.declared.error.RelatedCommand.{RelatedCommand}
-use Rattle.journal_errors.specs.declared.faults.NamedFault.{NamedFault}
-use Rattle.journal_errors.specs.declared.faults.NamedFault.TheVariants as fault
-use Rattle.journal_messages.specs.declared.message.RawMessage.{RawMessage}
-use Rattle.journal_state.specs.declared.state.GetStateEphemeralNotification.{GetStateEphemeralNotification}
-use Rattle.journal_state.specs.declared.state.VoidOrValue.{VoidOrValue}
-use Rattle.journal_values.specs.declared.notification.Notification.{Notification}
-use Rattle.journal_attempt.specs.declared.start.Start.{Start}
-use Rattle.journal_errors.specs.declared.types.MessageType.TheVariants as type
-use Rattle.journal_errors.specs.Errors.{named_error, no_memory}
-use Rattle.journal_attempt.specs.declared.runs.ProposeRunCompletionAck.{ProposeRunCompletionAck}
-use Rattle.journal_messages.specs.Reading.{acknowledgement_in, notification_in, start_in}
+use Rattle.journal_protocol.specs.InputCommand.{InputCommand}
+use Rattle.journal_protocol.specs.Error.{Error}
+use Rattle.journal_protocol.specs.RelatedCommand.{RelatedCommand}
+use Rattle.journal_protocol.specs.NamedFault.{NamedFault}
+use Rattle.journal_protocol.specs.NamedFault.TheVariants as fault
+use Rattle.journal_protocol.specs.RawMessage.{RawMessage}
+use Rattle.journal_protocol.specs.GetStateEphemeralNotification.{GetStateEphemeralNotification}
+use Rattle.journal_protocol.specs.VoidOrValue.{VoidOrValue}
+use Rattle.journal_protocol.specs.Notification.{Notification}
+use Rattle.journal_protocol.specs.Start.{Start}
+use Rattle.journal_protocol.specs.MessageType.TheVariants as type
+use Rattle.journal_protocol.specs.Errors.{named_error, no_memory}
+use Rattle.journal_protocol.specs.ProposeRunCompletionAck.{ProposeRunCompletionAck}
+use Rattle.journal_protocol.specs.Bodies.{acknowledgement_in, notification_in, start_in, ephemeral_notification_in}
 use Rattle.retries.specs.declared.policy.RetryPolicy.{RetryPolicy}
 use Rattle.runs.specs.declared.types.RunExitResult.{RunExitResult}
 use Rattle.runs.specs.Kept.{is_for}
 use Rattle.await_trees.specs.declared.handle.NotificationHandle.{NotificationHandle}
 use Rattle.vm_parts.specs.declared.run_state.KeptProposal.{KeptProposal}
 use Rattle.std.specs.List.{find}
-use Rattle.journal_errors.specs.Types.{type_number}
+use Rattle.journal_protocol.specs.Types.{type_number}
 use Rattle.vm_parts.specs.declared.context.StateMap.{StateMap}
 use Rattle.vm_parts.specs.Counting.{fresh_counters}
 use Rattle.vm_asks.specs.Carried.{past_all}
@@ -31,7 +31,6 @@ use Rattle.vm_types.specs.declared.steps.Answer.{Answer}
 use Rattle.vm_machine.specs.declared.machine.Machine.{Machine}
 use Rattle.vm_machine.specs.declared.phase.Phase.{Phase}
 use Rattle.vm_machine.specs.declared.phase.Phase.TheVariants.{WaitingStart, WaitingReplayEntries, Replaying, Processing, Closed}
-use Rattle.journal_protocol.specs.Bodies.{ephemeral_notification_in}
 use Rattle.vm_machine.specs.Inputs.{entries_in}
 use Rattle.vm_machine.specs.Outcomes.{Failed, ruled, ruled_by}
 use Rattle.vm_machine.specs.Proposals.{Proposes}

@@ -1,12 +1,11 @@
 -- What an honest runtime feeds to an attempt.
 use Rattle.std.specs.Prelude.{◌≡◌, ℕ, ◌<◌, ◌^◌, true, length, List, ◌∷◌, ◌++◌, map, Option, Some}
 use Rattle.std.specs.List.{AllByRecursion, flat_map}
-use Rattle.journal_messages.specs.declared.message.Message.TheVariants as message
-use Rattle.journal_messages.specs.declared.message.RawMessage.{RawMessage}
-use Rattle.journal_values.specs.declared.notification.Notification.{Notification}
-use Rattle.journal_attempt.specs.declared.start.Start.{Start}
-use Rattle.journal_messages.specs.Message.{frame}
-use Rattle.journal_messages.specs.Message.{IsWhole}
+use Rattle.journal_protocol.specs.Message.TheVariants as message
+use Rattle.journal_protocol.specs.RawMessage.{RawMessage}
+use Rattle.journal_protocol.specs.Notification.{Notification}
+use Rattle.journal_protocol.specs.Start.{Start}
+use Rattle.journal_protocol.specs.Frames.{frame, IsWhole}
 use Rattle.vm_parts.specs.declared.context.StateMap.{StateMap}
 use Rattle.vm_types.specs.declared.options.JournalReplay.TheVariants.{Enabled}
 use Rattle.vm_types.specs.declared.options.SignalDelivery.TheVariants.{Queued}
@@ -16,8 +15,8 @@ use Rattle.vm_model.specs.Deliveries.{HasNoTwo}
 use Rattle.vm_model.specs.Histories.{Handed, History, Made}
 use Rattle.vm_model.specs.Moves.{Point, start as first_point}
 use Rattle.vm_model.specs.Journal.{Entry, Recorded, Notified, notifications_in, stored_form}
-use Rattle.journal_attempt.specs.declared.runs.ProposeRunCompletionAck.{ProposeRunCompletionAck}
-use Rattle.journal_messages.specs.declared.message.Message.{Message}
+use Rattle.journal_protocol.specs.ProposeRunCompletionAck.{ProposeRunCompletionAck}
+use Rattle.journal_protocol.specs.Message.{Message}
 use Rattle.vm_attempt.specs.Arrivals.{AllFound, arriving}
 use Rattle.vm_steps.specs.Heard.{Heard}
 use Rattle.vm_attempt.specs.Journals.{is_command_frame, setup_for}

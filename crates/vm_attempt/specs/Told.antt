@@ -1,19 +1,18 @@
 -- What the record of an attempt tells of its handler's run.
 use Rattle.std.specs.Prelude.{◌≡◌, ◌≢◌, ◌⊎◌, ◌≤◌, ℕ, true, cond, length, List, [], ◌∷◌, ◌++◌, map, Option, Some, None, Result, Ok, Err}
 use Rattle.std.specs.List.{AllByRecursion, concat, flat_map}
-use Rattle.journal_attempt.specs.declared.commands.InputCommand.{InputCommand}
-use Rattle.journal_errors.specs.declared.error.Error.{Error}
-use Rattle.journal_errors.specs.declared.error.RelatedCommand.{RelatedCommand}
-use Rattle.journal_errors.specs.declared.faults.NamedFault.{NamedFault}
-use Rattle.journal_messages.specs.declared.message.Message.{Message}
-use Rattle.journal_messages.specs.declared.message.Message.TheVariants as message
-use Rattle.journal_messages.specs.declared.message.RawMessage.{RawMessage}
-use Rattle.journal_values.specs.declared.notification.Notification.{Notification}
-use Rattle.journal_attempt.specs.declared.start.Start.{Start}
-use Rattle.journal_errors.specs.Errors.{error_message, named_error, no_memory}
-use Rattle.journal_messages.specs.Message.{encoding}
-use Rattle.journal_messages.specs.Reading.{start_in}
-use Rattle.journal_messages.specs.Message.{IsWhole}
+use Rattle.journal_protocol.specs.InputCommand.{InputCommand}
+use Rattle.journal_protocol.specs.Error.{Error}
+use Rattle.journal_protocol.specs.RelatedCommand.{RelatedCommand}
+use Rattle.journal_protocol.specs.NamedFault.{NamedFault}
+use Rattle.journal_protocol.specs.Message.{Message}
+use Rattle.journal_protocol.specs.Message.TheVariants as message
+use Rattle.journal_protocol.specs.RawMessage.{RawMessage}
+use Rattle.journal_protocol.specs.Notification.{Notification}
+use Rattle.journal_protocol.specs.Start.{Start}
+use Rattle.journal_protocol.specs.Errors.{error_message, named_error, no_memory}
+use Rattle.journal_protocol.specs.Frames.{encoding, IsWhole}
+use Rattle.journal_protocol.specs.Bodies.{start_in}
 use Rattle.vm_parts.specs.declared.context.StateMap.{StateMap}
 use Rattle.vm_types.specs.declared.options.JournalReplay.TheVariants.{Enabled, Disabled}
 use Rattle.vm_asks.specs.Carried.{AreBelow, AreFrom, AreGreater, all_carried}

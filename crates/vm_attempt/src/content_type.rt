@@ -2,7 +2,7 @@
 ghost use Rattle.std.specs.Prelude.{◌≡◌, Some};
 ghost use Rattle.invocation_vm.specs.Making.{version_in};
 
-use journal_errors::{Error, HeaderMap, NamedFault, Version};
+use journal_protocol::{Error, HeaderMap, NamedFault, Version};
 use std::convert::Infallible;
 
 /// A request's content type.

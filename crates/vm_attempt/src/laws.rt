@@ -1,7 +1,7 @@
 //! What an attempt's machine and a handler's run have to do with each other.
 ghost use Rattle.std.specs.Prelude.{◌≡◌, ◌⊎◌, ◌∷◌, ◌++◌, [], IsSome, List, None};
-ghost use Rattle.journal_messages.specs.declared.message.RawMessage.{RawMessage};
-ghost use Rattle.journal_values.specs.declared.notification.Notification.{Notification};
+ghost use Rattle.journal_protocol.specs.RawMessage.{RawMessage};
+ghost use Rattle.journal_protocol.specs.Notification.{Notification};
 ghost use Rattle.vm_machine.specs.declared.machine.Machine.{Machine};
 ghost use Rattle.vm_machine.specs.declared.phase.Phase.TheVariants.{Replaying};
 ghost use Rattle.vm_machine.specs.Inputs.{input_step};
@@ -9,7 +9,7 @@ ghost use Rattle.vm_machine.specs.Making.{fresh};
 ghost use Rattle.vm_machine.specs.Outcomes.{Outcome};
 ghost use Rattle.invocation_vm.specs.Making.{made};
 ghost use Rattle.std.proofs.Common.{Global};
-ghost use Rattle.journal_errors.specs.declared.version.Version.{Version};
+ghost use Rattle.journal_protocol.specs.Version.{Version};
 ghost use Rattle.vm_types.specs.declared.options.VMOptions.{VMOptions};
 ghost use Rattle.invocation_vm.specs.Views.{all_received};
 ghost use Rattle.vm_model.specs.Calls.{Setup, Meaning, identity_of};
@@ -34,7 +34,7 @@ ghost use Rattle.vm_steps.specs.declared.progress.Progress.{Progress};
 ghost use Rattle.vm_steps.specs.declared.progress.Progress.TheVariants.{ExecuteRun};
 ghost use Rattle.vm_steps.specs.declared.progress.Reply.{Reply};
 ghost use Rattle.std.specs.Prelude.{Result, Ok};
-ghost use Rattle.journal_errors.specs.declared.error.Error.{Error};
+ghost use Rattle.journal_protocol.specs.Error.{Error};
 ghost use Rattle.std.specs.declared.alloc.AllocError.{AllocError};
 ghost use Rattle.await_trees.specs.declared.handle.NotificationHandle.{NotificationHandle};
 ghost use Rattle.retries.specs.declared.policy.RetryPolicy.{RetryPolicy};

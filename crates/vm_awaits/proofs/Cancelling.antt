@@ -5,8 +5,8 @@ use Rattle.std.specs.Option.{option_and_then}
 use Rattle.std.specs.List.{find, list_any}
 use Rattle.await_trees.specs.Handles.{handles_of}
 use Rattle.await_trees.specs.Tree.{Tree, leaf}
-use Rattle.journal_errors.specs.declared.error.Error.{Error}
-use Rattle.journal_errors.specs.declared.faults.NamedFault.TheVariants as fault
+use Rattle.journal_protocol.specs.Error.{Error}
+use Rattle.journal_protocol.specs.NamedFault.TheVariants as fault
 use Rattle.runs.specs.Pending.{is_executing_in, may_execute}
 use Rattle.vm_parts.specs.Ephemerals.{any_in_flight}
 use Rattle.vm_parts.specs.declared.run_state.PendingRun.{PendingRun}

@@ -13,7 +13,7 @@ use Rattle.vm_machine.specs.declared.fault.Fault.{Fault}
 use Rattle.vm_machine.specs.declared.machine.Machine.{Machine}
 use Rattle.await_trees.specs.Handles.{handles_of}
 use Rattle.await_trees.specs.Tree.{Tree}
-use Rattle.journal_errors.specs.declared.error.Error.{Error}
+use Rattle.journal_protocol.specs.Error.{Error}
 use Rattle.vm_types.specs.declared.types.AwaitResponse.{AwaitResponse}
 use Rattle.vm_types.specs.declared.types.AwaitResponse.TheVariants.{ExecuteRun}
 use Rattle.vm_machine.specs.Phases.{is_replaying}

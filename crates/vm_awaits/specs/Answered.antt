@@ -1,8 +1,8 @@
 -- What an await answers by which the machine doesn't fail.
 use Rattle.std.specs.Prelude.{Result, Ok, Err, None}
-use Rattle.journal_errors.specs.declared.error.Error.{Error}
-use Rattle.journal_errors.specs.declared.faults.NamedFault.TheVariants.{Suspended}
-use Rattle.journal_errors.specs.Errors.{named_error}
+use Rattle.journal_protocol.specs.Error.{Error}
+use Rattle.journal_protocol.specs.NamedFault.TheVariants.{Suspended}
+use Rattle.journal_protocol.specs.Errors.{named_error}
 use Rattle.vm_types.specs.declared.types.AwaitResponse.{AwaitResponse}
 use Rattle.vm_awaits.specs.declared.awaited.End.{End}
 use Rattle.vm_awaits.specs.declared.awaited.End.TheVariants.{Responds, Suspends}

@@ -10,17 +10,17 @@ use Rattle.await_trees.specs.Wires.{sent}
 use Rattle.await_tries.specs.Await.{LeastAwake, LeftPending}
 use Rattle.await_tries.specs.Message.{ids}
 use Rattle.await_tries.specs.Used.{used}
-use Rattle.journal_attempt.specs.declared.future.Future.{Future}
-use Rattle.journal_attempt.specs.declared.future.FutureKind.TheVariants.{FirstCompleted}
-use Rattle.journal_errors.specs.declared.error.Error.{Error}
-use Rattle.journal_errors.specs.declared.faults.NamedFault.TheVariants as fault
-use Rattle.journal_errors.specs.declared.version.Version.{Version}
-use Rattle.journal_errors.specs.Errors.{named_error}
-use Rattle.journal_messages.specs.declared.message.Message.{Message}
-use Rattle.journal_messages.specs.declared.message.Message.TheVariants as message
-use Rattle.journal_messages.specs.Message.{encoding}
-use Rattle.journal_values.specs.declared.notification.NotificationId.{NotificationId}
-use Rattle.journal_values.specs.declared.notification.NotificationResult.{NotificationResult}
+use Rattle.journal_protocol.specs.Future.{Future}
+use Rattle.journal_protocol.specs.FutureKind.TheVariants.{FirstCompleted}
+use Rattle.journal_protocol.specs.Error.{Error}
+use Rattle.journal_protocol.specs.NamedFault.TheVariants as fault
+use Rattle.journal_protocol.specs.Version.{Version}
+use Rattle.journal_protocol.specs.Errors.{named_error}
+use Rattle.journal_protocol.specs.Message.{Message}
+use Rattle.journal_protocol.specs.Message.TheVariants as message
+use Rattle.journal_protocol.specs.Frames.{encoding}
+use Rattle.journal_protocol.specs.NotificationId.{NotificationId}
+use Rattle.journal_protocol.specs.NotificationResult.{NotificationResult}
 use Rattle.runs.specs.Firsts.{with_first}
 use Rattle.runs.specs.Pending.{handle_of, has_handle, is_executing, is_executing_in, may_execute, run_started}
 use Rattle.runs.specs.Settling.{run_as_related}
@@ -38,7 +38,7 @@ use Rattle.vm_machine.specs.declared.phase.Phase.TheVariants.{Closed}
 use Rattle.vm_machine.specs.Outcomes.{Outcome, Done, Failed, refused}
 use Rattle.vm_machine.specs.Proposals.{run_at}
 use Rattle.vm_machine.specs.Phases.{is_running, is_replaying, state_fault}
-use Rattle.journal_errors.specs.Versions.{is_from_v7}
+use Rattle.journal_protocol.specs.Versions.{is_from_v7}
 
 -- the first n notifications that wait are used
 abbrev pub with_used : ℕ → Machine → Machine

@@ -1,10 +1,10 @@
 //! What an await answers by which the machine doesn't fail.
 ghost use Rattle.std.specs.Prelude.{◌≡◌, Ok, Err, IfSome, IfNone, None};
-ghost use Rattle.journal_errors.specs.declared.faults.NamedFault.TheVariants.{Suspended};
-ghost use Rattle.journal_errors.specs.Errors.{named_error};
+ghost use Rattle.journal_protocol.specs.NamedFault.TheVariants.{Suspended};
+ghost use Rattle.journal_protocol.specs.Errors.{named_error};
 ghost use Rattle.vm_machine.specs.Outcomes.{flattened};
 
-use journal_errors::{Error, NamedFault};
+use journal_protocol::{Error, NamedFault};
 use std::marker::Model;
 use vm_parts::AwaitResponse;
 
@@ -23,7 +23,7 @@ pub struct Awaited {
 
 impl Model for Awaited {
     ghost use Rattle.std.specs.Prelude.{Result};
-    ghost use Rattle.journal_errors.specs.declared.error.Error.{Error};
+    ghost use Rattle.journal_protocol.specs.Error.{Error};
     ghost use Rattle.vm_types.specs.declared.types.AwaitResponse.{AwaitResponse};
     ghost use Rattle.vm_awaits.specs.Answered.{answered};
 

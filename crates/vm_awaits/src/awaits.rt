@@ -7,10 +7,10 @@ ghost use Rattle.await_trees.specs.Tree.{tree_of};
 ghost use Rattle.await_trees.specs.Wires.{sent};
 ghost use Rattle.await_tries.specs.Left.{tree_left};
 ghost use Rattle.await_tries.specs.Message.{ids};
-ghost use Rattle.journal_messages.specs.Message.{encoding};
+ghost use Rattle.journal_protocol.specs.Frames.{encoding};
 ghost use Rattle.runs.specs.Pending.{handle_of, is_executing, may_execute};
 ghost use Rattle.runs.specs.Settling.{run_as_related};
-ghost use Rattle.journal_messages.specs.declared.message.Message.TheVariants as message;
+ghost use Rattle.journal_protocol.specs.Message.TheVariants as message;
 ghost use Rattle.vm_machine.specs.Outcomes.{Gives, GivesBy};
 ghost use Rattle.vm_types.specs.Options.{ends_awaits};
 ghost use Rattle.vm_parts.specs.Ephemerals.{any_in_flight};
@@ -22,17 +22,17 @@ ghost use Rattle.vm_awaits.specs.Cancels.{cancel_taken};
 use crate::awaited::Awaited;
 use await_trees::UnresolvedFuture;
 use await_tries::{Residue, Resolution, future_of, has_leaf, list_handles, try_future};
-use journal_attempt::{AwaitingOn, Suspension};
-use journal_errors::{Error, MessageType, NamedFault, RelatedCommand, Version};
-use journal_messages::Message;
-use journal_values::NotificationResult;
+use journal_protocol::{
+    AwaitingOn, Error, Message, MessageType, NamedFault, NotificationResult, RelatedCommand,
+    Suspension, Version,
+};
+use plain::{Items, Text, copy_of};
 use std::alloc::{AllocError, Global};
 use vm_machine::{Fault, Machine, Phase, refuse};
 use vm_parts::{
     AwaitResponse, AwaitingOnPolicy, CANCEL_NOTIFICATION_HANDLE, ImplicitCancellationOption,
     NotificationHandle,
 };
-use wire::{Items, Text, copy_of};
 
 /// Whether an await that waits may say what for, by whether any run is executing.
 fn allows(policy: AwaitingOnPolicy, executing: bool) -> bool

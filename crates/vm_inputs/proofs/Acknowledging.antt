@@ -2,11 +2,11 @@
 use Rattle.std.proofs.Common.{◌≡◌, ℕ, List, [], ◌∷◌, ◌++◌, Some, None, Err, refl, sym, ap, ◌∙◌}
 use Rattle.std.specs.List.{find}
 use Rattle.std.specs.Option.{option_map}
-use Rattle.journal_errors.specs.declared.faults.NamedFault.TheVariants as name
-use Rattle.journal_errors.specs.Errors.{named_error}
-use Rattle.journal_values.specs.declared.notification.NotificationId.TheVariants.{CompletionId}
-use Rattle.journal_values.specs.declared.notification.NotificationResult.{NotificationResult}
-use Rattle.journal_values.specs.declared.parts.ValueOrFailure.{ValueOrFailure}
+use Rattle.journal_protocol.specs.NamedFault.TheVariants as name
+use Rattle.journal_protocol.specs.Errors.{named_error}
+use Rattle.journal_protocol.specs.NotificationId.TheVariants.{CompletionId}
+use Rattle.journal_protocol.specs.NotificationResult.{NotificationResult}
+use Rattle.journal_protocol.specs.ValueOrFailure.{ValueOrFailure}
 use Rattle.runs.specs.Firsts.{without_first}
 use Rattle.runs.specs.Kept.{completion_result, is_for, result_of}
 use Rattle.vm_parts.specs.Arrived.{Arrived}

@@ -7,15 +7,12 @@ ghost use Rattle.vm_machine.specs.Phases.{is_waiting};
 ghost use Rattle.vm_machine.specs.Inputs.{from_version, start_received, start_info_of, entries_in, coverage_of, counted_entry, start_step, acknowledged, acknowledgement_step, entry_step, notification_step, message_step, malformed_step, close_step};
 
 use bytes::Bytes;
-use journal_attempt::Start;
-use journal_errors::{NamedFault, Version};
-use journal_messages::RawMessage;
-use journal_values::{Notification, NotificationId};
+use journal_protocol::{NamedFault, Notification, NotificationId, RawMessage, Start, Version};
+use plain::{Items, Text};
 use runs::completion_result;
 use std::alloc::{AllocError, Global};
 use vm_machine::{Fault, Machine, Phase, refuse};
 use vm_parts::{Entries, StartInfo, StateCoverage, StateKey, StateMap};
-use wire::{Items, Text};
 
 fn coverage_of(partial: bool) -> StateCoverage
     ensures { result ≡ coverage_of partial }
@@ -120,8 +117,8 @@ fn receive_start(machine: &mut Machine, raw: &RawMessage) -> Result<(), Fault>
     }
     match raw.read_start(machine.alloc) {
         Ok(start) => keep_start(machine, start),
-        Err(wire::Fault::Memory) => Err(Fault::Memory),
-        Err(wire::Fault::Malformed) => Err(refuse(NamedFault::BadMessage)),
+        Err(plain::Fault::Memory) => Err(Fault::Memory),
+        Err(plain::Fault::Malformed) => Err(refuse(NamedFault::BadMessage)),
     }
 }
 
@@ -164,8 +161,8 @@ fn receive_notification(machine: &mut Machine, raw: &RawMessage) -> Result<(), F
     }
     let notification = match raw.read_notification(machine.alloc) {
         Ok(notification) => notification,
-        Err(wire::Fault::Memory) => return Err(Fault::Memory),
-        Err(wire::Fault::Malformed) => return Err(refuse(NamedFault::BadMessage)),
+        Err(plain::Fault::Memory) => return Err(Fault::Memory),
+        Err(plain::Fault::Malformed) => return Err(refuse(NamedFault::BadMessage)),
     };
     machine.results.enqueue(notification)?;
     if matches!(machine.phase, Phase::WaitingReplayEntries) {
@@ -204,8 +201,8 @@ fn receive_acknowledgement(machine: &mut Machine, raw: &RawMessage) -> Result<()
     }
     match raw.read_acknowledgement(machine.alloc) {
         Ok(acknowledgement) => acknowledge(machine, acknowledgement.id),
-        Err(wire::Fault::Memory) => Err(Fault::Memory),
-        Err(wire::Fault::Malformed) => Err(refuse(NamedFault::BadMessage)),
+        Err(plain::Fault::Memory) => Err(Fault::Memory),
+        Err(plain::Fault::Malformed) => Err(refuse(NamedFault::BadMessage)),
     }
 }
 
@@ -222,8 +219,8 @@ fn receive_ephemeral_notification(machine: &mut Machine, raw: &RawMessage) -> Re
     }
     match raw.read_ephemeral_notification(machine.alloc) {
         Ok(notification) => machine.complete_ephemeral(notification.id, notification.result),
-        Err(wire::Fault::Memory) => Err(Fault::Memory),
-        Err(wire::Fault::Malformed) => Err(refuse(NamedFault::BadMessage)),
+        Err(plain::Fault::Memory) => Err(Fault::Memory),
+        Err(plain::Fault::Malformed) => Err(refuse(NamedFault::BadMessage)),
     }
 }
 

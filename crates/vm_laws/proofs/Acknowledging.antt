@@ -2,18 +2,18 @@
 use Rattle.std.proofs.Common.{◌≡◌, ℕ, false, [], ◌∷◌, ◌++◌, Some, None, ap, ◌∙◌}
 use Rattle.std.specs.Prelude.{◌==◌, ◌&&◌, nat_le, nat_lt, if◌then◌else◌}
 use Rattle.std.specs.List.{find}
-use Rattle.journal_errors.specs.declared.faults.NamedFault.TheVariants as name
-use Rattle.journal_values.specs.declared.parts.ValueOrFailure.{ValueOrFailure}
+use Rattle.journal_protocol.specs.NamedFault.TheVariants as name
+use Rattle.journal_protocol.specs.ValueOrFailure.{ValueOrFailure}
 use Rattle.runs.specs.Firsts.{without_first}
 use Rattle.runs.specs.Kept.{is_for}
 use Rattle.vm_parts.specs.declared.run_state.KeptProposal.{KeptProposal}
 use Rattle.vm_machine.specs.declared.machine.Machine.{Machine}
-use Rattle.journal_errors.specs.Versions.{is_from_v7}
+use Rattle.journal_protocol.specs.Versions.{is_from_v7}
 use Rattle.vm_machine.specs.Ephemerals.{ephemeral_notification_step}
 use Rattle.vm_machine.specs.Inputs.{acknowledged, acknowledged_by, acknowledgement_step, acknowledged_completion, enqueued, entry_step, message_step, notification_step, start_step}
 use Rattle.vm_machine.specs.Outcomes.{Done, Outcome, refused}
 use Rattle.vm_machine.specs.Proposals.{Acknowledges, proposed}
-use Rattle.journal_messages.specs.declared.message.RawMessage.{RawMessage}
+use Rattle.journal_protocol.specs.RawMessage.{RawMessage}
 
 abbrev by_number : RawMessage → ℕ → Machine → Outcome Unit
 by_number raw n v =

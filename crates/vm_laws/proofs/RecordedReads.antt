@@ -3,18 +3,18 @@ use Rattle.std.proofs.Common.{◌≡◌, ℕ, Bool, true, false, ◌&&◌, List,
 use Rattle.std.specs.Prelude.{nat_eq, ◌==◌, if◌then◌else◌, Ok, Err}
 use Rattle.std.proofs.lemmas.Bool.{eqb-true}
 use Rattle.std.specs.Cmp.Lexicographic.{bytes_decides, pointwise}
-use Rattle.journal_equality.specs.HeaderEqual.{header_equal}
-use Rattle.journal_errors.specs.Types.{type_number}
-use Rattle.journal_errors.specs.declared.faults.NamedFault.{NamedFault}
-use Rattle.journal_errors.specs.declared.faults.NamedFault.TheVariants as fault
-use Rattle.journal_messages.specs.Reading.{message_in}
-use Rattle.journal_messages.specs.declared.message.Message.{Message}
-use Rattle.journal_messages.specs.declared.message.Message.TheVariants as message
-use Rattle.journal_messages.specs.declared.message.RawMessage.{RawMessage}
-use Rattle.journal_state.specs.declared.state.VoidOrValue.{VoidOrValue}
-use Rattle.journal_state.specs.declared.state.VoidOrValue.TheVariants as stored
-use Rattle.journal_values.specs.declared.notification.NotificationResult.{NotificationResult}
-use Rattle.journal_values.specs.declared.notification.NotificationResult.TheVariants as gives
+use Rattle.journal_protocol.specs.Equality.{header_equal}
+use Rattle.journal_protocol.specs.Types.{type_number}
+use Rattle.journal_protocol.specs.NamedFault.{NamedFault}
+use Rattle.journal_protocol.specs.NamedFault.TheVariants as fault
+use Rattle.journal_protocol.specs.Bodies.{message_in}
+use Rattle.journal_protocol.specs.Message.{Message}
+use Rattle.journal_protocol.specs.Message.TheVariants as message
+use Rattle.journal_protocol.specs.RawMessage.{RawMessage}
+use Rattle.journal_protocol.specs.VoidOrValue.{VoidOrValue}
+use Rattle.journal_protocol.specs.VoidOrValue.TheVariants as stored
+use Rattle.journal_protocol.specs.NotificationResult.{NotificationResult}
+use Rattle.journal_protocol.specs.NotificationResult.TheVariants as gives
 use Rattle.vm_laws.specs.RecordedReads.{IsFound, IsKeysRead, IsRead, IsValueRead, Records}
 use Rattle.vm_asks.specs.StateReads.{eager_form, eager_type, lazy_form, lazy_type, read_in_form, recorded_as, result_in, result_or, value_result}
 use Rattle.vm_asks.specs.declared.state_read.StateRead.{StateRead}

@@ -2,8 +2,8 @@
 -- behind it.
 use Rattle.std.specs.Prelude.{◌≡◌, ℕ, false, List, ◌++◌}
 use Rattle.std.specs.List.{concat, flat_map}
-use Rattle.journal_messages.specs.declared.message.Message.{Message}
-use Rattle.journal_messages.specs.Message.{encoding}
+use Rattle.journal_protocol.specs.Message.{Message}
+use Rattle.journal_protocol.specs.Frames.{encoding}
 use Rattle.vm_laws.specs.Endings.{EndsOnce, is_over}
 use Rattle.invocation_vm.specs.Views.{View}
 

@@ -1,9 +1,9 @@
 -- What a sleep does past the recorded commands.
 use Rattle.std.specs.Prelude.{◌≡◌, ℕ, ◌+◌, true, List, [], ◌∷◌, ◌++◌, Some, None}
-use Rattle.journal_messages.specs.declared.message.Message.TheVariants as message
-use Rattle.journal_values.specs.declared.notification.NotificationId.TheVariants.{CompletionId}
-use Rattle.journal_errors.specs.declared.types.MessageType.TheVariants as type
-use Rattle.journal_messages.specs.Message.{encoding}
+use Rattle.journal_protocol.specs.Message.TheVariants as message
+use Rattle.journal_protocol.specs.NotificationId.TheVariants.{CompletionId}
+use Rattle.journal_protocol.specs.MessageType.TheVariants as type
+use Rattle.journal_protocol.specs.Frames.{encoding}
 use Rattle.vm_parts.specs.Counting.{missing_number, next_index}
 use Rattle.vm_machine.specs.declared.machine.Machine.{Machine}
 use Rattle.vm_machine.specs.declared.phase.Phase.TheVariants.{Processing}

@@ -1,7 +1,7 @@
 //! The law of a call with a deadline.
 ghost use Rattle.std.specs.Prelude.{◌≡◌, ℕ};
-ghost use Rattle.journal_calls.specs.declared.calls.CallCommand.{CallCommand};
-ghost use Rattle.journal_messages.specs.declared.message.Message.TheVariants as message;
+ghost use Rattle.journal_protocol.specs.CallCommand.{CallCommand};
+ghost use Rattle.journal_protocol.specs.Message.TheVariants as message;
 ghost use Rattle.vm_asks.specs.declared.command.Command.{Command};
 ghost use Rattle.vm_laws.specs.Deadlines.{MakesBoth};
 

@@ -1,6 +1,6 @@
 //! The law of ephemeral reads.
 ghost use Rattle.std.specs.Prelude.{◌≡◌, List, None, Some, ℕ};
-ghost use Rattle.journal_errors.specs.declared.faults.NamedFault.{NamedFault};
+ghost use Rattle.journal_protocol.specs.NamedFault.{NamedFault};
 ghost use Rattle.vm_types.specs.declared.types.EphemeralCompletionId.{EphemeralCompletionId};
 ghost use Rattle.vm_parts.specs.States.{value_known};
 ghost use Rattle.vm_machine.specs.declared.machine.Machine.{Machine};

@@ -1,9 +1,9 @@
 //! The law of recorded reads.
 ghost use Rattle.std.specs.Prelude.{◌≡◌, ℕ, Ok, Option, Some};
-ghost use Rattle.journal_messages.specs.Reading.{message_in};
-ghost use Rattle.journal_messages.specs.declared.message.Message.{Message};
-ghost use Rattle.journal_messages.specs.declared.message.RawMessage.{RawMessage};
-ghost use Rattle.journal_values.specs.declared.notification.NotificationResult.{NotificationResult};
+ghost use Rattle.journal_protocol.specs.Bodies.{message_in};
+ghost use Rattle.journal_protocol.specs.Message.{Message};
+ghost use Rattle.journal_protocol.specs.RawMessage.{RawMessage};
+ghost use Rattle.journal_protocol.specs.NotificationResult.{NotificationResult};
 ghost use Rattle.vm_asks.specs.StateReads.{recorded_as};
 ghost use Rattle.vm_asks.specs.declared.state_read.StateRead.{StateRead};
 ghost use Rattle.vm_laws.specs.RecordedReads.{IsRead};

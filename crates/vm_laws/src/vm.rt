@@ -2,9 +2,9 @@
 ghost use Rattle.std.specs.Prelude.{◌≡◌, ◌<◌, ◌^◌, ℕ, false, List, [], ◌∷◌, ◌++◌, Option, Some, Result, Ok, Err};
 ghost use Rattle.std.proofs.Common.{Global};
 ghost use Rattle.std.specs.declared.alloc.AllocError.{AllocError};
-ghost use Rattle.journal_errors.specs.declared.error.Error.{Error};
-ghost use Rattle.journal_messages.specs.declared.message.RawMessage.{RawMessage};
-ghost use Rattle.journal_errors.specs.declared.version.Version.{Version};
+ghost use Rattle.journal_protocol.specs.Error.{Error};
+ghost use Rattle.journal_protocol.specs.RawMessage.{RawMessage};
+ghost use Rattle.journal_protocol.specs.Version.{Version};
 ghost use Rattle.vm_types.specs.declared.command_type.CommandRelationship.{CommandRelationship};
 ghost use Rattle.vm_types.specs.declared.options.VMOptions.{VMOptions};
 ghost use Rattle.vm_types.specs.declared.types.AwaitResponse.{AwaitResponse};

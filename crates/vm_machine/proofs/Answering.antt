@@ -1,7 +1,7 @@
 -- How a command is answered, and how many handles that needs.
 use Rattle.std.proofs.Common.{◌≡◌, ℕ, ◌+◌, ◌<◌, ◌^◌, refl, arith}
-use Rattle.journal_messages.specs.declared.message.Message.{Message}
-use Rattle.journal_messages.specs.declared.message.Message.TheVariants as message
+use Rattle.journal_protocol.specs.Message.{Message}
+use Rattle.journal_protocol.specs.Message.TheVariants as message
 use Rattle.await_trees.specs.declared.handle.NotificationHandle.{NotificationHandle}
 use Rattle.vm_asks.specs.declared.asks.AnswerKind.{AnswerKind}
 use Rattle.vm_asks.specs.declared.asks.AnswerKind.TheVariants as kind

@@ -1,6 +1,6 @@
 -- A call whose event may come to several outcomes is the call of one of them.
 use Rattle.std.proofs.Common.{◌≡◌, Option, Some, None, refl, sym, ap, ◌∙◌}
-use Rattle.journal_errors.specs.declared.error.Error.{Error}
+use Rattle.journal_protocol.specs.Error.{Error}
 use Rattle.vm_machine.specs.declared.machine.Machine.{Machine}
 use Rattle.vm_machine.specs.Outcomes.{CalledAt, CalledBy, Failed, Outcome, called, called_at}
 

@@ -1,8 +1,8 @@
 -- A command keeps its type where it gets its numbers.
 use Rattle.std.proofs.Common.{◌≡◌, ℕ, refl}
-use Rattle.journal_messages.specs.declared.message.Message.{Message}
-use Rattle.journal_messages.specs.declared.message.Message.TheVariants as message
-use Rattle.journal_messages.specs.Message.{type_of}
+use Rattle.journal_protocol.specs.Message.{Message}
+use Rattle.journal_protocol.specs.Message.TheVariants as message
+use Rattle.journal_protocol.specs.Frames.{type_of}
 use Rattle.vm_asks.specs.Requests.{with_ids}
 
 pub same_type : (id : ℕ) (m : Message) → type_of (with_ids id m) ≡ type_of m

@@ -1,7 +1,7 @@
 -- What a call changes before its command.
 use Rattle.std.proofs.Common.{◌≡◌, ℕ, zero, suc, ◌+◌, List, [], ◌∷◌, ◌++◌, refl, sym, ap, ◌∙◌, subst, append_assoc, arith}
 use native.Mathlib.Nat.{add-zero}
-use Rattle.journal_values.specs.declared.notification.NotificationId.TheVariants.{CompletionId}
+use Rattle.journal_protocol.specs.NotificationId.TheVariants.{CompletionId}
 use Rattle.vm_parts.specs.declared.async_results.Mapping.{Mapping}
 use Rattle.vm_parts.specs.Arrived.{Arrived}
 use Rattle.vm_machine.specs.declared.machine.Machine.{Machine}

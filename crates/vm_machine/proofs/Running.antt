@@ -3,8 +3,8 @@ use Rattle.std.proofs.Common.{◌≡◌, Bool, true, false, cond, List, [], ◌�
 use Rattle.std.specs.List.{find}
 use Rattle.std.specs.Option.{option_map}
 use Rattle.await_trees.specs.declared.handle.NotificationHandle.{NotificationHandle}
-use Rattle.journal_errors.specs.declared.faults.NamedFault.TheVariants as name
-use Rattle.journal_errors.specs.Errors.{named_error}
+use Rattle.journal_protocol.specs.NamedFault.TheVariants as name
+use Rattle.journal_protocol.specs.Errors.{named_error}
 use Rattle.retries.specs.declared.policy.RetryPolicy.{RetryPolicy}
 use Rattle.runs.specs.declared.settling.Settlement.{Settlement}
 use Rattle.runs.specs.declared.types.RunExitResult.{RunExitResult}

@@ -1,19 +1,18 @@
 -- What a call with a command does: in Processing its command is written, in replay the recorded one
 -- is popped.
 use Rattle.std.specs.Prelude.{◌≡◌, ℕ, zero, suc, ◌+◌, ◌<◌, ◌^◌, Bool, true, false, ◌||◌, ◌==◌, if◌then◌else◌, List, [], ◌∷◌, ◌++◌, Option, Some, None, Result, IfOk, OnOk}
-use Rattle.journal_errors.specs.declared.error.Error.{Error}
-use Rattle.journal_errors.specs.declared.faults.NamedFault.{NamedFault}
-use Rattle.journal_errors.specs.declared.faults.NamedFault.TheVariants as fault
-use Rattle.journal_messages.specs.declared.message.Message.{Message}
-use Rattle.journal_messages.specs.declared.message.RawMessage.{RawMessage}
-use Rattle.journal_errors.specs.declared.types.MessageType.{MessageType}
-use Rattle.journal_values.specs.declared.notification.NotificationId.TheVariants.{CompletionId}
-use Rattle.journal_errors.specs.Errors.{named_error}
-use Rattle.journal_messages.specs.Message.{encoding, type_of}
-use Rattle.journal_messages.specs.Reading.{message_in}
-use Rattle.journal_messages.specs.Message.{IsWhole}
-use Rattle.journal_equality.specs.HeaderEqual.{header_equal}
-use Rattle.journal_errors.specs.Types.{type_number}
+use Rattle.journal_protocol.specs.Error.{Error}
+use Rattle.journal_protocol.specs.NamedFault.{NamedFault}
+use Rattle.journal_protocol.specs.NamedFault.TheVariants as fault
+use Rattle.journal_protocol.specs.Message.{Message}
+use Rattle.journal_protocol.specs.RawMessage.{RawMessage}
+use Rattle.journal_protocol.specs.MessageType.{MessageType}
+use Rattle.journal_protocol.specs.NotificationId.TheVariants.{CompletionId}
+use Rattle.journal_protocol.specs.Errors.{named_error}
+use Rattle.journal_protocol.specs.Frames.{encoding, type_of, IsWhole}
+use Rattle.journal_protocol.specs.Bodies.{message_in}
+use Rattle.journal_protocol.specs.Equality.{header_equal}
+use Rattle.journal_protocol.specs.Types.{type_number}
 use Rattle.vm_parts.specs.declared.async_results.Mapping.{Mapping}
 use Rattle.vm_parts.specs.declared.context.Counters.{Counters}
 use Rattle.vm_types.specs.declared.options.NonDeterministicChecksOption.{NonDeterministicChecksOption}
@@ -30,7 +29,7 @@ use Rattle.vm_machine.specs.Outcomes.{Outcome, Done, Failed, ◌>>=◌, Gives, a
 use Rattle.vm_machine.specs.Phases.{is_running, is_processing, state_fault}
 use Rattle.runs.specs.Pending.{to_execute}
 use Rattle.vm_parts.specs.declared.run_state.PendingRun.{PendingRun}
-use Rattle.journal_messages.specs.declared.message.Message.TheVariants as message
+use Rattle.journal_protocol.specs.Message.TheVariants as message
 use Rattle.vm_asks.specs.Requests.{changed, ids_of, name_of, shown_type, tracked_after, with_ids}
 
 -- a command is counted, and its type and name are kept

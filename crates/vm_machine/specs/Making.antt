@@ -1,8 +1,8 @@
 -- A machine before any input.
 use Rattle.std.specs.Prelude.{false, [], None}
 use Rattle.std.proofs.Common.{Global}
-use Rattle.journal_errors.specs.declared.types.MessageType.TheVariants.{Start}
-use Rattle.journal_errors.specs.declared.version.Version.{Version}
+use Rattle.journal_protocol.specs.MessageType.TheVariants.{Start}
+use Rattle.journal_protocol.specs.Version.{Version}
 use Rattle.vm_parts.specs.declared.context.StartInfo.{StartInfo}
 use Rattle.vm_parts.specs.declared.context.StateCoverage.TheVariants.{Partial}
 use Rattle.vm_types.specs.declared.options.VMOptions.{VMOptions}

@@ -1,15 +1,15 @@
 -- What an event does to a machine, and what the error rule makes of it. These words are said once,
 -- for all events.
 use Rattle.std.specs.Prelude.{◌≡◌, ◌⊎◌, ℕ, true, ◌&&◌, ◌==◌, if◌then◌else◌, List, [], ◌∷◌, ◌++◌, Option, Some, None, unwrap_or, Result, Ok, Err}
-use Rattle.journal_errors.specs.declared.error.Error.{Error}
-use Rattle.journal_errors.specs.declared.error.ErrorBehavior.{ErrorBehavior}
-use Rattle.journal_errors.specs.declared.error.ErrorBehavior.TheVariants.{Retry, Pause, Fail}
-use Rattle.journal_errors.specs.declared.error.RelatedCommand.{RelatedCommand}
-use Rattle.journal_errors.specs.declared.faults.NamedFault.{NamedFault}
-use Rattle.journal_messages.specs.declared.message.Message.TheVariants as message
-use Rattle.journal_errors.specs.Errors.{named_error, no_memory, error_message}
-use Rattle.journal_messages.specs.Message.{encoding}
-use Rattle.journal_errors.specs.declared.version.Version.{Version}
+use Rattle.journal_protocol.specs.Error.{Error}
+use Rattle.journal_protocol.specs.ErrorBehavior.{ErrorBehavior}
+use Rattle.journal_protocol.specs.ErrorBehavior.TheVariants.{Retry, Pause, Fail}
+use Rattle.journal_protocol.specs.RelatedCommand.{RelatedCommand}
+use Rattle.journal_protocol.specs.NamedFault.{NamedFault}
+use Rattle.journal_protocol.specs.Message.TheVariants as message
+use Rattle.journal_protocol.specs.Errors.{named_error, no_memory, error_message}
+use Rattle.journal_protocol.specs.Frames.{encoding}
+use Rattle.journal_protocol.specs.Version.{Version}
 use Rattle.vm_parts.specs.declared.context.Counters.{Counters}
 use Rattle.vm_parts.specs.declared.context.StartInfo.{StartInfo}
 use Rattle.vm_types.specs.declared.options.JournalMismatchRetryBehavior.{JournalMismatchRetryBehavior}
@@ -19,7 +19,7 @@ use Rattle.vm_machine.specs.declared.fault.Fault.{Fault}
 use Rattle.vm_machine.specs.declared.fault.Fault.TheVariants as fault
 use Rattle.vm_machine.specs.declared.machine.Machine.{Machine}
 use Rattle.vm_machine.specs.Phases.{is_closed}
-use Rattle.journal_errors.specs.Versions.{is_from_v7}
+use Rattle.journal_protocol.specs.Versions.{is_from_v7}
 
 -- An event is done with an answer, or fails with an error; either leaves a machine.
 pub data Outcome (A : Type 0) : Type 0 where

@@ -1,16 +1,16 @@
 -- What executing a run came to: its result is proposed, or the attempt fails.
 use Rattle.std.specs.Prelude.{◌≡◌, ◌++◌, [], ◌∷◌, not, ◌&&◌, ◌||◌, if◌then◌else◌, ℕ, Option, Some, None, find, is_some}
 use Rattle.await_trees.specs.declared.handle.NotificationHandle.{NotificationHandle}
-use Rattle.journal_errors.specs.declared.faults.NamedFault.{NamedFault}
-use Rattle.journal_errors.specs.declared.faults.NamedFault.TheVariants as fault
-use Rattle.journal_errors.specs.declared.version.Version.{Version}
-use Rattle.journal_messages.specs.declared.message.Message.TheVariants as message
-use Rattle.journal_messages.specs.declared.message.RawMessage.{RawMessage}
-use Rattle.journal_attempt.specs.declared.runs.ProposeRunCompletionAck.{ProposeRunCompletionAck}
-use Rattle.journal_errors.specs.Types.{type_number}
-use Rattle.journal_messages.specs.Message.{IsWhole, encoding}
-use Rattle.journal_messages.specs.Reading.{acknowledgement_in}
-use Rattle.journal_values.specs.declared.parts.ValueOrFailure.{ValueOrFailure}
+use Rattle.journal_protocol.specs.NamedFault.{NamedFault}
+use Rattle.journal_protocol.specs.NamedFault.TheVariants as fault
+use Rattle.journal_protocol.specs.Version.{Version}
+use Rattle.journal_protocol.specs.Message.TheVariants as message
+use Rattle.journal_protocol.specs.RawMessage.{RawMessage}
+use Rattle.journal_protocol.specs.ProposeRunCompletionAck.{ProposeRunCompletionAck}
+use Rattle.journal_protocol.specs.Types.{type_number}
+use Rattle.journal_protocol.specs.Frames.{IsWhole, encoding}
+use Rattle.journal_protocol.specs.Bodies.{acknowledgement_in}
+use Rattle.journal_protocol.specs.ValueOrFailure.{ValueOrFailure}
 use Rattle.retries.specs.declared.policy.RetryPolicy.{RetryPolicy}
 use Rattle.retries.specs.Policies.{pauses_on_max}
 use Rattle.runs.specs.declared.settling.Settlement.{Settlement}
@@ -25,7 +25,7 @@ use Rattle.vm_machine.specs.declared.machine.Machine.{Machine}
 use Rattle.vm_machine.specs.declared.phase.Phase.{Phase}
 use Rattle.vm_machine.specs.declared.phase.Phase.TheVariants.{Processing}
 use Rattle.vm_machine.specs.Outcomes.{Outcome, Done, Failed, refused}
-use Rattle.journal_errors.specs.Versions.{is_from_v6, is_from_v7}
+use Rattle.journal_protocol.specs.Versions.{is_from_v6, is_from_v7}
 
 -- the pending run of a handle that wasn't taken
 abbrev pub run_at : ℕ → Machine → Option PendingRun

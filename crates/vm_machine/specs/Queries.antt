@@ -1,8 +1,8 @@
 -- What can be asked of a machine at any time.
 use Rattle.std.specs.Prelude.{◌≡◌, ◌⊎◌, ℕ, ℤ, pos, negsuc, Bool, true, false, if◌then◌else◌, Option, Some, None, is_some, Result, Ok, Err}
-use Rattle.journal_errors.specs.declared.error.Error.{Error}
-use Rattle.journal_errors.specs.declared.faults.NamedFault.TheVariants as fault
-use Rattle.journal_errors.specs.Errors.{named_error, no_memory}
+use Rattle.journal_protocol.specs.Error.{Error}
+use Rattle.journal_protocol.specs.NamedFault.TheVariants as fault
+use Rattle.journal_protocol.specs.Errors.{named_error, no_memory}
 use Rattle.vm_types.specs.declared.types.State.{State}
 use Rattle.vm_types.specs.declared.types.State.TheVariants as state
 use Rattle.vm_machine.specs.declared.machine.Machine.{Machine}

@@ -4,8 +4,8 @@ use Rattle.std.specs.Prelude.{ℕ, ◌+◌, if◌then◌else◌, List, [], ◌�
 use Rattle.std.specs.Int.{w32, to_be_bytes}
 use Rattle.base64.specs.Engines.{url_safe_no_pad}
 use Rattle.base64.specs.GeneralPurpose.{encode_of}
-use Rattle.journal_errors.specs.declared.faults.NamedFault.{NamedFault}
-use Rattle.journal_values.specs.declared.notification.NotificationId.TheVariants.{SignalId, SignalName}
+use Rattle.journal_protocol.specs.NamedFault.{NamedFault}
+use Rattle.journal_protocol.specs.NotificationId.TheVariants.{SignalId, SignalName}
 use Rattle.vm_types.specs.declared.types.AwakeableHandle.{AwakeableHandle}
 use Rattle.await_trees.specs.declared.handle.NotificationHandle.{NotificationHandle}
 use Rattle.vm_parts.specs.Counting.{missing_signals}

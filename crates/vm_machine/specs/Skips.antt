@@ -1,8 +1,8 @@
 -- Recorded commands that are skipped: where they aren't replayed, those behind the input are
 -- dropped, and new commands get indexes and completion ids past theirs.
 use Rattle.std.specs.Prelude.{ℕ, ◌+◌, Bool, true, false, ◌==◌, if◌then◌else◌, nat_lt, List, [], Option, Some, None, unwrap_or, Result, Ok, Err}
-use Rattle.journal_errors.specs.declared.faults.NamedFault.{NamedFault}
-use Rattle.journal_errors.specs.declared.faults.NamedFault.TheVariants.{ExhaustedCompletionIds, ExhaustedCommandIndexes}
+use Rattle.journal_protocol.specs.NamedFault.{NamedFault}
+use Rattle.journal_protocol.specs.NamedFault.TheVariants.{ExhaustedCompletionIds, ExhaustedCommandIndexes}
 use Rattle.vm_parts.specs.declared.context.Counters.{Counters}
 use Rattle.vm_parts.specs.Counting.{most, next_index}
 use Rattle.vm_types.specs.declared.options.JournalReplay.{JournalReplay}

@@ -1,7 +1,7 @@
 //! Ephemeral reads of the state: a key's value, without a command in the journal.
 ghost use Rattle.std.specs.Prelude.{◌≡◌, ◌∷◌, ◌++◌, [], IfNone, IfSome, OnErr, OnOk, true, false};
-ghost use Rattle.journal_messages.specs.Message.{encoding};
-ghost use Rattle.journal_messages.specs.declared.message.Message.TheVariants as message;
+ghost use Rattle.journal_protocol.specs.Frames.{encoding};
+ghost use Rattle.journal_protocol.specs.Message.TheVariants as message;
 ghost use Rattle.vm_parts.specs.Ephemerals.{with_in_flight};
 ghost use Rattle.vm_machine.specs.Ephemerals.{answers_ready, asking_fault, ephemeral_step, found_of, may_answer, read_known, result_comes, take_ephemeral_step, value_found};
 ghost use Rattle.vm_machine.specs.Outcomes.{Gives, lasting};
@@ -9,12 +9,10 @@ ghost use Rattle.vm_machine.specs.Outcomes.{Gives, lasting};
 use crate::fault::{Fault, refuse};
 use crate::machine::Machine;
 use bytes::Bytes;
-use journal_errors::{NamedFault, Version};
-use journal_messages::Message;
-use journal_state::{GetStateEphemeralCommand, VoidOrValue};
+use journal_protocol::{GetStateEphemeralCommand, Message, NamedFault, Version, VoidOrValue};
+use plain::{Text, copy_of};
 use std::alloc::AllocError;
 use vm_parts::{EphemeralCompletionId, Known, StateKey, Value};
-use wire::{Text, copy_of};
 
 /// Why a key can't be asked for, by what is known of it: nothing comes where the input is closed.
 fn asking_fault(closed: bool, known: &Known) -> Option<NamedFault>

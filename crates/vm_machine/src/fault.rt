@@ -1,9 +1,9 @@
 //! Why an event wasn't carried out: no memory was found, or it was refused with an error.
 ghost use Rattle.std.specs.Prelude.{◌≡◌, None};
-ghost use Rattle.journal_errors.specs.Errors.{named_error};
+ghost use Rattle.journal_protocol.specs.Errors.{named_error};
 ghost use Rattle.vm_machine.specs.declared.fault.Fault.TheVariants.{Memory, Refused};
 
-use journal_errors::{Error, NamedFault};
+use journal_protocol::{Error, NamedFault};
 use std::alloc::AllocError;
 
 #[derive(Drop)]

@@ -6,19 +6,17 @@ ghost use Rattle.vm_machine.specs.Outcomes.{Gives};
 ghost use Rattle.vm_machine.specs.Phases.{is_closed};
 ghost use Rattle.vm_machine.specs.declared.fault.Fault.TheVariants.{Refused};
 ghost use Rattle.vm_machine.specs.Commands.{about_next};
-ghost use Rattle.journal_errors.specs.declared.types.MessageType.TheVariants as type;
+ghost use Rattle.journal_protocol.specs.MessageType.TheVariants as type;
 ghost use Rattle.vm_machine.specs.Inputs.{input_of, input_counted, input_past, input_step, end_step};
 
 use crate::fault::{Fault, refuse};
 use crate::machine::Machine;
 use crate::phase::Phase;
 use crate::skips::{counters_past, skips_replay};
-use journal_attempt::InputCommand;
-use journal_errors::{Error, MessageType, NamedFault, RelatedCommand};
-use journal_messages::Message;
+use journal_protocol::{Error, InputCommand, Message, MessageType, NamedFault, RelatedCommand};
+use plain::{Text, copy_of};
 use std::alloc::AllocError;
 use vm_parts::{Input, StartInfo};
-use wire::{Text, copy_of};
 
 /// A copy of a text, if there is one.
 fn copy_text(text: &Option<Text>) -> Result<Option<Text>, AllocError>
@@ -68,8 +66,8 @@ impl Machine {
         let raw = self.pop(MessageType::InputCommand)?;
         match raw.read_input(self.alloc) {
             Ok(command) => Ok(input_of(&self.start, command)?),
-            Err(wire::Fault::Memory) => Err(Fault::Memory),
-            Err(wire::Fault::Malformed) => Err(Fault::Refused(self.about_last(
+            Err(plain::Fault::Memory) => Err(Fault::Memory),
+            Err(plain::Fault::Malformed) => Err(Fault::Refused(self.about_last(
                 NamedFault::BadMessage,
             )?)),
         }

@@ -1,7 +1,7 @@
 //! The event of all calls that have a command: the command is written, or in replay the recorded one is popped.
 ghost use Rattle.std.specs.Prelude.{◌≡◌, ◌<◌, ◌+◌, ◌^◌, ◌∷◌, [], true, Some, IfNone, IfSome, IfOk, OnOk, OnErr};
-ghost use Rattle.journal_errors.specs.Errors.{named_error};
-ghost use Rattle.journal_messages.specs.Message.{IsWhole, type_of};
+ghost use Rattle.journal_protocol.specs.Errors.{named_error};
+ghost use Rattle.journal_protocol.specs.Frames.{IsWhole, type_of};
 ghost use Rattle.vm_machine.specs.Outcomes.{Gives, about_last, last_related, lasting};
 ghost use Rattle.vm_machine.specs.Commands.{entered, phase_after, written, popped, replayed, carried_out, handed_out, checks_are_off, knows_next, runs_after, Carries, Issues};
 ghost use Rattle.vm_machine.specs.Phases.{is_processing};
@@ -10,15 +10,14 @@ ghost use Rattle.vm_asks.specs.Requests.{changed, ids_of, tracked_after};
 use crate::fault::{Fault, refuse};
 use crate::machine::Machine;
 use crate::phase::Phase;
-use journal_equality::header_eq;
-use journal_errors::{Error, MessageType, NamedFault, RelatedCommand};
-use journal_messages::{Message, RawMessage};
-use journal_values::NotificationId;
+use journal_protocol::{
+    Error, Message, MessageType, NamedFault, NotificationId, RawMessage, RelatedCommand, header_eq,
+};
+use plain::{Text, copy_of};
 use std::alloc::AllocError;
 use vm_asks::Command;
 use vm_asks::request::{give_ids, ids_of, is_cancelled_with, name_of, shown_type};
 use vm_parts::{LastCommand, NonDeterministicChecksOption, NotificationHandle, Queue};
-use wire::{Text, copy_of};
 
 /// An error that relates to the command that would come next.
 pub fn about_next(fault: NamedFault, index: u32, ty: MessageType, name: Text) -> Error
@@ -108,8 +107,8 @@ impl Machine {
         let raw = self.pop(message.ty())?;
         let recorded = match raw.read(self.alloc) {
             Ok(recorded) => recorded,
-            Err(wire::Fault::Memory) => return Err(Fault::Memory),
-            Err(wire::Fault::Malformed) => {
+            Err(plain::Fault::Memory) => return Err(Fault::Memory),
+            Err(plain::Fault::Malformed) => {
                 return Err(Fault::Refused(self.about_last(NamedFault::BadMessage)?));
             }
         };

@@ -4,15 +4,14 @@ ghost use Rattle.vm_machine.specs.Making.{fresh, nothing_started};
 
 use crate::phase::Phase;
 use bytes::Bytes;
-use journal_errors::{Error, MessageType, Version};
-use journal_messages::RawMessage;
+use journal_protocol::{Error, MessageType, RawMessage, Version};
+use plain::Text;
 use runs::{KeptProposals, RunState};
 use std::alloc::{AllocError, Global};
 use vm_parts::{
     AsyncResults, Counters, EphemeralCommands, LastCommand, Outbox, Queue, StartInfo,
     StateCoverage, StateMap, TrackedCalls, VMOptions,
 };
-use wire::Text;
 
 /// All that a machine is.
 #[derive(Drop)]

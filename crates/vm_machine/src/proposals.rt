@@ -1,17 +1,14 @@
 //! The result of executing a run: it is proposed, or the attempt fails.
 ghost use Rattle.std.specs.Prelude.{◌≡◌, ◌++◌, ◌∷◌, [], Some, IfNone, IfOk, IfSome, OnOk, OnErr};
-ghost use Rattle.journal_messages.specs.Message.{IsWhole, encoding};
-ghost use Rattle.journal_messages.specs.declared.message.Message.TheVariants as message;
+ghost use Rattle.journal_protocol.specs.Frames.{IsWhole, encoding};
+ghost use Rattle.journal_protocol.specs.Message.TheVariants as message;
 ghost use Rattle.runs.specs.Pending.{has_handle};
 ghost use Rattle.vm_machine.specs.Outcomes.{GivesBy, lasting};
 ghost use Rattle.vm_machine.specs.Proposals.{Proposes, Settled, SettlesAs, proposal_kept, proposal_fault, proposed, run_at, without_run};
 
 use crate::fault::{Fault, refuse};
 use crate::machine::Machine;
-use journal_attempt::ProposeRunCompletion;
-use journal_errors::{NamedFault, Version};
-use journal_messages::Message;
-use journal_values::ValueOrFailure;
+use journal_protocol::{Message, NamedFault, ProposeRunCompletion, ValueOrFailure, Version};
 use retries::RetryPolicy;
 use runs::{RunExitResult, Settlement, settle};
 use std::alloc::AllocError;

@@ -4,7 +4,7 @@ ghost use Rattle.vm_machine.specs.Queries.{IsReadyAt, state_of, last_index};
 
 use crate::machine::Machine;
 use crate::phase::Phase;
-use journal_errors::{Error, NamedFault};
+use journal_protocol::{Error, NamedFault};
 use vm_parts::State;
 
 impl Machine {

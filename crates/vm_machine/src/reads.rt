@@ -1,6 +1,6 @@
 //! State reads: eager where the state is known, lazy where it isn't; in replay the recorded form decides.
 ghost use Rattle.std.specs.Prelude.{◌≡◌, ◌<◌, ◌+◌, ◌^◌, OnOk, OnErr};
-ghost use Rattle.journal_messages.specs.Message.{IsWhole};
+ghost use Rattle.journal_protocol.specs.Frames.{IsWhole};
 ghost use Rattle.vm_machine.specs.Commands.{entered, handed_out};
 ghost use Rattle.vm_machine.specs.Outcomes.{Gives, lasting};
 ghost use Rattle.vm_machine.specs.Reads.{StateIsRead, ReadsNumbered, read_popped, read_step, read_written, with_read_ready};
@@ -8,14 +8,12 @@ ghost use Rattle.vm_machine.specs.Reads.{StateIsRead, ReadsNumbered, read_popped
 use crate::fault::Fault;
 use crate::issue::about_next;
 use crate::machine::Machine;
-use journal_errors::NamedFault;
-use journal_messages::Message;
-use journal_values::NotificationResult;
+use journal_protocol::{Message, NamedFault, NotificationResult};
+use plain::Text;
 use std::alloc::AllocError;
 use vm_asks::StateRead;
 use vm_asks::state_read::result_in;
 use vm_parts::NotificationHandle;
-use wire::Text;
 
 impl Machine {
     /// Gives a read its result, where it brings one.

@@ -5,10 +5,10 @@ ghost use Rattle.vm_machine.specs.Reports.{related_by, related_to, is_retry, rep
 
 use crate::fault::{Fault, refuse};
 use crate::machine::Machine;
-use journal_errors::{Error, ErrorBehavior, NamedFault, RelatedCommand, Version};
+use journal_protocol::{Error, ErrorBehavior, NamedFault, RelatedCommand, Version};
+use plain::Text;
 use std::alloc::{AllocError, Global};
 use vm_parts::CommandRelationship;
-use wire::Text;
 
 /// An absent name is empty.
 fn name_text(alloc: Global, name: Option<Text>) -> Text

@@ -1,15 +1,14 @@
 //! The error rule: what becomes of a machine whose event was refused or found no memory.
 ghost use Rattle.std.specs.Prelude.{◌≡◌, ◌∷◌, ◌++◌, [], IfOk, OnOk, OnErr, IsErr, Ok, Some, is_some};
-ghost use Rattle.journal_errors.specs.Errors.{no_memory, error_message};
-ghost use Rattle.journal_messages.specs.Message.{encoding};
-ghost use Rattle.journal_messages.specs.declared.message.Message.TheVariants as message;
+ghost use Rattle.journal_protocol.specs.Errors.{no_memory, error_message};
+ghost use Rattle.journal_protocol.specs.Frames.{encoding};
+ghost use Rattle.journal_protocol.specs.Message.TheVariants as message;
 ghost use Rattle.vm_machine.specs.Outcomes.{ruled, failed, starved, Rules, Settles, Lives, mismatch_behavior};
 ghost use Rattle.vm_machine.specs.Inputs.{Quiets};
 
 use crate::fault::Fault;
 use crate::machine::Machine;
-use journal_errors::{Error, ErrorBehavior, NamedFault, Version};
-use journal_messages::Message;
+use journal_protocol::{Error, ErrorBehavior, Message, NamedFault, Version};
 use std::alloc::{AllocError, Global};
 use vm_parts::{Counters, JournalMismatchRetryBehavior};
 

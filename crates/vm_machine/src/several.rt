@@ -8,7 +8,7 @@ ghost use Rattle.vm_machine.specs.Several.{AllFit, commanded_before, foreseen, m
 use crate::fault::{Fault, refuse};
 use crate::issue::about_next;
 use crate::machine::Machine;
-use journal_errors::NamedFault;
+use journal_protocol::NamedFault;
 use vm_asks::Command;
 use vm_asks::request::{ids_of, name_of, shown_type};
 use vm_parts::NotificationHandle;

@@ -7,10 +7,10 @@ use crate::fault::{Fault, refuse};
 use crate::machine::Machine;
 use base64::engine::general_purpose::URL_SAFE_NO_PAD;
 use bytes::Bytes;
-use journal_values::NotificationId;
+use journal_protocol::NotificationId;
+use plain::Text;
 use std::alloc::{AllocError, Global};
 use vm_parts::{AwakeableHandle, NotificationHandle};
-use wire::Text;
 
 /// The id by which others complete the awakeable of a signal.
 #[tactic(auto, unfolding(crate::specs::Signals::awakeable_id))]

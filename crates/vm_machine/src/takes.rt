@@ -7,10 +7,10 @@ ghost use Rattle.vm_machine.specs.Takes.{take_step, is_completed, value_taken};
 
 use crate::fault::{Fault, refuse};
 use crate::machine::Machine;
-use journal_errors::NamedFault;
+use journal_protocol::NamedFault;
+use plain::Text;
 use vm_parts::{NotificationHandle, Value};
 use vm_types::values::read_result;
-use wire::Text;
 
 /// The invocation's id that a value is.
 fn id_of_value(value: &Value) -> Option<&Text>

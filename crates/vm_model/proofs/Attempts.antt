@@ -1,8 +1,8 @@
 -- An attempt goes on with the run that its journal records.
 use Rattle.std.proofs.Common.{◌≡◌, ℕ, zero, suc, List, [], ◌++◌, Some, sym, ap, ◌∙◌, subst, append_assoc, append-nil}
 use Rattle.std.proofs.lemmas.Option.{same_Some}
-use Rattle.journal_messages.specs.declared.message.Message.{Message}
-use Rattle.journal_messages.specs.declared.message.RawMessage.{RawMessage}
+use Rattle.journal_protocol.specs.Message.{Message}
+use Rattle.journal_protocol.specs.RawMessage.{RawMessage}
 use Rattle.vm_parts.specs.declared.context.StateMap.{StateMap}
 use Rattle.vm_model.specs.Calls.{Setup, Meaning}
 use Rattle.vm_model.specs.Moves.{Point, longer, move_at, next, supplied}

@@ -1,14 +1,13 @@
 -- What a run makes changes the state as its calls do, and its eager reads are as the state is.
 use Rattle.std.proofs.Common.{◌≡◌, ℕ, zero, suc, false, List, [], ◌∷◌, ◌++◌, Option, Some, None, refl, sym, ap, ◌∙◌, subst}
-use Rattle.journal_messages.specs.declared.message.Message.{Message}
-use Rattle.journal_messages.specs.declared.message.RawMessage.{RawMessage}
-use Rattle.journal_errors.specs.declared.version.Version.{Version}
-use Rattle.journal_messages.specs.declared.message.Message.TheVariants as message
-use Rattle.journal_state.specs.declared.state.GetEagerStateCommand.{GetEagerStateCommand}
-use Rattle.journal_state.specs.declared.state.GetEagerStateKeysCommand.{GetEagerStateKeysCommand}
-use Rattle.journal_messages.specs.Message.{IsWhole}
-use Rattle.journal_messages.specs.Message.{type_of}
-use Rattle.journal_messages.specs.Reading.{message_in}
+use Rattle.journal_protocol.specs.Message.{Message}
+use Rattle.journal_protocol.specs.RawMessage.{RawMessage}
+use Rattle.journal_protocol.specs.Version.{Version}
+use Rattle.journal_protocol.specs.Message.TheVariants as message
+use Rattle.journal_protocol.specs.GetEagerStateCommand.{GetEagerStateCommand}
+use Rattle.journal_protocol.specs.GetEagerStateKeysCommand.{GetEagerStateKeysCommand}
+use Rattle.journal_protocol.specs.Frames.{IsWhole, type_of}
+use Rattle.journal_protocol.specs.Bodies.{message_in}
 use Rattle.vm_parts.specs.declared.context.Known.TheVariants.{Unknown}
 use Rattle.vm_parts.specs.States.{value_known, known_keys}
 use Rattle.vm_asks.specs.declared.state_read.StateRead.TheVariants as reads

@@ -1,6 +1,6 @@
 -- What was handed out honestly, or whole, lasts: as it was then, a call may know it later.
 use Rattle.std.proofs.Common.{◌≡◌, List, [], ◌∷◌, ◌++◌, refl, ap}
-use Rattle.journal_messages.specs.declared.message.Message.{Message}
+use Rattle.journal_protocol.specs.Message.{Message}
 use Rattle.vm_parts.specs.declared.context.StateMap.{StateMap}
 use Rattle.vm_parts.specs.Entries.{IsInOrder}
 use Rattle.vm_model.specs.Journal.{Entry, Recorded, Notified, commands_in, notifications_in}

@@ -2,10 +2,10 @@
 use Rattle.std.proofs.Common.{◌≡◌, ◌⊎◌, inl, inr, ⊎_elim, ℕ, zero, suc, Bool, true, false, List, [], ◌++◌, Some, refl, sym, ap, ◌∙◌, subst, append_assoc, append-nil}
 use Rattle.std.specs.Prelude.{◌||◌, ◌∷◌}
 use Rattle.std.proofs.lemmas.Option.{same_Some}
-use Rattle.journal_attempt.specs.declared.commands.InputCommand.{InputCommand}
-use Rattle.journal_messages.specs.declared.message.RawMessage.{RawMessage}
-use Rattle.journal_messages.specs.Reading.{message_in}
-use Rattle.journal_values.specs.declared.notification.Notification.{Notification}
+use Rattle.journal_protocol.specs.InputCommand.{InputCommand}
+use Rattle.journal_protocol.specs.RawMessage.{RawMessage}
+use Rattle.journal_protocol.specs.Bodies.{message_in}
+use Rattle.journal_protocol.specs.Notification.{Notification}
 use Rattle.vm_parts.specs.declared.context.StateMap.{StateMap}
 use Rattle.vm_model.specs.Calls.{Meaning, Setup}
 use Rattle.vm_model.specs.Carried.{AreCarried, ComeOnce, is_carried, read_carries}

@@ -1,7 +1,7 @@
 -- As long as a call that asks for one command or none isn't answered, no part of a call is made.
 use Rattle.std.proofs.Common.{◌≡◌, ℕ, zero, suc, List, [], ◌∷◌, ◌++◌, Some, refl, sym, ap, ◌∙◌, subst, append_assoc, append-nil}
 use Rattle.std.proofs.lemmas.Option.{same_Some}
-use Rattle.journal_messages.specs.declared.message.RawMessage.{RawMessage}
+use Rattle.journal_protocol.specs.RawMessage.{RawMessage}
 use Rattle.vm_types.specs.declared.steps.Answer.{Answer}
 use Rattle.vm_asks.specs.Asks.{ask_of}
 use Rattle.vm_model.specs.Calls.{Meaning, Setup}

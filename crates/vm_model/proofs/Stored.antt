@@ -3,23 +3,21 @@ use Rattle.std.proofs.Common.{◌≡◌, ◌⊎◌, ℕ, Bool, true, false, ◌&
 use Rattle.std.specs.Prelude.{nat_eq, ◌==◌, if◌then◌else◌, Ok, Err}
 use Rattle.std.proofs.lemmas.Option.{same_Some}
 use Rattle.std.specs.Cmp.Lexicographic.{bytes_decides, pointwise}
-use Rattle.journal_errors.specs.declared.faults.NamedFault.TheVariants as fault
-use Rattle.journal_messages.specs.declared.message.Message.{Message}
-use Rattle.journal_messages.specs.declared.message.Message.TheVariants as message
-use Rattle.journal_messages.specs.declared.message.RawMessage.{RawMessage}
-use Rattle.journal_values.specs.declared.notification.NotificationResult.{NotificationResult}
-use Rattle.journal_state.specs.declared.state.GetEagerStateCommand.{GetEagerStateCommand}
-use Rattle.journal_state.specs.declared.state.GetEagerStateKeysCommand.{GetEagerStateKeysCommand}
-use Rattle.journal_state.specs.declared.state.VoidOrValue.TheVariants as stands
-use Rattle.journal_errors.specs.declared.types.MessageType.{MessageType}
-use Rattle.journal_errors.specs.declared.types.MessageType.TheVariants as type
-use Rattle.journal_equality.specs.HeaderEqual.{header_equal}
-use Rattle.journal_messages.specs.Message.{body, type_of}
-use Rattle.journal_messages.specs.Reading.{message_in}
-use Rattle.journal_errors.specs.Types.{type_number}
-use Rattle.journal_messages.specs.Message.{IsWhole}
-use Rattle.journal_streams.proofs.Alone.{read_back}
-use Rattle.journal_protocol.proofs.Facts.{result_said, type_read, value_said}
+use Rattle.journal_protocol.specs.NamedFault.TheVariants as fault
+use Rattle.journal_protocol.specs.Message.{Message}
+use Rattle.journal_protocol.specs.Message.TheVariants as message
+use Rattle.journal_protocol.specs.RawMessage.{RawMessage}
+use Rattle.journal_protocol.specs.NotificationResult.{NotificationResult}
+use Rattle.journal_protocol.specs.GetEagerStateCommand.{GetEagerStateCommand}
+use Rattle.journal_protocol.specs.GetEagerStateKeysCommand.{GetEagerStateKeysCommand}
+use Rattle.journal_protocol.specs.VoidOrValue.TheVariants as stands
+use Rattle.journal_protocol.specs.MessageType.{MessageType}
+use Rattle.journal_protocol.specs.MessageType.TheVariants as type
+use Rattle.journal_protocol.specs.Equality.{header_equal}
+use Rattle.journal_protocol.specs.Frames.{body, type_of, IsWhole}
+use Rattle.journal_protocol.specs.Bodies.{message_in}
+use Rattle.journal_protocol.specs.Types.{type_number}
+use Rattle.journal_protocol.proofs.Facts.{read_back, result_said, type_read, value_said}
 use Rattle.vm_parts.specs.declared.context.Known.{Known}
 use Rattle.vm_parts.specs.declared.context.Known.TheVariants.{Unknown, Empty, Value}
 use Rattle.vm_parts.specs.declared.context.StateMap.{StateMap}

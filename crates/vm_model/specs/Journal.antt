@@ -1,13 +1,13 @@
 -- A journal: its entries, and the two lists that a run reads them as.
 use Rattle.std.specs.Prelude.{List, [], ◌∷◌, Option, Some, None, ◌==◌, if◌then◌else◌}
-use Rattle.journal_attempt.specs.declared.commands.InputCommand.{InputCommand}
-use Rattle.journal_messages.specs.declared.message.Message.{Message}
-use Rattle.journal_messages.specs.declared.message.RawMessage.{RawMessage}
-use Rattle.journal_values.specs.declared.notification.Notification.{Notification}
-use Rattle.journal_errors.specs.declared.types.MessageType.TheVariants as type
-use Rattle.journal_messages.specs.Message.{type_of, body}
-use Rattle.journal_messages.specs.Reading.{input_in, message_in}
-use Rattle.journal_errors.specs.Types.{type_number}
+use Rattle.journal_protocol.specs.InputCommand.{InputCommand}
+use Rattle.journal_protocol.specs.Message.{Message}
+use Rattle.journal_protocol.specs.RawMessage.{RawMessage}
+use Rattle.journal_protocol.specs.Notification.{Notification}
+use Rattle.journal_protocol.specs.MessageType.TheVariants as type
+use Rattle.journal_protocol.specs.Frames.{type_of, body}
+use Rattle.journal_protocol.specs.Bodies.{input_in, message_in}
+use Rattle.journal_protocol.specs.Types.{type_number}
 
 -- An entry is a command as it was stored, or a notification.
 pub data Entry : Type 0 where

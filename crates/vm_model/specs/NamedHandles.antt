@@ -1,12 +1,12 @@
 -- For which ids the handles of an answer stand: for those in the fields of the commands that its
 -- call made.
 use Rattle.std.specs.Prelude.{◌≡◌, ◌⊎◌, ℕ, List, [], ◌∷◌, ◌++◌, Some}
-use Rattle.journal_attempt.specs.declared.commands.SleepCommand.{SleepCommand}
-use Rattle.journal_calls.specs.declared.calls.CallCommand.{CallCommand}
-use Rattle.journal_calls.specs.declared.calls.OneWayCallCommand.{OneWayCallCommand}
-use Rattle.journal_messages.specs.declared.message.Message.{Message}
-use Rattle.journal_messages.specs.declared.message.Message.TheVariants as message
-use Rattle.journal_values.specs.declared.notification.NotificationId.TheVariants.{CompletionId, SignalId, SignalName}
+use Rattle.journal_protocol.specs.SleepCommand.{SleepCommand}
+use Rattle.journal_protocol.specs.CallCommand.{CallCommand}
+use Rattle.journal_protocol.specs.OneWayCallCommand.{OneWayCallCommand}
+use Rattle.journal_protocol.specs.Message.{Message}
+use Rattle.journal_protocol.specs.Message.TheVariants as message
+use Rattle.journal_protocol.specs.NotificationId.TheVariants.{CompletionId, SignalId, SignalName}
 use Rattle.vm_types.specs.declared.steps.Answer.{Answer}
 use Rattle.vm_types.specs.declared.steps.Answer.TheVariants as answer
 use Rattle.vm_types.specs.declared.steps.Step.TheVariants as step

@@ -1,9 +1,9 @@
 -- What is left of the deliveries of a signal, for takes to come.
 use Rattle.std.specs.Prelude.{List, ◌++◌}
 use Rattle.arrivals.specs.Results.{results_of}
-use Rattle.journal_values.specs.declared.notification.NotificationId.{NotificationId}
-use Rattle.journal_values.specs.declared.notification.NotificationId.TheVariants.{CompletionId, SignalId, SignalName}
-use Rattle.journal_values.specs.declared.notification.NotificationResult.{NotificationResult}
+use Rattle.journal_protocol.specs.NotificationId.{NotificationId}
+use Rattle.journal_protocol.specs.NotificationId.TheVariants.{CompletionId, SignalId, SignalName}
+use Rattle.journal_protocol.specs.NotificationResult.{NotificationResult}
 use Rattle.vm_parts.specs.Arrived.{Ready}
 use Rattle.vm_model.specs.Calls.{Setup, ready_in}
 use Rattle.vm_model.specs.Moves.{Point}

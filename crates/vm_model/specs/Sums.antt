@@ -6,7 +6,7 @@ use Rattle.vm_asks.specs.declared.asks.Ask.{Ask}
 use Rattle.vm_asks.specs.declared.asks.Ask.TheVariants as ask
 use Rattle.vm_asks.specs.Asks.{all_ids, ask_of}
 use Rattle.vm_asks.specs.Requests.{ids_of}
-use Rattle.journal_errors.specs.declared.version.Version.{Version}
+use Rattle.journal_protocol.specs.Version.{Version}
 use Rattle.vm_model.specs.Calls.{Meaning}
 
 -- how many completion ids are asked for

@@ -1,10 +1,10 @@
 //! Laws of awaits and takes.
 ghost use Rattle.std.specs.Prelude.{◌≡◌, ◌≤◌, ◌∷◌, ◌++◌, [], List, ℕ, Some, drop, false, length, take, true};
-ghost use Rattle.journal_attempt.specs.declared.commands.InputCommand.{InputCommand};
-ghost use Rattle.journal_messages.specs.declared.message.RawMessage.{RawMessage};
-ghost use Rattle.journal_values.specs.declared.notification.Notification.{Notification};
-ghost use Rattle.journal_values.specs.declared.notification.NotificationId.{NotificationId};
-ghost use Rattle.journal_values.specs.declared.notification.NotificationId.TheVariants.{CompletionId};
+ghost use Rattle.journal_protocol.specs.InputCommand.{InputCommand};
+ghost use Rattle.journal_protocol.specs.RawMessage.{RawMessage};
+ghost use Rattle.journal_protocol.specs.Notification.{Notification};
+ghost use Rattle.journal_protocol.specs.NotificationId.{NotificationId};
+ghost use Rattle.journal_protocol.specs.NotificationId.TheVariants.{CompletionId};
 ghost use Rattle.vm_types.specs.declared.options.SignalDelivery.{SignalDelivery};
 ghost use Rattle.vm_types.specs.declared.steps.Answer.{Answer};
 ghost use Rattle.vm_types.specs.declared.steps.Answer.TheVariants as answer;

@@ -1,9 +1,9 @@
 //! Laws of handles: which of them are gone, and for which ids they stand.
 ghost use Rattle.std.specs.Prelude.{◌≡◌, List, ℕ, Some};
 ghost use Rattle.await_trees.specs.declared.handle.NotificationHandle.{NotificationHandle};
-ghost use Rattle.journal_attempt.specs.declared.commands.InputCommand.{InputCommand};
-ghost use Rattle.journal_messages.specs.declared.message.RawMessage.{RawMessage};
-ghost use Rattle.journal_values.specs.declared.notification.Notification.{Notification};
+ghost use Rattle.journal_protocol.specs.InputCommand.{InputCommand};
+ghost use Rattle.journal_protocol.specs.RawMessage.{RawMessage};
+ghost use Rattle.journal_protocol.specs.Notification.{Notification};
 ghost use Rattle.vm_types.specs.declared.steps.Answer.{Answer};
 ghost use Rattle.vm_model.specs.Calls.{Meaning, Setup};
 ghost use Rattle.vm_model.specs.Moves.{Point, after, start};

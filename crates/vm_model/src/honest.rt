@@ -1,8 +1,8 @@
 //! Laws of honest rounds, whoever runs their attempts.
 ghost use Rattle.std.specs.Prelude.{◌≡◌, ◌∷◌, ◌++◌, List, length};
-ghost use Rattle.journal_attempt.specs.declared.commands.InputCommand.{InputCommand};
-ghost use Rattle.journal_messages.specs.declared.message.RawMessage.{RawMessage};
-ghost use Rattle.journal_values.specs.declared.notification.Notification.{Notification};
+ghost use Rattle.journal_protocol.specs.InputCommand.{InputCommand};
+ghost use Rattle.journal_protocol.specs.RawMessage.{RawMessage};
+ghost use Rattle.journal_protocol.specs.Notification.{Notification};
 ghost use Rattle.vm_parts.specs.declared.context.StateMap.{StateMap};
 ghost use Rattle.vm_parts.specs.Entries.{IsInOrder};
 ghost use Rattle.vm_model.specs.Calls.{Setup, Meaning};

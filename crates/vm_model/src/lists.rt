@@ -2,12 +2,12 @@
 ghost use Rattle.std.specs.Prelude.{◌≡◌, ◌≢◌, ◌⊎◌, ◌+◌, ◌++◌, [], List, ℕ, Some, take, true};
 ghost use Rattle.arrivals.specs.Results.{results_of};
 ghost use Rattle.vm_asks.specs.Asks.{ask_of};
-ghost use Rattle.journal_attempt.specs.declared.commands.InputCommand.{InputCommand};
-ghost use Rattle.journal_errors.specs.declared.faults.NamedFault.TheVariants as fault;
-ghost use Rattle.journal_messages.specs.declared.message.RawMessage.{RawMessage};
-ghost use Rattle.journal_values.specs.declared.notification.Notification.{Notification};
-ghost use Rattle.journal_values.specs.declared.notification.NotificationId.{NotificationId};
-ghost use Rattle.journal_values.specs.declared.notification.NotificationId.TheVariants.{CompletionId, SignalId};
+ghost use Rattle.journal_protocol.specs.InputCommand.{InputCommand};
+ghost use Rattle.journal_protocol.specs.NamedFault.TheVariants as fault;
+ghost use Rattle.journal_protocol.specs.RawMessage.{RawMessage};
+ghost use Rattle.journal_protocol.specs.Notification.{Notification};
+ghost use Rattle.journal_protocol.specs.NotificationId.{NotificationId};
+ghost use Rattle.journal_protocol.specs.NotificationId.TheVariants.{CompletionId, SignalId};
 ghost use Rattle.vm_parts.specs.declared.context.StateMap.{StateMap};
 ghost use Rattle.vm_parts.specs.Deliveries.{id_at};
 ghost use Rattle.vm_model.specs.Calls.{Setup, Meaning};

@@ -1,8 +1,8 @@
 //! Laws of the numbers that calls are given.
 ghost use Rattle.std.specs.Prelude.{◌≡◌, ◌+◌, List, ℕ, Some};
-ghost use Rattle.journal_attempt.specs.declared.commands.InputCommand.{InputCommand};
-ghost use Rattle.journal_messages.specs.declared.message.RawMessage.{RawMessage};
-ghost use Rattle.journal_values.specs.declared.notification.Notification.{Notification};
+ghost use Rattle.journal_protocol.specs.InputCommand.{InputCommand};
+ghost use Rattle.journal_protocol.specs.RawMessage.{RawMessage};
+ghost use Rattle.journal_protocol.specs.Notification.{Notification};
 ghost use Rattle.vm_model.specs.Calls.{Setup, Meaning};
 ghost use Rattle.vm_model.specs.Moves.{Point, after, start};
 ghost use Rattle.vm_model.specs.Sums.{calls_for, completion_ids, handles, signal_ids, total};

@@ -1,12 +1,12 @@
 //! Laws of the state that attempts are handed, and of what eager reads record.
 ghost use Rattle.std.specs.Prelude.{◌≡◌, ◌∷◌, ◌++◌, List, None, Some};
-ghost use Rattle.journal_messages.specs.declared.message.Message.TheVariants as message;
-ghost use Rattle.journal_messages.specs.declared.message.RawMessage.{RawMessage};
-ghost use Rattle.journal_state.specs.declared.state.GetEagerStateCommand.{GetEagerStateCommand};
-ghost use Rattle.journal_state.specs.declared.state.GetEagerStateKeysCommand.{GetEagerStateKeysCommand};
-ghost use Rattle.journal_messages.specs.Reading.{message_in};
-ghost use Rattle.journal_messages.specs.Message.{IsWhole};
-ghost use Rattle.journal_messages.specs.declared.message.Message.{Message};
+ghost use Rattle.journal_protocol.specs.Message.TheVariants as message;
+ghost use Rattle.journal_protocol.specs.RawMessage.{RawMessage};
+ghost use Rattle.journal_protocol.specs.GetEagerStateCommand.{GetEagerStateCommand};
+ghost use Rattle.journal_protocol.specs.GetEagerStateKeysCommand.{GetEagerStateKeysCommand};
+ghost use Rattle.journal_protocol.specs.Bodies.{message_in};
+ghost use Rattle.journal_protocol.specs.Frames.{IsWhole};
+ghost use Rattle.journal_protocol.specs.Message.{Message};
 ghost use Rattle.vm_parts.specs.declared.context.StateMap.{StateMap};
 ghost use Rattle.vm_parts.specs.declared.context.Known.TheVariants.{Unknown};
 ghost use Rattle.vm_parts.specs.Entries.{IsInOrder};

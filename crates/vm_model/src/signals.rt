@@ -1,10 +1,10 @@
 //! Laws of the deliveries of signals.
 ghost use Rattle.std.specs.Prelude.{◌≡◌, List, ℕ, Some, drop};
 ghost use Rattle.arrivals.specs.Results.{results_of};
-ghost use Rattle.journal_attempt.specs.declared.commands.InputCommand.{InputCommand};
-ghost use Rattle.journal_messages.specs.declared.message.RawMessage.{RawMessage};
-ghost use Rattle.journal_values.specs.declared.notification.Notification.{Notification};
-ghost use Rattle.journal_values.specs.declared.notification.NotificationId.{NotificationId};
+ghost use Rattle.journal_protocol.specs.InputCommand.{InputCommand};
+ghost use Rattle.journal_protocol.specs.RawMessage.{RawMessage};
+ghost use Rattle.journal_protocol.specs.Notification.{Notification};
+ghost use Rattle.journal_protocol.specs.NotificationId.{NotificationId};
 ghost use Rattle.vm_types.specs.declared.options.SignalDelivery.TheVariants.{Queued};
 ghost use Rattle.vm_model.specs.Calls.{Meaning, Setup};
 ghost use Rattle.vm_model.specs.Deliveries.{takes};

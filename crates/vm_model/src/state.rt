@@ -1,6 +1,6 @@
 //! Laws of the state that commands leave.
 ghost use Rattle.std.specs.Prelude.{◌≡◌, ◌||◌, List, ℕ, Some, is_some};
-ghost use Rattle.journal_messages.specs.declared.message.Message.{Message};
+ghost use Rattle.journal_protocol.specs.Message.{Message};
 ghost use Rattle.vm_parts.specs.declared.context.StateMap.{StateMap};
 ghost use Rattle.vm_parts.specs.Entries.{IsInOrder};
 ghost use Rattle.vm_parts.specs.States.{value_known, known_keys};

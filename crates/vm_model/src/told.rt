@@ -1,12 +1,12 @@
 //! Laws of one attempt: what a journal tells of it.
 ghost use Rattle.std.specs.Prelude.{◌≡◌, ◌⊎◌, ◌∷◌, ◌++◌, Bool, List, [], ℕ, Some, None, Ok};
-ghost use Rattle.journal_attempt.specs.declared.commands.InputCommand.{InputCommand};
-ghost use Rattle.journal_messages.specs.declared.message.RawMessage.{RawMessage};
-ghost use Rattle.journal_values.specs.declared.notification.Notification.{Notification};
-ghost use Rattle.journal_errors.specs.declared.faults.NamedFault.{NamedFault};
+ghost use Rattle.journal_protocol.specs.InputCommand.{InputCommand};
+ghost use Rattle.journal_protocol.specs.RawMessage.{RawMessage};
+ghost use Rattle.journal_protocol.specs.Notification.{Notification};
+ghost use Rattle.journal_protocol.specs.NamedFault.{NamedFault};
 ghost use Rattle.vm_parts.specs.declared.context.StateMap.{StateMap};
-ghost use Rattle.journal_messages.specs.declared.message.Message.{Message};
-ghost use Rattle.journal_messages.specs.Message.{IsWhole};
+ghost use Rattle.journal_protocol.specs.Message.{Message};
+ghost use Rattle.journal_protocol.specs.Frames.{IsWhole};
 ghost use Rattle.vm_asks.specs.declared.state_read.StateRead.{StateRead};
 ghost use Rattle.vm_machine.specs.Reads.{own_result};
 ghost use Rattle.vm_asks.specs.StateReads.{own_form, result_in};

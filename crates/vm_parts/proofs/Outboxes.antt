@@ -5,7 +5,7 @@ use Rattle.std.proofs.Math.Seq.{take-append_seam}
 use Rattle.std.specs.Prelude.{if◌then◌else◌, is_ok, IfOk, OnOk}
 use Rattle.std.specs.declared.alloc.AllocError.{AllocError}
 use Rattle.std.specs.List.{concat, flat_map, AllByRecursion}
-use Rattle.journal_messages.specs.declared.message.Message.{Message}
+use Rattle.journal_protocol.specs.Message.{Message}
 use Rattle.journal_protocol.specs.Frames.{IsWhole, body, encoding, frame_size, type_of}
 use Rattle.journal_protocol.proofs.Facts.{frame_sized, frame_there}
 use Rattle.vm_parts.specs.Outboxes.{WholeFrames, WholeStream, len_of, first_frames, frames_in}

@@ -1,8 +1,8 @@
 -- Takes that find nothing.
 use Rattle.std.proofs.Common.{◌≡◌, ℕ, Bool, true, false, cond, List, [], ◌∷◌, Option, Some, None, refl, sym, ap, ◌∙◌}
-use Rattle.journal_values.specs.declared.notification.Notification.{Notification}
-use Rattle.journal_values.specs.declared.notification.NotificationId.{NotificationId}
-use Rattle.journal_values.specs.declared.notification.NotificationResult.{NotificationResult}
+use Rattle.journal_protocol.specs.Notification.{Notification}
+use Rattle.journal_protocol.specs.NotificationId.{NotificationId}
+use Rattle.journal_protocol.specs.NotificationResult.{NotificationResult}
 use Rattle.std.specs.Prelude.{◌||◌}
 use Rattle.vm_parts.specs.Arrived.{Arrived, Ready}
 use Rattle.std.specs.Option.{option_or}

@@ -1,9 +1,8 @@
 -- Frames that are written.
 use Rattle.std.specs.Prelude.{◌≡◌, ℕ, zero, suc, ◌-◌, ◌^◌, List, [], ◌∷◌, length, map, min, take, drop}
 use Rattle.std.specs.List.{concat, flat_map, AllByRecursion}
-use Rattle.journal_messages.specs.declared.message.Message.{Message}
-use Rattle.journal_protocol.specs.Frames.{encoding, frame_size}
-use Rattle.journal_protocol.specs.Frames.{IsWhole}
+use Rattle.journal_protocol.specs.Message.{Message}
+use Rattle.journal_protocol.specs.Frames.{encoding, frame_size, IsWhole}
 
 -- these are the frames of messages, each of which can be read back
 pub record WholeFrames (frames : List (List ℕ)) : Type 0 where

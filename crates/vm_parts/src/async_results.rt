@@ -8,11 +8,11 @@ ghost use Rattle.vm_parts.specs.Deliveries.{id_at, is_known, no_results, is_list
 use crate::handles::Handles;
 use arrivals::{Arrivals, EagerResults};
 use await_trees::NotificationHandle;
-use journal_values::{Notification, NotificationId, NotificationResult};
+use journal_protocol::{Notification, NotificationId, NotificationResult};
+use plain::copy_of;
 use std::alloc::{AllocError, Global};
 use std::marker::Model;
 use vm_types::options::SignalDelivery;
-use wire::copy_of;
 
 /// The id that a handle stands for.
 #[derive(Drop)]

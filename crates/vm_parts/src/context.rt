@@ -11,9 +11,9 @@ ghost use Rattle.vm_parts.specs.Counting.{fresh_counters, next_index, missing_nu
 use crate::entries::Entries;
 use crate::state_key::StateKey;
 use bytes::Bytes;
-use journal_errors::{MessageType, NamedFault};
+use journal_protocol::{MessageType, NamedFault};
+use plain::{Items, Text, copy_of};
 use std::alloc::{AllocError, Global};
-use wire::{Items, Text, copy_of};
 
 /// The next numbers, each one's place; a counter at `u32::MAX` hands nothing out.
 #[derive(Clone, Copy)]

@@ -5,10 +5,10 @@ ghost use Rattle.vm_parts.specs.Entries.{IsInOrder, entry_of, with_entry, keys_w
 
 use crate::state_key::StateKey;
 use bytes::Bytes;
+use plain::Items;
 use std::alloc::{AllocError, Global};
 use std::collections::BTreeMap;
 use std::marker::Model;
-use wire::Items;
 
 /// Entries of keys, each with a value or none, that contracts see as a list which is sorted by key.
 #[derive(Drop)]

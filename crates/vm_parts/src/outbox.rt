@@ -1,12 +1,11 @@
 //! `Outbox`: the frames that wait to be sent, oldest first. Each is the frame of a message that can be read back.
 ghost use Rattle.std.specs.Prelude.{◌≡◌, ◌∷◌, ◌++◌, [], IfOk, OnOk, OnErr};
 ghost use Rattle.std.specs.List.{concat};
-ghost use Rattle.journal_messages.specs.Message.{encoding};
-ghost use Rattle.journal_messages.specs.Message.{IsWhole};
+ghost use Rattle.journal_protocol.specs.Frames.{encoding, IsWhole};
 ghost use Rattle.vm_parts.specs.Outboxes.{WholeFrames, WholeStream, len_of};
 
 use bytes::Bytes;
-use journal_messages::{Encoder, Message};
+use journal_protocol::{Encoder, Message};
 use std::alloc::{AllocError, Global};
 use std::marker::Model;
 

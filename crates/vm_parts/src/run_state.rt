@@ -1,8 +1,8 @@
 //! Runs that wait for their result, proposals that wait for their acknowledgement, and calls whose invocation is
 //! cancelled with the handler's.
 
-use journal_values::ValueOrFailure;
-use wire::Text;
+use journal_protocol::ValueOrFailure;
+use plain::Text;
 
 /// Whether a run was handed to the handler's runner to be executed.
 #[derive(Clone, Copy, PartialEq, Eq)]

@@ -6,9 +6,9 @@ ghost use Rattle.std.specs.Ordering.{nat_cmp};
 ghost use Rattle.std.specs.Prelude.{nat_eq};
 ghost use Rattle.vm_parts.specs.StateKeys.{IsKeyNumber};
 
+use plain::Text;
 use std::cmp::Ordering;
 use std::marker::Model;
-use wire::Text;
 
 /// A key of the state, which contracts see as its bytes. Its first eight bytes stand beside it as a number, so that one
 /// comparison mostly decides which of two keys is less.

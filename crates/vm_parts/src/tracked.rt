@@ -4,10 +4,10 @@ ghost use Rattle.std.specs.Option.{option_copied};
 ghost use Rattle.vm_parts.specs.Tracked.{unresolved_handles, with_call, with_next_id, NotesId, IsFirstHandle, TrackedAscend, IsTrackedAt, IsBetween, IsNextUnresolved};
 
 use crate::run_state::TrackedCall;
+use plain::{Text, copy_of};
 use std::alloc::{AllocError, Global};
 use std::marker::Model;
 use std::mem;
-use wire::{Text, copy_of};
 
 /// Tracked calls, in the order of their handles; one is found by halving. The ids of the first ones are known, which are not looked at
 /// again for one that isn't.

@@ -3,8 +3,8 @@ use Rattle.std.proofs.Common.{◌≡◌, ℕ, List, [], ◌∷◌, ◌++◌, len
 use Rattle.std.specs.List.{AllByRecursion}
 use Rattle.std.proofs.Math.Seq.{take-append_seam}
 use Rattle.std.proofs.lemmas.Option.{same_Some}
-use Rattle.journal_attempt.specs.declared.commands.InputCommand.{InputCommand}
-use Rattle.journal_messages.specs.declared.message.RawMessage.{RawMessage}
+use Rattle.journal_protocol.specs.InputCommand.{InputCommand}
+use Rattle.journal_protocol.specs.RawMessage.{RawMessage}
 use Rattle.vm_model.specs.Calls.{Meaning, Setup}
 use Rattle.vm_model.specs.Journal.{Entry, commands_in, notifications_in, input_read_from}
 use Rattle.vm_model.specs.Moves.{Point}

@@ -3,14 +3,13 @@ use Rattle.std.proofs.Common.{◌≡◌, ℕ, List, [], ◌∷◌, Option, Some,
 use Rattle.std.specs.List.{AllByRecursion}
 use Rattle.std.specs.Prelude.{option_map}
 use Rattle.arrivals.specs.Results.{results_of}
-use Rattle.journal_attempt.specs.declared.commands.InputCommand.{InputCommand}
-use Rattle.journal_messages.specs.declared.message.Message.TheVariants as message
-use Rattle.journal_errors.specs.declared.types.MessageType.TheVariants as type
-use Rattle.journal_messages.specs.Message.{encoding}
-use Rattle.journal_messages.specs.Reading.{input_in, message_in}
-use Rattle.journal_messages.specs.Message.{IsWhole}
-use Rattle.journal_streams.proofs.Alone.{read_back}
-use Rattle.journal_values.specs.declared.notification.NotificationId.TheVariants.{CompletionId}
+use Rattle.journal_protocol.specs.InputCommand.{InputCommand}
+use Rattle.journal_protocol.specs.Message.TheVariants as message
+use Rattle.journal_protocol.specs.MessageType.TheVariants as type
+use Rattle.journal_protocol.specs.Frames.{encoding, IsWhole}
+use Rattle.journal_protocol.specs.Bodies.{input_in, message_in}
+use Rattle.journal_protocol.proofs.Facts.{read_back}
+use Rattle.journal_protocol.specs.NotificationId.TheVariants.{CompletionId}
 use Rattle.vm_model.specs.Calls.{Meaning, Setup}
 use Rattle.vm_model.specs.Carried.{AreOfTheirKind, IsInvocationId}
 use Rattle.vm_model.specs.Journal.{stored_form}

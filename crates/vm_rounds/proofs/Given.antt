@@ -3,14 +3,14 @@ use Rattle.std.proofs.Common.{◌≡◌, ◌≢◌, ℕ, Bool, true, false, cond
 use Rattle.std.specs.Prelude.{◌||◌, ◌&&◌, ◌==◌, if◌then◌else◌, is_some, nat_le, nat_lt}
 use Rattle.std.proofs.lemmas.Bool.{eqb-true}
 use Rattle.std.specs.Option.{option_or}
-use Rattle.journal_errors.specs.declared.types.MessageType.TheVariants as type
-use Rattle.journal_errors.specs.Types.{type_number}
-use Rattle.journal_messages.specs.declared.message.RawMessage.{RawMessage}
-use Rattle.journal_messages.specs.Reading.{input_in, message_in, notification_in}
-use Rattle.journal_values.specs.declared.notification.Notification.{Notification}
-use Rattle.journal_values.specs.declared.notification.NotificationId.{NotificationId}
-use Rattle.journal_values.specs.declared.notification.NotificationId.TheVariants.{CompletionId, SignalId, SignalName}
-use Rattle.journal_values.specs.declared.notification.NotificationResult.{NotificationResult}
+use Rattle.journal_protocol.specs.MessageType.TheVariants as type
+use Rattle.journal_protocol.specs.Types.{type_number}
+use Rattle.journal_protocol.specs.RawMessage.{RawMessage}
+use Rattle.journal_protocol.specs.Bodies.{input_in, message_in, notification_in}
+use Rattle.journal_protocol.specs.Notification.{Notification}
+use Rattle.journal_protocol.specs.NotificationId.{NotificationId}
+use Rattle.journal_protocol.specs.NotificationId.TheVariants.{CompletionId, SignalId, SignalName}
+use Rattle.journal_protocol.specs.NotificationResult.{NotificationResult}
 use Rattle.vm_model.specs.Carried.{AreCarried, is_carried}
 use Rattle.vm_attempt.specs.Journals.{commands_among, is_command_frame, notifications_among, notified_by}
 use Rattle.vm_attempt.proofs.Pieces.{commands_append}

@@ -8,8 +8,8 @@ use Rattle.std.specs.List.Sorted.{IsStrictlySortedBy}
 use Rattle.std.specs.Map.{keys_of}
 use Rattle.std.specs.Ordering.{is_eq}
 use Rattle.std.specs.Str.{is_utf8}
-use Rattle.journal_messages.specs.declared.message.Message.{Message}
-use Rattle.journal_messages.specs.declared.message.Message.TheVariants as message
+use Rattle.journal_protocol.specs.Message.{Message}
+use Rattle.journal_protocol.specs.Message.TheVariants as message
 use Rattle.vm_parts.specs.declared.context.Known.{Known}
 use Rattle.vm_parts.specs.declared.context.Known.TheVariants.{Unknown, Empty, Value}
 use Rattle.vm_parts.specs.declared.context.StateCoverage.{StateCoverage}

@@ -1,10 +1,10 @@
 -- What a round leaves is what an honest round leaves, of an attempt that its journal tells.
 use Rattle.std.proofs.Common.{◌≡◌, ◌⊎◌, inl, inr, ⊎_elim, ℕ, List, [], ◌∷◌, ◌++◌, length, take, Some, refl, sym, ap, ◌∙◌, subst}
 use Rattle.std.proofs.Math.Seq.{take-append_seam}
-use Rattle.journal_messages.specs.declared.message.RawMessage.{RawMessage}
-use Rattle.journal_values.specs.declared.notification.Notification.{Notification}
-use Rattle.journal_attempt.specs.declared.start.Start.{Start}
-use Rattle.journal_messages.specs.Reading.{start_in}
+use Rattle.journal_protocol.specs.RawMessage.{RawMessage}
+use Rattle.journal_protocol.specs.Notification.{Notification}
+use Rattle.journal_protocol.specs.Start.{Start}
+use Rattle.journal_protocol.specs.Bodies.{start_in}
 use Rattle.vm_model.specs.Calls.{Meaning, Setup}
 use Rattle.vm_model.specs.Journal.{Entry, notifications_in}
 use Rattle.vm_model.specs.Moves.{Point, start as first_point}

@@ -7,11 +7,11 @@ use Rattle.std.proofs.lemmas.Option.{same_Some}
 use Rattle.std.proofs.lemmas.Bool.Decides.{nat_tests}
 use Rattle.std.proofs.lemmas.Grind.{flat_map-append}
 use Rattle.std.proofs.lemmas.List.{map-append}
-use Rattle.journal_messages.specs.declared.message.Message.{Message}
-use Rattle.journal_messages.specs.declared.message.Message.TheVariants as message
-use Rattle.journal_messages.specs.declared.message.RawMessage.{RawMessage}
-use Rattle.journal_messages.specs.Reading.{message_in}
-use Rattle.journal_values.specs.declared.notification.Notification.{Notification}
+use Rattle.journal_protocol.specs.Message.{Message}
+use Rattle.journal_protocol.specs.Message.TheVariants as message
+use Rattle.journal_protocol.specs.RawMessage.{RawMessage}
+use Rattle.journal_protocol.specs.Bodies.{message_in}
+use Rattle.journal_protocol.specs.Notification.{Notification}
 use Rattle.await_trees.specs.declared.handle.NotificationHandle.{NotificationHandle}
 use Rattle.runs.specs.Firsts.{without_first}
 use Rattle.runs.specs.Pending.{has_handle}

@@ -2,18 +2,18 @@
 use Rattle.std.proofs.Common.{◌≡◌, ◌⊎◌, ◌≤◌, ℕ, zero, suc, ◌+◌, Bool, true, false, ◌||◌, List, [], ◌∷◌, ◌++◌, take, Option, Some, None, refl, sym, ap, ◌∙◌, subst, inl, inr, ⊎_elim, append-nil, arith}
 use Rattle.std.specs.Prelude.{◌==◌, if◌then◌else◌, Ok, Err}
 use Rattle.std.proofs.lemmas.Bool.{eq-eqb, eqb-true}
-use Rattle.journal_attempt.specs.declared.commands.InputCommand.{InputCommand}
-use Rattle.journal_errors.specs.declared.faults.NamedFault.TheVariants as fault
-use Rattle.journal_errors.specs.Types.{type_number}
-use Rattle.journal_equality.specs.HeaderEqual.{header_equal, request_equal}
-use Rattle.journal_messages.specs.declared.message.Message.{Message}
-use Rattle.journal_messages.specs.declared.message.Message.TheVariants as message
-use Rattle.journal_messages.specs.declared.message.RawMessage.{RawMessage}
-use Rattle.journal_messages.specs.Message.{type_of}
-use Rattle.journal_messages.specs.Reading.{message_in}
+use Rattle.journal_protocol.specs.InputCommand.{InputCommand}
+use Rattle.journal_protocol.specs.NamedFault.TheVariants as fault
+use Rattle.journal_protocol.specs.Types.{type_number}
+use Rattle.journal_protocol.specs.Equality.{header_equal, request_equal}
+use Rattle.journal_protocol.specs.Message.{Message}
+use Rattle.journal_protocol.specs.Message.TheVariants as message
+use Rattle.journal_protocol.specs.RawMessage.{RawMessage}
+use Rattle.journal_protocol.specs.Frames.{type_of}
+use Rattle.journal_protocol.specs.Bodies.{message_in}
 use Rattle.journal_protocol.proofs.Facts.{type_read}
-use Rattle.journal_values.specs.declared.notification.Notification.{Notification}
-use Rattle.journal_values.specs.declared.notification.NotificationResult.{NotificationResult}
+use Rattle.journal_protocol.specs.Notification.{Notification}
+use Rattle.journal_protocol.specs.NotificationResult.{NotificationResult}
 use Rattle.vm_types.specs.declared.steps.Step.{Step}
 use Rattle.vm_asks.specs.declared.asks.Ask.{Ask}
 use Rattle.vm_asks.specs.declared.asks.Ask.TheVariants as ask

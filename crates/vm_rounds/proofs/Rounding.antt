@@ -2,14 +2,14 @@
 use Rattle.std.proofs.Common.{◌≡◌, inl, inr, ℕ, zero, suc, List, [], ◌∷◌, ◌++◌, length, drop, Option, Some, None, refl, sym, ap, ◌∙◌, subst, arith, append_assoc, append-nil}
 use Rattle.std.specs.Prelude.{option_map}
 use Rattle.std.specs.List.{AllByRecursion, concat}
-use Rattle.journal_messages.specs.declared.message.Message.TheVariants as message
-use Rattle.journal_values.specs.declared.notification.Notification.{Notification}
-use Rattle.journal_attempt.specs.declared.start.Start.{Start}
-use Rattle.journal_errors.specs.declared.types.MessageType.TheVariants as type
-use Rattle.journal_messages.specs.Message.{encoding, IsWhole}
-use Rattle.journal_messages.specs.Reading.{message_in, start_in}
-use Rattle.journal_streams.proofs.Alone.{read_back}
-use Rattle.journal_messages.specs.declared.message.RawMessage.{RawMessage}
+use Rattle.journal_protocol.specs.Message.TheVariants as message
+use Rattle.journal_protocol.specs.Notification.{Notification}
+use Rattle.journal_protocol.specs.Start.{Start}
+use Rattle.journal_protocol.specs.MessageType.TheVariants as type
+use Rattle.journal_protocol.specs.Frames.{encoding, IsWhole}
+use Rattle.journal_protocol.specs.Bodies.{message_in, start_in}
+use Rattle.journal_protocol.proofs.Facts.{read_back}
+use Rattle.journal_protocol.specs.RawMessage.{RawMessage}
 use Rattle.invocation_vm.specs.Frames.{Tail, frames_of}
 use Rattle.invocation_vm.specs.Making.{made}
 use Rattle.vm_types.specs.declared.steps.Answer.{Answer}
@@ -21,7 +21,7 @@ use Rattle.vm_model.specs.HonestRounds.{Attempted, HonestRound, IsHanded, IsOneR
 use Rattle.vm_model.specs.SoundHistories.{SoundHistory}
 use Rattle.vm_model.proofs.Honesty.{honest_rounds, whole_round, whole_rounds}
 use Rattle.vm_model.proofs.SoundHistories.{run_is_sound, sound_round, sound_rounds, whole_is_honest}
-use Rattle.journal_errors.specs.declared.version.Version.{Version}
+use Rattle.journal_protocol.specs.Version.{Version}
 use Rattle.vm_attempt.specs.Arrivals.{arriving}
 use Rattle.vm_steps.specs.Heard.{acknowledged_from}
 use Rattle.vm_attempt.specs.Journals.{commands_among}

@@ -4,13 +4,13 @@ use Rattle.std.proofs.lemmas.Option.{same_Some}
 use Rattle.std.specs.List.{concat}
 use Rattle.arrivals.specs.Results.{results_of}
 use Rattle.arrivals.proofs.Awaited.{results-append}
-use Rattle.journal_attempt.specs.declared.commands.InputCommand.{InputCommand}
-use Rattle.journal_attempt.specs.declared.start.Start.{Start}
-use Rattle.journal_messages.specs.declared.message.RawMessage.{RawMessage}
-use Rattle.journal_messages.specs.Reading.{start_in}
-use Rattle.journal_values.specs.declared.notification.Notification.{Notification}
-use Rattle.journal_values.specs.declared.notification.NotificationId.TheVariants.{CompletionId}
-use Rattle.journal_values.specs.declared.notification.NotificationResult.{NotificationResult}
+use Rattle.journal_protocol.specs.InputCommand.{InputCommand}
+use Rattle.journal_protocol.specs.Start.{Start}
+use Rattle.journal_protocol.specs.RawMessage.{RawMessage}
+use Rattle.journal_protocol.specs.Bodies.{start_in}
+use Rattle.journal_protocol.specs.Notification.{Notification}
+use Rattle.journal_protocol.specs.NotificationId.TheVariants.{CompletionId}
+use Rattle.journal_protocol.specs.NotificationResult.{NotificationResult}
 use Rattle.invocation_vm.specs.Frames.{Tail, frames_of}
 use Rattle.vm_parts.specs.declared.context.StateMap.{StateMap}
 use Rattle.vm_parts.specs.Entries.{entries_of as state_entries}

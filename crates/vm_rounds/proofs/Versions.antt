@@ -1,10 +1,10 @@
 -- The attempts of a world are made for its version.
 use Rattle.std.proofs.Common.{◌≡◌, ℕ, List, Result, Ok, Err, IfOk, refl, ap, subst, Global}
 use Rattle.std.specs.Prelude.{codes, IfErr, OnOk}
-use Rattle.journal_errors.specs.declared.error.Error.{Error}
-use Rattle.journal_errors.specs.declared.version.Version.{Version}
-use Rattle.journal_errors.specs.declared.version.Version.TheVariants.{V1, V2, V3, V4, V5, V6, V7, V8}
-use Rattle.journal_errors.specs.Versions.{content_type, version_of}
+use Rattle.journal_protocol.specs.Error.{Error}
+use Rattle.journal_protocol.specs.Version.{Version}
+use Rattle.journal_protocol.specs.Version.TheVariants.{V1, V2, V3, V4, V5, V6, V7, V8}
+use Rattle.journal_protocol.specs.Versions.{content_type, version_of}
 use Rattle.vm_types.specs.declared.options.VMOptions.{VMOptions}
 use Rattle.invocation_vm.specs.Making.{made, supported, version_in}
 use Rattle.vm_steps.specs.Record.{AttemptView}

@@ -2,8 +2,8 @@
 -- in the order in which this happened.
 use Rattle.std.specs.Prelude.{ℕ, List, [], ◌∷◌, ◌++◌, length, map, drop}
 use Rattle.std.proofs.Common.{inl, inr}
-use Rattle.journal_values.specs.declared.notification.Notification.{Notification}
-use Rattle.journal_attempt.specs.declared.start.Start.{Start}
+use Rattle.journal_protocol.specs.Notification.{Notification}
+use Rattle.journal_protocol.specs.Start.{Start}
 use Rattle.vm_machine.specs.Inputs.{coverage_of}
 use Rattle.vm_parts.specs.declared.context.StateMap.{StateMap}
 use Rattle.vm_parts.specs.Entries.{entries_of as state_entries}
@@ -11,7 +11,7 @@ use Rattle.vm_model.specs.Calls.{Meaning}
 use Rattle.vm_model.specs.Histories.{Knowledge}
 use Rattle.vm_model.specs.HonestRounds.{Attempted, HonestRounds}
 use Rattle.vm_model.specs.Journal.{Entry, Recorded, Notified}
-use Rattle.journal_errors.specs.declared.version.Version.{Version}
+use Rattle.journal_protocol.specs.Version.{Version}
 use Rattle.vm_steps.specs.Record.{Record, heard}
 use Rattle.vm_attempt.specs.Told.{arrivals_of, written_by}
 use Rattle.vm_store.specs.declared.types.Event.{Event}

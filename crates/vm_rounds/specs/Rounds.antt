@@ -3,11 +3,10 @@ use Rattle.std.specs.Prelude.{◌≡◌, ◌⊎◌, ℕ, zero, suc, ◌≤◌, B
 use Rattle.std.proofs.Common.{Global}
 use Rattle.std.specs.List.{AllByRecursion, concat}
 use Rattle.std.specs.declared.alloc.AllocError.{AllocError}
-use Rattle.journal_errors.specs.declared.error.Error.{Error}
-use Rattle.journal_errors.specs.declared.version.Version.{Version}
-use Rattle.journal_errors.specs.Errors.{no_memory}
-use Rattle.journal_messages.specs.Message.{encoding}
-use Rattle.journal_messages.specs.Message.{IsWhole}
+use Rattle.journal_protocol.specs.Error.{Error}
+use Rattle.journal_protocol.specs.Version.{Version}
+use Rattle.journal_protocol.specs.Errors.{no_memory}
+use Rattle.journal_protocol.specs.Frames.{encoding, IsWhole}
 use Rattle.vm_types.specs.declared.options.JournalReplay.TheVariants.{Enabled}
 use Rattle.vm_types.specs.declared.options.SignalDelivery.TheVariants.{Queued}
 use Rattle.vm_types.specs.declared.options.VMOptions.{VMOptions}
@@ -19,8 +18,8 @@ use Rattle.vm_model.specs.Histories.{IsPrefix, OneBegins, Told}
 use Rattle.vm_model.specs.Journal.{Entry, commands_in, input_read_from, notifications_in}
 use Rattle.vm_model.specs.Moves.{Point}
 use Rattle.vm_model.specs.Deliveries.{HasNoTwo}
-use Rattle.journal_attempt.specs.declared.commands.InputCommand.{InputCommand}
-use Rattle.journal_messages.specs.declared.message.RawMessage.{RawMessage}
+use Rattle.journal_protocol.specs.InputCommand.{InputCommand}
+use Rattle.journal_protocol.specs.RawMessage.{RawMessage}
 use Rattle.vm_steps.specs.declared.progress.Progress.{Progress}
 use Rattle.vm_steps.specs.Heard.{proposals_in}
 use Rattle.vm_steps.specs.Record.{Record, bytes_written, heard}

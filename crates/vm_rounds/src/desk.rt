@@ -8,8 +8,7 @@ ghost use Rattle.vm_rounds.specs.Inside.{may_go_on, the_now};
 
 use bytes::{Bytes, BytesMut};
 use invocation_vm::VMResult;
-use journal_errors::{Error, NamedFault, Version};
-use journal_streams::Decoder;
+use journal_protocol::{Decoder, Error, NamedFault, Version};
 use retries::RetryPolicy;
 use runs::RunExitResult;
 use std::alloc::{AllocError, Global};

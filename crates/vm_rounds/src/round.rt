@@ -1,8 +1,7 @@
 //! One round: its attempt, and what happens to it.
 ghost use Rattle.std.specs.Prelude.{◌≡◌, ◌⊎◌, ◌≤◌, ◌∷◌, [], ◌++◌, length, IfOk, IfErr, OnOk};
 ghost use Rattle.std.specs.List.{concat};
-ghost use Rattle.journal_messages.specs.Message.{encoding};
-ghost use Rattle.journal_messages.specs.Message.{IsWhole};
+ghost use Rattle.journal_protocol.specs.Frames.{encoding, IsWhole};
 ghost use Rattle.invocation_vm.specs.Making.{made, supported};
 ghost use Rattle.vm_steps.specs.Stepping.{fresh_record};
 ghost use Rattle.vm_store.specs.Arrivals.{most_entries};
@@ -17,8 +16,7 @@ use crate::answers::copy_answers;
 use crate::desk::{Desk, happen};
 use bytes::{Bytes, BytesMut};
 use invocation_vm::VMResult;
-use journal_errors::{Error, Version};
-use journal_streams::Decoder;
+use journal_protocol::{Decoder, Error, Version};
 use std::alloc::{AllocError, Global};
 use stored_journals::WholeJournal;
 use vm_attempt::{Attempt, ContentType, Handler};

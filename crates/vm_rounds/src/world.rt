@@ -1,20 +1,17 @@
 //! `World`: whose invocation it is, and its journal.
 ghost use Rattle.std.specs.Prelude.{◌≡◌, [], ◌∷◌, IfOk, OnOk};
-ghost use Rattle.journal_messages.specs.Message.{encoding};
-ghost use Rattle.journal_messages.specs.Message.{IsWhole};
-ghost use Rattle.journal_messages.specs.declared.message.Message.TheVariants as message;
+ghost use Rattle.journal_protocol.specs.Frames.{encoding, IsWhole};
+ghost use Rattle.journal_protocol.specs.Message.TheVariants as message;
 ghost use Rattle.vm_store.specs.Worlds.{pairs_given};
 
 use bytes::Bytes;
-use journal_attempt::InputCommand;
-use journal_errors::Version;
-use journal_messages::{Encoder, Message};
+use journal_protocol::{Encoder, InputCommand, Message, Version};
+use plain::{Items, Text};
 use std::alloc::{AllocError, Global};
 use std::marker::Model;
 use stored_journals::WholeJournal;
 use vm_parts::VMOptions;
 use vm_store::types::{Identity, RoundFault, Setting};
-use wire::{Items, Text};
 
 /// An invocation: what all its attempts are made with, and the journal, one frame an entry.
 #[derive(Drop)]

@@ -1,6 +1,6 @@
 -- A step that was asked for and made, in the words of the record.
 use Rattle.std.proofs.Common.{◌≡◌, inr, List, [], Option, Result, Ok, Err, refl, ap, ◌∙◌, subst}
-use Rattle.journal_errors.specs.declared.error.Error.{Error}
+use Rattle.journal_protocol.specs.Error.{Error}
 use Rattle.vm_types.specs.declared.steps.Answer.{Answer}
 use Rattle.vm_types.specs.declared.steps.Step.{Step}
 use Rattle.await_trees.specs.declared.tree.UnresolvedFuture.{UnresolvedFuture}

@@ -1,9 +1,9 @@
 -- What a call does, with its answer as a reply.
 use Rattle.std.proofs.Common.{◌≡◌, List, inl, inr, ⊎_elim, Result, Ok, Err, refl, sym, ap}
 use Rattle.std.specs.Prelude.{OnOk}
-use Rattle.journal_errors.specs.declared.error.Error.{Error}
+use Rattle.journal_protocol.specs.Error.{Error}
 use Rattle.vm_machine.specs.declared.machine.Machine.{Machine}
-use Rattle.journal_messages.specs.declared.message.Message.{Message}
+use Rattle.journal_protocol.specs.Message.{Message}
 use Rattle.vm_machine.specs.Commands.{CanBeRead}
 use Rattle.vm_asks.specs.declared.state_read.StateRead.{StateRead}
 use Rattle.vm_machine.specs.Reads.{ReadCanBeRead}

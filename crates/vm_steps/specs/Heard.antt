@@ -1,13 +1,13 @@
 -- What an attempt has heard: the pieces of its input, and the results of runs that it was told and
 -- has proposed.
 use Rattle.std.specs.Prelude.{◌==◌, ◌++◌, Bool, cond, if◌then◌else◌, List, [], ◌∷◌, ℕ, Option, Some, None}
-use Rattle.journal_attempt.specs.declared.runs.ProposeRunCompletion.{ProposeRunCompletion}
-use Rattle.journal_errors.specs.declared.version.Version.{Version}
-use Rattle.journal_errors.specs.Types.{type_number}
-use Rattle.journal_messages.specs.declared.message.RawMessage.{RawMessage}
+use Rattle.journal_protocol.specs.ProposeRunCompletion.{ProposeRunCompletion}
+use Rattle.journal_protocol.specs.Version.{Version}
+use Rattle.journal_protocol.specs.Types.{type_number}
+use Rattle.journal_protocol.specs.RawMessage.{RawMessage}
 use Rattle.journal_protocol.specs.Bodies.{proposal_in}
 use Rattle.vm_parts.specs.declared.run_state.KeptProposal.{KeptProposal}
-use Rattle.journal_errors.specs.Versions.{is_from_v7}
+use Rattle.journal_protocol.specs.Versions.{is_from_v7}
 use Rattle.invocation_vm.specs.Frames.{frames_of}
 use Rattle.vm_steps.specs.declared.progress.Fed.{Fed}
 

@@ -1,7 +1,7 @@
 -- The call that a step of a handler is, and what its answer is to the handler: one row a kind of
 -- what steps ask for.
 use Rattle.std.specs.Prelude.{◌≡◌, ℕ, true, false, List, [], ◌∷◌, Result, Ok, Err, OnOk}
-use Rattle.journal_errors.specs.declared.error.Error.{Error}
+use Rattle.journal_protocol.specs.Error.{Error}
 use Rattle.vm_types.specs.declared.steps.Answer.TheVariants as answer
 use Rattle.vm_types.specs.declared.steps.Step.{Step}
 use Rattle.vm_types.specs.declared.types.AwaitResponse.{AwaitResponse}

@@ -1,6 +1,6 @@
 //! The fields of an attempt, and what its calls do to them.
 ghost use Rattle.std.specs.Prelude.{◌≡◌, ◌≤◌, ◌+◌, IfOk, OnOk, OnErr, vec_len, vec_capacity};
-ghost use Rattle.journal_errors.specs.Errors.{no_memory};
+ghost use Rattle.journal_protocol.specs.Errors.{no_memory};
 ghost use Rattle.vm_parts.specs.Outboxes.{WholeFrames};
 ghost use Rattle.invocation_vm.specs.Seen.{seen};
 ghost use Rattle.vm_steps.specs.Stepping.{fresh_record, replied, future_in, progress_of, asked_from, Advances, StepDoes, FeedDoes, CloseDoes, TellsUnless, Takes, output_len, with_piece_kept};
@@ -11,7 +11,7 @@ use crate::progress::{Fed, Progress, Reply};
 use crate::taken::Taken;
 use bytes::Bytes;
 use invocation_vm::{CoreVM, Error, NotificationHandle, State, UnresolvedFuture, VM, VMResult};
-use journal_errors::NamedFault;
+use journal_protocol::NamedFault;
 use retries::RetryPolicy;
 use runs::RunExitResult;
 use std::alloc::{AllocError, Global};

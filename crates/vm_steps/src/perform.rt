@@ -8,10 +8,10 @@ ghost use Rattle.vm_steps.specs.Steps.{AllCarried, Asked, Awaited, ComesTo, Step
 
 use crate::progress::Reply;
 use invocation_vm::{AwaitResponse, CoreVM, NotificationHandle, UnresolvedFuture, VM, VMResult};
+use plain::Text;
 use vm_asks::asks::{AnswerKind, command_answer};
 use vm_asks::{Ask, Command, StateRead};
 use vm_parts::{Answer, Step};
-use wire::Text;
 
 #[tactic(auto, using(crate::proofs::Replies::replies, crate::proofs::Replies::replies_sent, vm_machine::proofs::Answering::handles_fit))]
 fn carry(vm: &mut CoreVM, command: Command) -> VMResult<Reply>

@@ -3,13 +3,13 @@ use Rattle.std.proofs.Common.{◌≡◌, ℕ, ◌+◌, ◌<◌, ◌^◌, ◌&&�
 use Rattle.std.specs.Prelude.{◌==◌, ◌||◌, is_some, nat_le, nat_lt}
 use Rattle.std.specs.List.{AllByRecursion, concat}
 use Rattle.std.proofs.lemmas.Bool.Decides.{nat_tests}
-use Rattle.journal_messages.specs.declared.message.Message.{Message}
-use Rattle.journal_messages.specs.declared.message.RawMessage.{RawMessage}
-use Rattle.journal_values.specs.declared.notification.Notification.{Notification}
-use Rattle.journal_streams.specs.Frames.{NextFrame, Whole, Partial, Malformed, next_of}
-use Rattle.journal_messages.specs.Reading.{message_in, notification_in}
-use Rattle.journal_errors.specs.Types.{type_number}
-use Rattle.journal_streams.proofs.Cuts.{whole_spelled}
+use Rattle.journal_protocol.specs.Message.{Message}
+use Rattle.journal_protocol.specs.RawMessage.{RawMessage}
+use Rattle.journal_protocol.specs.Notification.{Notification}
+use Rattle.journal_protocol.specs.Frames.{NextFrame, Whole, Partial, Malformed, next_of}
+use Rattle.journal_protocol.specs.Bodies.{message_in, notification_in}
+use Rattle.journal_protocol.specs.Types.{type_number}
+use Rattle.journal_protocol.proofs.Facts.{whole_spelled}
 use Rattle.invocation_vm.specs.Frames.{Tail, Rest, Garbage, frames_from, frames_of, frames_joined}
 use Rattle.invocation_vm.proofs.Cuts.{frames_of-append, frames_of-next}
 use Rattle.vm_model.specs.Journal.{Entry, messages_in, read_before}

@@ -6,10 +6,10 @@ use Rattle.std.specs.List.{AllByRecursion, flat_map}
 use Rattle.std.proofs.lemmas.List.{take_all, map-append}
 use Rattle.std.proofs.lemmas.List.Concat.{flat_map-append}
 use Rattle.std.proofs.Math.Seq.{take-append_seam}
-use Rattle.journal_errors.specs.declared.version.Version.{Version}
-use Rattle.journal_messages.specs.declared.message.RawMessage.{RawMessage}
-use Rattle.journal_streams.specs.Frames.{Whole, Partial, Malformed, next_of}
-use Rattle.journal_streams.proofs.Cuts.{whole_shorter}
+use Rattle.journal_protocol.specs.Version.{Version}
+use Rattle.journal_protocol.specs.RawMessage.{RawMessage}
+use Rattle.journal_protocol.specs.Frames.{Whole, Partial, Malformed, next_of}
+use Rattle.journal_protocol.proofs.Facts.{whole_shorter}
 use Rattle.invocation_vm.specs.Frames.{Tail, frames_from, frames_of}
 use Rattle.invocation_vm.proofs.Cuts.{frames_of-next}
 use Rattle.vm_parts.specs.declared.run_state.KeptProposal.{KeptProposal}

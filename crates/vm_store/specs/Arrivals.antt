@@ -1,13 +1,13 @@
 -- Why an arrival, or a proposal that is stored, is no fault of the rounds, or which one it is.
 use Rattle.std.specs.Prelude.{ℕ, ◌==◌, Bool, true, false, if◌then◌else◌, List, [], ◌∷◌, length, Option, Some, None}
 use Rattle.std.specs.List.{list_any}
-use Rattle.journal_messages.specs.declared.message.Message.{Message}
-use Rattle.journal_messages.specs.declared.message.Message.TheVariants as message
-use Rattle.journal_values.specs.declared.notification.Notification.{Notification}
-use Rattle.journal_values.specs.declared.notification.NotificationId.{NotificationId}
-use Rattle.journal_values.specs.declared.notification.NotificationId.TheVariants.{CompletionId, SignalId, SignalName}
-use Rattle.journal_values.specs.declared.notification.NotificationResult.{NotificationResult}
-use Rattle.journal_values.specs.declared.notification.NotificationResult.TheVariants as result
+use Rattle.journal_protocol.specs.Message.{Message}
+use Rattle.journal_protocol.specs.Message.TheVariants as message
+use Rattle.journal_protocol.specs.Notification.{Notification}
+use Rattle.journal_protocol.specs.NotificationId.{NotificationId}
+use Rattle.journal_protocol.specs.NotificationId.TheVariants.{CompletionId, SignalId, SignalName}
+use Rattle.journal_protocol.specs.NotificationResult.{NotificationResult}
+use Rattle.journal_protocol.specs.NotificationResult.TheVariants as result
 use Rattle.vm_store.specs.declared.completions.Completes.{Completes}
 use Rattle.vm_store.specs.declared.completions.Completes.TheVariants as completes
 use Rattle.vm_store.specs.declared.types.RoundFault.{RoundFault}

@@ -1,12 +1,11 @@
 -- The entries of a journal, which are stored as frames: commands and notifications.
 use Rattle.std.specs.Prelude.{◌≡◌, ℕ, ◌||◌, Bool, true, false, cond, List, [], ◌∷◌, Option, Some, None, is_some}
 use Rattle.std.specs.List.{AllByRecursion}
-use Rattle.journal_messages.specs.declared.message.Message.{Message}
-use Rattle.journal_messages.specs.declared.message.RawMessage.{RawMessage}
-use Rattle.journal_values.specs.declared.notification.Notification.{Notification}
-use Rattle.journal_streams.specs.Frames.{NextFrame, Whole, Partial, Malformed, next_of}
-use Rattle.journal_messages.specs.Message.{frame}
-use Rattle.journal_messages.specs.Reading.{message_in, notification_in}
+use Rattle.journal_protocol.specs.Message.{Message}
+use Rattle.journal_protocol.specs.RawMessage.{RawMessage}
+use Rattle.journal_protocol.specs.Notification.{Notification}
+use Rattle.journal_protocol.specs.Frames.{NextFrame, Whole, Partial, Malformed, next_of, frame}
+use Rattle.journal_protocol.specs.Bodies.{message_in, notification_in}
 use Rattle.vm_model.specs.Journal.{Entry, read_before}
 use Rattle.vm_attempt.specs.Journals.{as_entries, is_command_frame, is_notification, notified_by}
 

@@ -2,7 +2,7 @@
 ghost use Rattle.std.specs.Prelude.{◌≡◌};
 ghost use Rattle.vm_store.specs.Arrivals.{is_invocation_id};
 
-use journal_values::NotificationResult;
+use journal_protocol::NotificationResult;
 
 /// What completes an id that a command carries.
 #[derive(Clone, Copy)]

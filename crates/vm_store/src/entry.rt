@@ -5,12 +5,9 @@ ghost use Rattle.vm_attempt.specs.Journals.{is_command_frame, is_notification};
 ghost use Rattle.vm_store.specs.Entries.{frame_in, frame_of, note_in, note_of, said_at, said_by};
 
 use bytes::Bytes;
-use journal_errors::MessageType;
-use journal_messages::{Message, RawMessage};
-use journal_streams::Decoder;
-use journal_values::Notification;
+use journal_protocol::{Decoder, Message, MessageType, Notification, RawMessage};
+use plain::Fault;
 use std::alloc::{AllocError, Global};
-use wire::Fault;
 
 /// Whether the frame is one of a command.
 pub fn is_command_frame(raw: &RawMessage) -> bool

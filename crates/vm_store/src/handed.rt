@@ -1,8 +1,7 @@
 //! What a round hands out: its Start message, with the state as the journal's commands have changed it.
 ghost use Rattle.std.specs.Prelude.{◌≡◌, ◌∷◌, [], ◌≤◌, length, IfOk, OnOk};
-ghost use Rattle.journal_messages.specs.Message.{encoding};
-ghost use Rattle.journal_messages.specs.Message.{IsWhole};
-ghost use Rattle.journal_messages.specs.declared.message.Message.TheVariants as message;
+ghost use Rattle.journal_protocol.specs.Frames.{encoding, IsWhole};
+ghost use Rattle.journal_protocol.specs.Message.TheVariants as message;
 ghost use Rattle.vm_parts.specs.declared.context.StateCoverage.TheVariants.{Complete};
 ghost use Rattle.vm_parts.specs.Entries.{entries_of as state_entries};
 ghost use Rattle.vm_model.specs.Moves.{changed_by};
@@ -15,10 +14,9 @@ use crate::entry::said_at;
 use crate::types::{Identity, Round, Setting};
 use crate::values::Values;
 use bytes::Bytes;
-use journal_attempt::Start;
-use journal_messages::{Encoder, Message};
+use journal_protocol::{Encoder, Message, Start};
+use plain::{Items, Text};
 use std::alloc::{AllocError, Global};
-use wire::{Items, Text};
 
 /// The state before any command.
 fn base_values(alloc: Global, base: &[(Text, Bytes)]) -> Result<Values, AllocError>

@@ -1,7 +1,7 @@
 //! What is stored of what an attempt wrote: the commands and proposals among its frames, and what answers a proposal.
 ghost use Rattle.std.specs.Prelude.{◌≡◌, true, IfOk, IfErr, OnOk, if◌then◌else◌};
-ghost use Rattle.journal_messages.specs.Message.{encoding, IsWhole};
-ghost use Rattle.journal_errors.specs.Versions.{is_from_v7};
+ghost use Rattle.journal_protocol.specs.Frames.{encoding, IsWhole};
+ghost use Rattle.journal_protocol.specs.Versions.{is_from_v7};
 ghost use Rattle.vm_steps.specs.Heard.{is_proposal};
 ghost use Rattle.vm_store.specs.NextFrames.{NextWritten};
 ghost use Rattle.vm_store.specs.Storing.{acknowledgement, proposal_of, written_as};
@@ -10,13 +10,10 @@ ghost use Rattle.vm_store.specs.declared.types.RoundFault.TheVariants as round_f
 use crate::entry::is_command_frame;
 use crate::types::RoundFault;
 use bytes::Bytes;
-use journal_attempt::ProposeRunCompletionAck;
-use journal_errors::Version;
-use journal_messages::{Encoder, Message, RawMessage};
-use journal_streams::Decoder;
+use journal_protocol::{Decoder, Encoder, Message, ProposeRunCompletionAck, RawMessage, Version};
+use plain::Fault;
 use std::alloc::{AllocError, Global};
 use vm_parts::KeptProposal;
-use wire::Fault;
 
 /// What is stored of what an attempt writes.
 #[derive(Drop)]

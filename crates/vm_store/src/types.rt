@@ -1,12 +1,12 @@
 //! What a world and its rounds are made of, and what rounds tell.
 
 use bytes::Bytes;
-use journal_errors::{Error, Version};
+use journal_protocol::{Error, Version};
+use plain::{Items, Text};
 use retries::RetryPolicy;
 use runs::RunExitResult;
 use std::fmt;
 use vm_parts::{Answer, NotificationHandle, VMOptions};
-use wire::{Items, Text};
 
 /// What stays the same over all attempts of an invocation.
 #[derive(Drop, Clone)]

@@ -7,11 +7,11 @@ ghost use Rattle.vm_asks.specs.Requests.{changed};
 ghost use Rattle.vm_store.specs.States.{HaveTextKeys, is_asked, is_key_listed, pairs_in};
 
 use bytes::Bytes;
-use journal_messages::Message;
+use journal_protocol::Message;
+use plain::{Items, Text, copy_of, is_same};
 use std::alloc::{AllocError, Global};
 use std::collections::BTreeMap;
 use std::marker::Model;
-use wire::{Items, Text, copy_of, is_same};
 
 /// Keys with their values, in the order of the keys' bytes; a key that was cleared has none. Contracts see the state.
 #[derive(Drop)]

@@ -2,9 +2,9 @@
 ghost use Rattle.std.specs.Prelude.{◌≡◌, Some};
 ghost use Rattle.vm_types.specs.CommandTypes.{message_type, command_text};
 
-use journal_errors::MessageType;
+use journal_protocol::MessageType;
+use plain::Text;
 use std::fmt;
-use wire::Text;
 
 /// What a call's command is.
 #[derive(Clone, Copy, Debug, PartialEq, Eq)]

@@ -12,7 +12,7 @@ pub mod values;
 pub use await_trees::{CANCEL_NOTIFICATION_HANDLE, NotificationHandle, UnresolvedFuture};
 pub use boxed::Boxed;
 pub use command_type::{CommandRelationship, CommandType};
-pub use journal_calls::InvocationTarget as AttachInvocationTarget;
+pub use journal_protocol::InvocationTarget as AttachInvocationTarget;
 pub use options::{
     AwaitingOnPolicy, ImplicitCancellationOption, JournalMismatchRetryBehavior, JournalReplay,
     NonDeterministicChecksOption, PayloadOptions, SignalDelivery, VMOptions,
@@ -25,4 +25,4 @@ pub use types::{
 pub use values::{Input, NonEmptyValue, ResponseHead, Target, TerminalFailure, Value};
 
 /// What a call of the VM answers.
-pub type VMResult<T> = Result<T, journal_errors::Error>;
+pub type VMResult<T> = Result<T, journal_protocol::Error>;

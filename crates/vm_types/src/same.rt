@@ -4,7 +4,7 @@ ghost use Rattle.vm_types.specs.Same.{awakeable_exact, terminal_failure_exact, i
 use crate::{
     AwakeableHandle, CommandRelationship, CommandType, Input, Target, TerminalFailure, Value,
 };
-use wire::Exact;
+use plain::Exact;
 
 impl Exact for AwakeableHandle {
     ghost compares = { awakeable_exact };

@@ -6,9 +6,9 @@ use crate::types::{AwakeableHandle, CallHandle, DeadlineCallHandle, SendHandle};
 use crate::values::{Input, NonEmptyValue, Target, Value};
 use await_trees::{NotificationHandle, UnresolvedFuture};
 use bytes::Bytes;
-use journal_calls::InvocationTarget;
+use journal_protocol::InvocationTarget;
+use plain::Text;
 use std::time::Duration;
-use wire::Text;
 
 /// The next call of a handler, with its arguments.
 #[derive(Debug, Drop)]

@@ -3,7 +3,7 @@ ghost use Rattle.std.specs.Prelude.{◌≡◌, IsTrue, ◌↔◌};
 ghost use Rattle.vm_types.specs.declared.types.State.TheVariants as state;
 
 use await_trees::NotificationHandle;
-use wire::Text;
+use plain::Text;
 
 /// Names an ephemeral read of the state; counted from 1.
 #[derive(Clone, Copy, Debug, PartialEq, Eq, PartialOrd, Ord, Hash)]

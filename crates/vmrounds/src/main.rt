@@ -1,6 +1,7 @@
 //! `vmrounds`: plays rounds of one invocation from a script on standard input, and prints what they tell.
 #![tactic(auto)]
 
+use plain::Fault;
 use plans::reading::plan_of;
 use round_reports::run::{run, run_handler};
 use round_reports::run_end::RunEnd;
@@ -8,7 +9,6 @@ use std::env::{self, Env};
 use std::io;
 use std::process::ExitCode;
 use streams::Plain;
-use wire::Fault;
 
 const USAGE: &str =
     "usage: vmrounds <content-type> <sleeper|race|parent|counter|deadline|charge|plan STEP..> < script > report";

@@ -1,5 +1,5 @@
-pub mod formers
-pub mod Same
 pub mod Format
 pub mod Forms
 pub mod Reads
+pub use Rattle.plain.specs.Same
+pub use Rattle.plain.specs.declared.fault.Fault

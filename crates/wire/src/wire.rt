@@ -4,8 +4,8 @@ ghost use Rattle.wire.specs.Format.{Format};
 ghost use Rattle.wire.specs.Forms.{nothing_format, byte_format, u16_format, u32_format, u64_format, flag_format, bytes_format, text_format, pair_format, option_format, list_format};
 ghost use Rattle.wire.specs.Reads.{Reads, ReadsAll};
 
-use crate::{Fault, Items, Text};
 use bytes::Bytes;
+use plain::{Fault, Items, Text};
 use std::alloc::{AllocError, Global};
 
 /// A type whose values have a place in a message.

@@ -8,6 +8,7 @@ use handlers::charge::Charge;
 use handlers::counter::Counter;
 use handlers::deadline::Deadline;
 use handlers::sleeper::Sleeper;
+use plain::{Items, Text};
 use retries::RetryPolicy;
 use runs::RunExitResult;
 use std::alloc::{AllocError, Global};
@@ -17,7 +18,6 @@ use vectors::frames::{COMPLETION_1, INPUT_TILL, OUTPUT_EMPTY, OUTPUT_X, SLEEP_TO
 use vm_attempt::Handler;
 use vm_parts::NotificationHandle;
 use vm_rounds::{Event, Round, World, run_rounds};
-use wire::{Items, Text};
 
 /// The count is 41, read under id 1.
 const COUNT_COMES: &[u8] = b"\0\x1e\0\0\0\0\0\0\0\x10\

@@ -3,15 +3,14 @@ ghost use Rattle.frame_lines.specs.Forms.{call_fields, call_request_fields, comp
 
 use crate::forms::{Form, print_field, values_of};
 use bytes::Bytes;
-use journal_attempt::{RunCommand, SleepCommand};
-use journal_calls::{
-    CallCommand, CallRequest, CompleteAwakeableCommand, CompletePromiseCommand, InvocationCommand,
-    InvocationTarget, OneWayCallCommand, PromiseCommand, SendSignalCommand, Signal, SignalResult,
+use journal_protocol::{
+    CallCommand, CallRequest, CompleteAwakeableCommand, CompletePromiseCommand, Header,
+    InvocationCommand, InvocationTarget, OneWayCallCommand, PromiseCommand, RunCommand,
+    SendSignalCommand, Signal, SignalResult, SleepCommand, ValueOrFailure,
 };
-use journal_values::{Header, ValueOrFailure};
 use lines::line::Line;
+use plain::{Fault, Items, Text};
 use std::alloc::{AllocError, Global};
-use wire::{Fault, Items, Text};
 
 impl Form for SleepCommand {
     ghost fields = { sleep_fields };

@@ -3,14 +3,13 @@ ghost use Rattle.frame_lines.specs.Forms.{awaiting_on_fields, error_fields, prop
 
 use crate::forms::{Form, print_field, values_of};
 use bytes::Bytes;
-use journal_attempt::{
-    AwaitingOn, Future, ProposeRunCompletion, ProposeRunCompletionAck, Start, Suspension,
+use journal_protocol::{
+    AwaitingOn, ErrorBehavior, ErrorMessage, Future, ProposeRunCompletion, ProposeRunCompletionAck,
+    Start, Suspension, ValueOrFailure,
 };
-use journal_errors::{ErrorBehavior, ErrorMessage};
-use journal_values::ValueOrFailure;
 use lines::line::Line;
+use plain::{Fault, Items, Text};
 use std::alloc::{AllocError, Global};
-use wire::{Fault, Items, Text};
 
 impl Form for Start {
     ghost fields = { start_fields };

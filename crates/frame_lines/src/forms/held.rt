@@ -2,11 +2,10 @@
 ghost use Rattle.frame_lines.specs.Choices.{failure_fields, idempotency_id_fields, workflow_id_fields};
 
 use crate::forms::{Form, print_field, values_of};
-use journal_calls::{IdempotencyId, WorkflowId};
-use journal_values::Failure;
+use journal_protocol::{Failure, IdempotencyId, WorkflowId};
 use lines::line::Line;
+use plain::{Fault, Items, Text};
 use std::alloc::{AllocError, Global};
-use wire::{Fault, Items, Text};
 
 impl Form for Failure {
     ghost fields = { failure_fields };

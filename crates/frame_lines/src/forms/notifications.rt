@@ -2,11 +2,13 @@
 ghost use Rattle.frame_lines.specs.Forms.{get_state_ephemeral_command_fields, get_state_ephemeral_notification_fields, notification_fields};
 
 use crate::forms::{Form, print_field, values_of};
-use journal_state::{GetStateEphemeralCommand, GetStateEphemeralNotification, VoidOrValue};
-use journal_values::{Notification, NotificationId, NotificationResult};
+use journal_protocol::{
+    GetStateEphemeralCommand, GetStateEphemeralNotification, Notification, NotificationId,
+    NotificationResult, VoidOrValue,
+};
 use lines::line::Line;
+use plain::{Fault, Text};
 use std::alloc::{AllocError, Global};
-use wire::{Fault, Text};
 
 impl Form for GetStateEphemeralCommand {
     ghost fields = { get_state_ephemeral_command_fields };

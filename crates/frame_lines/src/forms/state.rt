@@ -3,15 +3,14 @@ ghost use Rattle.frame_lines.specs.Forms.{clear_all_state_fields, clear_state_fi
 
 use crate::forms::{Form, print_field, values_of};
 use bytes::Bytes;
-use journal_attempt::{InputCommand, OutputCommand};
-use journal_state::{
+use journal_protocol::{
     ClearAllStateCommand, ClearStateCommand, GetEagerStateCommand, GetEagerStateKeysCommand,
-    GetLazyStateCommand, GetLazyStateKeysCommand, SetStateCommand, VoidOrValue,
+    GetLazyStateCommand, GetLazyStateKeysCommand, Header, InputCommand, OutputCommand,
+    SetStateCommand, ValueOrFailure, VoidOrValue,
 };
-use journal_values::{Header, ValueOrFailure};
 use lines::line::Line;
+use plain::{Fault, Items, Text};
 use std::alloc::{AllocError, Global};
-use wire::{Fault, Items, Text};
 
 impl Form for InputCommand {
     ghost fields = { input_fields };

@@ -1,7 +1,7 @@
 //! Trees that are as deep as is asked.
 use await_trees::{FutureKind, NotificationHandle, UnresolvedFuture, node_over};
+use plain::Items;
 use std::alloc::{AllocError, Global};
-use wire::Items;
 
 /// How deep.
 pub const DEPTH: usize = 1_000_000;

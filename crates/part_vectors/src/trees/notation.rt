@@ -1,11 +1,11 @@
 //! What rows write: ids and what arrives. Trees are written as in scripts, and so are handles; the first of a row is 11, since
 //! handle 1 is the cancel signal's.
 use bytes::Bytes;
-use journal_values::{Failure, Notification, NotificationId, NotificationResult};
+use journal_protocol::{Failure, Notification, NotificationId, NotificationResult};
 use lines::atoms::number_of;
+use plain::{Items, Text};
 use std::alloc::Global;
 use std::test::Fail;
-use wire::{Items, Text};
 
 /// The number of a word.
 pub fn number(word: &str) -> Result<u32, Fail> {

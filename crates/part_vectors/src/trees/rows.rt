@@ -5,7 +5,7 @@ use crate::trees::shown::{
 };
 use await_trees::UnresolvedFuture;
 use await_tries::{Residue, Resolution, future_of, list_handles, try_future};
-use journal_values::NotificationResult;
+use journal_protocol::NotificationResult;
 use line_parts::trees::tree_of_word;
 use lines::line::Line;
 use std::alloc::Global;

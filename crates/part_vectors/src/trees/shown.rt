@@ -2,8 +2,7 @@
 use await_trees::{Label, Node, UnresolvedFuture};
 use await_tries::Residue;
 use frame_lines::value::Value;
-use journal_attempt::Future;
-use journal_values::NotificationResult;
+use journal_protocol::{Future, NotificationResult};
 use line_parts::trees::name_of_kind;
 use lines::line::Line;
 use std::alloc::{AllocError, Global};

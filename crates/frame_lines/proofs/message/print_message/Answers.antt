@@ -1,6 +1,6 @@
 use Rattle.std.specs.Prelude.{◌≡◌, ◌++◌, false}
 use Rattle.std.proofs.Common.{ap, ◌∙◌}
-use Rattle.journal_messages.specs.Message.{type_of}
+use Rattle.journal_protocol.specs.Frames.{type_of}
 use Rattle.frame_lines.specs.Messages.{fields_of}
 use Rattle.frame_lines.specs.Names.{type_word}
 use Rattle.frame_lines.proofs.Putting.{printed_behind}

@@ -1,4 +1,4 @@
-use Rattle.journal_streams.proofs.Streams.{frame_long}
+use Rattle.journal_protocol.proofs.Facts.{frame_long}
 use Rattle.frame_lines.proofs.run.lines_of.Goals as goal
 
 pub loop-text-smaller-in_ok-add_frame_line : goal.loop-text-smaller-in_ok-add_frame_line

@@ -1,5 +1,5 @@
 use Rattle.std.proofs.Common.{rules, ◌≡◌, arith, sym, ap, ◌∙◌}
-use Rattle.journal_errors.specs.Types.{type_at}
+use Rattle.journal_protocol.specs.Types.{type_at}
 use Rattle.frame_lines.specs.Names.{type_word}
 use Rattle.frame_lines.proofs.Naming.{none_more, same_type, unequal, unnamed}
 use Rattle.frame_lines.proofs.type_names.type_named.Goals as goal

@@ -1,6 +1,6 @@
 use Rattle.std.proofs.Common.{◌≡◌, ◌≢◌, ◌<◌, ℕ, Some}
-use Rattle.journal_errors.specs.declared.types.MessageType.{MessageType}
-use Rattle.journal_errors.specs.Types.{type_at}
+use Rattle.journal_protocol.specs.MessageType.{MessageType}
+use Rattle.journal_protocol.specs.Types.{type_at}
 use Rattle.frame_lines.specs.Names.{type_word}
 use Rattle.frame_lines.proofs.type_names.type_named.Given as goal
 

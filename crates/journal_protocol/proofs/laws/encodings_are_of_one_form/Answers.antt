@@ -1,4 +1,4 @@
-use Rattle.journal_streams.proofs.Alone.{one_body, one_type}
+use Rattle.journal_messages.proofs.Alone.{one_body, one_type}
 use Rattle.journal_protocol.proofs.laws.encodings_are_of_one_form.Goals as goal
 
 -- src/laws.rt

@@ -1,6 +1,5 @@
 use Rattle.std.proofs.Common.{◌≡◌, refl, ap, ◌∙◌, ◌++◌, [], sym}
-use Rattle.journal_messages.specs.Message.{encoding}
-use Rattle.journal_streams.specs.Frames.{next_of}
+use Rattle.journal_protocol.specs.Frames.{encoding, next_of}
 use Rattle.layer_vectors.proofs.Framed.{found, no_part, only_memory}
 use Rattle.layer_vectors.proofs.short.framed.Goals as goal
 

@@ -1,4 +1,4 @@
-use Rattle.journal_streams.proofs.Streams.{frame_long}
+use Rattle.journal_protocol.proofs.Facts.{frame_long}
 use Rattle.round_reports.proofs.report.print_frames.Goals as goal
 
 pub loop-raw-smaller-in_ok-word : goal.loop-raw-smaller-in_ok-word

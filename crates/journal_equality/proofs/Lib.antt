@@ -1,2 +1,0 @@
-pub mod SameHeader
-pub mod Erased

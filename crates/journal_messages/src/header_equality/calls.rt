@@ -1,0 +1,163 @@
+//! Whether a command on other invocations, promises or runs is header-equal to another message.
+ghost use Rattle.std.specs.Prelude.{◌≡◌, IsTrue, false};
+ghost use Rattle.journal_messages.specs.Headers.{HeaderEqual, erased_request};
+ghost use Rattle.journal_messages.specs.HeaderEqual.{call_equal, one_way_call_equal, complete_awakeable_equal, send_signal_equal, get_promise_equal, peek_promise_equal, complete_promise_equal, run_equal, attach_invocation_equal, get_invocation_output_equal, request_equal, promise_equal, invocation_equal};
+
+use crate::Message;
+use journal_attempt::RunCommand;
+use journal_calls::{
+    CallCommand, CallRequest, CompleteAwakeableCommand, CompletePromiseCommand, InvocationCommand,
+    OneWayCallCommand, PromiseCommand, SendSignalCommand,
+};
+use wire::is_same;
+
+pub fn is_call(a: &CallCommand, message: &Message, ignore_payloads: bool) -> bool
+    ensures equal { IsTrue result → HeaderEqual ignore_payloads (Message.Call a.now) message.now }
+    ensures test { result ≡ call_equal ignore_payloads a.now message.now }
+{
+    match message {
+        Message::Call(b) => same_request(&a.request, &b.request, ignore_payloads)
+            && a.result_completion_id == b.result_completion_id,
+        _ => false,
+    }
+}
+
+pub fn is_one_way_call(a: &OneWayCallCommand, message: &Message, ignore_payloads: bool) -> bool
+    ensures equal { IsTrue result
+        → HeaderEqual ignore_payloads (Message.OneWayCall a.now) message.now }
+    ensures test { result ≡ one_way_call_equal ignore_payloads a.now message.now }
+{
+    match message {
+        Message::OneWayCall(b) => same_request(&a.request, &b.request, ignore_payloads),
+        _ => false,
+    }
+}
+
+pub fn is_complete_awakeable(
+    a: &CompleteAwakeableCommand,
+    message: &Message,
+    ignore_payloads: bool,
+) -> bool
+    ensures equal { IsTrue result
+        → HeaderEqual ignore_payloads (Message.CompleteAwakeable a.now) message.now }
+    ensures test { result ≡ complete_awakeable_equal ignore_payloads a.now message.now }
+{
+    match message {
+        Message::CompleteAwakeable(b) => is_same(&a.awakeable_id, &b.awakeable_id)
+            && (ignore_payloads || is_same(&a.result, &b.result)),
+        _ => false,
+    }
+}
+
+pub fn is_send_signal(a: &SendSignalCommand, message: &Message, ignore_payloads: bool) -> bool
+    ensures equal { IsTrue result
+        → HeaderEqual ignore_payloads (Message.SendSignal a.now) message.now }
+    ensures test { result ≡ send_signal_equal ignore_payloads a.now message.now }
+{
+    match message {
+        Message::SendSignal(b) => is_same(&a.target_invocation_id, &b.target_invocation_id)
+            && is_same(&a.signal, &b.signal)
+            && (ignore_payloads || is_same(&a.result, &b.result)),
+        _ => false,
+    }
+}
+
+pub fn is_get_promise(a: &PromiseCommand, message: &Message) -> bool
+    ensures equal { IsTrue result → HeaderEqual false (Message.GetPromise a.now) message.now }
+    ensures test { result ≡ get_promise_equal a.now message.now }
+{
+    match message {
+        Message::GetPromise(b) => same_promise(a, b),
+        _ => false,
+    }
+}
+
+pub fn is_peek_promise(a: &PromiseCommand, message: &Message) -> bool
+    ensures equal { IsTrue result → HeaderEqual false (Message.PeekPromise a.now) message.now }
+    ensures test { result ≡ peek_promise_equal a.now message.now }
+{
+    match message {
+        Message::PeekPromise(b) => same_promise(a, b),
+        _ => false,
+    }
+}
+
+pub fn is_complete_promise(
+    a: &CompletePromiseCommand,
+    message: &Message,
+    ignore_payloads: bool,
+) -> bool
+    ensures equal { IsTrue result
+        → HeaderEqual ignore_payloads (Message.CompletePromise a.now) message.now }
+    ensures test { result ≡ complete_promise_equal ignore_payloads a.now message.now }
+{
+    match message {
+        Message::CompletePromise(b) => is_same(&a.key, &b.key)
+            && (ignore_payloads || is_same(&a.completion, &b.completion))
+            && a.result_completion_id == b.result_completion_id,
+        _ => false,
+    }
+}
+
+pub fn is_run(a: &RunCommand, message: &Message) -> bool
+    ensures equal { IsTrue result → HeaderEqual false (Message.Run a.now) message.now }
+    ensures test { result ≡ run_equal a.now message.now }
+{
+    match message {
+        Message::Run(b) => is_same(&a.name, &b.name)
+            && a.result_completion_id == b.result_completion_id,
+        _ => false,
+    }
+}
+
+pub fn is_attach_invocation(a: &InvocationCommand, message: &Message) -> bool
+    ensures equal { IsTrue result → HeaderEqual false (Message.AttachInvocation a.now) message.now }
+    ensures test { result ≡ attach_invocation_equal a.now message.now }
+{
+    match message {
+        Message::AttachInvocation(b) => same_invocation(a, b),
+        _ => false,
+    }
+}
+
+pub fn is_get_invocation_output(a: &InvocationCommand, message: &Message) -> bool
+    ensures equal { IsTrue result
+        → HeaderEqual false (Message.GetInvocationOutput a.now) message.now }
+    ensures test { result ≡ get_invocation_output_equal a.now message.now }
+{
+    match message {
+        Message::GetInvocationOutput(b) => same_invocation(a, b),
+        _ => false,
+    }
+}
+
+fn same_request(a: &CallRequest, b: &CallRequest, ignore_payloads: bool) -> bool
+    ensures equal { IsTrue result → erased_request ignore_payloads a.now
+        ≡ erased_request ignore_payloads b.now }
+    ensures test { result ≡ request_equal ignore_payloads a.now b.now }
+{
+    is_same(&a.service_name, &b.service_name)
+        && is_same(&a.handler_name, &b.handler_name)
+        && is_same(&a.key, &b.key)
+        && is_same(&a.idempotency_key, &b.idempotency_key)
+        && is_same(&a.scope, &b.scope)
+        && is_same(&a.limit_key, &b.limit_key)
+        && is_same(&a.headers, &b.headers)
+        && (ignore_payloads || is_same(&a.parameter, &b.parameter))
+        && a.invocation_id_notification_idx == b.invocation_id_notification_idx
+        && is_same(&a.name, &b.name)
+}
+
+fn same_promise(a: &PromiseCommand, b: &PromiseCommand) -> bool
+    ensures equal { IsTrue result → a.now ≡ b.now }
+    ensures test { result ≡ promise_equal a.now b.now }
+{
+    is_same(&a.key, &b.key) && a.result_completion_id == b.result_completion_id
+}
+
+fn same_invocation(a: &InvocationCommand, b: &InvocationCommand) -> bool
+    ensures equal { IsTrue result → a.now ≡ b.now }
+    ensures test { result ≡ invocation_equal a.now b.now }
+{
+    is_same(&a.target, &b.target) && a.result_completion_id == b.result_completion_id
+}

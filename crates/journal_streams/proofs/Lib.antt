@@ -1,5 +1,0 @@
-pub mod Alone
-pub mod Numbers
-pub mod Frames
-pub mod Streams
-pub mod Cuts

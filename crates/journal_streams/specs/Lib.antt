@@ -1,4 +1,0 @@
-pub mod Frames
-pub mod Stream
-pub mod Runs
-pub mod Waiting
