@@ -1,6 +1,7 @@
 //! `frames`: a stream of frames as lines that people read, and such lines as a stream of frames.
 #![tactic(auto)]
 
+use command_lines::asks_for_help;
 use frame_lines::run::{decode, encode};
 use frame_lines::run_end::RunEnd;
 use std::env::{self, Env};
@@ -9,6 +10,11 @@ use std::process::ExitCode;
 use streams::Plain;
 
 const USAGE: &str = "usage: frames [--encode]";
+
+/// What `--help` answers after the usage.
+const HELP: &str = "
+Prints the stream of frames on standard input as lines; with --encode, writes such lines as frames.
+Exit status: 0 all is written, 1 a failure or a line that is no frame, 2 other arguments than these.";
 
 /// Whether lines are to be written as frames; nothing where the arguments make no sense.
 fn arguments(rt: &(impl Env + AllocGlobal)) -> io::Result<Option<bool>> {
@@ -35,6 +41,10 @@ fn turn(rt: &HostRuntime, encodes: bool) -> RunEnd {
 }
 
 fn main(rt: HostRuntime) -> ExitCode {
+    if asks_for_help(&rt) {
+        let _ = rt.println(format_args!("{USAGE}\n{HELP}"));
+        return ExitCode::SUCCESS;
+    }
     let end = match arguments(&rt) {
         Ok(Some(encodes)) => turn(&rt, encodes),
         Ok(None) => RunEnd::Usage,

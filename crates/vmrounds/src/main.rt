@@ -1,6 +1,7 @@
 //! `vmrounds`: plays rounds of one invocation from a script on standard input, and prints what they tell.
 #![tactic(auto)]
 
+use command_lines::asks_for_help;
 use plain::Fault;
 use plans::reading::plan_of;
 use round_reports::run::{run, run_handler};
@@ -12,6 +13,11 @@ use streams::Plain;
 
 const USAGE: &str =
     "usage: vmrounds <content-type> <sleeper|race|parent|counter|deadline|charge|plan STEP..> < script > report";
+
+/// What `--help` answers after the usage.
+const HELP: &str = "
+Plays rounds of a handler from the script on standard input, and prints a report.
+Exit status: 0 all rounds were played, 1 a fault or a failure, 2 other arguments than these or a line without a meaning.";
 
 /// The arguments.
 #[derive(Drop)]
@@ -79,6 +85,10 @@ fn play(rt: &HostRuntime, arguments: Arguments) -> RunEnd {
 }
 
 fn main(rt: HostRuntime) -> ExitCode {
+    if asks_for_help(&rt) {
+        let _ = rt.println(format_args!("{USAGE}\n{HELP}"));
+        return ExitCode::SUCCESS;
+    }
     let end = match read_arguments(&rt) {
         Ok(Some(arguments)) => play(&rt, arguments),
         Ok(None) => RunEnd::UnknownHandler,

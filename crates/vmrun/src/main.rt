@@ -1,6 +1,7 @@
 //! `vmrun`: runs one attempt of a handler over the journal on standard input, and writes what the attempt sends.
 #![tactic(auto)]
 
+use command_lines::asks_for_help;
 use runner::exit_status::ExitStatus;
 use runner::run::run;
 use std::env::{self, Env};
@@ -9,6 +10,11 @@ use std::process::ExitCode;
 use streams::Plain;
 
 const USAGE: &str = "usage: vmrun <content-type> <sleeper|race|parent|counter|deadline>";
+
+/// What `--help` answers after the usage.
+const HELP: &str = "
+Runs one attempt of a handler over the journal on standard input, and writes what the attempt sends.
+Exit status: 0 the handler has ended, 3 it is suspended, 1 a failure, 2 other arguments than these.";
 
 /// The two arguments, where there are just two.
 fn arguments(rt: &(impl Env + AllocGlobal)) -> io::Result<Option<(String, String)>> {
@@ -27,6 +33,10 @@ fn arguments(rt: &(impl Env + AllocGlobal)) -> io::Result<Option<(String, String
 }
 
 fn main(rt: HostRuntime) -> ExitCode {
+    if asks_for_help(&rt) {
+        let _ = rt.println(format_args!("{USAGE}\n{HELP}"));
+        return ExitCode::SUCCESS;
+    }
     let status = match arguments(&rt) {
         Ok(Some((content_type, handler))) => {
             let mut writer = Plain(io::writer(&rt));

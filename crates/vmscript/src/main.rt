@@ -1,6 +1,7 @@
 //! `vmscript`: drives one VM from a script on standard input, and prints an answer for each of its lines.
 #![tactic(auto)]
 
+use command_lines::asks_for_help;
 use scripts::exit_status::ExitStatus;
 use scripts::run::run;
 use std::env::{self, Env};
@@ -10,6 +11,11 @@ use streams::Plain;
 
 const USAGE: &str = "usage: vmscript < script > transcript";
 
+/// What `--help` answers after the usage.
+const HELP: &str = "
+Drives one VM from the script on standard input, and prints an answer for each line.
+Exit status: 0 all lines are answered, 1 a failure, 2 an argument.";
+
 /// Whether there is an argument.
 fn has_argument(rt: &(impl Env + AllocGlobal)) -> io::Result<bool> {
     let mut arguments = env::args(rt)?;
@@ -18,6 +24,10 @@ fn has_argument(rt: &(impl Env + AllocGlobal)) -> io::Result<bool> {
 }
 
 fn main(rt: HostRuntime) -> ExitCode {
+    if asks_for_help(&rt) {
+        let _ = rt.println(format_args!("{USAGE}\n{HELP}"));
+        return ExitCode::SUCCESS;
+    }
     let status = match has_argument(&rt) {
         Ok(false) => {
             let mut writer = Plain(io::writer(&rt));
