@@ -55,12 +55,13 @@ static void place(int descriptor, const char *path, int flags, off_t from)
     close(file);
 }
 
-/* Goes on as the child whose allocation is refused; its input is its own, from where the program's is. */
-static void go_on(void)
+/* Goes on as the child whose allocation is refused. Its input is its own, from the place at which the program's was before the fork: by now
+   the program may have read on. */
+static void go_on(off_t input)
 {
     char path[4096];
     alarm(SECONDS);
-    place(0, "/proc/self/fd/0", O_RDONLY, lseek(0, 0, SEEK_CUR));
+    place(0, "/proc/self/fd/0", O_RDONLY, input);
     snprintf(path, sizeof path, "%s/%lu.out", each, seen);
     place(1, path, O_CREAT | O_WRONLY, 0);
     snprintf(path, sizeof path, "%s/%lu.err", each, seen);
@@ -95,13 +96,14 @@ static void end_one(void)
 static int is_in_child(void)
 {
     struct run run = {0, ++seen, lseek(1, 0, SEEK_CUR), lseek(2, 0, SEEK_CUR)};
+    off_t input = lseek(0, 0, SEEK_CUR);
     is_over = 1;
     run.child = fork();
     if (run.child < 0)
         _exit(125);
     if (run.child == 0) {
         many = 0;
-        go_on();
+        go_on(input);
         return 1;
     }
     running[many++] = run;
