@@ -1,14 +1,14 @@
 -- What was known at the last commit is known after an error, too; and what is stored of an output
 -- when nothing was to be appended before.
-use Rattle.std.proofs.Common.{◌≡◌, ℕ, List, [], length, ◌==◌, Bool, false, refl, sym, ◌∙◌, subst}
+use Rattle.std.proofs.Common.{◌≡◌, ℕ, List, [], length, Bool, sym, ◌∙◌, subst}
 use Rattle.journal_protocol.specs.Version.{Version}
 use Rattle.vm_store.specs.declared.types.RoundFault.{RoundFault}
 use Rattle.stored_journals.specs.Ids.{known_kept}
 use Rattle.stored_journals.specs.Known.{IsKnown}
 use Rattle.stored_journals.specs.Journals.{IsSameKept, Kept, JournalView}
-use Rattle.stored_journals.specs.Stored.{IsStoringFault, StoresNext}
+use Rattle.stored_journals.specs.Stored.{IsStoringFault}
 use Rattle.held_journals.specs.declared.journal.HeldJournal.{HeldJournal}
-use Rattle.held_journals.specs.Journals.{IsUndone, LeavesRest, StoresAll}
+use Rattle.held_journals.specs.Journals.{IsUndone, StoresAll}
 
 -- the journal at the last commit is the same
 pub kept_same : (old mid : JournalView) (journal : List (List ℕ)) → IsSameKept old mid → Kept old journal → Kept mid journal
@@ -28,11 +28,6 @@ undone_from old mid new same u = record {
   feed = u.feed;
 }
 
--- all was stored, or a rest is left
-pub all_or_rest : (version : Version) (output rest : List ℕ) (old : JournalView) (rows : List (List ℕ)) (feed : List ℕ) (new : JournalView) (rows' : List (List ℕ)) (feed' : List ℕ) → StoresNext version (length output) output rest old rows feed new rows' feed'
-    → StoresAll version output (length rest == 0) old rows feed new rows' feed'
-all_or_rest version output rest old rows feed new rows' feed' s = record { rest = rest; is_whole = refl; stores = s }
-
 -- nothing was to be appended or fed before
 pub stores_first : (version : Version) (output : List ℕ) (whole : Bool) (old : JournalView) (rows : List (List ℕ)) (feed : List ℕ) (new : JournalView) (rows' : List (List ℕ)) (feed' : List ℕ) → rows ≡ [] → feed ≡ [] → StoresAll version output whole old rows feed new rows' feed'
     → StoresAll version output whole old [] [] new rows' feed'
@@ -41,7 +36,3 @@ stores_first version output whole old rows feed new rows' feed' e f s = subst (�
 -- the fault is the first one of the output
 pub faults_first : (version : Version) (output : List ℕ) (old : JournalView) (rows : List (List ℕ)) (f : RoundFault) → rows ≡ [] → IsStoringFault version (length output) output old rows f → IsStoringFault version (length output) output old [] f
 faults_first version output old rows f e s = subst (λ rows. IsStoringFault version (length output) output old rows f) e s
-
--- a rest is left
-pub leaves_rest : (version : Version) (output : List ℕ) (whole : Bool) (old new : JournalView) (rows : List (List ℕ)) (feed : List ℕ) → whole ≡ false → StoresAll version output whole old [] [] new rows feed → LeavesRest version output old
-leaves_rest version output whole old new rows feed is s = record { new = new; rows = rows; feed = feed; stores = subst (λ whole. StoresAll version output whole old [] [] new rows feed) is s }

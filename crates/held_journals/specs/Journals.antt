@@ -1,6 +1,7 @@
 -- What a call from C does to the journal that it is given.
-use Rattle.std.specs.Prelude.{◌≡◌, ◌<◌, ◌==◌, ◌++◌, ℕ, Bool, false, List, [], length, drop, map, slice_get, Option, Some, None}
+use Rattle.std.specs.Prelude.{◌≡◌, ◌≢◌, ◌<◌, ◌++◌, ℕ, Bool, true, false, List, [], length, drop, map, slice_get, Option, Some, None}
 use Rattle.journal_protocol.specs.Version.{Version}
+use Rattle.invocation_vm.specs.Frames.{Rest, frames_of}
 use Rattle.vm_store.specs.declared.types.RoundFault.{RoundFault}
 use Rattle.vm_store.specs.declared.types.RoundFault.TheVariants as round_fault
 use Rattle.std.specs.List.{flat_map}
@@ -71,22 +72,32 @@ EntryDone fault entry named row old new = ⊥
 
 -- ---- an output
 
--- all that is stored of an output is stored, and this is whether nothing is left of it
+-- some bytes are whole frames: nothing follows the last of them
+abbrev pub IsWholeFrames : List ℕ → Type 0
+IsWholeFrames bytes = (frames_of bytes).1 ≡ Rest []
+
+-- whether some bytes are whole frames
+abbrev pub EndsAs : List ℕ → Bool → Type 0
+EndsAs bytes true = IsWholeFrames bytes
+EndsAs bytes false = (frames_of bytes).1 ≢ Rest []
+
+-- all that is stored of an output is stored, and this is whether what is left of it is whole frames
 pub record StoresAll (version : Version) (output : List ℕ) (whole : Bool) (old : JournalView)
     (rows : List (List ℕ)) (feed : List ℕ) (new : JournalView) (rows' : List (List ℕ))
     (feed' : List ℕ)
     : Type 0 where
   pub rest : List ℕ
-  pub is_whole : whole ≡ (length rest == 0)
   pub stores : StoresNext version (length output) output rest old rows feed new rows' feed'
+  pub ends : EndsAs rest whole
 
 -- for a journal: these rows are what is stored of an output, in order, and this answers it; none of
--- it has a fault
+-- it has a fault, and the output is whole frames
 pub record AllStored (version : Version) (output : List ℕ) (journal rows : List (List ℕ))
     (feed : List ℕ) : Type 0 where
-  pub stored : journal ++ rows ≡ journal ++ map stored_as (written_from output)
+  pub stored : rows ≡ map stored_as (written_from output)
   pub answers : feed ≡ flat_map (waits_behind version) (written_from output)
   pub faultless : NoneFaults (written_from output) journal
+  pub whole : IsWholeFrames output
 
 -- so for each journal that is known, and the journal with the rows is known
 pub record StoresWhole (version : Version) (output : List ℕ) (old new : JournalView)
@@ -108,12 +119,10 @@ pub record IsntStored (stored : Stored) (old new : HeldJournal) : Type 0 where
   pub rows : stored.rows ≡ 0
   pub feed : stored.feed ≡ 0
 
--- something is left of an output that is no whole frame
-pub record LeavesRest (version : Version) (output : List ℕ) (old : JournalView) : Type 0 where
-  pub new : JournalView
-  pub rows : List (List ℕ)
-  pub feed : List ℕ
-  pub stores : StoresAll version output false old [] [] new rows feed
+-- the output of an attempt whose journal is known isn't whole frames
+abbrev pub LeavesRest : List ℕ → JournalView → Type 0
+LeavesRest output old =
+    (journal : List (List ℕ)) → Holds old journal → (frames_of output).1 ≢ Rest []
 
 -- All that is stored of an output is stored; or there is a fault, or the output isn't whole frames,
 -- and what came since the last commit is taken back.
@@ -122,7 +131,7 @@ OutputDone version output status.Done stored old new = IsStored version output s
 OutputDone version output (status.Refused f) stored old new =
     IsStoringFault version (length output) output old.journal [] f × IsntStored stored old new
 OutputDone version output status.BadOutput stored old new =
-    LeavesRest version output old.journal × IsntStored stored old new
+    LeavesRest output old.journal × IsntStored stored old new
 OutputDone version output named stored old new = ⊥
 
 -- ---- what is read

@@ -8,10 +8,10 @@ ghost use Rattle.held_journals.specs.Statuses.{status_by, version_named};
 
 use crate::held::{Journal, empty, hide, show};
 use crate::journal::HeldJournal;
-use crate::loose::Loose;
 use crate::row::{Row, Stored, answer_store, no_row};
 use crate::status::Status;
 use journal_protocol::Version;
+use loose_boxes::Loose;
 use std::alloc::Global;
 use vm_store::types::RoundFault;
 

@@ -3,10 +3,10 @@ ghost use Rattle.std.specs.Prelude.{◌≡◌, Option, Some, None};
 ghost use Rattle.std.specs.Option.{MatchOption};
 ghost use Rattle.held_journals.specs.declared.journal.HeldJournal.{HeldJournal};
 ghost use Rattle.held_journals.specs.contracts.journal.HeldJournal.{the_row as journal_row};
-ghost use Rattle.held_journals.specs.Held.{journal_held};
+ghost use Rattle.loose_boxes.specs.Held.{held};
 
 use crate::journal::HeldJournal;
-use crate::loose::Loose;
+use loose_boxes::Loose;
 use std::alloc::Global;
 use std::marker::Model;
 
@@ -19,7 +19,7 @@ pub struct Journal {
 }
 
 impl Model for Journal {
-    ghost also_owns = { λ p. journal_held journal_row p.at p.value };
+    ghost also_owns = { λ p. held journal_row p.at p.value };
 }
 
 /// No journal.

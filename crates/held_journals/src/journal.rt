@@ -9,6 +9,7 @@ ghost use Rattle.held_journals.specs.Rows.{row_in};
 ghost use Rattle.held_journals.specs.Statuses.{status_by};
 ghost use Rattle.held_journals.specs.declared.status.Status.TheVariants.{Done};
 
+use crate::rest::ends_whole;
 use crate::row::{Row, Stored, answer_store, no_row, row_in};
 use crate::status::Status;
 use bytes::{Bytes, BytesMut};
@@ -78,7 +79,6 @@ fn arrive(alloc: Global, journal: &mut StoredJournal, entry: &[u8]) -> Result<Ro
 }
 
 /// All that is stored of an output is stored; whether it is whole frames.
-#[tactic(auto, using(crate::proofs::Undoing::all_or_rest))]
 fn store_all(
     alloc: Global,
     version: Version,
@@ -102,7 +102,7 @@ fn store_all(
         return Err(RoundFault::Memory);
     }
     match store_from(alloc, version, journal, rows, feed, &mut unstored, n) {
-        Ok(()) => Ok(unstored.waiting().is_empty()),
+        Ok(()) => ends_whole(&mut unstored),
         Err(fault) => Err(fault),
     }
 }
@@ -192,7 +192,7 @@ impl HeldJournal {
 
     /// What an attempt wrote is stored: the rows are to be appended, and `feed` is what answers it. If it has a fault, or isn't whole
     /// frames, what came since the last commit is taken back.
-    #[tactic(auto, using(crate::proofs::Undoing::undone_from, crate::proofs::Undoing::leaves_rest, crate::proofs::Wholes::stores_whole))]
+    #[tactic(auto, using(crate::proofs::Undoing::undone_from, crate::proofs::Wholes::leaves_rest, crate::proofs::Wholes::stores_whole))]
     pub fn store(&mut self, alloc: Global, version: Version, output: &[u8]) -> Stored
         ensures done { OutputDone version output.now (status_by result.status) result self.old
             self.new }

@@ -4,7 +4,7 @@
 pub mod calls;
 mod held;
 mod journal;
-mod loose;
+mod rest;
 mod row;
 mod status;
 

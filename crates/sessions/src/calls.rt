@@ -5,9 +5,9 @@ ghost use Rattle.sessions.specs.Sessions.{AnswerRead, InputFed, IsNewSession, Li
 ghost use Rattle.sessions.specs.Statuses.{status_named};
 
 use crate::held::{Vm, empty, hide, show};
-use crate::loose::Loose;
 use crate::session::Session;
 use crate::status::Status;
+use loose_boxes::Loose;
 use std::alloc::Global;
 
 /// How a call ended, and a length.

@@ -3,10 +3,10 @@ ghost use Rattle.std.specs.Prelude.{◌≡◌, Option, Some, None};
 ghost use Rattle.std.specs.Option.{MatchOption};
 ghost use Rattle.sessions.specs.declared.session.Session.{Session};
 ghost use Rattle.sessions.specs.contracts.session.Session.{the_row as session_row};
-ghost use Rattle.sessions.specs.Held.{held};
+ghost use Rattle.loose_boxes.specs.Held.{held};
 
-use crate::loose::Loose;
 use crate::session::Session;
+use loose_boxes::Loose;
 use std::alloc::Global;
 use std::marker::Model;
 

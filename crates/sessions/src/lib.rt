@@ -5,7 +5,6 @@ pub mod calls;
 mod held;
 mod kept;
 mod kind;
-mod loose;
 mod parts;
 mod replied;
 mod session;

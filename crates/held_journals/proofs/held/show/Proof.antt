@@ -28,11 +28,12 @@ use Rattle.std.proofs.alloc.Shapes.{after}
 use Rattle.std.proofs.option.Made.{Some-of, none_of}
 use Rattle.std.proofs.cell.Inside.{Good}
 use Rattle.std.proofs.raw_atomic.Walks.{proved_at, leaves}
-use Rattle.held_journals.specs.Held.{journal_right, journal_held}
+use Rattle.loose_boxes.specs.Held.{chunk, held}
 use Rattle.held_journals.specs.contracts.held.Journal as handle
 use Rattle.held_journals.specs.declared.journal.HeldJournal.{HeldJournal}
 use Rattle.held_journals.specs.contracts.journal.HeldJournal.{the_row as journal_row}
-use Rattle.held_journals.proofs.Values.{both, heap_val, heap_row, heap_Tells, loose_row, held_in, handle_out}
+use Rattle.loose_boxes.proofs.Values.{both, heap_val, heap_row, heap_Tells, loose_row, held_in}
+use Rattle.held_journals.proofs.Values.{handle_out}
 use Rattle.held_journals.specs.contracts.held.show as f
 use Rattle.held_journals.proofs.held.show.Statement.{statement}
 use Rattle.held_journals.proofs.held.show.Code as code
@@ -61,7 +62,7 @@ show_spec 𝓤 𝓛 𝓜 𝓡 wired =
     use0 𝓛 (raw (fact 𝓤 (d.value ≡ None))) (fact_i 𝓤 (d.value ≡ None) (emp 𝓤) is) $ nothing ! $ nothing ! $ fjoin ! $ nothing ! $ fjoin ! $ nothing ! $ keep ! (0 ∷ 1 ∷ 3 ∷ 2 ∷ []) $
     by ! (leaves 𝓛 f.ended stayed c z (live 0 vnil) None (tt, (tt, tt)) (tt, (tt, tt)))) (λ wrong. absurd wrong)) in
     let full : (x : HeldJournal) (b o : ℕ) → d.value ≡ Some x → d.at ≡ block_ptr b o → Testable (block_ptr b o) → z.0.4.0 ≡ vstruct (of_list (ptr_val d.at ∷ [])) ∷ [] → z.0.4.1.0 ≡ heap_val ∷ []
-    → Sq 𝓛 (‵ (box_owns journal_right journal_row (block_ptr b o) x) ∷ ‵ (heap_row.own_val a (heap_val ∷ [])) ∷ []) (prop (Run (z.0.4.0 ++ (z.0.4.1.0 ++ [])))) = λ x b o is e t ws hs.
+    → Sq 𝓛 (‵ (box_owns chunk journal_row (block_ptr b o) x) ∷ ‵ (heap_row.own_val a (heap_val ∷ [])) ∷ []) (prop (Run (z.0.4.0 ++ (z.0.4.1.0 ++ [])))) = λ x b o is e t ws hs.
     let w : Val = vstruct (of_list (vptr b o ∷ [])) in let made : Val = both (vptr b o) heap_val in let v₁ : Val = live 1 (vcons made vnil) in
     let l₁ : loose_row.Denot = record { at = block_ptr b o; alloc = a; value = x } in
     let good : Good (layout Out) v₁ = (tt, (record { fits = lit< tt }, ((tt, (((tt, tt), tt), tt)), tt))) in
@@ -73,14 +74,14 @@ show_spec 𝓤 𝓛 𝓜 𝓡 wired =
     sets ! (agg ! (and_then ! (get ! refl) (and_then ! (get ! refl) (no_more !)))) refl (tt, (tt, (((tt, tt), tt), tt))) $
     sets_last ! (agg ! (and_then ! (lit ! tt) (and_then ! (get ! refl) (no_more !)))) refl good $ exec ! 𝓣.C 𝓣.Λ Ev (after 3 code.function.body) (at_ret Ev Post) $
     sets ! (of_opd ! (get ! refl)) refl good $
-    returns ! (look_at ! 0 refl) $ free_all ! refl $ held_in ! b o a x $ use1 𝓛 (‵ (Out.own_val (Some l₁) (v₁ ∷ []))) (Some-of 𝓛 loose_row l₁ made) $
+    returns ! (look_at ! 0 refl) $ free_all ! refl $ held_in ! journal_row b o a x $ use1 𝓛 (‵ (Out.own_val (Some l₁) (v₁ ∷ []))) (Some-of 𝓛 loose_row l₁ made) $
     use0 𝓛 (raw (fact 𝓤 (d.value ≡ Some x))) (fact_i 𝓤 (d.value ≡ Some x) (emp 𝓤) is) $ nothing ! $ nothing ! $ fjoin ! $ nothing ! $ fjoin ! $ nothing ! $ keep ! (0 ∷ 1 ∷ 3 ∷ 2 ∷ []) $
     by ! (leaves 𝓛 f.ended stayed c z v₁ (Some l₁) (tt, (tt, tt)) (tt, (tt, tt))))) in
     let cased : (x : Option HeldJournal) → d.value ≡ x → z.0.4.0 ≡ vstruct (of_list (ptr_val d.at ∷ [])) ∷ [] → z.0.4.1.0 ≡ heap_val ∷ []
-    → Sq 𝓛 (‵ (journal_held journal_row d.at x) ∷ ‵ (heap_row.own_val a (heap_val ∷ [])) ∷ []) (prop (Run (z.0.4.0 ++ (z.0.4.1.0 ++ [])))) = elim [
+    → Sq 𝓛 (‵ (held journal_row d.at x) ∷ ‵ (heap_row.own_val a (heap_val ∷ [])) ∷ []) (prop (Run (z.0.4.0 ++ (z.0.4.1.0 ++ [])))) = elim [
       | None ↦ λ is ws hs. fpick ! (λ e. drop ! $ none is e ws hs)
-      | Some x ↦ λ is ws hs. in_a_block ! d.at (λ p. box_owns journal_right journal_row p x) (fst∗ 𝓤 (never 𝓤) (sem 𝓛 (journal_right (bare (lone journal_row.mir)) null_ptr))) (λ b o e.
-          let p : Ptr = block_ptr b o in let right = journal_right (bare (lone journal_row.mir)) p in
+      | Some x ↦ λ is ws hs. in_a_block ! d.at (λ p. box_owns chunk journal_row p x) (fst∗ 𝓤 (never 𝓤) (sem 𝓛 (chunk (bare (lone journal_row.mir)) null_ptr))) (λ b o e.
+          let p : Ptr = block_ptr b o in let right = chunk (bare (lone journal_row.mir)) p in
           fsplit ! $ move ! (1 ∷ []) $ use1 𝓛 (given (Testable p) (‵ right)) (fact_use 𝓤 (Testable p) (dealloc_token-Testable 𝓛 (record { memory = record { seal = tt } }) (bare (lone journal_row.mir)) p) (λ t. guard_i 𝓤 (Testable p) (sem 𝓛 right) t)) $
           learn ! (λ t. move ! (1 ∷ 0 ∷ []) $ fjoin ! $ full x b o is e t ws hs))
     ] in

@@ -28,11 +28,12 @@ use Rattle.std.proofs.alloc.Shapes.{after}
 use Rattle.std.proofs.option.Made.{Some-of, none_of}
 use Rattle.std.proofs.cell.Inside.{Good}
 use Rattle.std.proofs.raw_atomic.Walks.{proved_at, leaves}
-use Rattle.sessions.specs.Held.{chunk, held}
+use Rattle.loose_boxes.specs.Held.{chunk, held}
 use Rattle.sessions.specs.contracts.held.Vm as vm
 use Rattle.sessions.specs.declared.session.Session.{Session}
 use Rattle.sessions.specs.contracts.session.Session.{the_row as session_row}
-use Rattle.sessions.proofs.Values.{both, heap_val, heap_row, heap_Tells, loose_row, held_in, vm_out}
+use Rattle.loose_boxes.proofs.Values.{both, heap_val, heap_row, heap_Tells, loose_row, held_in}
+use Rattle.sessions.proofs.Values.{vm_out}
 use Rattle.sessions.specs.contracts.held.show as f
 use Rattle.sessions.proofs.held.show.Statement.{statement}
 use Rattle.sessions.proofs.held.show.Code as code
@@ -73,7 +74,7 @@ show_spec 𝓤 𝓛 𝓜 𝓡 wired =
     sets ! (agg ! (and_then ! (get ! refl) (and_then ! (get ! refl) (no_more !)))) refl (tt, (tt, (((tt, tt), tt), tt))) $
     sets_last ! (agg ! (and_then ! (lit ! tt) (and_then ! (get ! refl) (no_more !)))) refl good $ exec ! 𝓣.C 𝓣.Λ Ev (after 3 code.function.body) (at_ret Ev Post) $
     sets ! (of_opd ! (get ! refl)) refl good $
-    returns ! (look_at ! 0 refl) $ free_all ! refl $ held_in ! b o a x $ use1 𝓛 (‵ (Out.own_val (Some l₁) (v₁ ∷ []))) (Some-of 𝓛 loose_row l₁ made) $
+    returns ! (look_at ! 0 refl) $ free_all ! refl $ held_in ! session_row b o a x $ use1 𝓛 (‵ (Out.own_val (Some l₁) (v₁ ∷ []))) (Some-of 𝓛 loose_row l₁ made) $
     use0 𝓛 (raw (fact 𝓤 (d.value ≡ Some x))) (fact_i 𝓤 (d.value ≡ Some x) (emp 𝓤) is) $ nothing ! $ nothing ! $ fjoin ! $ nothing ! $ fjoin ! $ nothing ! $ keep ! (0 ∷ 1 ∷ 3 ∷ 2 ∷ []) $
     by ! (leaves 𝓛 f.ended stayed c z v₁ (Some l₁) (tt, (tt, tt)) (tt, (tt, tt))))) in
     let cased : (x : Option Session) → d.value ≡ x → z.0.4.0 ≡ vstruct (of_list (ptr_val d.at ∷ [])) ∷ [] → z.0.4.1.0 ≡ heap_val ∷ []

@@ -7,7 +7,7 @@ use denote.Param.Send.{IsSend, part_keyless, recorded_send}
 use denote.RawPtr.{Ptr, block_ptr, null_ptr}
 use mir.Raw.{raw as bare}
 use Rattle.std.proofs.Crossing.{frees}
-use Rattle.held_journals.specs.Held.{journal_held}
+use Rattle.loose_boxes.specs.Held.{held}
 use Rattle.held_journals.specs.contracts.held.Journal.{the_row}
 use Rattle.held_journals.specs.declared.journal.HeldJournal.{HeldJournal}
 use Rattle.held_journals.specs.contracts.journal.HeldJournal.{the_row as journal_row, the_field, the_type}
@@ -16,7 +16,7 @@ use Rattle.held_journals.proofs.journal.HeldJournal.TheSendSync as journal
 journal_send : IsSend journal_row
 journal_send = recorded_send the_field.row _ _ the_type.to_one journal.the_field_send
 
-held_keyless : (p : Ptr) (x : Option HeldJournal) → Keyless (journal_held journal_row p x)
+held_keyless : (p : Ptr) (x : Option HeldJournal) → Keyless (held journal_row p x)
 held_keyless p None = λ _. tt
 held_keyless null_ptr (Some x) = (tt, frees.frees (record { memory = record { seal = tt } }) (bare (lone journal_row.mir)) null_ptr)
 held_keyless (block_ptr b o) (Some x) = (part_keyless journal_row journal_send full_share x b o, frees.frees (record { memory = record { seal = tt } }) (bare (lone journal_row.mir)) (block_ptr b o))

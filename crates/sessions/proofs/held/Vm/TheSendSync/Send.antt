@@ -7,7 +7,7 @@ use denote.Param.Send.{IsSend, part_keyless, recorded_send}
 use denote.RawPtr.{Ptr, block_ptr, null_ptr}
 use mir.Raw.{raw as bare}
 use Rattle.std.proofs.Crossing.{frees}
-use Rattle.sessions.specs.Held.{held}
+use Rattle.loose_boxes.specs.Held.{held}
 use Rattle.sessions.specs.contracts.held.Vm.{the_row}
 use Rattle.sessions.specs.declared.session.Session.{Session}
 use Rattle.sessions.specs.contracts.session.Session.{the_row as session_row, the_field, the_type}

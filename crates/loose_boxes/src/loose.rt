@@ -6,10 +6,10 @@ use std::alloc::Allocator;
 use std::marker::Model;
 
 /// A box that is taken apart: what it points to, and whose block that is.
-pub(crate) struct Loose<T, A: Allocator> {
-    pub(crate) at: *mut T,
-    pub(crate) alloc: A,
-    pub(crate) ghost value: { T },
+pub struct Loose<T, A: Allocator> {
+    pub at: *mut T,
+    pub alloc: A,
+    pub ghost value: { T },
 }
 
 impl<T, A: Allocator> Model for Loose<T, A> {
@@ -17,14 +17,16 @@ impl<T, A: Allocator> Model for Loose<T, A> {
 }
 
 impl<T: Drop, A: Allocator> Loose<T, A> {
-    pub(crate) fn of(value: Box<T, A>) -> Loose<T, A>
+    /// A box, taken apart.
+    pub fn of(value: Box<T, A>) -> Loose<T, A>
         ensures { result.value ≡ value.value }
     {
         let (at, alloc) = Box::into_raw_with_allocator(value);
         Loose { at, alloc }
     }
 
-    pub(crate) fn into_box(self) -> Box<T, A>
+    /// The box again.
+    pub fn into_box(self) -> Box<T, A>
         ensures { result.value ≡ self.value }
     {
         let Loose { at, alloc } = self;
