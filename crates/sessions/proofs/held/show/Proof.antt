@@ -58,13 +58,13 @@ show_spec 𝓤 𝓛 𝓜 𝓡 wired =
     sets ! (bin ! (get ! refl) (lit ! tt) tt) refl (tt, tt) $ first ! $ branches ! (get ! refl)
     (λ _. sets_last ! (agg ! (and_then ! (lit ! tt) (no_more !))) refl (tt, (record { fits = lit< tt }, tt)) $ exec ! 𝓣.C 𝓣.Λ Ev (after 3 code.function.body) (at_ret Ev Post) $
     sets ! (of_opd ! (get ! refl)) refl (tt, (record { fits = lit< tt }, tt)) $
-    returns ! (look_at ! 0 refl) $ free_all ! refl $ use0 𝓛 (‵ (Out.own_val None (live 0 vnil ∷ []))) (none_of 𝓛 loose_row) $
+    returns ! (look_at ! 0 refl) $ free_all ! refl $ use0 𝓛 (‵ (Out.own_val None (live 0 vnil ∷ []))) (none_of 𝓛 (loose_row session_row)) $
     use0 𝓛 (raw (fact 𝓤 (d.value ≡ None))) (fact_i 𝓤 (d.value ≡ None) (emp 𝓤) is) $ nothing ! $ nothing ! $ fjoin ! $ nothing ! $ fjoin ! $ nothing ! $ keep ! (0 ∷ 1 ∷ 3 ∷ 2 ∷ []) $
     by ! (leaves 𝓛 f.ended stayed c z (live 0 vnil) None (tt, (tt, tt)) (tt, (tt, tt)))) (λ wrong. absurd wrong)) in
     let full : (x : Session) (b o : ℕ) → d.value ≡ Some x → d.at ≡ block_ptr b o → Testable (block_ptr b o) → z.0.4.0 ≡ vstruct (of_list (ptr_val d.at ∷ [])) ∷ [] → z.0.4.1.0 ≡ heap_val ∷ []
     → Sq 𝓛 (‵ (box_owns chunk session_row (block_ptr b o) x) ∷ ‵ (heap_row.own_val a (heap_val ∷ [])) ∷ []) (prop (Run (z.0.4.0 ++ (z.0.4.1.0 ++ [])))) = λ x b o is e t ws hs.
     let w : Val = vstruct (of_list (vptr b o ∷ [])) in let made : Val = both (vptr b o) heap_val in let v₁ : Val = live 1 (vcons made vnil) in
-    let l₁ : loose_row.Denot = record { at = block_ptr b o; alloc = a; value = x } in
+    let l₁ : (loose_row session_row).Denot = record { at = block_ptr b o; alloc = a; value = x } in
     let good : Good (layout Out) v₁ = (tt, (record { fits = lit< tt }, ((tt, (((tt, tt), tt), tt)), tt))) in
     suffices ! (Run (w ∷ heap_val ∷ [])) (subst (λ (vs : List Val). ent 𝓤 (Run (w ∷ heap_val ∷ [])) (Run vs)) (sym (passed (block_ptr b o) e ws hs)) (id⊢ 𝓤 (Run (w ∷ heap_val ∷ [])))) $
     enter ! 𝓣.C 𝓣.Λ code.function (w ∷ heap_val ∷ []) Post $ alloc_all ! (λ l. pass_all ! refl ((tt, (tt, tt)), ((tt, ((tt, tt), tt)), tt)) $ let Ev = env code.function.locals l in
@@ -74,7 +74,7 @@ show_spec 𝓤 𝓛 𝓜 𝓡 wired =
     sets ! (agg ! (and_then ! (get ! refl) (and_then ! (get ! refl) (no_more !)))) refl (tt, (tt, (((tt, tt), tt), tt))) $
     sets_last ! (agg ! (and_then ! (lit ! tt) (and_then ! (get ! refl) (no_more !)))) refl good $ exec ! 𝓣.C 𝓣.Λ Ev (after 3 code.function.body) (at_ret Ev Post) $
     sets ! (of_opd ! (get ! refl)) refl good $
-    returns ! (look_at ! 0 refl) $ free_all ! refl $ held_in ! session_row b o a x $ use1 𝓛 (‵ (Out.own_val (Some l₁) (v₁ ∷ []))) (Some-of 𝓛 loose_row l₁ made) $
+    returns ! (look_at ! 0 refl) $ free_all ! refl $ held_in ! session_row b o a x $ use1 𝓛 (‵ (Out.own_val (Some l₁) (v₁ ∷ []))) (Some-of 𝓛 (loose_row session_row) l₁ made) $
     use0 𝓛 (raw (fact 𝓤 (d.value ≡ Some x))) (fact_i 𝓤 (d.value ≡ Some x) (emp 𝓤) is) $ nothing ! $ nothing ! $ fjoin ! $ nothing ! $ fjoin ! $ nothing ! $ keep ! (0 ∷ 1 ∷ 3 ∷ 2 ∷ []) $
     by ! (leaves 𝓛 f.ended stayed c z v₁ (Some l₁) (tt, (tt, tt)) (tt, (tt, tt))))) in
     let cased : (x : Option Session) → d.value ≡ x → z.0.4.0 ≡ vstruct (of_list (ptr_val d.at ∷ [])) ∷ [] → z.0.4.1.0 ≡ heap_val ∷ []
