@@ -1,13 +1,14 @@
 // Each example through a crash at every step. Steps count from 1, the input; an await and the take after it are two steps.
 use examples::approval::Approval;
 use examples::race::Race;
+use examples::reminder::Reminder;
 use examples::retry::Retry;
 use examples::saga::Saga;
 use examples::sleeper::Sleeper;
 use palqytun::handler::Durable;
 use palqytun::testing::{
-    cancel, crash_at_each_step, ends_with, failed, failed_output, invocation_id, output, signal,
-    value, void, world_of,
+    cancel, crash_at_each_step, crash_at_each_step_with_runs, ends_with, failed, failed_output,
+    has_entry, invocation_id, output, signal, sleep, value, void, world_of,
 };
 use std::test::Fail;
 
@@ -105,5 +106,26 @@ fn the_person_approves(rt: HostRuntime) -> Result<(), Fail> {
     let world = crash_at_each_step(alloc, &handler, world, 7, &arrivals)?;
     assert_eq!(rt; world.journal().len(), 4);
     assert!(rt; ends_with(&world, &output(alloc, b"yes")?));
+    Ok(())
+}
+
+#[test]
+fn the_reminder_comes_an_hour_after_the_first_time(rt: HostRuntime) -> Result<(), Fail> {
+    let alloc = rt.alloc();
+    let (handler, world) = (
+        Durable {
+            alloc,
+            flow: Reminder,
+        },
+        world_of(alloc, b"tea")?,
+    );
+    // 1,000,000,000 seconds since the Unix epoch.
+    let runs: [(usize, u32, &'static [u8]); 1] = [(3, 17, b"\x00\x00\x00\x00\x3b\x9a\xca\x00")];
+    let arrivals = [(6, void(alloc, 2)?)];
+    let world = crash_at_each_step_with_runs(alloc, &handler, world, 10, &runs, &arrivals)?;
+    // Input, the run and its result, the sleep and its end, the call, the output.
+    assert_eq!(rt; world.journal().len(), 7);
+    assert!(rt; has_entry(&world, 3, &sleep(alloc, 1_000_003_600_000, 2)?));
+    assert!(rt; ends_with(&world, &output(alloc, b"")?));
     Ok(())
 }
