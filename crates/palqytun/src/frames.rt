@@ -62,6 +62,14 @@ pub fn signal(alloc: Global, index: u32, bytes: &'static [u8]) -> Result<Bytes, 
     }))
 }
 
+/// The signal of this name is sent, with these bytes.
+pub fn named_signal(alloc: Global, name: &str, bytes: &'static [u8]) -> Result<Bytes, AllocError> {
+    Encoder::new(alloc).encode(&Message::Notification(Notification {
+        id: NotificationId::SignalName(Text::from_str(alloc, name)?),
+        result: NotificationResult::Value(Bytes::from_static(bytes)),
+    }))
+}
+
 /// The journal's entry of a sleep until this time since the Unix epoch, in milliseconds, whose end has this completion id.
 pub fn sleep(alloc: Global, until: u64, id: u32) -> Result<Bytes, AllocError> {
     Encoder::new(alloc).encode(&Message::Sleep(SleepCommand {

@@ -1,6 +1,6 @@
 //! Crash tests: a world holds an invocation's journal, and rounds play attempts over it that die where you say.
 pub use crate::frames::{
-    cancel, failed, failed_output, invocation_id, output, signal, sleep, value, void,
+    cancel, failed, failed_output, invocation_id, named_signal, output, signal, sleep, value, void,
 };
 use bytes::Bytes;
 use invocation_vm::{NotificationHandle, RetryPolicy, RunExitResult, VMOptions, Version};
