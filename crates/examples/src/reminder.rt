@@ -12,7 +12,6 @@ use std::time::Duration;
 pub struct Reminder;
 
 /// The second since the Unix epoch that a run has given: eight bytes, the most significant first; 0 for any other bytes.
-#[tactic(auto, using(crate::proofs::Eight::eight_bytes))]
 fn second_in(bytes: &Bytes) -> u64
     ensures { result ≡ second_in bytes.now }
 {

@@ -148,18 +148,25 @@ pub fn crash_at_each_step_with_runs<H: Handler>(
     }
 }
 
-/// The journal's entry at this place, from 0 on, is this one.
-pub fn has_entry(world: &World, at: usize, entry: &Bytes) -> bool {
-    match world.journal().get(at) {
-        Some(found) => found.as_slice() == entry.as_slice(),
-        None => false,
+/// The journal's entry at this place, from 0 on, is this one; else the failure says what stands there.
+pub fn expect_entry(world: &World, at: usize, entry: &Bytes) -> Result<(), Fail> {
+    let entries = world.journal();
+    match entries.get(at) {
+        Some(found) if found.as_slice() == entry.as_slice() => Ok(()),
+        Some(found) => Err(Fail::new(format_args!(
+            "entry {at} of the journal is {found:?}, and not {entry:?}"
+        ))),
+        None => Err(Fail::new(format_args!(
+            "the journal has no entry {at}: it has {}",
+            entries.len()
+        ))),
     }
 }
 
-/// The journal's last entry is this one.
-pub fn ends_with(world: &World, entry: &Bytes) -> bool {
-    match world.journal().last() {
-        Some(last) => last.as_slice() == entry.as_slice(),
-        None => false,
+/// The journal's last entry is this one; else the failure says what it is.
+pub fn expect_end(world: &World, entry: &Bytes) -> Result<(), Fail> {
+    match world.journal().len() {
+        0 => Err(Fail::from("the journal has no entries")),
+        entries => expect_entry(world, entries - 1, entry),
     }
 }
