@@ -1,13 +1,14 @@
 // Each example through a crash at every step. Steps count from 1, the input; an await and the take after it are two steps.
 use examples::approval::Approval;
 use examples::race::Race;
+use examples::reminder::Reminder;
 use examples::retry::Retry;
 use examples::saga::Saga;
 use examples::sleeper::Sleeper;
 use palqytun::handler::Durable;
 use palqytun::testing::{
-    cancel, crash_at_each_step, ends_with, failed, failed_output, invocation_id, output, signal,
-    value, void, world_of,
+    cancel, crash_at_each_step, crash_at_each_step_with_runs, expect_end, expect_entry, failed,
+    failed_output, invocation_id, output, signal, sleep, value, void, world_of,
 };
 use std::test::Fail;
 
@@ -23,7 +24,7 @@ fn the_sleeper_wakes(rt: HostRuntime) -> Result<(), Fail> {
     );
     let arrivals = [(2, void(alloc, 1)?)];
     let world = crash_at_each_step(alloc, &handler, world, 6, &arrivals)?;
-    assert!(rt; ends_with(&world, &output(alloc, b"")?));
+    expect_end(&world, &output(alloc, b"")?)?;
     Ok(())
 }
 
@@ -38,7 +39,7 @@ fn the_second_try_succeeds(rt: HostRuntime) -> Result<(), Fail> {
         (11, value(alloc, 6, b"paid")?),
     ];
     let world = crash_at_each_step(alloc, &handler, world, 16, &arrivals)?;
-    assert!(rt; ends_with(&world, &output(alloc, b"paid")?));
+    expect_end(&world, &output(alloc, b"paid")?)?;
     Ok(())
 }
 
@@ -48,7 +49,7 @@ fn the_answer_is_first(rt: HostRuntime) -> Result<(), Fail> {
     let (handler, world) = (Durable { alloc, flow: Race }, world_of(alloc, b"Till")?);
     let arrivals = [(3, value(alloc, 2, b"Hello, Till")?)];
     let world = crash_at_each_step(alloc, &handler, world, 9, &arrivals)?;
-    assert!(rt; ends_with(&world, &output(alloc, b"Hello, Till")?));
+    expect_end(&world, &output(alloc, b"Hello, Till")?)?;
     Ok(())
 }
 
@@ -58,7 +59,7 @@ fn the_deadline_is_first(rt: HostRuntime) -> Result<(), Fail> {
     let (handler, world) = (Durable { alloc, flow: Race }, world_of(alloc, b"Till")?);
     let arrivals = [(3, void(alloc, 3)?)];
     let world = crash_at_each_step(alloc, &handler, world, 7, &arrivals)?;
-    assert!(rt; ends_with(&world, &output(alloc, b"timeout")?));
+    expect_end(&world, &output(alloc, b"timeout")?)?;
     Ok(())
 }
 
@@ -72,7 +73,7 @@ fn the_flight_is_given_back(rt: HostRuntime) -> Result<(), Fail> {
     ];
     let world = crash_at_each_step(alloc, &handler, world, 10, &arrivals)?;
     assert_eq!(rt; world.journal().len(), 7);
-    assert!(rt; ends_with(&world, &failed_output(alloc, 500, "full")?));
+    expect_end(&world, &failed_output(alloc, 500, "full")?)?;
     Ok(())
 }
 
@@ -87,7 +88,7 @@ fn a_cancelled_trip_gives_the_flight_back(rt: HostRuntime) -> Result<(), Fail> {
         (5, cancel(alloc)?),
     ];
     let world = crash_at_each_step(alloc, &handler, world, 10, &arrivals)?;
-    assert!(rt; ends_with(&world, &failed_output(alloc, 409, "cancelled")?));
+    expect_end(&world, &failed_output(alloc, 409, "cancelled")?)?;
     Ok(())
 }
 
@@ -104,6 +105,27 @@ fn the_person_approves(rt: HostRuntime) -> Result<(), Fail> {
     let arrivals = [(4, signal(alloc, 17, b"yes")?)];
     let world = crash_at_each_step(alloc, &handler, world, 7, &arrivals)?;
     assert_eq!(rt; world.journal().len(), 4);
-    assert!(rt; ends_with(&world, &output(alloc, b"yes")?));
+    expect_end(&world, &output(alloc, b"yes")?)?;
+    Ok(())
+}
+
+#[test]
+fn the_reminder_comes_an_hour_after_the_first_time(rt: HostRuntime) -> Result<(), Fail> {
+    let alloc = rt.alloc();
+    let (handler, world) = (
+        Durable {
+            alloc,
+            flow: Reminder,
+        },
+        world_of(alloc, b"tea")?,
+    );
+    // 1,000,000,000 seconds since the Unix epoch.
+    let runs: [(usize, u32, &'static [u8]); 1] = [(3, 17, b"\x00\x00\x00\x00\x3b\x9a\xca\x00")];
+    let arrivals = [(6, void(alloc, 2)?)];
+    let world = crash_at_each_step_with_runs(alloc, &handler, world, 10, &runs, &arrivals)?;
+    // Input, the run and its result, the sleep and its end, the call, the output.
+    assert_eq!(rt; world.journal().len(), 7);
+    expect_entry(&world, 3, &sleep(alloc, 1_000_003_600_000, 2)?)?;
+    expect_end(&world, &output(alloc, b"")?)?;
     Ok(())
 }

@@ -1,5 +1,6 @@
 pub mod Approval
 pub mod Race
+pub mod Reminder
 pub mod Retry
 pub mod Saga
 pub mod Sleeper

@@ -3,6 +3,7 @@
 
 pub mod approval;
 pub mod race;
+pub mod reminder;
 pub mod retry;
 pub mod saga;
 pub mod sleeper;

@@ -1,4 +1,4 @@
-//! It calls another handler, and waits for its answer for one second at most.
+//! It calls another handler, and waits for its answer until one second after the Unix epoch.
 ghost use Rattle.examples.specs.Race.{answer_or_timeout, in_time};
 ghost use Rattle.flows.specs.Follows.{Follows};
 

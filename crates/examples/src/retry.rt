@@ -1,4 +1,4 @@
-//! It charges a card, up to three times with a second between, and keeps the receipt.
+//! It charges a card, up to three times, after sleeps until the seconds 1, 2 and 3 since the Unix epoch, and keeps the receipt.
 ghost use Rattle.examples.specs.Retry.{kept, turn};
 ghost use Rattle.flows.specs.Follows.{Follows};
 

@@ -2,7 +2,7 @@
 use bytes::Bytes;
 use journal_protocol::{
     Encoder, Failure, Message, Notification, NotificationId, NotificationResult, OutputCommand,
-    ValueOrFailure,
+    SleepCommand, ValueOrFailure,
 };
 use plain::{Items, Text};
 use std::alloc::{AllocError, Global};
@@ -59,6 +59,23 @@ pub fn signal(alloc: Global, index: u32, bytes: &'static [u8]) -> Result<Bytes, 
     Encoder::new(alloc).encode(&Message::Notification(Notification {
         id: NotificationId::SignalId(index),
         result: NotificationResult::Value(Bytes::from_static(bytes)),
+    }))
+}
+
+/// The signal of this name is sent, with these bytes.
+pub fn named_signal(alloc: Global, name: &str, bytes: &'static [u8]) -> Result<Bytes, AllocError> {
+    Encoder::new(alloc).encode(&Message::Notification(Notification {
+        id: NotificationId::SignalName(Text::from_str(alloc, name)?),
+        result: NotificationResult::Value(Bytes::from_static(bytes)),
+    }))
+}
+
+/// The journal's entry of a sleep until this time since the Unix epoch, in milliseconds, whose end has this completion id.
+pub fn sleep(alloc: Global, until: u64, id: u32) -> Result<Bytes, AllocError> {
+    Encoder::new(alloc).encode(&Message::Sleep(SleepCommand {
+        wake_up_time: until,
+        result_completion_id: id,
+        name: Text::empty(alloc),
     }))
 }
 

@@ -1,9 +1,9 @@
 //! Crash tests: a world holds an invocation's journal, and rounds play attempts over it that die where you say.
 pub use crate::frames::{
-    cancel, failed, failed_output, invocation_id, output, signal, value, void,
+    cancel, failed, failed_output, invocation_id, named_signal, output, signal, sleep, value, void,
 };
 use bytes::Bytes;
-use invocation_vm::{VMOptions, Version};
+use invocation_vm::{NotificationHandle, RetryPolicy, RunExitResult, VMOptions, Version};
 use plain::{Items, Text};
 use std::alloc::{AllocError, Global};
 use std::test::Fail;
@@ -73,7 +73,14 @@ impl Plan {
         self.then(Event::Arrive(frame))
     }
 
-    /// All commands that were written are stored.
+    /// The run of this handle has been executed, and has given these bytes; a handler's handles count from 17.
+    pub fn run_gives(self, handle: u32, bytes: &'static [u8]) -> Result<Plan, AllocError> {
+        let given = RunExitResult::Success(Bytes::from_static(bytes));
+        let handle = NotificationHandle::from(handle);
+        self.then(Event::RunResult(handle, given, RetryPolicy::default()))
+    }
+
+    /// All commands and results of runs that were written are stored.
     pub fn store_all(self) -> Result<Plan, AllocError> {
         self.then(Event::Store(usize::MAX))
     }
@@ -106,9 +113,28 @@ pub fn crash_at_each_step<H: Handler>(
     steps: usize,
     arrivals: &[(usize, Bytes)],
 ) -> Result<World, Fail> {
+    crash_at_each_step_with_runs(alloc, handler, world, steps, &[], arrivals)
+}
+
+/// The same of a handler that has runs. `runs` says after which step the run of which handle has given which bytes, before what the
+/// attempt has written is stored.
+pub fn crash_at_each_step_with_runs<H: Handler>(
+    alloc: Global,
+    handler: &H,
+    world: World,
+    steps: usize,
+    runs: &[(usize, u32, &'static [u8])],
+    arrivals: &[(usize, Bytes)],
+) -> Result<World, Fail> {
     let mut rounds = Vec::new(alloc);
     for made in 1..=steps {
-        let mut plan = round(alloc).feed()?.step(made)?.store_all()?;
+        let mut plan = round(alloc).feed()?.step(made)?;
+        for (after, handle, bytes) in runs {
+            if *after == made {
+                plan = plan.run_gives(*handle, *bytes)?;
+            }
+        }
+        plan = plan.store_all()?;
         for (after, frame) in arrivals {
             if *after == made {
                 plan = plan.arrive(frame.clone()?)?;
@@ -122,10 +148,25 @@ pub fn crash_at_each_step<H: Handler>(
     }
 }
 
-/// The journal's last entry is this one.
-pub fn ends_with(world: &World, entry: &Bytes) -> bool {
-    match world.journal().last() {
-        Some(last) => last.as_slice() == entry.as_slice(),
-        None => false,
+/// The journal's entry at this place, from 0 on, is this one; else the failure says what stands there.
+pub fn expect_entry(world: &World, at: usize, entry: &Bytes) -> Result<(), Fail> {
+    let entries = world.journal();
+    match entries.get(at) {
+        Some(found) if found.as_slice() == entry.as_slice() => Ok(()),
+        Some(found) => Err(Fail::new(format_args!(
+            "entry {at} of the journal is {found:?}, and not {entry:?}"
+        ))),
+        None => Err(Fail::new(format_args!(
+            "the journal has no entry {at}: it has {}",
+            entries.len()
+        ))),
+    }
+}
+
+/// The journal's last entry is this one; else the failure says what it is.
+pub fn expect_end(world: &World, entry: &Bytes) -> Result<(), Fail> {
+    match world.journal().len() {
+        0 => Err(Fail::from("the journal has no entries")),
+        entries => expect_entry(world, entries - 1, entry),
     }
 }

@@ -4,6 +4,7 @@ from __future__ import annotations
 
 import argparse
 import asyncio
+import errno
 import importlib.util
 import logging
 import os
@@ -61,7 +62,8 @@ async def _serve(options: argparse.Namespace) -> None:
     try:
         print(await server.start(options.host, options.port), flush=True)
     except OSError as error:
-        raise Refused(f"{options.host}:{options.port}: {error.strerror}") from error
+        reason = "another process listens there; --port names another port" if error.errno == errno.EADDRINUSE else error.strerror
+        raise Refused(f"{options.host}:{options.port}: {reason}") from error
     try:
         await engine.run()
     finally:
