@@ -9,6 +9,7 @@ from __future__ import annotations
 import ctypes
 import re
 from collections.abc import Iterable
+from functools import lru_cache
 from typing import get_args
 
 from palqytun._library import Bytes, Command, Error, Invocation, Node, Optional, Options, Pair, Policy, Target, Value
@@ -20,6 +21,7 @@ from palqytun.values import Behaviour, Data, Failure, IdempotencyId, InvocationI
 _ABSENT = Optional(False, Bytes(b"", 0))
 _NO_PAIRS = (Pair * 1)(Pair(Bytes(b"", 0), Bytes(b"", 0)))
 NO_TEXT = Bytes(b"", 0)
+_SHORT = 100  # characters
 
 # A command as `related` has it: `last`, `next(TYPE NAME)` or `at(N TYPE NAME)`; the name is a text in quotes or `-`.
 _RELATED = re.compile(r'last|(?:(next)\(|at\(([0-9]+) )([A-Za-z]+) (?:-|"((?:[^"\\\n\r]|\\.)*)")\)')
@@ -48,8 +50,16 @@ _TYPES = (
 
 
 def lent_text(name: str, value: object) -> Bytes:
-    """A text."""
+    """A text. Those that are likely to come again, as names and keys, are kept."""
+    if type(value) is str and len(value) <= _SHORT:
+        return _lent_short(name, value)
     text = utf8(name, value)
+    return Bytes(text, len(text))
+
+
+@lru_cache(maxsize=1024)
+def _lent_short(name: str, value: str) -> Bytes:
+    text = encoded(name, value)
     return Bytes(text, len(text))
 
 
