@@ -173,13 +173,25 @@ static void signals(uint32_t n, frames *fed)
     }
 }
 
+/* The keys key1, key2, .. key10, as vmbench has them. */
+static void spell(char key[16], uint32_t number)
+{
+    char digits[10];
+    size_t len = 0;
+    for (uint32_t left = number; left > 0; left /= 10)
+        digits[len++] = (char)('0' + left % 10);
+    memcpy(key, "key", 3);
+    for (size_t i = 0; i < len; i++)
+        key[3 + i] = digits[len - 1 - i];
+    key[3 + len] = '\0';
+}
+
 static void state(uint32_t n, frames *fed)
 {
     begin(1, 0, fed);
     for (uint32_t i = 1; i <= n; i++) {
-        char key[16] = "key";
-        for (uint32_t left = i, at = 3; left > 0; left /= 10)
-            key[at++] = (char)('0' + left % 10);
+        char key[16];
+        spell(key, i);
         done(palqytun_state_set(&vm, bytes(key), bytes("value"), bytes(""), false));
         done(palqytun_state_get(&vm, bytes(key), bytes("")));
         done(palqytun_take(&vm, 16 + i));

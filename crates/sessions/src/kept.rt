@@ -16,9 +16,10 @@ use vm_parts::{Answer, AwaitResponse, Value};
 /// Whether a reply may hold memory: not where it is known to be of numbers alone.
 fn may_hold_memory(reply: &Reply) -> bool {
     match reply {
-        Reply::Nothing | Reply::Awaited(_) | Reply::State(_) | Reply::Index(_) => false,
+        Reply::Nothing | Reply::Awaited(_) | Reply::Run(_) | Reply::State(_) | Reply::Index(_) =>
+            false,
         Reply::Answer(answer) => match answer {
-            Answer::Handle(_) | Answer::Call(_) | Answer::Unit => false,
+            Answer::Handle(_) | Answer::Call(_) | Answer::Send(_) | Answer::Unit => false,
             Answer::Taken(None) | Answer::Taken(Some(Value::Void)) => false,
             _ => true,
         },

@@ -40,6 +40,9 @@ pub(crate) fn string_of(alloc: Global, bytes: &[u8]) -> Result<String, Status>
     ensures ok { IfOk result (λ text. string_bytes text ≡ bytes.now) }
     ensures err { IfErr result (CannotCopy (bytes.now ∷ [])) }
 {
+    if bytes.is_empty() {
+        return Ok(String::new(alloc));
+    }
     let Ok(text) = std::str::from_utf8(bytes) else {
         return Err(Status::BadText);
     };
