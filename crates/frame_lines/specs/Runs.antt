@@ -1,17 +1,17 @@
 -- What the program's two runs read and write.
 use Rattle.std.specs.Prelude.{◌≡◌, ◌≢◌, ◌⊎◌, ◌+◌, ℕ, List, [], ◌∷◌, ◌++◌, length, flat_map, All, Option, IfSome}
-use Rattle.std.specs.Io.KnownBytes.{Appends}
 use Rattle.std.specs.Str.{IsTrimAscii, IsUtf8}
 use Rattle.std.specs.declared.io.Error.{Error as IoError}
 use Rattle.journal_protocol.specs.RawMessage.{RawMessage}
 use Rattle.journal_protocol.specs.Frames.{Malformed, Partial, Whole, next_of}
-use Rattle.streams.specs.Streams.{AppendsSome}
 use Rattle.frame_lines.specs.FrameLines.{LineShows, LineShowsAsIs}
 use Rattle.frame_lines.specs.Printed.{frame_text, rest_text}
 use Rattle.frame_lines.specs.declared.run.Unread.{Unread}
 use Rattle.frame_lines.specs.declared.run.Unread.TheVariants as unread
-use Rattle.frame_lines.specs.declared.run_end.RunEnd.{RunEnd}
-use Rattle.frame_lines.specs.declared.run_end.RunEnd.TheVariants as run_end
+use Rattle.frame_lines.specs.declared.refusal.Refusal.{Refusal}
+use Rattle.frame_lines.specs.declared.refusal.Refusal.TheVariants as refusal
+use Rattle.run_ends.specs.declared.run_end.RunEnd.{RunEnd}
+use Rattle.run_ends.specs.Ends.{Says}
 
 -- something that this holds of is added
 abbrev pub AddsToOutput : (List ℕ → Type 0) → List ℕ → List ℕ → Type 0
@@ -126,20 +126,18 @@ pub record StopsAtLine (bad : List ℕ → ℕ → Type 0) (left : Option (List 
   pub all : IfSome left (λ bytes. input ≡ bytes)
   pub is_bad : bad input number
 
+-- Why a run is refused: the line of this number has no meaning. `bad` says which lines have none,
+-- and `read` that all was read. The arguments are looked at before such a run begins.
+abbrev pub TellsRefusal : (List ℕ → ℕ → Type 0) → Option (List ℕ) → Type 0 → Refusal → Type 0
+TellsRefusal bad left read refusal.Usage = ⊥
+TellsRefusal bad left read (refusal.BadLine number) = StopsAtLine bad left number × read
+
 -- What each end of a run says. `turned` says what an input is in the other form, and `bad` which of
 -- its lines has no meaning; `held` and `holds` are what the writer held and holds now; `read` says
 -- that all was read, and `unwritten` that nothing was written.
 abbrev pub Tells : (List ℕ → List ℕ → Type 0) → (List ℕ → ℕ → Type 0) → Option (List ℕ)
     → Option (List ℕ) → Option (List ℕ) → (IoError → Type 0) → (IoError → Type 0) → Type 0 → Type 0
-    → RunEnd → Type 0
-Tells turned bad left held holds read_fails write_fails read unwritten run_end.Usage = ⊥
-Tells turned bad left held holds read_fails write_fails read unwritten (run_end.ReadFailed e) =
-    read_fails e × unwritten
-Tells turned bad left held holds read_fails write_fails read unwritten (run_end.BadLine number) =
-    StopsAtLine bad left number × read × unwritten
-Tells turned bad left held holds read_fails write_fails read unwritten run_end.NoMemory =
-    read × unwritten
-Tells turned bad left held holds read_fails write_fails read unwritten (run_end.WriteFailed e) =
-    write_fails e × read × Turns turned left (AppendsSome held holds)
-Tells turned bad left held holds read_fails write_fails read unwritten run_end.Written =
-    read × Turns turned left (Appends held holds)
+    → RunEnd Refusal Unit → Type 0
+Tells turned bad left held holds read_fails write_fails read unwritten end =
+    Says (TellsRefusal bad left read) (λ written done. Turns turned left written) held holds
+    read_fails write_fails read unwritten end

@@ -7,7 +7,7 @@ pub mod forms;
 pub mod future;
 pub mod message;
 pub mod nested;
+pub mod refusal;
 pub mod run;
-pub mod run_end;
 pub mod type_names;
 pub mod value;

@@ -7,7 +7,7 @@ ghost use Rattle.frame_lines.specs.Printed.{frame_text};
 ghost use Rattle.frame_lines.specs.Runs.{AddsToOutput, AreShown, ArePrinted, HasNoFrame, IsBadFor, IsBadLine, IsComment, IsFirstOfLines, IsShownBy, IsShownInside, IsUnshown, IsUnshownInside, NoneIsBad, Tells, line_text, rest_lines};
 
 use crate::entry::{frame_of, print_frame, print_rest};
-use crate::run_end::RunEnd;
+use crate::refusal::{Refusal, RunEnd};
 use bytes::Bytes;
 use journal_protocol::{Decoder, RawMessage};
 use lines::line::Line;
@@ -91,8 +91,8 @@ pub fn decode<R: Source, W: Sink>(alloc: Global, reader: &mut R, writer: &mut W)
         return RunEnd::NoMemory;
     };
     match writer.write_whole(text.as_str().as_bytes()) {
-        Ok(()) => RunEnd::Written,
-        Err(error) => RunEnd::WriteFailed(error),
+        Ok(()) => RunEnd::Written(()),
+        Err(error) => RunEnd::WriteFailed((), error),
     }
 }
 
@@ -192,10 +192,10 @@ pub fn encode<R: Source, W: Sink>(alloc: Global, reader: &mut R, writer: &mut W)
     }
     match frames_of(alloc, text.as_slice()) {
         Ok(frames) => match writer.write_whole(frames.as_slice()) {
-            Ok(()) => RunEnd::Written,
-            Err(error) => RunEnd::WriteFailed(error),
+            Ok(()) => RunEnd::Written(()),
+            Err(error) => RunEnd::WriteFailed((), error),
         },
         Err(Unread::Memory) => RunEnd::NoMemory,
-        Err(Unread::Line(number)) => RunEnd::BadLine(number),
+        Err(Unread::Line(number)) => RunEnd::Refused(Refusal::BadLine(number)),
     }
 }

@@ -2,8 +2,8 @@
 #![tactic(auto)]
 
 use command_lines::asks_for_help;
+use frame_lines::refusal::{Refusal, RunEnd};
 use frame_lines::run::{decode, encode};
-use frame_lines::run_end::RunEnd;
 use std::env::{self, Env};
 use std::io;
 use std::process::ExitCode;
@@ -47,14 +47,14 @@ fn main(rt: HostRuntime) -> ExitCode {
     }
     let end = match arguments(&rt) {
         Ok(Some(encodes)) => turn(&rt, encodes),
-        Ok(None) => RunEnd::Usage,
+        Ok(None) => RunEnd::Refused(Refusal::Usage),
         Err(error) => RunEnd::ReadFailed(error),
     };
     match end {
-        RunEnd::Usage => {
+        RunEnd::Refused(Refusal::Usage) => {
             let _ = rt.eprintln(USAGE);
         }
-        RunEnd::BadLine(number) => {
+        RunEnd::Refused(Refusal::BadLine(number)) => {
             let _ = rt.eprintln(format_args!("frames: line {number} is no frame"));
         }
         _ => {}

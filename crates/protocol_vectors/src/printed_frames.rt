@@ -4,8 +4,8 @@ use crate::frame_rows::{bad_lines, expect, frame_rows, parts_of, rows_in_other_f
 use crate::reading::whole_in;
 use bytes::Bytes;
 use frame_lines::entry::{frame_of, print_frame};
+use frame_lines::refusal::{Refusal, RunEnd};
 use frame_lines::run::{Unread, decode, encode, frames_of};
-use frame_lines::run_end::RunEnd;
 use journal_protocol::RawMessage;
 use lines::line::Line;
 use plain::Fault;
@@ -208,7 +208,7 @@ fn is_nothing_written(alloc: Global, lines: &[u8]) -> bool {
     let mut out = Plain(Vec::new(alloc));
     let reads = failing_reads(alloc, &mut out);
     let end = encode(alloc, &mut Plain(lines), &mut out);
-    reads == [1; 2] && matches!(&end, RunEnd::BadLine(1)) && out.0.is_empty()
+    reads == [1; 2] && matches!(&end, RunEnd::Refused(Refusal::BadLine(1))) && out.0.is_empty()
 }
 
 #[test]

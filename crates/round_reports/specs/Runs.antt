@@ -21,8 +21,12 @@ use Rattle.round_scripts.specs.Scripts.{IsScriptRead, StopsAt, no_parts}
 use Rattle.round_scripts.specs.declared.given.Given.{Given}
 use Rattle.round_scripts.specs.declared.script.Script.{Script}
 use Rattle.round_reports.specs.Printed.{IsPrinted, fault_text}
-use Rattle.round_reports.specs.declared.run_end.RunEnd.{RunEnd}
-use Rattle.round_reports.specs.declared.run_end.RunEnd.TheVariants.{UnknownHandler, UnknownContentType, ReadFailed, NoMeaning, NoMemory, WriteFailed, Stopped, Reported}
+use Rattle.run_ends.specs.Ends.{Says}
+use Rattle.run_ends.specs.declared.run_end.RunEnd.{RunEnd}
+use Rattle.run_ends.specs.declared.run_end.RunEnd.TheVariants.{Refused, ReadFailed, NoMemory, WriteFailed, Written}
+use Rattle.round_reports.specs.declared.run_end.Ending.{Ending}
+use Rattle.round_reports.specs.declared.run_end.Refusal.{Refusal}
+use Rattle.round_reports.specs.declared.run_end.Refusal.TheVariants.{UnknownHandler, UnknownContentType, NoMeaning}
 
 -- what all attempts of a script's world are made with
 abbrev pub setting_of : Version → Given → Setting
@@ -97,31 +101,28 @@ pub record StopsThere (left : Option (List ℕ)) (number : ℕ) : Type 0 where
 -- what is written of a report into a writer that held and now holds these bytes, where the rounds
 -- have ended so
 abbrev pub ReportEnds : (IoError → Type 0) → Option (List ℕ) → Option (List ℕ) → Option RoundFault
-    → List ℕ → RunEnd → Type 0
-ReportEnds write_fails held holds fault report (WriteFailed e) = write_fails e
-    × AppendsSome held holds report
-ReportEnds write_fails held holds fault report (Stopped f) = (fault ≡ Some f)
+    → List ℕ → RunEnd Refusal Ending → Type 0
+ReportEnds write_fails held holds fault report (Refused why) = ⊥
+ReportEnds write_fails held holds fault report (ReadFailed e) = ⊥
+ReportEnds write_fails held holds fault report NoMemory = ⊥
+ReportEnds write_fails held holds fault report (WriteFailed ending e) = write_fails e
+    × (ending.stopped_by ≡ fault) × AppendsSome held holds report
+ReportEnds write_fails held holds fault report (Written ending) = (ending.stopped_by ≡ fault)
     × Appends held holds report
-ReportEnds write_fails held holds fault report Reported = (fault ≡ None) × Appends held holds report
-ReportEnds write_fails held holds fault report other = ⊥
+
+-- Why a run is refused: there is no such handler, it is no content type, or the line of this number
+-- has no meaning. `stops` says that it has none, and `read` that all was read.
+abbrev pub RoundsRefused : (ℕ → Type 0) → Type 0 → Refusal → Type 0
+RoundsRefused stops read UnknownHandler = Unit {0}
+RoundsRefused stops read UnknownContentType = Unit {0}
+RoundsRefused stops read (NoMeaning line) = stops line × read
 
 -- What each end of a run says. `plays` says that a script was played up to such an end, and what is
 -- written of its report into a writer that held and now holds these bytes; `stops` that the line of
 -- a number has no meaning; `read` that all was read, and `unwritten` that nothing was written.
 abbrev pub RoundsSay : (Option RoundFault → (List ℕ → Type 0) → Type 0) → (ℕ → Type 0)
     → Option (List ℕ) → Option (List ℕ) → (IoError → Type 0) → (IoError → Type 0) → Type 0 → Type 0
-    → RunEnd → Type 0
-RoundsSay plays stops held holds read_fails write_fails read unwritten UnknownHandler = unwritten
-RoundsSay plays stops held holds read_fails write_fails read unwritten UnknownContentType =
-    unwritten
-RoundsSay plays stops held holds read_fails write_fails read unwritten (ReadFailed e) = read_fails e
-    × unwritten
-RoundsSay plays stops held holds read_fails write_fails read unwritten (NoMeaning line) = stops line
-    × read × unwritten
-RoundsSay plays stops held holds read_fails write_fails read unwritten NoMemory = read × unwritten
-RoundsSay plays stops held holds read_fails write_fails read unwritten (WriteFailed e) = write_fails
-    e × read × ((fault : Option RoundFault) × plays fault (AppendsSome held holds))
-RoundsSay plays stops held holds read_fails write_fails read unwritten (Stopped fault) = read
-    × plays (Some fault) (Appends held holds)
-RoundsSay plays stops held holds read_fails write_fails read unwritten Reported =
-    read × plays None (Appends held holds)
+    → RunEnd Refusal Ending → Type 0
+RoundsSay plays stops held holds read_fails write_fails read unwritten end =
+    Says (RoundsRefused stops read) (λ written ending. plays ending.stopped_by written) held holds
+    read_fails write_fails read unwritten end

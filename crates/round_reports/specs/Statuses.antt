@@ -1,17 +1,18 @@
--- The statuses of the process.
-use Rattle.std.specs.Prelude.{ℕ}
-use Rattle.round_reports.specs.declared.run_end.RunEnd.{RunEnd}
-use Rattle.round_reports.specs.declared.run_end.RunEnd.TheVariants.{UnknownHandler, UnknownContentType, ReadFailed, NoMeaning, NoMemory, WriteFailed, Stopped, Reported}
+-- The exit statuses of the program.
+use Rattle.std.specs.Prelude.{Option, Some, None}
+use Rattle.vm_store.specs.declared.types.RoundFault.{RoundFault}
+use Rattle.run_ends.specs.declared.exit_status.ExitStatus.{ExitStatus}
+use Rattle.run_ends.specs.declared.exit_status.ExitStatus.TheVariants as status
+use Rattle.round_reports.specs.declared.run_end.Refusal.{Refusal}
+use Rattle.round_reports.specs.declared.run_end.Refusal.TheVariants.{UnknownHandler, UnknownContentType, NoMeaning}
 
--- 0: all rounds have run and are reported; 1: a fault stopped them, reading or writing failed,
--- memory was lacking, or the content type is none; 2: the handler is unknown, or a line has no
--- meaning
-abbrev pub rounds_exit_code : RunEnd → ℕ
-rounds_exit_code UnknownHandler = 2
-rounds_exit_code UnknownContentType = 1
-rounds_exit_code (ReadFailed e) = 1
-rounds_exit_code (NoMeaning line) = 2
-rounds_exit_code NoMemory = 1
-rounds_exit_code (WriteFailed e) = 1
-rounds_exit_code (Stopped fault) = 1
-rounds_exit_code Reported = 0
+-- 0 if all rounds have run, 1 if a fault has stopped them; the report is written
+abbrev pub rounds_status : Option RoundFault → ExitStatus
+rounds_status None = status.Done
+rounds_status (Some fault) = status.Failed
+
+-- 2 if the handler is unknown or a line has no meaning, 1 if the content type is none
+abbrev pub rounds_refusal_status : Refusal → ExitStatus
+rounds_refusal_status UnknownHandler = status.Usage
+rounds_refusal_status UnknownContentType = status.Failed
+rounds_refusal_status (NoMeaning line) = status.Usage

@@ -4,10 +4,11 @@ ghost use Rattle.std.specs.Io.KnownBytes.{IsAtEnd};
 ghost use Rattle.handlers.specs.Named.{step_in_rounds};
 ghost use Rattle.journal_protocol.specs.Versions.{version_of};
 ghost use Rattle.round_reports.specs.Runs.{ReportEnds, PlaysAll, StopsThere, RoundsSay};
-ghost use Rattle.round_reports.specs.declared.run_end.RunEnd.TheVariants as run_end;
+ghost use Rattle.round_reports.specs.declared.run_end.Refusal.TheVariants as refusal;
+ghost use Rattle.run_ends.specs.declared.run_end.RunEnd.TheVariants.{Refused};
 
 use crate::play::{Played, play_text};
-use crate::run_end::RunEnd;
+use crate::run_end::{Ending, Refusal, RunEnd};
 use handlers::named::Named;
 use journal_protocol::Version;
 use round_scripts::script::Unread;
@@ -21,11 +22,10 @@ fn write_report<W: Sink>(played: Played, writer: &mut W) -> RunEnd
         played.fault played.report result }
 {
     let Played { report, fault } = played;
-    let written = writer.write_whole(report.as_str().as_bytes());
-    match (written, fault) {
-        (Err(error), _) => RunEnd::WriteFailed(error),
-        (Ok(()), Some(fault)) => RunEnd::Stopped(fault),
-        (Ok(()), None) => RunEnd::Reported,
+    let ending = Ending { stopped_by: fault };
+    match writer.write_whole(report.as_str().as_bytes()) {
+        Ok(()) => RunEnd::Written(ending),
+        Err(error) => RunEnd::WriteFailed(ending, error),
     }
 }
 
@@ -37,9 +37,10 @@ pub fn run_handler<H: Handler, R: Source, W: Sink>(
     reader: &mut R,
     writer: &mut W,
 ) -> RunEnd
-    ensures known { result ≢ run_end.UnknownHandler }
+    ensures known { result ≢ Refused refusal.UnknownHandler }
     // A text that is no content type is found before anything is read.
-    ensures refused { version_of content_type.now ≡ None → (result ≡ run_end.UnknownContentType)
+    ensures refused { version_of content_type.now ≡ None
+        → (result ≡ Refused refusal.UnknownContentType)
         × (reader.new ≡ reader.old) × (writer.new ≡ writer.old) }
     ensures runs { IfSome (version_of content_type.now)
         (λ version. RoundsSay (PlaysAll (H.meaning handler.now) version (R.remaining reader.old))
@@ -48,7 +49,7 @@ pub fn run_handler<H: Handler, R: Source, W: Sink>(
         ≡ writer.old) result) }
 {
     let Some(version) = Version::of_content_type(content_type) else {
-        return RunEnd::UnknownContentType;
+        return RunEnd::Refused(Refusal::UnknownContentType);
     };
     let mut text = Vec::new(alloc);
     if let Err(error) = reader.read_whole(&mut text) {
@@ -56,7 +57,7 @@ pub fn run_handler<H: Handler, R: Source, W: Sink>(
     }
     match play_text(alloc, version, handler, text.as_slice()) {
         Ok(played) => write_report(played, writer),
-        Err(Unread::Line(number)) => RunEnd::NoMeaning(number),
+        Err(Unread::Line(number)) => RunEnd::Refused(Refusal::NoMeaning(number)),
         Err(Unread::Memory) => RunEnd::NoMemory,
     }
 }
@@ -70,12 +71,13 @@ pub fn run<R: Source, W: Sink>(
     writer: &mut W,
 ) -> RunEnd
     // An unknown handler is found before anything is read.
-    ensures usage { (result ≡ run_end.UnknownHandler) ↔ (step_in_rounds handler.now ≡ None) }
-    ensures unread { result ≡ run_end.UnknownHandler → reader.new ≡ reader.old }
-    ensures unwritten { result ≡ run_end.UnknownHandler → writer.new ≡ writer.old }
+    ensures usage { (result ≡ Refused refusal.UnknownHandler)
+        ↔ (step_in_rounds handler.now ≡ None) }
+    ensures unread { result ≡ Refused refusal.UnknownHandler → reader.new ≡ reader.old }
+    ensures unwritten { result ≡ Refused refusal.UnknownHandler → writer.new ≡ writer.old }
     // So is a text that is no content type.
     ensures refused { IfSome (step_in_rounds handler.now) (λ _. version_of content_type.now ≡ None
-        → (result ≡ run_end.UnknownContentType) × (reader.new ≡ reader.old)
+        → (result ≡ Refused refusal.UnknownContentType) × (reader.new ≡ reader.old)
         × (writer.new ≡ writer.old)) }
     // Each other run has read all that there was as a script and played its rounds, and all of the report is written, or a beginning
     // where writing has failed; or reading has failed, the line of the number that is told is the first without a meaning, or memory
@@ -89,6 +91,6 @@ pub fn run<R: Source, W: Sink>(
 {
     match Named::in_rounds(alloc, handler) {
         Some(handler) => run_handler(alloc, content_type, &handler, reader, writer),
-        None => RunEnd::UnknownHandler,
+        None => RunEnd::Refused(Refusal::UnknownHandler),
     }
 }

@@ -1,40 +1,49 @@
 //! How a run ends, and the exit status of each end.
 ghost use Rattle.std.specs.Prelude.{◌≡◌};
-ghost use Rattle.round_reports.specs.Statuses.{rounds_exit_code};
+ghost use Rattle.round_reports.specs.Statuses.{rounds_status, rounds_refusal_status};
 
-use std::io;
+use run_ends::exit_status::{ExitStatus, HasStatus};
 use vm_rounds::RoundFault;
 
-/// How a run ends.
-#[derive(Debug, Drop)]
-pub enum RunEnd {
-    /// There is no handler of this name. Nothing was read or written.
-    UnknownHandler,
-    /// The text is no content type of any version. Nothing was read or written.
-    UnknownContentType,
-    /// Reading failed. Nothing was written.
-    ReadFailed(io::Error),
-    /// The line of this number, counted from 1, has no meaning. Nothing was written.
-    NoMeaning(u64),
-    /// All was read, and then memory was lacking. Nothing was written.
-    NoMemory,
-    /// A beginning of the report was written before writing failed.
-    WriteFailed(io::Error),
-    /// The rounds were stopped by this fault, and all of the report, which names it, is written.
-    Stopped(RoundFault),
-    /// All rounds have run, and all of the report is written.
-    Reported,
+/// How rounds end.
+#[derive(Clone, Copy, Debug, PartialEq, Eq)]
+pub struct Ending {
+    /// The fault that has stopped them, which the report names. Without one all have run, and the report says what they did.
+    pub stopped_by: Option<RoundFault>,
 }
 
-impl RunEnd {
-    /// The status of the process.
-    pub fn code(&self) -> u8
-        ensures { result ≡ rounds_exit_code self.now }
-    {
-        match self {
-            RunEnd::Reported => 0,
-            RunEnd::UnknownHandler | RunEnd::NoMeaning(_) => 2,
-            _ => 1,
+impl HasStatus for Ending {
+    ghost status = { λ ending. rounds_status ending.stopped_by };
+
+    fn status(&self) -> ExitStatus {
+        match self.stopped_by {
+            None => ExitStatus::Done,
+            Some(_) => ExitStatus::Failed,
         }
     }
 }
+
+/// Why a run is refused.
+#[derive(Clone, Copy, Debug, PartialEq, Eq)]
+pub enum Refusal {
+    /// There is no handler of this name. Nothing was read.
+    UnknownHandler,
+    /// The text is no content type of any version. Nothing was read.
+    UnknownContentType,
+    /// The line of this number, counted from 1, has no meaning.
+    NoMeaning(u64),
+}
+
+impl HasStatus for Refusal {
+    ghost status = { rounds_refusal_status };
+
+    fn status(&self) -> ExitStatus {
+        match self {
+            Refusal::UnknownHandler | Refusal::NoMeaning(_) => ExitStatus::Usage,
+            Refusal::UnknownContentType => ExitStatus::Failed,
+        }
+    }
+}
+
+/// How a run ends. What it has done is that a script was played.
+pub type RunEnd = run_ends::run_end::RunEnd<Refusal, Ending>;

@@ -3,7 +3,6 @@
 use Rattle.std.specs.Prelude.{◌≡◌, ◌⊎◌, ℕ, zero, suc, ◌-◌, ◌^◌, List, [], Option, Some, None, IfSome, Result, Ok, Err}
 use Rattle.std.proofs.Common.{Global}
 use Rattle.std.specs.List.{concat}
-use Rattle.std.specs.Io.KnownBytes.{Appends}
 use Rattle.std.specs.declared.alloc.AllocError.{AllocError}
 use Rattle.std.specs.declared.io.Error.{Error as IoError}
 use Rattle.journal_protocol.specs.Error.{Error}
@@ -16,11 +15,12 @@ use Rattle.vm_steps.specs.Stepping.{StepFunction, fresh_record, FeedDoes, CloseD
 use Rattle.vm_attempt.specs.Told.{AnswersAreTold, NoneHasTwo}
 use Rattle.vm_steps.specs.declared.progress.Progress.{Progress}
 use Rattle.vm_steps.specs.declared.progress.Progress.TheVariants as progress
-use Rattle.streams.specs.Streams.{AppendsSome}
 use Rattle.runner.specs.declared.run_end.AttemptEnd.{AttemptEnd}
 use Rattle.runner.specs.declared.run_end.AttemptEnd.TheVariants as attempt_end
-use Rattle.runner.specs.declared.run_end.RunEnd.{RunEnd}
-use Rattle.runner.specs.declared.run_end.RunEnd.TheVariants.{UnknownHandler, Refused, ReadFailed, NoMemory, WriteFailed, Written}
+use Rattle.runner.specs.declared.run_end.Refusal.{Refusal}
+use Rattle.runner.specs.declared.run_end.Refusal.TheVariants as refusal
+use Rattle.run_ends.specs.declared.run_end.RunEnd.{RunEnd}
+use Rattle.run_ends.specs.Ends.{Says}
 use Rattle.vm_attempt.specs.Fixed.{fixed_by}
 
 -- so many steps, each of which gave the handler one answer
@@ -86,23 +86,16 @@ ServesAnew alloc (Ok version) meaning left written ending = Serves (IsTold meani
     (fresh_record (made alloc default_options version)) left written ending
 ServesAnew alloc (Err refusal) meaning left written ending = ⊥
 
+-- why a run is refused: there is no such handler, or the content type is refused
+abbrev pub AttemptRefused : Result Version Error → Refusal → Type 0
+AttemptRefused version refusal.UnknownHandler = Unit {0}
+AttemptRefused version (refusal.ContentType why) = version ≡ Err why
+
 -- What each end of a run says. `serves` says that an attempt was served to that end, and what is
 -- written of its output into a writer that held and now holds these bytes; `read` that all was
 -- read, and `unwritten` that nothing was written.
 abbrev pub AttemptSays : Result Version Error → ((List ℕ → Type 0) → AttemptEnd → Type 0)
     → Option (List ℕ) → Option (List ℕ) → (IoError → Type 0) → (IoError → Type 0) → Type 0 → Type 0
-    → RunEnd → Type 0
-AttemptSays version serves held holds read_fails write_fails read unwritten UnknownHandler =
-    unwritten
-AttemptSays version serves held holds read_fails write_fails read unwritten (Refused refusal) =
-    (version
-    ≡ Err refusal) × unwritten
-AttemptSays version serves held holds read_fails write_fails read unwritten (ReadFailed e) =
-    read_fails e
-    × unwritten
-AttemptSays version serves held holds read_fails write_fails read unwritten NoMemory =
-    read × unwritten
-AttemptSays version serves held holds read_fails write_fails read unwritten (WriteFailed ending e) =
-    write_fails e × read × serves (AppendsSome held holds) ending
-AttemptSays version serves held holds read_fails write_fails read unwritten (Written ending) = read
-    × serves (Appends held holds) ending
+    → RunEnd Refusal AttemptEnd → Type 0
+AttemptSays version serves held holds read_fails write_fails read unwritten end =
+    Says (AttemptRefused version) serves held holds read_fails write_fails read unwritten end

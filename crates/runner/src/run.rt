@@ -7,9 +7,10 @@ ghost use Rattle.vm_steps.specs.Stepping.{StepDoes};
 ghost use Rattle.vm_steps.specs.declared.progress.Progress.{Progress};
 ghost use Rattle.runner.specs.Runs.{SendsWhole, end_after, IsFed, Drives, IsDriven, ServesAnew, AttemptSays};
 ghost use Rattle.handlers.specs.Named.{step_named};
-ghost use Rattle.runner.specs.declared.run_end.RunEnd.TheVariants as run_end;
+ghost use Rattle.run_ends.specs.declared.run_end.RunEnd.TheVariants.{Refused};
+ghost use Rattle.runner.specs.declared.run_end.Refusal.TheVariants as refusal;
 
-use crate::run_end::{AttemptEnd, RunEnd};
+use crate::run_end::{AttemptEnd, Refusal, RunEnd};
 use bytes::Bytes;
 use handlers::named::Named;
 use invocation_vm::VMOptions;
@@ -96,10 +97,10 @@ fn run_handler<H: Handler + Drop, R: Source, W: Sink>(
     reader: &mut R,
     writer: &mut W,
 ) -> RunEnd
-    ensures known { result ≢ run_end.UnknownHandler }
+    ensures known { result ≢ Refused refusal.UnknownHandler }
     // A refused content type is found before anything is read.
     ensures refused { IfErr (version_in (Some (Some content_type.now)))
-        (λ refusal. (result ≡ run_end.Refused refusal) × (reader.new ≡ reader.old)
+        (λ why. (result ≡ Refused (refusal.ContentType why)) × (reader.new ≡ reader.old)
         × (writer.new ≡ writer.old)) }
     ensures runs { AttemptSays (version_in (Some (Some content_type.now)))
         (ServesAnew alloc (version_in (Some (Some content_type.now))) (H.meaning handler)
@@ -108,7 +109,7 @@ fn run_handler<H: Handler + Drop, R: Source, W: Sink>(
         ≡ writer.old) result }
 {
     if let Err(refusal) = ContentType(content_type).version() {
-        return RunEnd::Refused(refusal);
+        return RunEnd::Refused(Refusal::ContentType(refusal));
     }
     let mut input = Vec::new(alloc);
     if let Err(error) = reader.read_whole(&mut input) {
@@ -133,13 +134,13 @@ pub fn run<R: Source, W: Sink>(
     writer: &mut W,
 ) -> RunEnd
     // An unknown handler is found before anything is read.
-    ensures usage { (result ≡ run_end.UnknownHandler) ↔ (step_named handler.now ≡ None) }
-    ensures unread { result ≡ run_end.UnknownHandler → reader.new ≡ reader.old }
-    ensures unwritten { result ≡ run_end.UnknownHandler → writer.new ≡ writer.old }
+    ensures usage { (result ≡ Refused refusal.UnknownHandler) ↔ (step_named handler.now ≡ None) }
+    ensures unread { result ≡ Refused refusal.UnknownHandler → reader.new ≡ reader.old }
+    ensures unwritten { result ≡ Refused refusal.UnknownHandler → writer.new ≡ writer.old }
     // So is a refused content type.
     ensures refused { IfSome (step_named handler.now)
         (λ _. IfErr (version_in (Some (Some content_type.now)))
-        (λ refusal. (result ≡ run_end.Refused refusal) × (reader.new ≡ reader.old)
+        (λ why. (result ≡ Refused (refusal.ContentType why)) × (reader.new ≡ reader.old)
         × (writer.new ≡ writer.old))) }
     // Each other run has read all that there was and served it to an attempt, whose answers are told by that journal and by what
     // it wrote; or reading has failed, or memory was lacking behind it, and nothing is written. All that the attempt sends is
@@ -153,6 +154,6 @@ pub fn run<R: Source, W: Sink>(
 {
     match Named::of_name(alloc, handler) {
         Some(handler) => run_handler(alloc, content_type, handler, reader, writer),
-        None => RunEnd::UnknownHandler,
+        None => RunEnd::Refused(Refusal::UnknownHandler),
     }
 }

@@ -1,10 +1,9 @@
 //! How a run ends, and the exit status of each end.
 ghost use Rattle.std.specs.Prelude.{◌≡◌};
-ghost use Rattle.runner.specs.Statuses.{status_of_run};
+ghost use Rattle.runner.specs.Statuses.{attempt_status, runner_refusal_status};
 
-use crate::exit_status::ExitStatus;
 use invocation_vm::Error;
-use std::io;
+use run_ends::exit_status::{ExitStatus, HasStatus};
 
 /// How an attempt ends that is driven until a step gives its handler no answer.
 #[derive(Debug, Drop)]
@@ -19,49 +18,37 @@ pub enum AttemptEnd {
     Stalled,
 }
 
-/// How a run ends.
-#[derive(Debug)]
-pub enum RunEnd {
-    /// There is no handler of this name. Nothing was read or written.
+impl HasStatus for AttemptEnd {
+    ghost status = { attempt_status };
+
+    fn status(&self) -> ExitStatus {
+        match self {
+            AttemptEnd::Ended => ExitStatus::Done,
+            AttemptEnd::Suspended => ExitStatus::Suspended,
+            AttemptEnd::Failed(_) | AttemptEnd::Stalled => ExitStatus::Failed,
+        }
+    }
+}
+
+/// Why a run is refused. Nothing was read.
+#[derive(Debug, Drop)]
+pub enum Refusal {
+    /// There is no handler of this name.
     UnknownHandler,
-    /// The content type is refused. Nothing was read or written.
-    Refused(Error),
-    /// Reading failed. Nothing was written.
-    ReadFailed(io::Error),
-    /// All was read, and then memory was lacking. Nothing was written.
-    NoMemory,
-    /// The attempt ended so, and a beginning of its output was written before writing failed.
-    WriteFailed(AttemptEnd, io::Error),
-    /// The attempt ended so, and all its output is written.
-    Written(AttemptEnd),
+    /// The content type is refused.
+    ContentType(Error),
 }
 
-/// Written out, so that who lets an end go calls this: a derived drop is taken apart at each way out of a function.
-impl Drop for RunEnd {
-    fn drop(self) {
+impl HasStatus for Refusal {
+    ghost status = { runner_refusal_status };
+
+    fn status(&self) -> ExitStatus {
         match self {
-            RunEnd::UnknownHandler | RunEnd::NoMemory => {}
-            RunEnd::Refused(error) => drop(error),
-            RunEnd::ReadFailed(error) => drop(error),
-            RunEnd::WriteFailed(end, error) => {
-                drop(end);
-                drop(error);
-            }
-            RunEnd::Written(end) => drop(end),
+            Refusal::UnknownHandler => ExitStatus::Usage,
+            Refusal::ContentType(_) => ExitStatus::Failed,
         }
     }
 }
 
-impl RunEnd {
-    /// The program's exit status.
-    pub fn status(&self) -> ExitStatus
-        ensures { result ≡ status_of_run self.now }
-    {
-        match self {
-            RunEnd::UnknownHandler => ExitStatus::Usage,
-            RunEnd::Written(AttemptEnd::Ended) => ExitStatus::Ended,
-            RunEnd::Written(AttemptEnd::Suspended) => ExitStatus::Suspended,
-            _ => ExitStatus::Failed,
-        }
-    }
-}
+/// How a run ends. What it has done is that an attempt was driven to its end.
+pub type RunEnd = run_ends::run_end::RunEnd<Refusal, AttemptEnd>;

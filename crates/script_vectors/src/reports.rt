@@ -1,6 +1,6 @@
 // Arguments that are refused, and readers and writers that fail.
 use round_reports::run::run;
-use round_reports::run_end::RunEnd;
+use round_reports::run_end::{Ending, Refusal, RunEnd};
 use std::alloc::Global;
 use std::io::Cursor;
 use std::process::Abort;
@@ -25,13 +25,17 @@ enum Told {
 
 fn told_of(end: &RunEnd) -> Told {
     match end {
-        RunEnd::Reported => Told::Reported,
-        RunEnd::Stopped(_) => Told::Stopped,
-        RunEnd::NoMeaning(line) => Told::NoMeaning(*line),
+        RunEnd::Written(Ending { stopped_by: None }) => Told::Reported,
+        RunEnd::Written(
+            Ending {
+                stopped_by: Some(_),
+            },
+        ) => Told::Stopped,
+        RunEnd::Refused(Refusal::NoMeaning(line)) => Told::NoMeaning(*line),
         RunEnd::ReadFailed(_) => Told::ReadFailed,
-        RunEnd::WriteFailed(_) => Told::WriteFailed,
-        RunEnd::UnknownHandler => Told::UnknownHandler,
-        RunEnd::UnknownContentType => Told::UnknownContentType,
+        RunEnd::WriteFailed(_, _) => Told::WriteFailed,
+        RunEnd::Refused(Refusal::UnknownHandler) => Told::UnknownHandler,
+        RunEnd::Refused(Refusal::UnknownContentType) => Told::UnknownContentType,
         RunEnd::NoMemory => Told::NoMemory,
     }
 }

@@ -1,5 +1,5 @@
 // A run of the program's library: how it ends, and what it has written then.
-use scripts::exit_status::ExitStatus;
+use run_ends::exit_status::ExitStatus;
 use scripts::run::run;
 use scripts::run_end::RunEnd;
 use std::alloc::Global;

@@ -1,7 +1,6 @@
 //! Scripts that drive one VM by hand: the call that a line asks for is made, and its answer is printed.
 #![tactic(auto)]
 
-pub mod exit_status;
 pub mod perform;
 pub mod run;
 pub mod run_end;

@@ -5,7 +5,7 @@ use command_lines::asks_for_help;
 use plain::Fault;
 use plans::reading::plan_of;
 use round_reports::run::{run, run_handler};
-use round_reports::run_end::RunEnd;
+use round_reports::run_end::{Refusal, RunEnd};
 use std::env::{self, Env};
 use std::io;
 use std::process::ExitCode;
@@ -61,7 +61,7 @@ fn play(rt: &HostRuntime, arguments: Arguments) -> RunEnd {
     let mut writer = Plain(io::writer(rt));
     if handler.as_str() != "plan" {
         if !steps.is_empty() {
-            return RunEnd::UnknownHandler;
+            return RunEnd::Refused(Refusal::UnknownHandler);
         }
         return run(
             alloc,
@@ -79,7 +79,7 @@ fn play(rt: &HostRuntime, arguments: Arguments) -> RunEnd {
             &mut reader,
             &mut writer,
         ),
-        Err(Fault::Malformed) => RunEnd::UnknownHandler,
+        Err(Fault::Malformed) => RunEnd::Refused(Refusal::UnknownHandler),
         Err(Fault::Memory) => RunEnd::NoMemory,
     }
 }
@@ -91,14 +91,14 @@ fn main(rt: HostRuntime) -> ExitCode {
     }
     let end = match read_arguments(&rt) {
         Ok(Some(arguments)) => play(&rt, arguments),
-        Ok(None) => RunEnd::UnknownHandler,
+        Ok(None) => RunEnd::Refused(Refusal::UnknownHandler),
         Err(error) => RunEnd::ReadFailed(error),
     };
     match end {
-        RunEnd::UnknownHandler => {
+        RunEnd::Refused(Refusal::UnknownHandler) => {
             let _ = rt.eprintln(USAGE);
         }
-        RunEnd::NoMeaning(number) => {
+        RunEnd::Refused(Refusal::NoMeaning(number)) => {
             let _ = rt.eprintln(format_args!("line {number} has no meaning"));
         }
         _ => {}

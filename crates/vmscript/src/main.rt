@@ -2,7 +2,7 @@
 #![tactic(auto)]
 
 use command_lines::asks_for_help;
-use scripts::exit_status::ExitStatus;
+use run_ends::exit_status::ExitStatus;
 use scripts::run::run;
 use std::env::{self, Env};
 use std::io;

@@ -1,5 +1,5 @@
 // What rows over runs of `vmrun` share.
-use runner::exit_status::ExitStatus;
+use run_ends::exit_status::ExitStatus;
 use runner::run::run;
 use std::alloc::Global;
 use std::io::Cursor;

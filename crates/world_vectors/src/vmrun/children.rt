@@ -6,7 +6,7 @@ use crate::vmrun::frames::{
     OUTPUT_TIMEOUT, PARENT_WAITS, PARENT_WAITS_FOR_4, RACE_WAITS, RESULT_2, RESULT_3, RESULT_4,
     START_5, START_6, START_7, SUSPENSION_FOR_1, SUSPENSION_FOR_2, SUSPENSION_FOR_3, VOID_3,
 };
-use runner::exit_status::ExitStatus;
+use run_ends::exit_status::ExitStatus;
 use std::alloc::Global;
 use std::process::Abort;
 use std::test::Fail;
@@ -45,13 +45,13 @@ static RACES: [Row; 17] = [
     (
         &[START_3, INPUT_TILL, SLEEP_TO_1000, CALL_GREET, RESULT_3],
         &[OUTPUT_HI, END],
-        ExitStatus::Ended,
+        ExitStatus::Done,
     ),
     // the sleep is first
     (
         &[START_3, INPUT_TILL, SLEEP_TO_1000, CALL_GREET, COMPLETION_1],
         &[OUTPUT_TIMEOUT, END],
-        ExitStatus::Ended,
+        ExitStatus::Done,
     ),
     // the call is first, and the sleep is over behind it
     (
@@ -64,7 +64,7 @@ static RACES: [Row; 17] = [
             COMPLETION_1,
         ],
         &[OUTPUT_HI, END],
-        ExitStatus::Ended,
+        ExitStatus::Done,
     ),
     // the sleep is first: what came behind it isn't used, so the call isn't completed
     (
@@ -77,19 +77,19 @@ static RACES: [Row; 17] = [
             RESULT_3,
         ],
         &[OUTPUT_TIMEOUT, END],
-        ExitStatus::Ended,
+        ExitStatus::Done,
     ),
     // the call gave nothing: an empty output
     (
         &[START_3, INPUT_TILL, SLEEP_TO_1000, CALL_GREET, VOID_3],
         &[OUTPUT_EMPTY, END],
-        ExitStatus::Ended,
+        ExitStatus::Done,
     ),
     // the call failed
     (
         &[START_3, INPUT_TILL, SLEEP_TO_1000, CALL_GREET, FAILURE_3],
         &[OUTPUT_NO, END],
-        ExitStatus::Ended,
+        ExitStatus::Done,
     ),
     // the output is recorded
     (
@@ -102,7 +102,7 @@ static RACES: [Row; 17] = [
             OUTPUT_HI,
         ],
         &[END],
-        ExitStatus::Ended,
+        ExitStatus::Done,
     ),
     // cancelled while it waits
     (
@@ -115,7 +115,7 @@ static RACES: [Row; 17] = [
             CANCEL,
         ],
         &[CANCEL_INV_1, OUTPUT_CANCELLED, END],
-        ExitStatus::Ended,
+        ExitStatus::Done,
     ),
     // cancelled before the called invocation has an id that is known
     (
@@ -128,7 +128,7 @@ static RACES: [Row; 17] = [
             INVOCATION_2,
         ],
         &[CANCEL_INV_1, OUTPUT_CANCELLED, END],
-        ExitStatus::Ended,
+        ExitStatus::Done,
     ),
     // cancelled, and the id of the called invocation isn't known yet
     (
@@ -148,7 +148,7 @@ static RACES: [Row; 17] = [
             CANCEL,
         ],
         &[OUTPUT_HI, END],
-        ExitStatus::Ended,
+        ExitStatus::Done,
     ),
     // cancelled before the result of the call
     (
@@ -162,7 +162,7 @@ static RACES: [Row; 17] = [
             RESULT_3,
         ],
         &[CANCEL_INV_1, OUTPUT_CANCELLED, END],
-        ExitStatus::Ended,
+        ExitStatus::Done,
     ),
     // the cancelled await is replayed: the signal to the call is recorded
     (
@@ -176,7 +176,7 @@ static RACES: [Row; 17] = [
             CANCEL_INV_1,
         ],
         &[OUTPUT_CANCELLED, END],
-        ExitStatus::Ended,
+        ExitStatus::Done,
     ),
 ];
 
@@ -210,13 +210,13 @@ static PARENTS: [Row; 16] = [
     (
         &[START_3, INPUT_TILL, CALL_A, CALL_B, RESULT_2, RESULT_4],
         &[OUTPUT_DONE, END],
-        ExitStatus::Ended,
+        ExitStatus::Done,
     ),
     // both came, the second first
     (
         &[START_3, INPUT_TILL, CALL_A, CALL_B, RESULT_4, RESULT_2],
         &[OUTPUT_DONE, END],
-        ExitStatus::Ended,
+        ExitStatus::Done,
     ),
     // a call failed: both are waited for all the same
     (
@@ -228,7 +228,7 @@ static PARENTS: [Row; 16] = [
     (
         &[START_3, INPUT_TILL, CALL_A, CALL_B, FAILURE_2, RESULT_4],
         &[OUTPUT_DONE, END],
-        ExitStatus::Ended,
+        ExitStatus::Done,
     ),
     // the output is recorded
     (
@@ -242,7 +242,7 @@ static PARENTS: [Row; 16] = [
             OUTPUT_DONE,
         ],
         &[END],
-        ExitStatus::Ended,
+        ExitStatus::Done,
     ),
     // cancelled while it waits: both calls are cancelled
     (
@@ -256,7 +256,7 @@ static PARENTS: [Row; 16] = [
             CANCEL,
         ],
         &[CANCEL_INV_1, CANCEL_INV_2, OUTPUT_CANCELLED, END],
-        ExitStatus::Ended,
+        ExitStatus::Done,
     ),
     // cancelled, and no id is known yet
     (
@@ -282,7 +282,7 @@ static PARENTS: [Row; 16] = [
             INVOCATION_1,
         ],
         &[CANCEL_INV_1, CANCEL_INV_2, OUTPUT_CANCELLED, END],
-        ExitStatus::Ended,
+        ExitStatus::Done,
     ),
     // cancelled when one result came: both calls are cancelled
     (
@@ -297,7 +297,7 @@ static PARENTS: [Row; 16] = [
             CANCEL,
         ],
         &[CANCEL_INV_1, CANCEL_INV_2, OUTPUT_CANCELLED, END],
-        ExitStatus::Ended,
+        ExitStatus::Done,
     ),
     // cancelled behind both results: it is done
     (
@@ -305,7 +305,7 @@ static PARENTS: [Row; 16] = [
             START_3, INPUT_TILL, CALL_A, CALL_B, RESULT_2, RESULT_4, CANCEL,
         ],
         &[OUTPUT_DONE, END],
-        ExitStatus::Ended,
+        ExitStatus::Done,
     ),
     // lost behind the first of the two signals
     (
@@ -320,7 +320,7 @@ static PARENTS: [Row; 16] = [
             CANCEL_INV_1,
         ],
         &[CANCEL_INV_2, OUTPUT_CANCELLED, END],
-        ExitStatus::Ended,
+        ExitStatus::Done,
     ),
 ];
 
@@ -382,7 +382,7 @@ fn cut_at(place: usize, known: usize, whole: usize) -> (&'static [&'static [u8]]
     } else {
         (
             &[CANCEL_INV_1, CANCEL_INV_2, OUTPUT_CANCELLED, END],
-            ExitStatus::Ended,
+            ExitStatus::Done,
         )
     }
 }
@@ -414,6 +414,6 @@ fn cancelled_sleeper_fails(rt: HostRuntime) -> Result<(), Fail> {
         "sleeper",
         journal,
         frames,
-        ExitStatus::Ended,
+        ExitStatus::Done,
     )
 }

@@ -1,7 +1,7 @@
 // Runs of the handler `counter` over the counts that it finds. The frames are put together from the layout: the type's
 // number in two bytes, and the body with its length in eight bytes in front, as each text has.
 use crate::vmrun::bench::assert_written;
-use runner::exit_status::ExitStatus;
+use run_ends::exit_status::ExitStatus;
 use std::alloc::{AllocError, Global};
 use std::process::Abort;
 use std::test::Fail;
@@ -105,7 +105,7 @@ fn assert_next(rt: &impl Abort, alloc: Global, found: &[u8], next: &[u8]) -> Res
         "counter",
         input.as_slice(),
         wanted.as_slice(),
-        ExitStatus::Ended,
+        ExitStatus::Done,
     );
     Ok(())
 }
@@ -144,7 +144,7 @@ fn count_that_came_is_set(rt: HostRuntime) -> Result<(), Fail> {
         "counter",
         input.as_slice(),
         wanted.as_slice(),
-        ExitStatus::Ended,
+        ExitStatus::Done,
     );
     Ok(())
 }

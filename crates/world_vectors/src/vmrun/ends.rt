@@ -1,8 +1,8 @@
 // Runs over readers and writers in memory: how each ends, and what it read and wrote.
 use crate::vmrun::bench::V7;
-use runner::exit_status::ExitStatus;
+use run_ends::exit_status::ExitStatus;
 use runner::run::run;
-use runner::run_end::{AttemptEnd, RunEnd};
+use runner::run_end::{AttemptEnd, Refusal, RunEnd};
 use std::alloc::Global;
 use std::io::{self, Cursor, ErrorKind, Read, Write};
 use std::process::Abort;
@@ -38,8 +38,10 @@ enum Told {
 
 fn is_told(end: &RunEnd, told: Told) -> bool {
     match (end, told) {
-        (RunEnd::UnknownHandler, Told::UnknownHandler) => true,
-        (RunEnd::Refused(refusal), Told::Refused(text)) => refusal.message() == text,
+        (RunEnd::Refused(Refusal::UnknownHandler), Told::UnknownHandler) => true,
+        (RunEnd::Refused(Refusal::ContentType(refusal)), Told::Refused(text)) => {
+            refusal.message() == text
+        }
         (RunEnd::ReadFailed(error), Told::ReadFailed(kind)) => error.kind() == kind,
         (RunEnd::WriteFailed(AttemptEnd::Ended, error), Told::WriteFailed(kind)) => {
             error.kind() == kind
@@ -54,7 +56,7 @@ fn is_told(end: &RunEnd, told: Told) -> bool {
 /// The status of each end, and the process's code.
 fn status_of(told: Told) -> (ExitStatus, u8) {
     match told {
-        Told::Ended => (ExitStatus::Ended, 0),
+        Told::Ended => (ExitStatus::Done, 0),
         Told::UnknownHandler => (ExitStatus::Usage, 2),
         Told::Suspended => (ExitStatus::Suspended, 3),
         _ => (ExitStatus::Failed, 1),
