@@ -15,6 +15,7 @@ import argparse
 import asyncio
 import inspect
 import json
+import os
 import pathlib
 import subprocess
 import sys
@@ -163,9 +164,11 @@ def submitted(url: str, handler: str, count: int, argument: object) -> None:
         db.done(lambda to: made(to, [New("Bench", handler, argument=json.dumps(argument).encode(), id=f"inv_{n:06d}") for n in range(count)]))
 
 
-async def made(db: Database, all_of_them: list[New]) -> None:
+async def made(db: Database, all_of_them: list[New]) -> Outcome:
+    out = Outcome()
     for new in all_of_them:
-        await invocations.create(db, app, Outcome(), new)
+        await invocations.create(db, app, out, new)
+    return out
 
 
 async def again(url: str, said: list[tuple[str, tuple[Any, ...]]]) -> float:
@@ -215,12 +218,14 @@ async def timed_with_others(url: str, name: str, scale: float, idle: float, work
     engine = Engine(app, url, idle=idle)
     task = asyncio.create_task(engine.run())
     await engine.is_open()
-    others = [subprocess.Popen(command(url, idle)) for _ in range(workers - 1)]
+    env = {**os.environ, "PYTHONPATH": str(pathlib.Path(__file__).parent.parent / "src")}
+    others = [subprocess.Popen(command(url, idle), env=env) for _ in range(workers - 1)]
     while (await engine.transact(lambda db: db.rows("SELECT COUNT(*) FROM workers")))[0][0] < workers:
         await asyncio.sleep(0.05)
     all_of_them = [New("Bench", handler, argument=json.dumps(argument).encode(), id=f"inv_{n:06d}") for n in range(count)]
-    await engine.transact(lambda db: made(db, all_of_them))
+    out = await engine.transact(lambda db: made(db, all_of_them))
     begun = time.perf_counter()
+    engine.tell(out)
     await until_done(engine, count * invocations_of_one)
     took, done = time.perf_counter() - begun, count * steps_of_one
     engine.stop()
