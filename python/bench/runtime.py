@@ -201,7 +201,8 @@ async def timed(url: str, name: str, scale: float, idle: float) -> None:
     await engine.is_open()
     await until_done(engine, count * invocations_of_one)
     took, cpu, done = time.perf_counter() - begun, time.process_time() - used, count * steps_of_one
-    transactions = sum(name == "commit" for name, _ in recorded[0].said)
+    assert engine._committer is not None
+    transactions = engine._committer.counts["transactions"]
     engine.stop()
     await task
     await asyncio.to_thread(submitted, url, handler, count, argument)
@@ -252,8 +253,10 @@ async def long(url: str, scale: float) -> None:
     for count in (1000, 3000, 10_000):
         count = int(count * scale)
         await asyncio.to_thread(submitted, url, "calls", 1, count)
+        used = time.process_time()
         took = await measured(url, 1.0, lambda engine: until_done(engine, count + 1))
-        print(f"long     {count} calls one after the other in {took:.1f} s, {count / took:.0f} calls/s", flush=True)
+        used = time.process_time() - used
+        print(f"long     {count} calls one after the other in {took:.1f} s, {count / took:.0f} calls/s, {count / used:.0f} calls/CPU s", flush=True)
 
 
 async def suspended(url: str, scale: float) -> None:
