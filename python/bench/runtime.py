@@ -15,6 +15,7 @@ import argparse
 import asyncio
 import inspect
 import json
+import os
 import pathlib
 import subprocess
 import sys
@@ -163,9 +164,11 @@ def submitted(url: str, handler: str, count: int, argument: object) -> None:
         db.done(lambda to: made(to, [New("Bench", handler, argument=json.dumps(argument).encode(), id=f"inv_{n:06d}") for n in range(count)]))
 
 
-async def made(db: Database, all_of_them: list[New]) -> None:
+async def made(db: Database, all_of_them: list[New]) -> Outcome:
+    out = Outcome()
     for new in all_of_them:
-        await invocations.create(db, app, Outcome(), new)
+        await invocations.create(db, app, out, new)
+    return out
 
 
 async def again(url: str, said: list[tuple[str, tuple[Any, ...]]]) -> float:
@@ -198,7 +201,8 @@ async def timed(url: str, name: str, scale: float, idle: float) -> None:
     await engine.is_open()
     await until_done(engine, count * invocations_of_one)
     took, cpu, done = time.perf_counter() - begun, time.process_time() - used, count * steps_of_one
-    transactions = sum(name == "commit" for name, _ in recorded[0].said)
+    assert engine._committer is not None
+    transactions = engine._committer.counts["transactions"]
     engine.stop()
     await task
     await asyncio.to_thread(submitted, url, handler, count, argument)
@@ -215,12 +219,14 @@ async def timed_with_others(url: str, name: str, scale: float, idle: float, work
     engine = Engine(app, url, idle=idle)
     task = asyncio.create_task(engine.run())
     await engine.is_open()
-    others = [subprocess.Popen(command(url, idle)) for _ in range(workers - 1)]
+    env = {**os.environ, "PYTHONPATH": str(pathlib.Path(__file__).parent.parent / "src")}
+    others = [subprocess.Popen(command(url, idle), env=env) for _ in range(workers - 1)]
     while (await engine.transact(lambda db: db.rows("SELECT COUNT(*) FROM workers")))[0][0] < workers:
         await asyncio.sleep(0.05)
     all_of_them = [New("Bench", handler, argument=json.dumps(argument).encode(), id=f"inv_{n:06d}") for n in range(count)]
-    await engine.transact(lambda db: made(db, all_of_them))
+    out = await engine.transact(lambda db: made(db, all_of_them))
     begun = time.perf_counter()
+    engine.tell(out)
     await until_done(engine, count * invocations_of_one)
     took, done = time.perf_counter() - begun, count * steps_of_one
     engine.stop()
@@ -247,8 +253,10 @@ async def long(url: str, scale: float) -> None:
     for count in (1000, 3000, 10_000):
         count = int(count * scale)
         await asyncio.to_thread(submitted, url, "calls", 1, count)
+        used = time.process_time()
         took = await measured(url, 1.0, lambda engine: until_done(engine, count + 1))
-        print(f"long     {count} calls one after the other in {took:.1f} s, {count / took:.0f} calls/s", flush=True)
+        used = time.process_time() - used
+        print(f"long     {count} calls one after the other in {took:.1f} s, {count / took:.0f} calls/s, {count / used:.0f} calls/CPU s", flush=True)
 
 
 async def suspended(url: str, scale: float) -> None:

@@ -170,6 +170,27 @@ class Limits(OnAConnection):
         self.assertEqual(claims(two), ["send", "send"])
 
 
+class Shares(OnAConnection, unittest.TestCase):
+    kind = "postgres"
+
+    def test_a_claim_leaves_others_theirs(self):
+        app = App(mail)
+        workers = [Claimer(name, app, 10) for name in ("one", "two", "three")]
+        for it in workers:
+            self.done(it.enter)
+        for _ in range(80):
+            self.done(invocations.create, app, Outcome(), New("Mail", "free"))
+
+        def claimed(claimer, room):
+            found = self.done(claimer.claim, (), room)
+            return len(found.claims), found.has_more
+
+        self.assertEqual([claimed(workers[0], 90), claimed(workers[1], 30)], [(30, True), (20, True)])
+        self.done(workers[1].leave)
+        self.done(workers[2].leave)
+        self.assertEqual([claimed(workers[0], 100), claimed(workers[0], 100)], [(50, False), (0, False)])
+
+
 @support.on_each_database
 class Broken(OnAConnection):
     def test_a_broken_journal_keeps_nobody_out(self):

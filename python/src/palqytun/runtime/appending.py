@@ -13,7 +13,7 @@ from dataclasses import dataclass
 from .database import Database
 from .lease import INSERTED, Growth
 
-_AT_ONCE = 200  # stores that one statement makes
+AT_ONCE = 200  # stores that one statement makes, at most
 
 _ASKED = "(?,?,?::bigint,?::bigint,?::bigint,?)"
 _ENTRY = "(?,?,?::bigint,?::bigint,?,?::float8)"
@@ -50,8 +50,8 @@ async def append(db: Database, appends: Sequence[Append]) -> list[bool]:
     if not db.is_remote:
         return await _one_by_one(db, appends)
     answers = [False] * len(appends)
-    for first in range(0, len(appends), _AT_ONCE):
-        for number in await _together(db, appends[first : first + _AT_ONCE]):
+    for first in range(0, len(appends), AT_ONCE):
+        for number in await _together(db, appends[first : first + AT_ONCE]):
             answers[first + number] = True
     return answers
 

@@ -16,14 +16,18 @@ from .services import App
 _TIMERS = 1000  # at most so many fire in one transaction
 _FRESH = 5000
 _AT_ONCE = 500  # leases that one statement takes
+_FEWEST = 20  # ready invocations that a claim may take, however many workers there are
+_SHARE = f"SELECT CASE WHEN many<2 OR ?<={_FEWEST} THEN ? WHEN ?/many<{_FEWEST} THEN {_FEWEST} ELSE ?/many END FROM alive"
 
 
 @dataclass
 class Claims:
-    """What a worker goes on with. `next_due` is when something is due that the database knows of."""
+    """What a worker goes on with. `has_more`: this claim took all that it might, so there may be more. `next_due` is when something is due that
+    the database knows of."""
 
     claims: list[Claim] = field(default_factory=list)
     out: Outcome = field(default_factory=Outcome)
+    has_more: bool = False
     next_due: float | None = None
 
 
@@ -78,7 +82,7 @@ class Claimer:
         await schedules.fire(db, self.app, found.out, now)
         fresh = {row[0] for row in await db.rows("SELECT DISTINCT invocation FROM inbox WHERE fresh=1 LIMIT ?", (_FRESH,))}
         found.out.touched |= fresh
-        rows = [Claimable(*row) for row in await self._rows(db, now, room, bool(fresh))]
+        rows = [Claimable(*row) for row in await self._rows(db, found, now, room, bool(fresh))]
         free = [it for it in rows if it.id not in live]
         for first in range(0, len(free), _AT_ONCE):
             found.claims += await invocations.claim(db, self.worker, free[first : first + _AT_ONCE])
@@ -92,17 +96,20 @@ class Claimer:
         if due:
             db.many("DELETE FROM timers WHERE seq=?", [(seq,) for seq, _, _ in due])
 
-    async def _rows(self, db: Database, now: float, room: int, has_fresh: bool) -> list[Any]:
+    async def _rows(self, db: Database, claims: Claims, now: float, room: int, has_fresh: bool) -> list[Any]:
         """Invocations that can go on, each with its row kept until the commit."""
         rows: list[Any] = []
         async for share in self._shares(db):
             most = min(share.room, room - len(rows))
             found = await self._awake(db, share, most) if has_fresh and most > 0 else []
             if len(found) < most:
-                found += await self._ready(db, share, now, most - len(found))
+                ready, has_more = await self._ready(db, share, now, most - len(found))
+                found += ready
+                claims.has_more |= has_more
             rows += found
         if len(rows) < room:
             rows += await self._orphaned(db, room - len(rows))
+        claims.has_more |= len(rows) == room
         return rows
 
     async def _shares(self, db: Database) -> AsyncIterator[Share]:
@@ -124,13 +131,19 @@ class Claimer:
         sql = f"SELECT {CLAIMED}, future FROM invocations WHERE {share.where} AND status='suspended' AND {is_fresh} LIMIT ?{db.skip}"
         return [tuple(row) for *row, future in await db.rows(sql, (*share.values, most)) if await inbox.wakes(db, row[0], bytes(future))]
 
-    async def _ready(self, db: Database, share: Share, now: float, most: int) -> list[Any]:
+    async def _ready(self, db: Database, share: Share, now: float, most: int) -> tuple[list[Any], bool]:
+        """Ready ones, and whether there may be more: a claim takes a share by the number of workers, so that others get theirs."""
         is_free = (
             "(exclusive=0 OR NOT EXISTS (SELECT 1 FROM locks"
             " WHERE locks.service=invocations.service AND locks.key=invocations.key AND locks.holder<>invocations.id))"
         )
-        sql = f"SELECT {CLAIMED} FROM invocations WHERE {share.where} AND status='ready' AND due<=? AND {is_free} ORDER BY due, seq LIMIT ?{db.skip}"
-        return await db.rows(sql, (*share.values, now, most))
+        sql = (
+            f"WITH alive(many) AS (SELECT COUNT(*) FROM workers WHERE lease>={db.clock}), own(most) AS ({_SHARE})"
+            f" SELECT {CLAIMED}, (SELECT most FROM own) FROM invocations WHERE {share.where} AND status='ready' AND due<=? AND {is_free}"
+            f" ORDER BY due, seq LIMIT (SELECT most FROM own){db.skip}"
+        )
+        rows = await db.rows(sql, (most, most, most, most, *share.values, now))
+        return [row[:-1] for row in rows], bool(rows) and len(rows) >= rows[0][-1]
 
     async def _orphaned(self, db: Database, most: int) -> list[Any]:
         """Running ones whose worker isn't alive. They are counted as running already, so no limit keeps them out."""

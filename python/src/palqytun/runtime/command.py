@@ -60,7 +60,8 @@ async def _serve(options: argparse.Namespace) -> None:
         return
     server = Ingress(engine, token=os.environ.get("PALQYTUN_TOKEN")).server
     try:
-        print(await server.start(options.host, options.port), flush=True)
+        address = await server.start(options.host, options.port)
+        print(f"{address}\n{address}/-/page is the operator's page", flush=True)
     except OSError as error:
         reason = "another process listens there; --port names another port" if error.errno == errno.EADDRINUSE else error.strerror
         raise Refused(f"{options.host}:{options.port}: {reason}") from error
@@ -84,7 +85,10 @@ def _done(url: str, operation: Callable[[Database], Awaitable[T]]) -> T:
 
 
 def list_invocations(options: argparse.Namespace) -> int:
-    for it in _done(options.db, lambda db: operate.invocations(db, options.status, options.service, options.most)):
+    found = _done(options.db, lambda db: operate.invocations(db, options.status, options.service, options.most))
+    if not found:
+        print("there are no such invocations", file=sys.stderr)
+    for it in found:
         age = (it["ended"] or time.time()) - it["created"]
         target = "/".join(filter(None, (it["service"], it["key"], it["handler"])))
         error = (it["error"] or "").splitlines()[:1] if it["status"] in ("ready", "paused") else []
@@ -132,7 +136,10 @@ def purge(options: argparse.Namespace) -> int:
 
 
 def list_schedules(options: argparse.Namespace) -> int:
-    for it in _done(options.db, operate.schedules):
+    found = _done(options.db, operate.schedules)
+    if not found:
+        print("there are no schedules", file=sys.stderr)
+    for it in found:
         due = time.strftime("%Y-%m-%d %H:%M:%S", time.gmtime(it["due"]))
         print(f"{it['name']:<20}  {it['service']}/{it['handler']:<20}  {it['rule']:<20}  next {due} UTC")
     return 0

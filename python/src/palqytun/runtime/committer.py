@@ -10,7 +10,7 @@ import time
 from collections.abc import Awaitable, Callable
 from typing import Any, TypeVar
 
-from .appending import Append, append
+from .appending import AT_ONCE, Append, append
 from .database import Conflict, Database, Lost
 from .lease import Growth
 
@@ -137,6 +137,9 @@ class Committer:
     async def _transaction(self, operations: list[Operation]) -> list[Any]:
         self.counts["transactions"] += 1
         self.counts["operations"] += len(operations)
+        appends = [it for it in operations if isinstance(it, Append)]
+        if self.db.is_remote and len(appends) == len(operations) <= AT_ONCE:
+            return await append(self.db, appends)  # one statement, which is a transaction by itself
         await self.db.begin()
         try:
             answers = await self._made(operations)

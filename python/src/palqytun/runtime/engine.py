@@ -199,7 +199,7 @@ class Engine:
                 found: Claims = await committer.submit(lambda db: claimer.claim(db, live, room))
                 for claim in found.claims:
                     self._begin(claim)
-                self._has_more = len(found.claims) == room
+                self._has_more = found.has_more
                 self._look_for_more()
                 found.out.touched &= self.live.keys()
                 self.tell(found.out)
