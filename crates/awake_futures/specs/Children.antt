@@ -1,4 +1,4 @@
--- What the children of a node have come to.
+-- The outcomes of a node's children.
 use Rattle.std.specs.Prelude.{Bool, cond, ◌&&◌, ◌||◌, List, [], ◌∷◌, ◌++◌, map}
 use Rattle.std.specs.List.{list_all, list_any}
 use Rattle.journal_protocol.specs.FutureKind.{FutureKind}
@@ -11,7 +11,7 @@ use Rattle.await_trees.specs.Outcomes.{outcome, fires, fires_on, outcome_of, wai
 use Rattle.await_trees.specs.Tree.{TreeOver, ForestOver, none, more}
 use Rattle.awake_futures.specs.declared.judged.Judged.{Judged}
 
--- by what each id has come to: what a tree has come to, and whether a part of it wakes the attempt
+-- by the outcome of each id: that of a tree, and whether a part of it wakes the attempt
 abbrev pub judged : (NotificationId → Outcome) → TreeOver NotificationId → Judged
 judged at t = record { outcome = outcome at t; fires = fires at t }
 
@@ -24,7 +24,7 @@ stacked at (more t ts) = stacked at ts ++ judged at t ∷ []
 abbrev pub wakes : FutureKind → Judged → Bool
 wakes kind child = fires_on kind child.outcome || child.fires
 
--- what each id that a node lists has come to
+-- the outcome of each id that a node lists
 abbrev pub listed_outcomes : (NotificationId → Outcome) → FutureNode → List Outcome
 listed_outcomes at n = map (λ i. at (CompletionId i)) n.waiting_completions
     ++ (map (λ i. at (SignalId i)) n.waiting_signals

@@ -11,7 +11,7 @@ use Rattle.await_trees.specs.Outcomes.{awake}
 use Rattle.await_trees.specs.Wires.{tree_of_nodes}
 use Rattle.await_tries.specs.Leaves.{result_outcome}
 
--- what an id has come to by what came: the first result counts
+-- the outcome of an id by what came: the first result counts
 abbrev pub outcome_in : Came → NotificationId → Outcome
 outcome_in came id = result_outcome
     (option_or (first (results_of id came.delivered)) (first (results_of id came.queued)))

@@ -1,7 +1,7 @@
-//! What a tree has come to.
+//! The outcome of a tree.
 use await_trees::Outcome;
 
-/// What a tree has come to, and whether a part of it wakes the attempt.
+/// The outcome of a tree, and whether a part of it wakes the attempt.
 #[derive(Clone, Copy)]
 pub struct Judged {
     pub outcome: Outcome,

@@ -1,4 +1,4 @@
-//! What the ids that a node lists have come to.
+//! The outcomes of the ids that a node lists.
 ghost use Rattle.std.specs.Prelude.{◌≡◌, ◌++◌, map, IfOk, OnOk};
 ghost use Rattle.std.specs.Option.{option_copied};
 ghost use Rattle.journal_protocol.specs.NotificationId.TheVariants.{CompletionId, SignalId, SignalName};
@@ -12,7 +12,7 @@ use journal_protocol::{FutureNode, NotificationId, NotificationResult};
 use plain::Text;
 use std::alloc::{AllocError, Global};
 
-/// What a leaf has come to by the result of its id.
+/// The outcome of a leaf by the result of its id.
 fn outcome_with(given: Option<&NotificationResult>) -> Outcome
     ensures { result ≡ result_outcome (option_copied given.entry) }
 {
@@ -28,14 +28,14 @@ fn outcome_with(given: Option<&NotificationResult>) -> Outcome
     }
 }
 
-/// What an id has come to.
+/// The outcome of an id.
 fn outcome_in(came: &Arrivals, id: &NotificationId) -> Outcome
     ensures { result ≡ outcome_in came.now id.now }
 {
     outcome_with(came.first_known(id))
 }
 
-/// Adds what these completions have come to.
+/// Adds the outcomes of these completions.
 fn add_completions(
     came: &Arrivals,
     ids: &[u32],
@@ -50,7 +50,7 @@ fn add_completions(
     Ok(())
 }
 
-/// Adds what the signals of these numbers have come to.
+/// Adds the outcomes of the signals of these numbers.
 fn add_signals(came: &Arrivals, ids: &[u32], outcomes: &mut Vec<Outcome>) -> Result<(), AllocError>
     ensures { OnOk result (outcomes.new.items ≡ outcomes.old.items
         ++ map (λ i. outcome_in came.now (SignalId i)) ids.now) }
@@ -61,7 +61,7 @@ fn add_signals(came: &Arrivals, ids: &[u32], outcomes: &mut Vec<Outcome>) -> Res
     Ok(())
 }
 
-/// Adds what the signals of these names have come to.
+/// Adds the outcomes of the signals of these names.
 fn add_names(came: &Arrivals, names: &[Text], outcomes: &mut Vec<Outcome>) -> Result<(), AllocError>
     ensures { OnOk result (outcomes.new.items ≡ outcomes.old.items
         ++ map (λ i. outcome_in came.now (SignalName i)) names.now) }
@@ -73,7 +73,7 @@ fn add_names(came: &Arrivals, names: &[Text], outcomes: &mut Vec<Outcome>) -> Re
     Ok(())
 }
 
-/// What each id that a node lists has come to.
+/// The outcome of each id that a node lists.
 pub fn listed_outcomes(
     alloc: Global,
     came: &Arrivals,

@@ -47,7 +47,7 @@ fn any_tree_wakes(kind: FutureKind, trees: &[Judged]) -> bool
         .any(|child| fires_on(kind, child.outcome) || child.fires)
 }
 
-/// What a node has come to by its children.
+/// The outcome of a node by its children.
 fn judge_by(kind: FutureKind, leaves: &[Outcome], trees: &[Judged]) -> Judged
     ensures { result ≡ judged_by kind leaves.now trees.now }
 {
@@ -90,7 +90,7 @@ fn is_top_awake(stack: &[Judged]) -> bool
     }
 }
 
-/// Where the trees begin that nest in a node, on a stack of so many.
+/// Where the trees begin that nest in a node, on a stack of this length.
 fn nested_from(len: usize, nested: u64) -> usize
     ensures { result ≡ len - nested }
 {
