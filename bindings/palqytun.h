@@ -482,6 +482,56 @@ uint32_t palqytun_journal_keep(palqytun_journal *journal);
 /* What came since the last commit isn't committed: the journal is again as it was then. */
 uint32_t palqytun_journal_undo(palqytun_journal *journal);
 
+/* ---- Frames
+
+   What a runtime reads and writes beside a journal, by lines of text: docs/FRAMES.md has the line of each message. The calls need no
+   session and no journal. PALQYTUN_NO_MEMORY: nothing was written; the call may be made again. */
+
+/* How a call on frames ended, beside PALQYTUN_DONE, PALQYTUN_NO_MEMORY, PALQYTUN_NO_ROOM, PALQYTUN_BAD_TEXT and PALQYTUN_BAD_NUMBER. */
+enum {
+    /* What was given aren't whole frames. */
+    PALQYTUN_NOT_FRAMES = 10,
+    /* What was given isn't one whole frame. */
+    PALQYTUN_NOT_A_FRAME = 18,
+    /* The line has no meaning. */
+    PALQYTUN_BAD_LINE = 19,
+    /* The frame has no result. */
+    PALQYTUN_NO_RESULT = 20,
+    /* The frame isn't one of a suspension. */
+    PALQYTUN_NOT_A_SUSPENSION = 21
+};
+
+/* What the id of a notification is. */
+enum {
+    PALQYTUN_COMPLETION = 0,
+    PALQYTUN_SIGNAL = 1,
+    PALQYTUN_NAMED_SIGNAL = 2
+};
+
+/* How a call ended, and whether a future is awake. */
+typedef struct {
+    uint32_t status;
+    bool is_awake;
+} palqytun_judged;
+
+/* Writes the line of a frame to the front of out, and tells how long it is. It has no line end, and no 0 after it. PALQYTUN_NO_ROOM: len is
+   the length that it needs. */
+palqytun_told palqytun_frame_line(const uint8_t *frame, size_t frame_len, uint8_t *out, size_t out_len);
+
+/* Writes the frame that a line shows to the front of out, and tells how long it is. PALQYTUN_BAD_TEXT: the line isn't UTF-8.
+   PALQYTUN_NO_ROOM: len is the length that it needs. */
+palqytun_told palqytun_line_frame(const uint8_t *line, size_t line_len, uint8_t *out, size_t out_len);
+
+/* Writes the notification of an id, with the result that a frame has, to the front of out, and tells how long it is. The frame is an output,
+   a notification, the proposal of a run, or the completion of an awakeable, of a signal or of a promise. The id is the number, or the name
+   of a named signal. PALQYTUN_NO_ROOM: len is the length that it needs. */
+palqytun_told palqytun_notification(uint32_t kind, uint32_t id, const uint8_t *name, size_t name_len, const uint8_t *frame, size_t frame_len,
+    uint8_t *out, size_t out_len);
+
+/* Whether the future of a suspension is awake by the notifications among some frames, of which the first of each id counts. */
+palqytun_judged palqytun_is_awake(
+    const uint8_t *suspension, size_t suspension_len, const uint8_t *notifications, size_t notifications_len);
+
 #ifdef __cplusplus
 }
 #endif

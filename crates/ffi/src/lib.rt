@@ -1,7 +1,8 @@
-//! A VM, and a stored journal, for callers of C: the functions that C calls. What each does stands in `sessions`, `typed_calls` and
-//! `held_journals`.
+//! A VM, and a stored journal, for callers of C: the functions that C calls. What each does stands in `sessions`, `typed_calls`,
+//! `held_journals` and `frame_calls`.
 #![tactic(auto)]
 
+mod frames;
 mod journals;
 mod typed;
 

@@ -14,6 +14,8 @@ DONE, NO_MEMORY, NO_SESSION, NO_VM, NO_ROOM, REFUSED = range(6)
 BAD_TEXT, NO_PART = 6, 9
 NO_JOURNAL, BAD_VERSION, NO_ROW, BAD_OUTPUT = 2, 8, 9, 10
 """How a call of a journal ended; from 11 on the faults."""
+NOT_FRAMES, NOT_A_FRAME, BAD_LINE, NO_RESULT, NOT_A_SUSPENSION = 10, 18, 19, 20, 21
+"""How a call on frames ended."""
 
 (
     NOTHING,
@@ -196,7 +198,20 @@ class Stored(ctypes.Structure):
     feed: int
 
 
+class Judged(ctypes.Structure):
+    """How a call ended, and whether a future is awake."""
+
+    _fields_ = [("status", _U32), ("is_awake", _BOOL)]
+    status: int
+    is_awake: bool
+
+
 Buffer = ctypes.Array[ctypes.c_char]
+
+
+def buffer(size: int) -> Buffer:
+    """Room for so many bytes."""
+    return ctypes.create_string_buffer(size)
 
 
 def front(room: Buffer, size: int) -> bytes:
@@ -272,6 +287,23 @@ _JOURNAL_FUNCTIONS: dict[str, tuple[list[Any], Any]] = {
     "undo": ([], _U32),
 }
 
+# What each function on frames is given, and what it returns.
+_FRAME_FUNCTIONS: dict[str, tuple[list[Any], Any]] = {
+    "frame_line": ([_TEXT, _SIZE, _TEXT, _SIZE], Told),
+    "line_frame": ([_TEXT, _SIZE, _TEXT, _SIZE], Told),
+    "notification": ([_U32, _U32, _TEXT, _SIZE, _TEXT, _SIZE, _TEXT, _SIZE], Told),
+    "is_awake": ([_TEXT, _SIZE, _TEXT, _SIZE], Judged),
+}
+
+
+class Frames:
+    """The functions on frames."""
+
+    frame_line: Callable[[bytes, int, Buffer, int], Told]
+    line_frame: Callable[[bytes, int, Buffer, int], Told]
+    notification: Callable[[int, int, bytes, int, bytes, int, Buffer, int], Told]
+    is_awake: Callable[[bytes, int, bytes, int], Judged]
+
 
 class Journals:
     """The functions of a stored journal."""
@@ -290,8 +322,8 @@ class Journals:
 
 
 class Library:
-    """The functions. None of them blocks, so they keep the interpreter's lock. A typed call is under its name in `calls`, and a function of
-    a stored journal under its own in `journals`."""
+    """The functions. None of them blocks, so they keep the interpreter's lock. A typed call is under its name in `calls`, a function of a
+    stored journal under its own in `journals`, and one on frames in `frames`."""
 
     new: Callable[[Session], int]
     line: Callable[[Session, bytes, int], Told]
@@ -306,6 +338,7 @@ class Library:
             library = ctypes.PyDLL(path)
             functions = {name: getattr(library, f"palqytun_{name}") for name in _FUNCTIONS}
             of_journals = {name: getattr(library, f"palqytun_journal_{name}") for name in _JOURNAL_FUNCTIONS}
+            on_frames = {name: getattr(library, f"palqytun_{name}") for name in _FRAME_FUNCTIONS}
         except (OSError, AttributeError) as error:
             raise ImportError(f"{error}: ./bindings/build makes it, at the top of the repository, or PALQYTUN_LIBRARY names it") from error
         for name, (arguments, result) in _FUNCTIONS.items():
@@ -316,6 +349,10 @@ class Library:
         for name, (arguments, result) in _JOURNAL_FUNCTIONS.items():
             of_journals[name].argtypes, of_journals[name].restype = [ctypes.POINTER(Handle), *arguments], result
             setattr(self.journals, name, of_journals[name])
+        self.frames = Frames()
+        for name, (arguments, result) in _FRAME_FUNCTIONS.items():
+            on_frames[name].argtypes, on_frames[name].restype = arguments, result
+            setattr(self.frames, name, on_frames[name])
         self.calls: dict[str, Callable[..., Replied]] = {name: it for name, it in functions.items() if it.restype is Replied}
 
 

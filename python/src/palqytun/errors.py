@@ -4,7 +4,7 @@ from __future__ import annotations
 
 import enum
 
-__all__ = ["BadLine", "Cancelled", "Closed", "Code", "Fault", "JournalFault", "JournalMismatch", "Suspended", "VMError", "error_of"]
+__all__ = ["BadFrame", "BadLine", "Cancelled", "Closed", "Code", "Fault", "JournalFault", "JournalMismatch", "Suspended", "VMError", "error_of"]
 
 
 class Code(enum.IntEnum):
@@ -68,6 +68,10 @@ class Cancelled(Exception):
 class BadLine(ValueError):
     """An argument, or a line, that the VM can't read: a text that is no UTF-8, a number that is too large, a word that isn't known.
     Nothing was done."""
+
+
+class BadFrame(ValueError):
+    """Bytes that aren't one whole frame, or a frame that hasn't what was asked of it."""
 
 
 class Fault(enum.IntEnum):

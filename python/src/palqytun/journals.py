@@ -14,7 +14,8 @@ from palqytun.values import Data
 
 __all__ = ["Journal", "Row", "Stored"]
 
-_LATEST = 7
+DEFAULT_VERSION = 7
+"""The version of a VM that is made without one."""
 _VERSIONS = 5, 8
 
 
@@ -124,7 +125,7 @@ class Journal:
         frame = octets("notification", notification)
         return self._entered(self._calls.arrive(self._handle, frame, len(frame)), frame)
 
-    def store(self, output: Data, version: int = _LATEST) -> Stored:
+    def store(self, output: Data, version: int = DEFAULT_VERSION) -> Stored:
         """What is stored of what an attempt wrote since the last `store`, as `VM.take_output` gave it: its commands, and the completions
         that its proposals are. `version` is that of the VM.
 

@@ -35,11 +35,18 @@ class Files(support.InAFolder, unittest.TestCase):
         patch.start()
         self.addCleanup(mock.patch.stopall)
         db = Plain(url)
-        assert rows(db, "SELECT version FROM schema_versions ORDER BY version") == [(1,), (2,), (3,)] and rows(db, "SELECT * FROM more") == []
+        assert rows(db, "SELECT version FROM schema_versions ORDER BY version") == [(1,), (2,), (3,), (4,)] and rows(db, "SELECT * FROM more") == []
         db.close()
         Plain(url).close()
         patch.stop()
-        with self.assertRaisesRegex(schema.NewerSchema, "has schema version 3"):
+        with self.assertRaisesRegex(schema.NewerSchema, "has schema version 4"):
+            Plain(url)
+
+    def test_a_database_of_an_older_package_is_refused(self):
+        url = str(self.folder / "db")
+        with mock.patch.object(schema, "MIGRATIONS", schema.MIGRATIONS[:2]):
+            Plain(url).close()
+        with self.assertRaisesRegex(schema.OlderSchema, "has schema version 2, and this package reads 3 and later"):
             Plain(url)
 
     def test_a_migration_that_fails_changes_nothing(self):

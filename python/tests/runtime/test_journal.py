@@ -5,6 +5,7 @@ import subprocess
 import unittest
 
 import support  # isort: skip
+from palqytun import frames as core
 from palqytun.runtime import journal
 from palqytun.runtime.invocations import load
 from palqytun.runtime.database.plain import Plain
@@ -79,9 +80,14 @@ def growth(db, epoch):
     return Growth(Lease("inv", epoch, loaded))
 
 
-def future(kind, completions=(), nested=()):
-    listed = number(len(completions), 8) + b"".join(map(number, completions))
-    return bytes([kind]) + listed + bytes(16) + number(len(nested), 8) + b"".join(nested)
+def suspension(kind, completions=(), nested=()):
+    """The frame of a suspension, by the core, and what stands in the brackets of its future."""
+    shown = f"(kind={kind} completions={list(completions)} nested=[{', '.join(nested)}])"
+    return core.frame_of(f"Suspension future={shown}"), shown
+
+
+def is_awake(kind, completions, *came):
+    return journal.is_awake(suspension(kind, completions)[0], came)
 
 
 # The two frames that docs/WIRE.md writes out.
@@ -197,20 +203,43 @@ class Rules(support.InAFolder, unittest.TestCase):
         broken("WHOLE", lambda: db.wait(load(db.db, "inv", 2)))
 
     def test_a_future_of_a_suspension(self):
-        won, lost = {(0, 1): True}, {(0, 1): False}
-        first, all_of, any_of, every = range(4)
-        assert journal.is_awake(future(first, [1, 2]), won) and not journal.is_awake(future(first, [2]), won)
-        assert not journal.is_awake(future(all_of, [1, 2]), won) and journal.is_awake(future(all_of, [1, 2]), {**won, (0, 2): False})
-        assert journal.is_awake(future(any_of, [1, 2]), won) and not journal.is_awake(future(any_of, [1, 2]), lost)
-        assert journal.is_awake(future(every, [1, 2]), lost) and not journal.is_awake(future(every, [1, 2]), won)
-        assert journal.is_awake(future(all_of, [], [future(first, [1, 2]), future(first, [3])]), won)
-        assert not journal.is_awake(future(first, [], [future(all_of, [1, 2])]), won)
-        assert not journal.is_awake(future(4), won)
+        won, lost = (journal.completion(1, it) for it in (journal.void(), journal.failure(1, "x")))
+        first, all_of, any_of, every = "FirstCompleted", "AllCompleted", "FirstSucceededOrAllFailed", "AllSucceededOrFirstFailed"
+        assert is_awake(first, [1, 2], won) and not is_awake(first, [2], won)
+        assert not is_awake(all_of, [1, 2], won) and is_awake(all_of, [1, 2], won, journal.completion(2, journal.failure(1, "x")))
+        assert is_awake(any_of, [1, 2], won) and not is_awake(any_of, [1, 2], lost)
+        assert is_awake(every, [1, 2], lost) and not is_awake(every, [1, 2], won)
+        either = [suspension(first, [1, 2])[1], suspension(first, [3])[1]]
+        assert journal.is_awake(suspension(all_of, [], either)[0], [won])
+        assert not journal.is_awake(suspension(first, [], [suspension(all_of, [1, 2])[1]])[0], [won])
+        assert not is_awake("Unknown", [], won)
 
     def test_the_first_notification_of_an_id_counts(self):
         lost = journal.failure(1, "x")
-        came = [sleep(1), journal.completion(1, lost), journal.named_signal("a", journal.void()), journal.named_signal("a", lost)]
-        assert journal.outcome_of(came) == {(0, 1): False, (2, "a"): True}
+        waits = core.frame_of('Suspension future=(kind=FirstSucceededOrAllFailed completions=[1] named=["b"])')
+        came = [sleep(1), journal.completion(1, lost), journal.completion(1, journal.void()), journal.named_signal("a", journal.void())]
+        assert not journal.is_awake(waits, came) and journal.is_awake(waits, [*came, journal.named_signal("b", lost)])
+
+    def test_what_cannot_be_read_is_not_stored(self):
+        it = begun()
+        broken("IN-ORDER", it.store, sleep(5) + frame(18, b"x"), 0)
+        assert (it.entries, it.written) == (4, 0)
+        it.store(sleep(5), 0)
+
+    def test_results_are_frames(self):
+        written = core.frame_of('Output result=failure(code=409 message="no" metadata=[("k" "v")])')
+        assert journal.answer(written) == ("failure", (409, "no", (("k", "v"),))) and journal.is_failure(written)
+        assert journal.answer(journal.keys(["a", "\u00e9"])) == ("keys", ["a", "\u00e9"])
+        assert journal.answer(journal.invocation("inv2")) == ("invocation", "inv2")
+        assert journal.answer(journal.value(bytes(range(256)))) == ("value", bytes(range(256)))
+        assert journal.answer(journal.value(b"")) == ("value", b"") and journal.answer(journal.void()) == ("void", None)
+
+    def test_an_answer_is_of_the_version(self):
+        it = Journal(6)
+        for entry in (INPUT, run(4)):
+            it.entry(entry)
+        it.start(Begin("inv", "", 7))
+        assert it.store(proposal(4), 0).feed == [journal.completion(4, journal.value(b"x"))]
 
     def test_the_frames_of_the_document(self):
         assert next(journal.commands_in(bytes.fromhex(SLEEP)))[0] == journal.Sleep(1, 1721123699086)

@@ -6,6 +6,7 @@ import time
 import unittest
 
 import support  # isort: skip
+from palqytun.frames import frame_of
 from palqytun.runtime import App, Context, Schedule, Service, VirtualObject, Workflow, invocations, journal, operate, schedules
 from palqytun.runtime.claiming import Claimer
 from palqytun.runtime.cron import Cron, Every
@@ -162,7 +163,7 @@ class Limits(OnAConnection):
         # What is suspended and awake counts as well, and what a dead worker had goes on beside the limit.
         sleeping = journal.completion(1, journal.void())
         [(id,)] = self.rows("SELECT id FROM invocations WHERE status='ready'")
-        self.done(lambda db: db.change("UPDATE invocations SET status='suspended', future=? WHERE id=?", (b"\0" + bytes(7) + b"\1" + bytes(3) + b"\1" + bytes(24), id)))
+        self.done(lambda db: db.change("UPDATE invocations SET status='suspended', suspension=? WHERE id=?", (frame_of("Suspension future=(kind=FirstCompleted completions=[1])"), id)))
         self.done(lambda db: db.change("INSERT INTO inbox(invocation, frame) VALUES (?,?)", (id, sleeping)))
         self.assertEqual(claims(one), [])
         self.done(lambda db: db.change("DELETE FROM workers WHERE id='one'"))

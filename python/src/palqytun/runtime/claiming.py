@@ -128,8 +128,8 @@ class Claimer:
     async def _awake(self, db: Database, share: Share, most: int) -> list[Any]:
         """Suspended ones whose inbox wakes them."""
         is_fresh = "id IN (SELECT invocation FROM inbox WHERE fresh=1)"
-        sql = f"SELECT {CLAIMED}, future FROM invocations WHERE {share.where} AND status='suspended' AND {is_fresh} LIMIT ?{db.skip}"
-        return [tuple(row) for *row, future in await db.rows(sql, (*share.values, most)) if await inbox.wakes(db, row[0], bytes(future))]
+        sql = f"SELECT {CLAIMED}, suspension FROM invocations WHERE {share.where} AND status='suspended' AND {is_fresh} LIMIT ?{db.skip}"
+        return [tuple(row) for *row, suspension in await db.rows(sql, (*share.values, most)) if await inbox.wakes(db, row[0], bytes(suspension))]
 
     async def _ready(self, db: Database, share: Share, now: float, most: int) -> tuple[list[Any], bool]:
         """Ready ones, and whether there may be more: a claim takes a share by the number of workers, so that others get theirs."""

@@ -19,7 +19,7 @@ from . import inbox, journal, operate
 from .database import Database, Lost
 from .database.plain import Plain
 from .database.postgres import NoDriver
-from .database.schema import NewerSchema
+from .database.schema import NewerSchema, OlderSchema
 from .database.sqlite import InUse
 from .engine import Engine
 from .ingress import Ingress
@@ -202,6 +202,6 @@ def main() -> int:
     logging.basicConfig(level=logging.INFO, format="%(asctime)s %(name)s %(message)s")
     try:
         return int(options.does(options))
-    except (Refused, Lost, InUse, NewerSchema, NoDriver) as error:
+    except (Refused, Lost, InUse, NewerSchema, OlderSchema, NoDriver) as error:
         print(f"palqytun: {error}", file=sys.stderr)
         return 2

@@ -52,10 +52,10 @@ def remove(db: Database, rows: Sequence[tuple[Any, ...]]) -> None:
         db.many("DELETE FROM inbox WHERE seq=?", [(seq,) for seq, _ in rows])
 
 
-async def wakes(db: Database, invocation: str, future: bytes) -> bool:
+async def wakes(db: Database, invocation: str, suspension: bytes) -> bool:
     """Whether what waits wakes a suspended invocation. What was looked at in vain isn't looked at again, until something else comes."""
     rows = await peek(db, invocation)
-    if journal.is_awake(future, journal.outcome_of(frame for _, frame in rows)):
+    if journal.is_awake(suspension, [frame for _, frame in rows]):
         return True
     db.many("UPDATE inbox SET fresh=0 WHERE seq=?", [(seq,) for seq, _ in rows])
     return False

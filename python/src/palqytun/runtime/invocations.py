@@ -114,9 +114,9 @@ class Claim:
         return self.lease.invocation
 
 
-def _loaded(invocation: str, entries: int, rows: Iterable[Any]) -> Journal:
+def _loaded(invocation: str, entries: int, rows: Iterable[Any], version: int) -> Journal:
     """A journal of the rows that are stored of it."""
-    loaded = Journal()
+    loaded = Journal(version)
     for at, frame in rows:
         if at != loaded.entries:
             raise journal.Dishonest("WHOLE", f"entry {loaded.entries} of {invocation} isn't there")
@@ -127,9 +127,9 @@ def _loaded(invocation: str, entries: int, rows: Iterable[Any]) -> Journal:
     return loaded
 
 
-async def load(db: Database, invocation: str, entries: int) -> Journal:
-    """The stored journal."""
-    return _loaded(invocation, entries, await db.rows("SELECT at, frame FROM journal WHERE invocation=? ORDER BY at", (invocation,)))
+async def load(db: Database, invocation: str, entries: int, version: int = journal.DEFAULT_VERSION) -> Journal:
+    """The stored journal, for attempts of this version."""
+    return _loaded(invocation, entries, await db.rows("SELECT at, frame FROM journal WHERE invocation=? ORDER BY at", (invocation,)), version)
 
 
 async def state_of(db: Database, service: str, key: str) -> dict[str, bytes]:
@@ -183,7 +183,7 @@ async def _lease(db: Database, worker: str, rows: list[Claimable], now: float) -
     )
     db.many(kept, [(now, it.id) for it in rows if it.epoch])
     sql = (
-        "UPDATE invocations SET status='running', epoch=epoch+1, worker=?, future=NULL, begun=?, stopped=NULL, how=NULL"
+        "UPDATE invocations SET status='running', epoch=epoch+1, worker=?, suspension=NULL, begun=?, stopped=NULL, how=NULL"
         f" WHERE (id, epoch) IN (VALUES {_marks(len(rows), '(?,?)')})"
     )
     if await db.change(sql, (worker, now, *[part for it in rows for part in (it.id, it.epoch)])) != len(rows):
@@ -220,7 +220,7 @@ async def claim(db: Database, worker: str, rows: list[Claimable]) -> list[Claim]
 
 async def _claim(db: Database, it: Claimable, now: float, entries: list[tuple[Any, ...]], arrived: list[tuple[Any, ...]]) -> Claim:
     """Moves what came for a leased invocation to its journal, and makes ready what its attempt is fed."""
-    growth = Growth(Lease(it.id, it.epoch + 1, _loaded(it.id, it.entries, entries)), is_fenced=True)
+    growth = Growth(Lease(it.id, it.epoch + 1, _loaded(it.id, it.entries, entries, it.version)), is_fenced=True)
     for _, frame in arrived:
         growth.arrive(bytes(frame))
     inbox.remove(db, arrived)

@@ -37,7 +37,7 @@ async def replay(app: App, db: Database, it: Claimable) -> Difference | None:
         app.find(it.service, it.handler)
     except TerminalError as error:
         return Difference(it.id, path, -1, error.message)
-    start = (await load(db, it.id, it.entries)).start(Begin(it.id, it.key, it.seed, idempotency_key=it.idem or None))
+    start = (await load(db, it.id, it.entries, it.version)).start(Begin(it.id, it.key, it.seed, idempotency_key=it.idem or None))
     with core.VM(f"application/vnd.restate.invocation.v{it.version}", awaiting="never") as vm:
         vm.notify_input(start)
         vm.notify_input_closed()

@@ -49,11 +49,10 @@ def _leave_room(db: Database, app: App, out: Outcome, claim: Claim) -> None:
 async def _suspend(db: Database, out: Outcome, growth: Growth, suspension: Suspension) -> None:
     """The invocation waits; or it doesn't, if what wakes it came just now."""
     now, own = time.time(), growth.lease.invocation
-    came = journal.outcome_of(it.frame for it in growth.entries)
-    is_awake = journal.is_awake(suspension.future, came) or await inbox.wakes(db, own, suspension.future)
+    is_awake = journal.is_awake(suspension.frame, [it.frame for it in growth.entries]) or await inbox.wakes(db, own, suspension.frame)
     out.status = "ready" if is_awake else "suspended"
     progress = {"retries": 0, "failing_since": None} if growth.has_progress else {}
-    await growth.write(db, status=out.status, due=now, future=suspension.future, stopped=now, how="suspended", **progress)
+    await growth.write(db, status=out.status, due=now, suspension=suspension.frame, stopped=now, how="suspended", **progress)
     if is_awake:
         out.is_due(now)
 

@@ -65,7 +65,11 @@ CREATE TABLE schedules(
 CREATE TABLE limits(path TEXT PRIMARY KEY){plain}
 """
 
-MIGRATIONS = [_FIRST, _SECOND]
+# A suspension and a result are whole frames from here on.
+_THIRD = "ALTER TABLE invocations RENAME COLUMN future TO suspension"
+
+MIGRATIONS = [_FIRST, _SECOND, _THIRD]
+_OLDEST = 3  # what older databases hold can't be read any more
 
 VERSIONS = "CREATE TABLE IF NOT EXISTS schema_versions(version INTEGER PRIMARY KEY)"
 
@@ -79,8 +83,18 @@ class NewerSchema(Exception):
         super().__init__(f"the database has schema version {found}, and this package knows {len(MIGRATIONS)}; update the package")
 
 
+class OlderSchema(Exception):
+    """The database was written by an older version of this package, whose results are stored in another form."""
+
+    def __init__(self, found: int):
+        text = f"the database has schema version {found}, and this package reads {_OLDEST} and later: end its invocations by the package that wrote it"
+        super().__init__(f"{text}, and begin a new database")
+
+
 def missing(found: int) -> list[tuple[int, str]]:
     """The migrations that a database of this version lacks, each with its number; version 0 is an empty database."""
     if found > len(MIGRATIONS):
         raise NewerSchema(found)
+    if 0 < found < _OLDEST:
+        raise OlderSchema(found)
     return list(enumerate(MIGRATIONS, 1))[found:]

@@ -3,7 +3,8 @@
 `Journal` holds what the only writer of a stored journal has to know, and keeps the rules of honest storing. `frames` are its entries as
 typed values. The rest of the runtime names nothing of these two modules but what this file lists, and knows no layout of bytes.
 
-`frames` is tested and not proved; `rules` stands on the core's `palqytun.Journal`, which is proved.
+Both stand on the core: `rules` on its `palqytun.Journal`, `frames` on `palqytun.frames`, which writes and reads frames by their lines, makes
+notifications, and judges whether a suspension is awake. What `frames` does beside is tested and not proved.
 
     entry(frame)             the next entry, at load
     start(begin)             the bytes that a new attempt is fed: its Start, and the whole journal
@@ -11,7 +12,7 @@ typed values. The rest of the runtime names nothing of these two modules but wha
     store(output, at)        the entries of what an attempt wrote, its commands as typed values, and the frames to feed back
     state(base)              the keyed state as the journal's commands leave it
     keep(), undo()           what was stored since is committed; or it wasn't, and is taken back
-    is_awake(future, came)   whether the future of a suspension is awake by some notifications
+    is_awake(frame, entries) whether a suspension is awake by the notifications among some entries
 """
 
 from .frames import (
@@ -49,15 +50,15 @@ from .frames import (
     named_signal,
     only_runs,
     only_steps,
-    outcome_of,
     signal,
     value,
     void,
 )
-from .rules import Dishonest, Entry, Journal, Stored
+from .rules import DEFAULT_VERSION, Dishonest, Entry, Journal, Stored
 
 __all__ = [
     "CANCEL",
+    "DEFAULT_VERSION",
     "Attach",
     "Begin",
     "Call",
@@ -95,7 +96,6 @@ __all__ = [
     "named_signal",
     "only_runs",
     "only_steps",
-    "outcome_of",
     "signal",
     "value",
     "void",

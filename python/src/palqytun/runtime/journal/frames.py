@@ -1,30 +1,34 @@
-"""Frames as typed values, and back: the part of docs/WIRE.md that a runtime reads and writes.
+"""Frames as typed values, and back: what a runtime reads and writes of them.
 
-A result is kept as the bytes that a notification has for it (`void`, `value`, `failure`, `keys` and `invocation` make them), so storing
-and delivering one never reads it.
+The core writes and reads their bodies, by lines of docs/FRAMES.md: only the head of a frame, its type and its length, is looked at here, to
+cut a stream into frames and to see which of them ask something of the runtime. A result is kept as a whole frame that has it, so storing and
+delivering one never reads it.
 """
 
 from __future__ import annotations
 
+import functools
+import re
 import struct
-from collections.abc import Callable, Iterable, Iterator, Mapping
+from collections.abc import Callable, Iterable, Iterator
 from dataclasses import dataclass
 from typing import Any, NewType
 
+from palqytun import frames as core
+
 Result = NewType("Result", bytes)
+"""A frame that has a result: an output, a notification of any id, a proposal, or the completion of an awakeable, a signal or a promise."""
 
 CANCEL = 1  # the signal that cancels an invocation
 
-_START, _SUSPENSION, _ERROR, _END, _PROPOSAL, _AWAITING_ON = 1, 2, 3, 4, 5, 7
-_INPUT, _LAST_COMMAND, _NOTIFICATION, _RUN = 10, 29, 30, 26
+_SUSPENSION, _ERROR, _END, _PROPOSAL, _AWAITING_ON = 2, 3, 4, 5, 7
+_INPUT, _OUTPUT, _NOTIFICATION, _RUN = 10, 29, 30, 26
 _EAGER_STATE, _EAGER_KEYS = 11, 13
 _STEPS = frozenset([_PROPOSAL, _AWAITING_ON, _EAGER_STATE, _EAGER_KEYS, _RUN])
+_COMMANDS = range(_INPUT, _OUTPUT + 1)
+CHANGES = range(15, 18)
+"""The types of the commands that change the state."""
 _HEAD = struct.Struct(">HQ")
-_FAILURE = b"\2"  # the first byte of a result that is a failure
-
-
-def _frame(kind: int, body: bytes) -> bytes:
-    return _HEAD.pack(kind, len(body)) + body
 
 
 def split(stream: bytes) -> Iterator[tuple[int, bytes]]:
@@ -44,61 +48,60 @@ def split(stream: bytes) -> Iterator[tuple[int, bytes]]:
 # ---- writing
 
 
-def _blob(data: bytes) -> bytes:
-    return struct.pack(">Q", len(data)) + data
+def _blob(data: bytes) -> str:
+    return f"0x{data.hex()}" if data else '""'
 
 
-def _text(text: str) -> bytes:
+def _text(text: str) -> str:
     return _blob(text.encode())
 
 
-def _option(text: str | None) -> bytes:
-    return b"\0" if text is None else b"\1" + _text(text)
+def _pairs(pairs: Iterable[tuple[str, str]]) -> str:
+    return f"[{', '.join(f'({_text(one)} {_text(other)})' for one, other in pairs)}]"
 
 
-def _pairs(pairs: Iterable[tuple[str, str]]) -> bytes:
-    listed = [_text(one) + _text(other) for one, other in pairs]
-    return struct.pack(">Q", len(listed)) + b"".join(listed)
+def _result(shown: str) -> Result:
+    return Result(core.frame_of(f"Notification id=completion(0) result={shown}"))
 
 
+@functools.cache
 def void() -> Result:
-    return Result(b"\0")
+    return _result("void")
 
 
 def value(data: bytes) -> Result:
-    return Result(b"\1" + _blob(data))
+    return _result(f"value({_blob(data)})")
 
 
 def failure(code: int, message: str, metadata: Iterable[tuple[str, str]] = ()) -> Result:
-    return Result(_FAILURE + struct.pack(">I", code) + _text(message) + _pairs(metadata))
+    return _result(f"failure(code={code} message={_text(message)} metadata={_pairs(metadata)})")
 
 
 def keys(names: Iterable[str]) -> Result:
-    listed = [_text(name) for name in names]
-    return Result(b"\3" + struct.pack(">Q", len(listed)) + b"".join(listed))
+    return _result(f"state_keys([{', '.join(map(_text, names))}])")
 
 
 def invocation(id: str) -> Result:
-    return Result(b"\4" + _text(id))
+    return _result(f"invocation_id({_text(id)})")
 
 
 def completion(id: int, result: Result) -> bytes:
     """The notification that completes an id."""
-    return _frame(_NOTIFICATION, struct.pack(">BI", 0, id) + result)
+    return core.completion(id, result)
 
 
 def signal(index: int, result: Result) -> bytes:
     """The notification of the signal with this number, as of an awakeable or of `CANCEL`."""
-    return _frame(_NOTIFICATION, struct.pack(">BI", 1, index) + result)
+    return core.signal(index, result)
 
 
 def named_signal(name: str, result: Result) -> bytes:
-    return _frame(_NOTIFICATION, b"\2" + _text(name) + result)
+    return core.named_signal(name, result)
 
 
 def input_command(data: bytes, headers: Iterable[tuple[str, str]] = ()) -> bytes:
     """A journal's first entry: what the handler is called with."""
-    return _frame(_INPUT, _pairs(headers) + _blob(data))
+    return core.frame_of(f"Input headers={_pairs(headers)} value={_blob(data)}")
 
 
 @dataclass(frozen=True)
@@ -117,61 +120,88 @@ class Begin:
 
 
 def start(begin: Begin, known_entries: int) -> bytes:
-    pairs = [_text(name) + _blob(data) for name, data in begin.state]
-    body = _text(begin.id) + _text(begin.id) + _text(begin.key) + struct.pack(">IQ", known_entries, len(pairs)) + b"".join(pairs)
-    body += struct.pack(">BIQQ", begin.partial, begin.retries, begin.duration, begin.seed)
-    return _frame(_START, body + _option(None) + _option(None) + _option(begin.idempotency_key))
+    """The Start of a new attempt over a journal of so many entries."""
+    id, state = _text(begin.id), ", ".join(f"({_text(name)} {_blob(data)})" for name, data in begin.state)
+    line = f"Start id={id} debug_id={id} key={_text(begin.key)} known_entries={known_entries} state=[{state}]"
+    line += f" partial={'true' if begin.partial else 'false'} retry_count={begin.retries} duration={begin.duration} random_seed={begin.seed}"
+    return core.frame_of(line if begin.idempotency_key is None else f"{line} idempotency_key={_text(begin.idempotency_key)}")
 
 
 # ---- reading
 
+_TOKEN = re.compile(r'"(?:[^"\\]|\\.)*"|\w+|[\[\]()=]')  # blanks and commas stand between what needs them anyway
+_Fields = dict[str, Any]
 
-class _Reader:
-    __slots__ = ("at", "data")
 
-    def __init__(self, data: bytes, at: int = _HEAD.size):
-        self.data, self.at = data, at
+class _Line:
+    """Reads what stands on a line of the core. Bytes and texts are `bytes`, numbers `int`, flags `bool`, a list and a pair a `tuple`, and a
+    choice its word with what it holds: a value, or fields by their names."""
 
-    def number(self, size: int) -> int:
-        end = self.at + size
-        if end > len(self.data):
-            raise ValueError("a frame ends too early")
-        found = int.from_bytes(self.data[self.at : end], "big")
-        self.at = end
+    __slots__ = ("at", "tokens")
+
+    def __init__(self, line: str):
+        self.tokens, self.at = [*_TOKEN.findall(line), ""], 0
+
+    def _next(self) -> str:
+        token: str = self.tokens[self.at]
+        self.at += 1
+        return token
+
+    def fields(self, end: str = "") -> _Fields:
+        """Fields, up to a token that ends them."""
+        found: _Fields = {}
+        while (name := self._next()) != end:
+            self.at += 1  # the `=`
+            found[name] = self._value()
         return found
 
-    def blob(self) -> bytes:
-        size = self.number(8)
-        end = self.at + size
-        if end > len(self.data):
-            raise ValueError("a frame ends too early")
-        found = self.data[self.at : end]
-        self.at = end
-        return found
+    def _values(self, end: str) -> tuple[Any, ...]:
+        found = []
+        while self.tokens[self.at] != end:
+            found.append(self._value())
+        self.at += 1
+        return tuple(found)
 
-    def text(self) -> str:
-        return self.blob().decode()
+    def _value(self) -> Any:
+        token = self._next()
+        if token[0] == '"':
+            return token[1:-1].encode("ascii").decode("unicode_escape").encode("latin-1")
+        if token == "[":
+            return self._values("]")
+        if token == "(":
+            return self._values(")")
+        if token.isdigit():
+            return int(token)
+        if token in ("true", "false"):
+            return token == "true"
+        if self.tokens[self.at] != "(":
+            return token, None
+        self.at += 1
+        if self.tokens[self.at + 1] == "=":
+            return token, self.fields(")")
+        held = self._values(")")
+        return token, held[0] if held else {}  # fields that are all at their default
 
-    def option(self) -> str | None:
-        return self.text() if self.number(1) else None
 
-    def pairs(self) -> tuple[tuple[str, str], ...]:
-        return tuple((self.text(), self.text()) for _ in range(self.number(8)))
+def _fields_of(frame: bytes) -> _Fields:
+    """The fields of a frame's message, but for those at their default."""
+    line = _Line(core.line_of(frame))
+    if line.tokens[0] in ("raw", "rest"):
+        raise ValueError("a frame has a body that is no message")
+    line.at = 1
+    return line.fields()
 
-    def rest(self) -> bytes:
-        return self.data[self.at :]
 
-    def result(self, shift: int) -> Result:
-        """A result as a notification has it, where `shift` is that of the choice's number there to its number here."""
-        begun = self.at
-        choice = self.number(1) + shift
-        if choice == 1:
-            self.blob()
-        elif choice == 2:
-            self.number(4)
-            self.blob()
-            self.pairs()
-        return Result(bytes([choice]) + self.data[begun + 1 : self.at])
+def _str(fields: _Fields, name: str) -> str:
+    return bytes(fields.get(name, b"")).decode()
+
+
+def _optional(fields: _Fields, name: str) -> str | None:
+    return _str(fields, name) if name in fields else None
+
+
+def _texts(pairs: Iterable[tuple[bytes, bytes]]) -> tuple[tuple[str, str], ...]:
+    return tuple((one.decode(), other.decode()) for one, other in pairs)
 
 
 @dataclass(frozen=True)
@@ -293,7 +323,7 @@ class Output(Command):
 class Suspension:
     """The attempt has ended, and goes on once its future is awake."""
 
-    future: bytes
+    frame: bytes
 
 
 @dataclass(frozen=True)
@@ -334,142 +364,105 @@ class AwaitingOn:
 Message = Command | Suspension | End | Failed | Proposal | Notification | AwaitingOn
 
 
-def _lazy_get(r: _Reader) -> Command:
-    _, key, id = r.blob(), r.text(), r.number(4)
-    return Read(id, key)
+
+def _call(f: _Fields, frame: bytes) -> Command:
+    id, at = f.get("result_completion_id"), f.get("invoke_time", 0)
+    headers, parameter = _texts(f.get("headers", ())), f.get("parameter", b"")
+    invocation_id = f.get("invocation_id_notification_idx", 0)
+    key, idempotency_key = _str(f, "key"), _optional(f, "idempotency_key")
+    return Call(_str(f, "service_name"), _str(f, "handler_name"), key, idempotency_key, headers, parameter, invocation_id, id, at)
 
 
-def _set(r: _Reader) -> Command:
-    _, key, new = r.blob(), r.text(), r.blob()
-    return Change(key, new)
+def _send_signal(f: _Fields, frame: bytes) -> Command:
+    kind, it = f["signal"]
+    index, name = (it, None) if kind == "index" else (None, it.decode())
+    return SendSignal(_str(f, "target_invocation_id"), index, name, Result(frame))
 
 
-def _clear(r: _Reader) -> Command:
-    _, key = r.blob(), r.text()
-    return Change(key, None)
+def _promise(is_peek: bool, has_result: bool) -> Callable[[_Fields, bytes], Command]:
+    return lambda f, frame: Promise(f.get("result_completion_id", 0), _str(f, "key"), is_peek, Result(frame) if has_result else None)
 
 
-def _sleep(r: _Reader) -> Command:
-    due, id = r.number(8), r.number(4)
-    return Sleep(id, due)
-
-
-def _call(is_sent: bool) -> Callable[[_Reader], Command]:
-    def read(r: _Reader) -> Command:
-        service, handler, key, idempotency_key = r.text(), r.text(), r.text(), r.option()
-        r.option()
-        r.option()
-        headers, parameter, invocation_id, _ = r.pairs(), r.blob(), r.number(4), r.blob()
-        id, at = (None, r.number(8)) if is_sent else (r.number(4), 0)
-        return Call(service, handler, key, idempotency_key, headers, parameter, invocation_id, id, at)
-
-    return read
-
-
-def _complete_awakeable(r: _Reader) -> Command:
-    awakeable = r.text()
-    return CompleteAwakeable(awakeable, r.result(1))
-
-
-def _send_signal(r: _Reader) -> Command:
-    target, is_named = r.text(), r.number(1)
-    index, name = (None, r.text()) if is_named else (r.number(4), None)
-    return SendSignal(target, index, name, r.result(0))
-
-
-def _promise(is_peek: bool, has_result: bool) -> Callable[[_Reader], Command]:
-    def read(r: _Reader) -> Command:
-        key = r.text()
-        result = r.result(1) if has_result else None
-        return Promise(r.number(4), key, is_peek, result)
+def _attach(is_peek: bool) -> Callable[[_Fields, bytes], Command]:
+    def read(f: _Fields, frame: bytes) -> Command:
+        completes, (kind, it) = f.get("result_completion_id", 0), f["target"]
+        if kind == "InvocationId":
+            return Attach(completes, it.decode(), "", None, "", None, is_peek)
+        if kind == "WorkflowId":
+            return Attach(completes, None, _str(it, "name"), None, _str(it, "key"), None, is_peek)
+        service, handler, key = _str(it, "service_name"), _str(it, "handler_name"), _str(it, "service_key")
+        return Attach(completes, None, service, handler, key, _str(it, "idempotency_key"), is_peek)
 
     return read
 
 
-def _run(r: _Reader) -> Command:
-    name = r.text()
-    return Run(r.number(4), name)
+def _failed(f: _Fields, frame: bytes) -> Message:
+    behaviour = f["behaviour"][0].lower()
+    return Failed(f.get("code", 0), _str(f, "message"), _str(f, "stacktrace"), behaviour, f.get("delay"))
 
 
-def _attach(is_peek: bool) -> Callable[[_Reader], Command]:
-    def read(r: _Reader) -> Command:
-        choice = r.number(1)
-        id: str | None = None
-        service, key, handler, idempotency_key = "", "", None, None
-        if choice == 0:
-            id = r.text()
-        elif choice == 1:
-            service, key = r.text(), r.text()
-            r.option()
-        else:
-            service, of_key, handler, idempotency_key = r.text(), r.option(), r.text(), r.text()
-            key = of_key or ""
-            r.option()
-        return Attach(r.number(4), id, service, handler, key, idempotency_key, is_peek)
-
-    return read
+_KINDS = {"completion": 0, "signal": 1, "name": 2}
 
 
-def _suspension(r: _Reader) -> Message:
-    return Suspension(r.rest())
+def _notification(f: _Fields, frame: bytes) -> Message:
+    kind, id = f["id"]
+    return Notification((_KINDS[kind], id.decode() if kind == "name" else id), Result(frame))
 
 
-def _failed(r: _Reader) -> Message:
-    code, message, stacktrace, behaviour = r.number(4), r.text(), r.text(), r.number(1)
-    for _ in ("index", "type"):
-        if r.number(1):
-            r.number(4)
-    r.option()
-    return Failed(code, message, stacktrace, ("retry", "pause", "fail")[behaviour], r.number(8) if r.number(1) else None)
-
-
-def _proposal(r: _Reader) -> Message:
-    id = r.number(4)
-    return Proposal(id, r.result(1))
-
-
-def _notification(r: _Reader) -> Message:
-    choice = r.number(1)
-    id: int | str = r.text() if choice == 2 else r.number(4)
-    return Notification((choice, id), Result(r.rest()))
-
-
-_READERS: dict[int, Callable[[_Reader], Message]] = {
-    _SUSPENSION: _suspension,
+_READERS: dict[int, Callable[[_Fields, bytes], Message]] = {
     _ERROR: _failed,
-    _END: lambda r: End(),
-    _PROPOSAL: _proposal,
-    _AWAITING_ON: lambda r: AwaitingOn(),
-    _INPUT: lambda r: Input(r.pairs(), r.blob()),
-    12: _lazy_get,
-    14: lambda r: Read(r.number(4), None),
-    15: _set,
-    16: _clear,
-    17: lambda r: Change(None, None),
-    18: _sleep,
-    19: _call(False),
-    20: _call(True),
-    21: _complete_awakeable,
+    _PROPOSAL: lambda f, frame: Proposal(f.get("id", 0), Result(frame)),
+    _INPUT: lambda f, frame: Input(_texts(f.get("headers", ())), f.get("value", b"")),
+    12: lambda f, frame: Read(f.get("result_completion_id", 0), _str(f, "key")),
+    14: lambda f, frame: Read(f.get("result_completion_id", 0), None),
+    15: lambda f, frame: Change(_str(f, "key"), f.get("value", b"")),
+    16: lambda f, frame: Change(_str(f, "key"), None),
+    18: lambda f, frame: Sleep(f.get("result_completion_id", 0), f.get("wake_up_time", 0)),
+    19: lambda f, frame: _call({"result_completion_id": 0, **f}, frame),
+    20: _call,
+    21: lambda f, frame: CompleteAwakeable(_str(f, "awakeable_id"), Result(frame)),
     22: _send_signal,
     23: _promise(False, False),
     24: _promise(True, False),
     25: _promise(False, True),
-    _RUN: _run,
+    _RUN: lambda f, frame: Run(f.get("result_completion_id", 0), _str(f, "name")),
     27: _attach(False),
     28: _attach(True),
-    29: lambda r: Output(r.result(1)),
     _NOTIFICATION: _notification,
+}
+
+# What a frame says by its type alone.
+_UNREAD: dict[int, Callable[[bytes], Message]] = {
+    _SUSPENSION: Suspension,
+    _END: lambda frame: End(),
+    _AWAITING_ON: lambda frame: AwaitingOn(),
+    17: lambda frame: Change(None, None),
+    _OUTPUT: lambda frame: Output(Result(frame)),
 }
 
 
 def read(kind: int, frame: bytes) -> Message:
     """The message that a frame of this type is."""
+    unread = _UNREAD.get(kind)
+    if unread is not None:
+        return unread(frame)
     reader = _READERS.get(kind)
     if reader is not None:
-        return reader(_Reader(frame))
-    if _INPUT <= kind <= _LAST_COMMAND:
+        return reader(_fields_of(frame), frame)
+    if kind in _COMMANDS:
         return Command()
     raise ValueError(f"an attempt writes no frame of type {kind}")
+
+
+def asked_of(kind: int, frame: bytes) -> Message | None:
+    """What a frame that an attempt wrote asks of the runtime: nothing, if it is a step's. One that can't be read is a `ValueError`."""
+    if kind in _STEPS:
+        return None
+    if kind == _SUSPENSION:
+        core.is_awake(frame, ())
+    if kind == _OUTPUT:
+        core.completion(0, Result(frame))
+    return read(kind, frame)
 
 
 def only_steps(output: bytes) -> bool:
@@ -485,7 +478,7 @@ def only_runs(output: bytes) -> bool:
 def commands_in(stream: bytes) -> Iterator[tuple[Command, bytes]]:
     """The commands of a stored journal, each with its bytes."""
     for kind, frame in split(stream):
-        if kind != _NOTIFICATION:
+        if kind in _COMMANDS:
             it = read(kind, frame)
             assert isinstance(it, Command)
             yield it, frame
@@ -539,57 +532,19 @@ def _shown(name: str, part: Any) -> str:
 
 
 def is_failure(result: Result) -> bool:
-    return result[:1] == _FAILURE
+    return answer(result)[0] == "failure"
 
 
 def answer(result: Result) -> tuple[str, Any]:
     """What a result is: `void`, `value` with its bytes, `failure` with code, message and metadata, `keys` or `invocation`."""
-    r = _Reader(result, 0)
-    choice = r.number(1)
-    if choice == 1:
-        return "value", r.blob()
-    if choice == 2:
-        return "failure", (r.number(4), r.text(), r.pairs())
-    if choice == 3:
-        return "keys", [r.text() for _ in range(r.number(8))]
-    return ("invocation", r.text()) if choice == 4 else ("void", None)
+    what, it = _fields_of(core.completion(0, result))["result"]
+    if what == "failure":
+        return "failure", (it.get("code", 0), _str(it, "message"), _texts(it.get("metadata", ())))
+    if what == "state_keys":
+        return "keys", [name.decode() for name in it]
+    return ("invocation", it.decode()) if what == "invocation_id" else (what, it)
 
 
-# ---- a suspension's future
-
-Id = tuple[int, int | str]
-
-
-def outcome_of(entries: Iterable[bytes]) -> dict[Id, bool]:
-    """Of each id that notifications among some entries are for, whether the first of them is a success."""
-    came: dict[Id, bool] = {}
-    for frame in entries:
-        kind = _HEAD.unpack_from(frame)[0]
-        it = read(kind, frame) if kind == _NOTIFICATION else None
-        if isinstance(it, Notification):
-            came.setdefault(it.id, not is_failure(it.result))
-    return came
-
-
-def is_awake(future: bytes, came: Mapping[Id, bool]) -> bool:
-    """Whether the future of a suspension is awake by what came since; of each id that came, `came` has whether it succeeded."""
-    return any(_outcome(_Reader(future, 0), came))
-
-
-def _outcome(r: _Reader, came: Mapping[Id, bool]) -> tuple[bool, bool, bool]:
-    """Of the next future: whether a part of it wakes the attempt, whether it has succeeded, and whether it has failed."""
-    kind = r.number(1)
-    ids: list[Id] = [(0, r.number(4)) for _ in range(r.number(8))]
-    ids += [(1, r.number(4)) for _ in range(r.number(8))]
-    ids += [(2, r.text()) for _ in range(r.number(8))]
-    parts = [(False, came.get(it) is True, came.get(it) is False) for it in ids]
-    parts += [_outcome(r, came) for _ in range(r.number(8))]
-    wakes = any(part[0] for part in parts)
-    won, lost = [part[1] for part in parts], [part[2] for part in parts]
-    if kind == 1:  # all completed
-        return wakes, all(a or b for a, b in zip(won, lost)), False
-    if kind == 2:  # first succeeded or all failed
-        return wakes or any(won), False, all(lost)
-    if kind == 3:  # all succeeded or first failed
-        return wakes or any(lost), all(won), False
-    return wakes or any(won) or any(lost), False, False
+def is_awake(suspension: bytes, entries: Iterable[bytes]) -> bool:
+    """Whether a suspension is awake by the notifications among some entries, of which the first of each id counts."""
+    return core.is_awake(suspension, entries)

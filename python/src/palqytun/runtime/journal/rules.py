@@ -23,6 +23,7 @@ from typing import NamedTuple
 
 import palqytun
 from palqytun import Fault, JournalFault
+from palqytun.journals import DEFAULT_VERSION
 
 from . import frames
 from .frames import Begin, Change, Command, End, Failed, Suspension
@@ -61,7 +62,7 @@ class Stored:
     """What the output of an attempt is to a journal."""
 
     entries: list[Entry] = field(default_factory=list)
-    commands: list[Command] = field(default_factory=list)
+    commands: list[Command] = field(default_factory=list)  # those that ask something of the runtime
     feed: list[bytes] = field(default_factory=list)  # acknowledgements, to feed after the commit
     end: Suspension | End | Failed | None = None
 
@@ -70,7 +71,9 @@ class Journal:
     """A stored journal as its only writer knows it: the core's, the entries until `start` hands them out, and how much of this attempt's
     output is stored."""
 
-    def __init__(self) -> None:
+    def __init__(self, version: int = DEFAULT_VERSION) -> None:
+        """`version` is that of the attempts' VM, which says what answers a proposal."""
+        self.version = version
         self.entries = 0
         self.written = 0  # how many bytes of this attempt's output are stored
         self._core = palqytun.Journal()
@@ -118,10 +121,16 @@ class Journal:
         """The entries of what an attempt wrote; `at` is how many bytes it had written before."""
         if at != self.written:
             raise Dishonest("IN-ORDER", f"byte {at} of the output comes after byte {self.written}")
+        # It is read before the core stores it: what can't be read is refused as a whole, and nothing of it is stored.
+        try:
+            asked = [frames.asked_of(kind, frame) for kind, frame in frames.split(output)]
+        except ValueError as error:
+            self.undo()
+            raise Dishonest("IN-ORDER", f"an output: {error}") from error
         with self._ruled("an output"):
-            made = self._core.store(output)
+            made = self._core.store(output, self.version)
         stored = Stored([self._placed(row) for row in made.rows], feed=[made.feed] if made.feed else [])
-        for it in frames.messages_in(output):
+        for it in asked:
             if isinstance(it, Command):
                 stored.commands.append(it)
             elif isinstance(it, (Suspension, End, Failed)):
@@ -133,7 +142,7 @@ class Journal:
         """The keyed state as the commands of a loaded journal leave it, from what it was before the first of them."""
         state = dict(base)
         for kind, frame in frames.split(b"".join(self._loaded or [])):
-            it = frames.read(kind, frame)
+            it = frames.read(kind, frame) if kind in frames.CHANGES else None
             if not isinstance(it, Change):
                 continue
             if it.key is None:

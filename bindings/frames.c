@@ -1,0 +1,88 @@
+/* Frames: each as its line and back, a result that is put into a notification, and whether a suspension is awake by it. */
+#include "palqytun.h"
+
+#include <inttypes.h>
+#include <stdio.h>
+#include <string.h>
+
+static const char *const lines[] = {
+    "Input headers=[(\"a\" \"b\")] value=\"Till\"",
+    "Sleep wake_up_time=1000 result_completion_id=1",
+    "Output result=failure(code=409 message=\"cancelled\")",
+    "Notification id=name(\"go\") result=value(\"\\x00\\xff\")",
+    "Sleep soundly",
+};
+
+/* Bytes that the library wrote. */
+typedef struct {
+    uint8_t bytes[256];
+    size_t len;
+} written;
+
+/* Says how a call ended. Exit status 1: no memory was found. */
+static int failed(uint32_t status)
+{
+    fprintf(stderr, status == PALQYTUN_NO_MEMORY ? "no memory\n" : "status %" PRIu32 "\n", status);
+    return status == PALQYTUN_NO_MEMORY ? 1 : 2;
+}
+
+/* The frame that a line shows. */
+static uint32_t frame_of(const char *line, written *frame)
+{
+    palqytun_told told = palqytun_line_frame((const uint8_t *)line, strlen(line), frame->bytes, sizeof frame->bytes);
+    frame->len = told.len;
+    return told.status;
+}
+
+/* Prints the line of a frame. 0, or the exit status. */
+static int show(const written *frame)
+{
+    uint8_t line[256];
+    palqytun_told told = palqytun_frame_line(frame->bytes, frame->len, line, sizeof line);
+    if (told.status != PALQYTUN_DONE)
+        return failed(told.status);
+    printf("%zu bytes: %.*s\n", frame->len, (int)told.len, (const char *)line);
+    return 0;
+}
+
+/* Puts the result of an output into the notification of completion 3, and asks whether a suspension is awake by it. */
+static int wake(void)
+{
+    written output, notification, suspension;
+    uint32_t status = frame_of("Output result=value(\"Till\")", &output);
+    if (status == PALQYTUN_DONE)
+        status = frame_of("Suspension future=(kind=AllCompleted completions=[3])", &suspension);
+    if (status != PALQYTUN_DONE)
+        return failed(status);
+    palqytun_told told = palqytun_notification(
+        PALQYTUN_COMPLETION, 3, output.bytes, 0, output.bytes, output.len, notification.bytes, sizeof notification.bytes);
+    if (told.status != PALQYTUN_DONE)
+        return failed(told.status);
+    notification.len = told.len;
+    int bad = show(&notification);
+    for (size_t len = 0; !bad && len <= notification.len; len += notification.len) {
+        palqytun_judged judged = palqytun_is_awake(suspension.bytes, suspension.len, notification.bytes, len);
+        if (judged.status != PALQYTUN_DONE)
+            return failed(judged.status);
+        printf("awake by %zu bytes: %d\n", len, judged.is_awake);
+    }
+    return bad;
+}
+
+int main(void)
+{
+    for (size_t at = 0; at < sizeof lines / sizeof *lines; at++) {
+        written frame;
+        uint32_t status = frame_of(lines[at], &frame);
+        if (status == PALQYTUN_NO_MEMORY)
+            return failed(status);
+        if (status != PALQYTUN_DONE) {
+            printf("status %" PRIu32 ": %s\n", status, lines[at]);
+            continue;
+        }
+        int bad = show(&frame);
+        if (bad)
+            return bad;
+    }
+    return wake();
+}

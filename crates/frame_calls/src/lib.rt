@@ -1,0 +1,12 @@
+//! Frames for callers of C: each as its line and back, its result as a notification, and whether a suspension is awake.
+#![tactic(auto)]
+
+mod answer;
+pub mod calls;
+mod future;
+mod reading;
+mod results;
+mod status;
+
+pub use answer::{Judged, Told};
+pub use status::Status;
