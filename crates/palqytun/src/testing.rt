@@ -8,10 +8,17 @@ use plain::{Items, Text};
 use std::alloc::{AllocError, Global};
 use std::test::Fail;
 use vm_attempt::Handler;
-pub use vm_rounds::{Event, Identity, Report, Round, RoundFault, World, run_rounds};
+pub use vm_rounds::{
+    Event, Identity, PlacedFault, Report, Round, RoundFault, StoppedRounds, World, play_rounds,
+    run_rounds,
+};
 
-fn fail(fault: RoundFault) -> Fail {
-    Fail::new(format_args!("the rounds stopped: {fault}"))
+fn no_world(fault: RoundFault) -> Fail {
+    Fail::new(format_args!("there is no world: {fault}"))
+}
+
+fn fail(stopped: &StoppedRounds) -> Fail {
+    Fail::new(format_args!("the rounds stopped in {}", stopped.at))
 }
 
 /// An invocation "test" in version 7 with this input, the options' defaults, and no state.
@@ -35,7 +42,7 @@ pub fn world_of(alloc: Global, input: &'static [u8]) -> Result<World, Fail> {
         Vec::new(alloc),
     ) {
         Ok(world) => Ok(world),
-        Err(fault) => Err(fail(fault)),
+        Err(fault) => Err(no_world(fault)),
     }
 }
 
@@ -142,9 +149,9 @@ pub fn crash_at_each_step_with_runs<H: Handler>(
         }
         rounds.push(plan.crash())?;
     }
-    match run_rounds(handler, world, rounds.as_slice()) {
+    match play_rounds(handler, world, rounds.as_slice()) {
         Ok((world, _)) => Ok(world),
-        Err(fault) => Err(fail(fault)),
+        Err(stopped) => Err(fail(&stopped)),
     }
 }
 

@@ -1,5 +1,5 @@
 -- What a round does, from what its parts did.
-use Rattle.std.proofs.Common.{◌≡◌, ◌⊎◌, inl, inr, ⊎_elim, ℕ, List, ◌++◌, refl, sym, subst, Global, Result, Ok, Err, IfOk}
+use Rattle.std.proofs.Common.{◌≡◌, ◌⊎◌, inl, inr, ⊎_elim, ℕ, List, ◌++◌, Option, refl, sym, subst, Global, Result, Ok, Err, IfOk}
 use Rattle.std.specs.Prelude.{IfErr}
 use Rattle.std.specs.List.{concat}
 use Rattle.journal_protocol.specs.Version.{Version}
@@ -11,9 +11,9 @@ use Rattle.vm_steps.specs.Record.{Record}
 use Rattle.vm_steps.specs.Stepping.{fresh_record}
 use Rattle.vm_store.specs.declared.types.Round.{Round}
 use Rattle.vm_store.specs.declared.types.RoundFault.{RoundFault}
-use Rattle.vm_store.specs.declared.types.RoundFault.TheVariants as round_fault
 use Rattle.vm_store.specs.declared.types.Setting.{Setting}
-use Rattle.vm_rounds.specs.Rounds.{HappenFaults, StaysShort, IsSupported, Ran, ReportView, RoundDoes, RoundFaults, begin, new_now}
+use Rattle.vm_rounds.specs.Rounds.{StaysShort, IsSupported, Ran, ReportView, RoundDoes, begin, new_now}
+use Rattle.vm_rounds.specs.Places.{FaultsAt, IsMemoryAside, RoundStops}
 use Rattle.vm_store.specs.States.{HaveTextKeys, pairs_for}
 use Rattle.vm_store.specs.Worlds.{IsJournal, fixed_in, start_message}
 use Rattle.vm_rounds.proofs.Rounding.{short_all}
@@ -31,11 +31,11 @@ round_does m w round old alloc waiting r version options report new speaks whole
   ran = subst (λ x. Ran (fixed_in m w) round.events x report new) (begun_is w round old alloc waiting r e f) (subst (λ (x : Fixed). Ran x round.events (new_now w.version old waiting r) report new) (λ i. fixed_by m (v i) (o i)) ran);
 })
 
-pub round_faults : (m : Meaning) (w : Setting) (round : Round) (old : List (List ℕ)) (alloc : Global) (waiting : List ℕ) (r : Record) (x : RoundFault) → IsSupported w.version → IsWhole (start_message w round old) → waiting ≡ encoding (start_message w round old) ++ concat old → r ≡ fresh_record (made alloc w.options w.version) → (x ≡ round_fault.Memory) ⊎ HappenFaults m round.events (new_now w.version old waiting r) x → RoundFaults m w round old x
-round_faults m w round old alloc waiting r x speaks start e f h =
+pub round_stops : (m : Meaning) (w : Setting) (round : Round) (old : List (List ℕ)) (alloc : Global) (waiting : List ℕ) (r : Record) (place : Option ℕ) (x : RoundFault) → IsSupported w.version → IsWhole (start_message w round old) → waiting ≡ encoding (start_message w round old) ++ concat old → r ≡ fresh_record (made alloc w.options w.version) → IsMemoryAside place x ⊎ FaultsAt m round.events (new_now w.version old waiting r) place x → RoundStops m w round old place x
+round_stops m w round old alloc waiting r place x speaks start e f h =
     ⊎_elim
-    (λ (z : x ≡ round_fault.Memory). inl z)
-    (λ (z : HappenFaults m round.events (new_now w.version old waiting r) x). inr (inl (record { alloc = alloc; speaks = speaks; start = start; faults = subst (λ n. HappenFaults m round.events n x) (begun_is w round old alloc waiting r e f) z })))
+    (λ (z : IsMemoryAside place x). inl z)
+    (λ (z : FaultsAt m round.events (new_now w.version old waiting r) place x). inr (inl (record { alloc = alloc; speaks = speaks; start = start; stops = subst (λ n. FaultsAt m round.events n place x) (begun_is w round old alloc waiting r e f) z })))
     h
 
 pub round_short : (m : Meaning) (w : Setting) (round : Round) (old : List (List ℕ)) (alloc : Global) (waiting : List ℕ) (r : Record) → IsJournal old → waiting ≡ encoding (start_message w round old) ++ concat old → r ≡ fresh_record (made alloc w.options w.version) → StaysShort m round.events (new_now w.version old waiting r)

@@ -19,6 +19,8 @@ pub mod First
 pub mod Given
 pub mod Lists
 pub mod Pieces
+pub mod Placing
+pub mod Stopping
 pub mod RunsCalled
 pub mod Pending
 pub mod Known

@@ -44,15 +44,12 @@ use Rattle.vm_rounds.specs.Rounds.{AttemptDoes, Happen, Happens, IsRefusal, Now,
 use Rattle.vm_rounds.specs.Sound.{IsSoundFor}
 use Rattle.vm_rounds.proofs.Honestly.{honest_now}
 use Rattle.vm_rounds.proofs.Keeping.{Going, event_keeps}
+use Rattle.vm_rounds.proofs.Placing.{happen_then}
 use Rattle.vm_rounds.proofs.Repeating.{step_still, steps_keep}
 use Rattle.vm_rounds.proofs.Rounding.{begun, hands_honest, round_grows, round_lasts, sound_lasts, start_framed, start_reads}
 use Rattle.vm_rounds.proofs.Running.{Goes, event_runs}
 
 -- ---- events
-
-happen_then : (m : Meaning) (es : List Event) (e : Event) (a b c : Now) → Happen m es a b → Happens m e b c → Happen m (es ++ e ∷ []) a c
-happen_then m [] e a b c h d = (c, subst (λ x. Happens m e x c) h d, refl)
-happen_then m (x ∷ es) e a b c (mid, first, more) d = (mid, first, happen_then m es e mid b c more d)
 
 -- an error that comes now is the first, or there was one before
 error_by : (old next now : Option Error) (e : Error) → now ≡ first_error old next → now ≡ Some e → (old ≡ Some e) ⊎ ((old ≡ None) × (next ≡ Some e))

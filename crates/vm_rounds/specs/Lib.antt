@@ -1,4 +1,5 @@
 pub mod Rounds
+pub mod Places
 pub mod Courses
 pub mod Inside
 pub mod Fresh

@@ -4,10 +4,14 @@
 
 mod answers;
 mod desk;
+mod placed;
+mod played;
 mod round;
 mod rounds;
 mod world;
 
+pub use placed::{PlacedFault, StoppedRounds};
+pub use played::play_rounds;
 pub use rounds::run_rounds;
 pub use vm_store::types::{Event, Identity, Report, Round, RoundFault, Setting};
 pub use world::World;

@@ -7,10 +7,10 @@ ghost use Rattle.vm_steps.specs.Stepping.{fresh_record};
 ghost use Rattle.vm_store.specs.Arrivals.{most_entries};
 ghost use Rattle.vm_rounds.specs.Inside.{the_now, report_view};
 ghost use Rattle.vm_attempt.specs.Fixed.{fixed_of};
-ghost use Rattle.vm_rounds.specs.Rounds.{new_now, report_of, ArrivalsDo, ArrivalsFault, EndsTold, Happen, HappenFaults, IsRefusal, StaysShort, IsSupported, Ran, RefusedDoes, RefusedFaults, RoundDoes, RoundFaults};
+ghost use Rattle.vm_rounds.specs.Places.{ArrivalFaultsAt, FaultsAt, IsMemoryAside, RefusedStops, RoundStops};
+ghost use Rattle.vm_rounds.specs.Rounds.{new_now, report_of, ArrivalsDo, ArrivalsFault, EndsTold, Happen, IsRefusal, StaysShort, IsSupported, Ran, RefusedDoes, RoundDoes};
 ghost use Rattle.vm_store.specs.States.{HaveTextKeys, pairs_for};
 ghost use Rattle.vm_store.specs.Worlds.{IsJournal, start_message};
-ghost use Rattle.vm_store.specs.declared.types.RoundFault.TheVariants as round_fault;
 
 use crate::answers::copy_answers;
 use crate::desk::{Desk, happen};
@@ -22,6 +22,24 @@ use stored_journals::WholeJournal;
 use vm_attempt::{Attempt, ContentType, Handler};
 use vm_store::handed::start_bytes;
 use vm_store::types::{Event, Report, Round, RoundFault, Setting};
+
+/// A fault in a round, at the event of this place, counted from 0; without one it is out of memory, before the first event or after
+/// the last.
+#[derive(Clone, Copy)]
+pub struct EventFault {
+    pub event: Option<usize>,
+    pub fault: RoundFault,
+}
+
+/// Out of memory, before the first event or after the last.
+pub fn out_of_memory() -> EventFault
+    ensures { IsMemoryAside result.event result.fault }
+{
+    EventFault {
+        event: None,
+        fault: RoundFault::Memory,
+    }
+}
 
 /// All of the journal waits.
 fn wait_all(waiting: &mut BytesMut, journal: &[Bytes]) -> Result<(), AllocError>
@@ -54,23 +72,29 @@ fn waiting_bytes(
 }
 
 /// All events of a round.
+#[tactic(auto, using(crate::proofs::Placing::happen_more, crate::proofs::Placing::happen_whole))]
 fn happen_all<H: Handler>(
     attempt: &mut Attempt<&H>,
     desk: &mut Desk,
     events: &[Event],
-) -> Result<(), RoundFault>
+) -> Result<(), EventFault>
     ensures ok { OnOk result
         (Happen (H.meaning attempt.old.handler.now) events.now
         (the_now desk.old attempt.old.record_of) (the_now desk.new attempt.new.record_of)) }
     ensures err { IfErr result
-        (λ f. HappenFaults (H.meaning attempt.old.handler.now) events.now
-        (the_now desk.old attempt.old.record_of) f) }
+        (λ f. FaultsAt (H.meaning attempt.old.handler.now) events.now
+        (the_now desk.old attempt.old.record_of) f.event f.fault) }
     ensures handler { attempt.new.handler.now ≡ attempt.old.handler.now }
     ensures made_for { (attempt.new.version ≡ attempt.old.version)
         × (attempt.new.options ≡ attempt.old.options) }
 {
-    for event in events {
-        happen(attempt, desk, event)?;
+    for (place, event) in events.iter().enumerate() {
+        if let Err(fault) = happen(attempt, desk, event) {
+            return Err(EventFault {
+                event: Some(place),
+                fault,
+            });
+        }
     }
     Ok(())
 }
@@ -87,12 +111,18 @@ fn arrive_only(alloc: Global, journal: &mut WholeJournal, event: &Event) -> Resu
 }
 
 /// All events of a round, if no attempt was made: the arrivals are stored.
-fn arrive_all(alloc: Global, journal: &mut WholeJournal, events: &[Event]) -> Result<(), RoundFault>
+#[tactic(auto, using(crate::proofs::Placing::arrivals_more, crate::proofs::Placing::arrivals_whole))]
+fn arrive_all(alloc: Global, journal: &mut WholeJournal, events: &[Event]) -> Result<(), EventFault>
     ensures ok { OnOk result (ArrivalsDo events.now journal.old journal.new) }
-    ensures err { IfErr result (λ f. ArrivalsFault events.now journal.old f) }
+    ensures err { IfErr result (λ f. ArrivalFaultsAt events.now journal.old f.event f.fault) }
 {
-    for event in events {
-        arrive_only(alloc, journal, event)?;
+    for (place, event) in events.iter().enumerate() {
+        if let Err(fault) = arrive_only(alloc, journal, event) {
+            return Err(EventFault {
+                event: Some(place),
+                fault,
+            });
+        }
     }
     Ok(())
 }
@@ -157,12 +187,13 @@ fn refused_round(
     mut journal: WholeJournal,
     round: &Round,
     error: Error,
-) -> Result<(WholeJournal, Report), RoundFault>
+) -> Result<(WholeJournal, Report), EventFault>
     requires entries { IsJournal journal }
     requires refusal { IsRefusal (supported setting.now.version) error }
     ensures ok { IfOk result
         (λ r. RefusedDoes setting.now round.now journal (report_view r.1) r.0) }
-    ensures err { IfErr result (λ f. RefusedFaults setting.now round.now journal f) }
+    ensures err { IfErr result
+        (λ f. RefusedStops setting.now round.now journal f.event f.fault) }
 {
     arrive_all(alloc, &mut journal, round.events.as_slice())?;
     let entries = journal.as_slice().len() as u32;
@@ -185,16 +216,16 @@ fn made_round<H: Handler>(
     journal: WholeJournal,
     waiting: BytesMut,
     events: &[Event],
-) -> Result<(WholeJournal, Report), RoundFault>
+) -> Result<(WholeJournal, Report), EventFault>
     requires short { StaysShort (H.meaning attempt.old.handler.now) events.now
         (new_now version journal waiting.items attempt.old.record_of) }
     ensures ok { IfOk result
         (λ r. Ran (fixed_of (H.meaning attempt.old.handler.now) attempt.old) events.now
         (new_now version journal waiting.items attempt.old.record_of) (report_view r.1)
         r.0) }
-    ensures err { IfErr result (λ f. (f ≡ round_fault.Memory)
-        ⊎ HappenFaults (H.meaning attempt.old.handler.now) events.now
-        (new_now version journal waiting.items attempt.old.record_of) f) }
+    ensures err { IfErr result (λ f. IsMemoryAside f.event f.fault
+        ⊎ FaultsAt (H.meaning attempt.old.handler.now) events.now
+        (new_now version journal waiting.items attempt.old.record_of) f.event f.fault) }
 {
     let mut desk = Desk {
         alloc,
@@ -212,7 +243,7 @@ fn made_round<H: Handler>(
     }
     match report(alloc, attempt, desk) {
         Ok(done) => Ok(done),
-        Err(_) => Err(RoundFault::Memory),
+        Err(_) => Err(out_of_memory()),
     }
 }
 
@@ -223,20 +254,20 @@ pub fn run_round<H: Handler>(
     handler: &H,
     journal: WholeJournal,
     round: &Round,
-) -> Result<(WholeJournal, Report), RoundFault>
+) -> Result<(WholeJournal, Report), EventFault>
     requires entries { IsJournal journal }
     ensures ok { IfOk result
         (λ r. RoundDoes (H.meaning handler.now) setting.now round.now journal
         (report_view r.1) r.0) }
     ensures entries { IfOk result (λ r. IsJournal r.0) }
     ensures err { IfErr result
-        (λ f. RoundFaults (H.meaning handler.now) setting.now round.now journal f) }
+        (λ f. RoundStops (H.meaning handler.now) setting.now round.now journal f.event f.fault) }
 {
     match new_attempt(alloc, setting, handler) {
         Err(error) => refused_round(alloc, setting, journal, round, error),
         Ok(mut attempt) => {
             let Ok(waiting) = waiting_bytes(alloc, setting, round, journal.as_slice()) else {
-                return Err(RoundFault::Memory);
+                return Err(out_of_memory());
             };
             made_round(
                 alloc,

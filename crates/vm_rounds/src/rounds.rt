@@ -1,24 +1,14 @@
 //! Rounds of a handler over a world's journal, one after another.
-ghost use Rattle.std.specs.Prelude.{◌≡◌, ◌∷◌, [], ◌++◌, map, IfOk, IfErr, if◌then◌else◌};
+ghost use Rattle.std.specs.Prelude.{◌≡◌, IfOk, IfErr};
 ghost use Rattle.vm_model.specs.Histories.{IsPrefix};
 ghost use Rattle.vm_rounds.specs.Fresh.{Skips};
 ghost use Rattle.vm_rounds.specs.Guarantees.{AttemptsAgree, CanBeReplayed, ErrorsAreTheirOwn, FaultsComeFromOutside, HasOneResultEach, HasRightKinds, IdsAreNew, IsExactlyOnce, IsReplayable, IsUninterrupted, Lasts, RoundsAreHonest, case_of, told};
-ghost use Rattle.vm_rounds.specs.Inside.{report_view};
 ghost use Rattle.vm_rounds.specs.Rounds.{AreWhole, ReplaysAndQueues, RoundsDo, RoundsFault};
 
-use crate::round::run_round;
+use crate::played::play_rounds;
 use crate::world::World;
 use vm_attempt::Handler;
 use vm_store::types::{Report, Round, RoundFault};
-
-/// Keeps a report, if there is memory.
-fn keep_report(reports: &mut Vec<Report>, report: Report) -> bool
-    ensures { map report_view reports.new.items
-        ≡ (if result then map report_view reports.old.items ++ report_view report ∷ []
-        else map report_view reports.old.items) }
-{
-    reports.push(report).is_ok()
-}
 
 /// Rounds of a handler over a world's journal, one after another, each with a report. The first event that has a fault stops
 /// them, and the world is gone.
@@ -75,29 +65,8 @@ pub fn run_rounds<H: Handler>(
     ensures fresh { IfOk result (λ r. Skips world.setting.options
         → IdsAreNew world (told r.1.items) r.0) }
 {
-    let World {
-        alloc,
-        setting,
-        mut journal,
-    } = world;
-    let mut reports = Vec::new(alloc);
-    for round in rounds {
-        match run_round(alloc, &setting, handler, journal, round) {
-            Err(fault) => return Err(fault),
-            Ok((next, report)) => {
-                journal = next;
-                if !keep_report(&mut reports, report) {
-                    return Err(RoundFault::Memory);
-                }
-            }
-        }
+    match play_rounds(handler, world, rounds) {
+        Ok(done) => Ok(done),
+        Err(stopped) => Err(stopped.at.fault),
     }
-    Ok((
-        World {
-            alloc,
-            setting,
-            journal,
-        },
-        reports,
-    ))
 }

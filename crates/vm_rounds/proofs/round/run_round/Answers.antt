@@ -1,9 +1,9 @@
-use Rattle.std.proofs.Common.{◌≡◌, ◌⊎◌, inr, subst}
+use Rattle.std.proofs.Common.{◌⊎◌, inr, subst}
 use Rattle.vm_rounds.specs.Inside.{report_view}
-use Rattle.vm_rounds.specs.Rounds.{HappenFaults, Ran, RefusedDoes, RoundDoes, RoundFaults, new_now}
-use Rattle.vm_store.specs.declared.types.RoundFault.TheVariants as round_fault
+use Rattle.vm_rounds.specs.Rounds.{Ran, RefusedDoes, RoundDoes, new_now}
+use Rattle.vm_rounds.specs.Places.{FaultsAt, IsMemoryAside, RoundStops}
 use Rattle.vm_store.specs.Worlds.{IsJournal}
-use Rattle.vm_rounds.proofs.Beginning.{if_err_then, if_ok_then, round_does, round_faults, round_short}
+use Rattle.vm_rounds.proofs.Beginning.{if_err_then, if_ok_then, round_does, round_short, round_stops}
 use Rattle.vm_rounds.proofs.Rounding.{round_grows}
 use Rattle.vm_rounds.proofs.round.run_round.Goals as goal
 use Rattle.vm_attempt.specs.Fixed.{fixed_of}
@@ -37,10 +37,10 @@ returns-in-Ok-waiting_bytes-clause-entries g c =
 
 pub returns-in-Ok-waiting_bytes-clause-err : goal.returns-in-Ok-waiting_bytes-clause-err
 returns-in-Ok-waiting_bytes-clause-err g c =
-    if_err_then c.made_round.result (λ x. (x ≡ round_fault.Memory) ⊎ HappenFaults (g.H.Handler.meaning c.in-Ok.attempt.handler.now) c.as_slice-in-Ok.result.now (new_now c.args.setting.now.version c.args.journal c.in-Ok-waiting_bytes.waiting.items c.in-Ok.attempt.record_of) x)
-    (λ x. RoundFaults (g.H.Handler.meaning c.args.handler.now) c.args.setting.now c.args.round.now c.args.journal x)
-    (λ x h. subst (λ k. RoundFaults (g.H.Handler.meaning k) c.args.setting.now c.args.round.now c.args.journal x) c.in-Ok.ensures.handler
-    (round_faults (g.H.Handler.meaning c.in-Ok.attempt.handler.now) c.args.setting.now c.args.round.now c.args.journal c.args.alloc c.in-Ok-waiting_bytes.waiting.items c.in-Ok.attempt.record_of x c.in-Ok.ensures.supported
+    if_err_then c.made_round.result (λ x. IsMemoryAside x.event x.fault ⊎ FaultsAt (g.H.Handler.meaning c.in-Ok.attempt.handler.now) c.as_slice-in-Ok.result.now (new_now c.args.setting.now.version c.args.journal c.in-Ok-waiting_bytes.waiting.items c.in-Ok.attempt.record_of) x.event x.fault)
+    (λ x. RoundStops (g.H.Handler.meaning c.args.handler.now) c.args.setting.now c.args.round.now c.args.journal x.event x.fault)
+    (λ x h. subst (λ k. RoundStops (g.H.Handler.meaning k) c.args.setting.now c.args.round.now c.args.journal x.event x.fault) c.in-Ok.ensures.handler
+    (round_stops (g.H.Handler.meaning c.in-Ok.attempt.handler.now) c.args.setting.now c.args.round.now c.args.journal c.args.alloc c.in-Ok-waiting_bytes.waiting.items c.in-Ok.attempt.record_of x.event x.fault c.in-Ok.ensures.supported
     (rw c.as_slice.ensures.value at c.in-Ok-waiting_bytes.ensures.whole) (rw c.as_slice.ensures.value at c.in-Ok-waiting_bytes.ensures.bytes) c.in-Ok.ensures.record
-    (subst (λ es. (x ≡ round_fault.Memory) ⊎ HappenFaults (g.H.Handler.meaning c.in-Ok.attempt.handler.now) es (new_now c.args.setting.now.version c.args.journal c.in-Ok-waiting_bytes.waiting.items c.in-Ok.attempt.record_of) x) c.as_slice-in-Ok.ensures h)))
+    (subst (λ es. IsMemoryAside x.event x.fault ⊎ FaultsAt (g.H.Handler.meaning c.in-Ok.attempt.handler.now) es (new_now c.args.setting.now.version c.args.journal c.in-Ok-waiting_bytes.waiting.items c.in-Ok.attempt.record_of) x.event x.fault) c.as_slice-in-Ok.ensures h)))
     c.made_round.ensures.err

@@ -1,6 +1,7 @@
-use Rattle.std.proofs.Common.{◌+◌, arith, map, take, drop, ap, subst, inl, refl}
+use Rattle.std.proofs.Common.{arith, map, take, ap, subst, inl, refl}
 use Rattle.std.proofs.lemmas.List.{take_all}
-use Rattle.vm_rounds.specs.Rounds.{RoundDoes, RoundFaults, RoundsDo}
+use Rattle.vm_rounds.specs.Rounds.{RoundDoes, RoundsDo}
+use Rattle.vm_rounds.specs.Places.{RoundStops}
 use Rattle.vm_rounds.specs.Inside.{report_view}
 use Rattle.vm_store.specs.Worlds.{IsJournal, WorldView}
 use Rattle.vm_rounds.specs.Sound.{IsSoundFor}
@@ -9,20 +10,26 @@ use Rattle.vm_rounds.proofs.Completing.{completes_once}
 use Rattle.vm_rounds.proofs.Faultless.{faults_come_from_outside}
 use Rattle.vm_rounds.proofs.Freshness.{rounds_fresh}
 use Rattle.vm_rounds.proofs.RightKinds.{history_kinds}
-use Rattle.vm_rounds.proofs.Lists.{split_at, whole_at}
+use Rattle.vm_rounds.proofs.Lists.{split_at}
 use Rattle.vm_rounds.proofs.Owning.{rounds_own}
-use Rattle.vm_rounds.proofs.Rounding.{Grows, are_honest, rounds_fail, rounds_grow, rounds_then, stays_one_run, stays_sound, stays_undisturbed}
-use Rattle.vm_rounds.proofs.rounds.run_rounds.Given as given
-use Rattle.vm_rounds.proofs.rounds.run_rounds.Goals as goal
+use Rattle.vm_rounds.proofs.Stopping.{rounds_fault_so, rounds_stop}
+use Rattle.vm_rounds.proofs.Rounding.{Grows, are_honest, rounds_grow, rounds_then, stays_one_run, stays_sound, stays_undisturbed}
+use Rattle.vm_rounds.proofs.played.play_rounds.Given as given
+use Rattle.vm_rounds.proofs.played.play_rounds.Goals as goal
+
+-- the next round is stopped
+pub returns-in-Err-clause-stopped : goal.returns-in-Err-clause-stopped
+returns-in-Err-clause-stopped g c =
+    rw c.stopped.ensures
+    (rounds_stop (g.H.Handler.meaning c.args.handler.now) c.args.world.setting c.args.rounds.now c.args.world.journal c.loop-round.reports.items c.loop-round.journal c.loop-round.round-index c.round-item.result _ c.loop-round-test.true c.round-item.is c.loop-round.invariant.so_far refl
+    (subst (λ x. RoundStops (g.H.Handler.meaning c.args.handler.now) x c.round-item.result c.loop-round.journal c.in-Err.stop.event c.in-Err.stop.fault) (ap (λ (w : WorldView). w.setting) c.world.view_is) c.in-Err.ensures.err))
 
 pub returns-in-Err-clause-err : goal.returns-in-Err-clause-err
-returns-in-Err-clause-err g c =
-    rw (whole_at c.args.rounds.now c.loop-round.round-index c.round-item.result c.loop-round-test.true c.round-item.is)
-    (rounds_fail (g.H.Handler.meaning c.args.handler.now) c.args.world.setting (take c.loop-round.round-index c.args.rounds.now) c.round-item.result (drop (c.loop-round.round-index + 1) c.args.rounds.now) c.args.world.journal (map report_view c.loop-round.reports.items) c.loop-round.journal c.in-Err.fault c.loop-round.invariant.so_far (subst (λ x. RoundFaults (g.H.Handler.meaning c.args.handler.now) x c.round-item.result c.loop-round.journal c.in-Err.fault) (ap (λ (w : WorldView). w.setting) c.world.view_is) c.in-Err.ensures.err))
+returns-in-Err-clause-err g c = rounds_fault_so (g.H.Handler.meaning c.args.handler.now) c.args.world.setting c.args.rounds.now c.args.world.journal _ _ (returns-in-Err-clause-stopped g c)
 
 -- where the journal can be replayed, a fault comes from outside
 pub returns-in-Err-clause-outside : goal.returns-in-Err-clause-outside
-returns-in-Err-clause-outside g c h = faults_come_from_outside (g.H.Handler.meaning c.args.handler.now) c.args.world.setting c.args.rounds.now c.args.world.journal c.in-Err.fault (subst (λ (w : WorldView). IsJournal w.journal) c.world.view_is c.world.invariant) h (returns-in-Err-clause-err g c)
+returns-in-Err-clause-outside g c h = faults_come_from_outside (g.H.Handler.meaning c.args.handler.now) c.args.world.setting c.args.rounds.now c.args.world.journal _ (subst (λ (w : WorldView). IsJournal w.journal) c.world.view_is c.world.invariant) h (returns-in-Err-clause-err g c)
 
 pub loop-round-preserved : goal.loop-round-preserved
 loop-round-preserved g c = record {
@@ -76,10 +83,14 @@ returns-clause-undisturbed g c r whole h = stays_undisturbed (g.H.Handler.meanin
 pub returns-clause-fresh : goal.returns-clause-fresh
 returns-clause-fresh g c skips = rounds_fresh (g.H.Handler.meaning c.args.handler.now) c.args.world.setting c.args.rounds.now c.args.world.journal (map report_view c.loop-round.reports.items) c.loop-round.journal skips (before g c) (all g c)
 
+-- there is no memory for the report
+pub returns-then-not-keep_report-clause-stopped : goal.returns-then-not-keep_report-clause-stopped
+returns-then-not-keep_report-clause-stopped g c =
+    rw c.stopped-then-not-keep_report.ensures
+    (rounds_stop (g.H.Handler.meaning c.args.handler.now) c.args.world.setting c.args.rounds.now c.args.world.journal c.keep_report.new.reports.items c.loop-round.journal c.loop-round.round-index c.round-item.result _ c.loop-round-test.true c.round-item.is (rw c.if-not-keep_report.ensures c.loop-round.invariant.so_far) refl (inl c.out_of_memory.ensures))
+
 pub returns-then-not-keep_report-clause-err : goal.returns-then-not-keep_report-clause-err
-returns-then-not-keep_report-clause-err g c =
-    rw (whole_at c.args.rounds.now c.loop-round.round-index c.round-item.result c.loop-round-test.true c.round-item.is)
-    (rounds_fail (g.H.Handler.meaning c.args.handler.now) c.args.world.setting (take c.loop-round.round-index c.args.rounds.now) c.round-item.result (drop (c.loop-round.round-index + 1) c.args.rounds.now) c.args.world.journal (map report_view c.loop-round.reports.items) c.loop-round.journal _ c.loop-round.invariant.so_far (inl refl))
+returns-then-not-keep_report-clause-err g c = rounds_fault_so (g.H.Handler.meaning c.args.handler.now) c.args.world.setting c.args.rounds.now c.args.world.journal _ _ (returns-then-not-keep_report-clause-stopped g c)
 
 pub returns-then-not-keep_report-clause-outside : goal.returns-then-not-keep_report-clause-outside
-returns-then-not-keep_report-clause-outside g c h = inl refl
+returns-then-not-keep_report-clause-outside g c h = faults_come_from_outside (g.H.Handler.meaning c.args.handler.now) c.args.world.setting c.args.rounds.now c.args.world.journal _ (subst (λ (w : WorldView). IsJournal w.journal) c.world.view_is c.world.invariant) h (returns-then-not-keep_report-clause-err g c)
