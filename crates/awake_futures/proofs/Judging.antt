@@ -11,7 +11,7 @@ use Rattle.journal_protocol.specs.NotificationId.TheVariants.{CompletionId, Sign
 use Rattle.await_trees.specs.declared.outcome.Outcome.{Outcome}
 use Rattle.await_trees.specs.declared.outcome.Outcome.TheVariants.{Pending}
 use Rattle.await_trees.specs.Outcomes.{all_wait, any_fires, fires_on, outcome_of, waits_for}
-use Rattle.await_trees.specs.Tree.{TreeOver, ForestOver, leaf, node, none, more}
+use Rattle.await_trees.specs.Tree.{ForestOver, none, more}
 use Rattle.await_trees.specs.Wires.{first_trees, other_trees, leaves, read_node, readings}
 use Rattle.awake_futures.specs.declared.judged.Judged.{Judged}
 use Rattle.awake_futures.specs.Children.{judged, judged_by, listed_outcomes, stacked, wakes}
