@@ -1,8 +1,13 @@
+pub mod Bracketing
+pub mod Choosing
 pub mod FirstLines
 pub mod Growing
+pub mod Listing
 pub mod Naming
 pub mod Nesting
 pub mod Putting
+pub mod Refusing
 pub mod Saying
 pub mod Showing
 pub mod Streaming
+pub mod Typing

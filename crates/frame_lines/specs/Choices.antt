@@ -25,7 +25,8 @@ use Rattle.frame_lines.specs.Notation.{Fields, HoldsAfterWord, HoldsFields, Nota
 
 -- a choice has no default
 abbrev pub choice : {A : Type 0} → (A → List ℕ) → (List ℕ → A → Type 0) → Notation A
-choice text Says = record { text = text; is_left_out = λ _. false; Says = Says }
+choice text Says =
+    record { text = text; is_left_out = λ _. false; Says = Says; IsExact = Unit {0} }
 
 -- ---- what stands in brackets
 

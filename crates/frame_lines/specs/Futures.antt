@@ -1,7 +1,7 @@
 -- How a future is printed. Which future a text says is not said here.
-use Rattle.std.specs.Prelude.{ℕ, ◌==◌, ◌-◌, nat_lt, if◌then◌else◌, List, [], ◌∷◌, ◌++◌, codes, true}
+use Rattle.std.specs.Prelude.{ℕ, ◌==◌, ◌-◌, nat_lt, if◌then◌else◌, List, [], ◌∷◌, ◌++◌, codes, false, true}
 use Rattle.journal_protocol.specs.FutureNode.{FutureNode}
-use Rattle.frame_lines.specs.Choices.{choice, kind_notation}
+use Rattle.frame_lines.specs.Choices.{kind_notation}
 use Rattle.frame_lines.specs.Notation.{Fields, Notation, field, list_notation, nothing, number, put_all, string}
 
 -- what a future waits for itself
@@ -40,5 +40,11 @@ nodes_text left (n ∷ nodes) =
 abbrev pub future_text : List FutureNode → List ℕ
 future_text nodes = nodes_text [] nodes
 
+-- it has no default
 abbrev pub future_notation : Notation (List FutureNode)
-future_notation = choice future_text (λ text it. Unit {0})
+future_notation = record {
+  text = future_text;
+  is_left_out = λ _. false;
+  Says = λ text it. Unit {0};
+  IsExact = ⊥;
+}

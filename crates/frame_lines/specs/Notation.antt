@@ -6,22 +6,28 @@ use Rattle.std.specs.List.{AllZip}
 use Rattle.std.specs.Str.{IsTrimAscii}
 use Rattle.lines.specs.Atoms.{IsAtom, IsText, quoted}
 use Rattle.lines.specs.Pieces.{ArePieces, AreWords, AreWordsWithin, IsWithin}
-use Rattle.line_parts.specs.Fields.{are_named, text_behind, texts_named}
+use Rattle.line_parts.specs.Fields.{are_named, texts_named}
 use Rattle.line_parts.specs.Words.{IsNumberOf, text_at}
 use Rattle.journal_protocol.specs.Header.{Header}
 
 -- A type's values: how they are printed, which of them are a default, whose field is left out, and
--- which value a text says.
+-- which value a text says. If it is exact, only a text that says no value is refused.
 pub record Notation (A : Type 0) : Type 1 where
   pub text : A → List ℕ
   pub is_left_out : A → Bool
   pub Says : List ℕ → A → Type 0
+  pub IsExact : Type 0
 
 -- ---- values
 
 -- decimal digits of a number of so many bits; left out at 0
 abbrev pub number : ℕ → Notation ℕ
-number bits = record { text = decimal; is_left_out = λ n. n == 0; Says = IsNumberOf bits }
+number bits = record {
+  text = decimal;
+  is_left_out = λ n. n == 0;
+  Says = IsNumberOf bits;
+  IsExact = Unit {0};
+}
 
 abbrev pub flag_word : Bool → List ℕ
 flag_word true = codes "true"
@@ -29,19 +35,24 @@ flag_word false = codes "false"
 
 -- `true` or `false`; left out at false
 abbrev pub flag_notation : Notation Bool
-flag_notation =
-    record { text = flag_word; is_left_out = not; Says = λ text it. text ≡ flag_word it }
+flag_notation = record {
+  text = flag_word;
+  is_left_out = not;
+  Says = λ text it. text ≡ flag_word it;
+  IsExact = Unit {0};
+}
 
 abbrev pub is_nothing : {A : Type 0} → List A → Bool
 is_nothing xs = length xs == 0
 
 -- bytes in quotes, or as hex digits; left out where there are none
 abbrev pub bytes_notation : Notation (List ℕ)
-bytes_notation = record { text = quoted; is_left_out = is_nothing; Says = IsAtom }
+bytes_notation =
+    record { text = quoted; is_left_out = is_nothing; Says = IsAtom; IsExact = Unit {0} }
 
 -- the same of a text, which is UTF-8
 abbrev pub string : Notation (List ℕ)
-string = record { text = quoted; is_left_out = is_nothing; Says = IsText }
+string = record { text = quoted; is_left_out = is_nothing; Says = IsText; IsExact = Unit {0} }
 
 abbrev pub text_of_some : {A : Type 0} → (A → List ℕ) → Option A → List ℕ
 text_of_some text None = []
@@ -57,8 +68,12 @@ SaysSome Says text (Some value) = Says text value
 
 -- the value; left out where there is none
 abbrev pub optional : {A : Type 0} → Notation A → Notation (Option A)
-optional value =
-    record { text = text_of_some value.text; is_left_out = is_none; Says = SaysSome value.Says }
+optional value = record {
+  text = text_of_some value.text;
+  is_left_out = is_none;
+  Says = SaysSome value.Says;
+  IsExact = value.IsExact;
+}
 
 -- texts with a comma and a blank between each two
 abbrev pub items_text : {A : Type 0} → (A → List ℕ) → List A → List ℕ
@@ -88,6 +103,7 @@ list_notation item = record {
   text = λ items. codes "[" ++ items_text item.text items ++ codes "]";
   is_left_out = is_nothing;
   Says = SaysList item.Says;
+  IsExact = item.IsExact;
 }
 
 -- two words in round brackets say the two values
@@ -104,6 +120,7 @@ pair first second = record {
   text = λ p. codes "(" ++ first.text p.0 ++ codes " " ++ second.text p.1 ++ codes ")";
   is_left_out = λ _. false;
   Says = SaysPair first.Says second.Says;
+  IsExact = first.IsExact × second.IsExact;
 }
 
 -- the key and the value in round brackets
@@ -112,6 +129,7 @@ header_notation = record {
   text = λ h. (pair string string).text (h.key, h.value);
   is_left_out = λ _. false;
   Says = λ text h. SaysPair IsText IsText text (h.key, h.value);
+  IsExact = Unit {0};
 }
 
 -- ---- fields
@@ -146,30 +164,44 @@ SayField value [] it = value.is_left_out it ≡ true
 SayField value (text ∷ []) it = value.Says text it
 SayField value (text ∷ other ∷ more) it = ⊥
 
--- A type's values as fields: those that are printed, their names, each with its `=`, and what words
--- say of them.
+-- A type's values as fields: those that are printed, their names, each with its `=`, the values of
+-- the fields, one after another, and what the texts of each name say of them. If they are exact,
+-- only words are refused that are the fields of no value.
 pub record Fields (A : Type 0) : Type 1 where
   pub printed : A → List Field
   pub names : List (List ℕ)
-  pub Say : List (Bor (List ℕ)) → A → Type 0
+  pub Parts : Type 0
+  pub parts : A → Parts
+  pub Say : (List ℕ → List (List ℕ)) → Parts → Type 0
+  pub IsExact : Type 0
 
 -- no field
 abbrev pub nothing : {A : Type 0} → Fields A
-nothing = record { printed = λ _. []; names = []; Say = λ _ _. Unit {0} }
+nothing = record {
+  printed = λ _. [];
+  names = [];
+  Parts = Unit {0};
+  parts = λ _. tt;
+  Say = λ _ _. Unit {0};
+  IsExact = Unit {0};
+}
 
 -- a field of this name, which has this of the value, and others behind it
 abbrev pub field : {A B : Type 0} → List ℕ → (B → A) → Notation A → Fields B → Fields B
-field name part value others = record {
+field {A = A} name part value others = record {
   printed = λ it. (name, unless_left_out value (part it)) ∷ others.printed it;
   names = (name ++ codes "=") ∷ others.names;
-  Say =
-      λ words it. SayField value (texts_named (name ++ codes "=") words) (part it)
-      × others.Say words it;
+  Parts = A × others.Parts;
+  parts = λ it. (part it, others.parts it);
+  Say = λ found parts. SayField value (found (name ++ codes "=")) parts.0
+      × others.Say found parts.1;
+  IsExact = value.IsExact × others.IsExact;
 }
 
 -- words in any order are the fields of this, and no others
 abbrev pub AreFields : {A : Type 0} → Fields A → List (Bor (List ℕ)) → A → Type 0
-AreFields fields words it = (are_named fields.names words ≡ true) × fields.Say words it
+AreFields fields words it = (are_named fields.names words ≡ true)
+    × fields.Say (λ name. texts_named name words) (fields.parts it)
 
 -- the values of fields of these names, one after another: the first, and the others
 abbrev pub SayPair : {A B : Type 0} → Notation A
@@ -183,8 +215,7 @@ SayPair first Others (name ∷ names) words two = SayField first (texts_named na
 
 -- the text is this in round brackets, behind a word
 abbrev pub IsBehind : List ℕ → List ℕ → List ℕ → Type 0
-IsBehind word text inside =
-    (behind : List ℕ) × (text_behind word text ≡ Some behind) × IsWithin 40 41 behind inside
+IsBehind word text inside = text ≡ word ++ 40 ∷ (inside ++ 41 ∷ [])
 
 -- a value in round brackets, behind a word
 abbrev pub holding : {A : Type 0} → List ℕ → Notation A → A → List ℕ
@@ -203,7 +234,12 @@ closed so_far = so_far.0 ++ codes ")"
 abbrev pub bracketed : {A : Type 0} → List ℕ → Fields A → A → List ℕ
 bracketed word fields it = closed (put_all (word ++ codes "(", true) (fields.printed it))
 
+-- the words of the text are the fields of this
+abbrev pub AreInside : {A : Type 0} → Fields A → List ℕ → A → Type 0
+AreInside fields inside it =
+    (words : List (Bor (List ℕ))) × AreWords inside words × AreFields fields words it
+
 -- the words that stand there are the fields of this
 abbrev pub HoldsFields : {A : Type 0} → List ℕ → Fields A → List ℕ → A → Type 0
-HoldsFields word fields text it = (inside : List ℕ) × IsBehind word text inside
-    × ((words : List (Bor (List ℕ))) × AreWords inside words × AreFields fields words it)
+HoldsFields word fields text it =
+    (inside : List ℕ) × IsBehind word text inside × AreInside fields inside it

@@ -1,9 +1,9 @@
 //! Choices as they are written on a line: the case, and in round brackets what it holds.
-ghost use Rattle.std.specs.Prelude.{◌≡◌, ◌++◌, IfOk, IfSome, List, ℕ, OnOk, true};
-ghost use Rattle.std.specs.Borrow.{Bor};
-ghost use Rattle.lines.specs.Pieces.{AreWords};
+ghost use Rattle.std.specs.Prelude.{◌≡◌, ◌++◌, IfErr, IfNone, IfOk, IfSome, List, ℕ, OnOk, true};
+ghost use Rattle.lines.specs.Pieces.{IsWithin};
+ghost use Rattle.lines.specs.Readings.{Blames};
 ghost use Rattle.frame_lines.specs.Choices.{behavior_notation, kind_notation, notification_id_notation, notification_result_notation, signal_notation, signal_result_notation, target_notation, value_or_failure_notation, void_or_value_notation};
-ghost use Rattle.frame_lines.specs.Notation.{AreFields, IsBehind, SaysInside, closed, holding, put_all};
+ghost use Rattle.frame_lines.specs.Notation.{AreInside, IsBehind, SaysInside, closed, holding, put_all};
 
 use crate::forms::Form;
 use crate::value::Value;
@@ -14,7 +14,7 @@ use journal_protocol::{
 };
 use line_parts::fields::text_behind;
 use lines::line::Line;
-use lines::pieces::{between, words};
+use lines::pieces::words;
 use plain::Fault;
 use std::alloc::{AllocError, Global};
 
@@ -39,30 +39,45 @@ fn print_bracketed<T: Form>(word: &str, form: &T, line: &mut Line) -> Result<(),
     Ok(())
 }
 
+/// What stands in the round brackets that the text begins and ends with.
+fn in_brackets(text: &[u8]) -> Option<&[u8]>
+    ensures inside { IfSome result (λ inside. IsWithin 40 41 text.now inside.now) }
+    ensures none { IfNone result ((inside : List ℕ) → IsWithin 40 41 text.now inside → ⊥) }
+{
+    match text {
+        [first, inside @ .., last] if *first == b'(' && *last == b')' => Some(inside),
+        _ => None,
+    }
+}
+
 /// What stands in round brackets behind this word, if the text is that.
+#[tactic(auto, using(crate::proofs::Bracketing::within_behind, crate::proofs::Bracketing::not_behind, crate::proofs::Bracketing::not_within))]
 fn held<'a>(text: &'a [u8], word: &str) -> Option<&'a [u8]>
-    ensures { IfSome result (λ inside. IsBehind word.now text.now inside.now) }
+    ensures inside { IfSome result (λ inside. IsBehind word.now text.now inside.now) }
+    ensures none { IfNone result ((inside : List ℕ) → IsBehind word.now text.now inside → ⊥) }
 {
     let Some(behind) = text_behind(text, word) else {
         return None;
     };
-    match between(behind, b'(', b')') {
-        Ok(inside) => Some(inside),
-        Err(_) => None,
-    }
+    in_brackets(behind)
 }
 
 /// The value in brackets.
+#[tactic(auto, using(crate::proofs::Refusing::inside_blamed))]
 fn value_in<T: Value>(alloc: Global, inside: &[u8]) -> Result<T, Fault>
-    ensures { IfOk result (SaysInside T.notation.Says inside.now) }
+    ensures value { IfOk result (SaysInside T.notation.Says inside.now) }
+    ensures none { IfErr result (λ fault. T.notation.IsExact
+        → Blames (SaysInside T.notation.Says inside.now) fault) }
 {
     T::parse(alloc, inside.trim_ascii())
 }
 
 /// What the fields in brackets are.
+#[tactic(auto, using(crate::proofs::Bracketing::words_blamed, crate::proofs::Bracketing::unclosed_words_blamed))]
 fn form_in<T: Form>(alloc: Global, inside: &[u8]) -> Result<T, Fault>
-    ensures { IfOk result (λ it. (words : List (Bor (List ℕ))) × AreWords inside.now words
-        × AreFields T.fields words it) }
+    ensures value { IfOk result (AreInside T.fields inside.now) }
+    ensures none { IfErr result (λ fault. T.fields.IsExact
+        → Blames (AreInside T.fields inside.now) fault) }
 {
     let words = words(alloc, inside)?;
     T::read(alloc, words.as_slice())

@@ -3,6 +3,7 @@ ghost use Rattle.std.specs.Prelude.{◌≡◌, ◌++◌, IfErr, IfOk, OnOk};
 ghost use Rattle.journal_protocol.specs.Frames.{numbered_frame};
 ghost use Rattle.lines.specs.Atoms.{IsAtom};
 ghost use Rattle.lines.specs.Readings.{Blames};
+ghost use Rattle.frame_lines.specs.Messages.{HasNoFuture};
 ghost use Rattle.frame_lines.specs.Printed.{frame_text, raw_text, rest_text};
 ghost use Rattle.frame_lines.specs.FrameLines.{Encodes, IsRaw, LineShows, LineShowsAsIs, ShowAsIs, Shows};
 
@@ -45,8 +46,10 @@ pub fn print_rest(rest: &[u8], line: &mut Line) -> Result<(), AllocError>
     line.hex(rest)
 }
 
+#[tactic(auto, using(crate::proofs::Typing::encodes_blamed))]
 fn frame_of_message(alloc: Global, ty: MessageType, words: &[&[u8]]) -> Result<Bytes, Fault>
-    ensures { IfOk result (Encodes ty words.now) }
+    ensures value { IfOk result (Encodes ty words.now) }
+    ensures none { IfErr result (λ fault. HasNoFuture ty → Blames (Encodes ty words.now) fault) }
 {
     let message = parse_message(alloc, ty, words)?;
     Ok(Encoder::new(alloc).encode(&message)?)
@@ -82,8 +85,8 @@ fn frame_of_raw(alloc: Global, number: &[u8], body: &[u8]) -> Result<Bytes, Faul
     Ok(raw_frame(alloc, number, &body)?)
 }
 
-/// The bytes that the words of a line show. Where a message's fields are refused is not said: those of frames as they are and
-/// of a stream's rest aren't, but for want of memory.
+/// The bytes that the words of a line show. When a message's words are refused is said of `parse_message`. Words that show bytes as
+/// they are, or a stream's rest, are refused only if memory ran out.
 pub fn frame_of_words(alloc: Global, words: &[&[u8]]) -> Result<Bytes, Fault>
     ensures value { IfOk result (Shows words.now) }
     ensures none { IfErr result (Blames (ShowAsIs words.now)) }

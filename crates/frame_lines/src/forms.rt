@@ -1,5 +1,6 @@
 //! The fields of messages: printing them in their order, and reading them in any.
-ghost use Rattle.std.specs.Prelude.{◌≡◌, ℕ, List, true, IfOk};
+ghost use Rattle.std.specs.Prelude.{◌≡◌, ℕ, List, true, IfErr, IfOk};
+ghost use Rattle.lines.specs.Readings.{Blames};
 ghost use Rattle.std.specs.Borrow.{Bor};
 ghost use Rattle.std.specs.List.{list_all, list_any};
 ghost use Rattle.line_parts.specs.Fields.{is_named, texts_named as behind_name};
@@ -46,13 +47,20 @@ pub trait Parts: Drop {
     /// What the words say of the fields of these names.
     ghost Said: { List (List ℕ) → List (Bor (List ℕ)) → Self → Type 0 };
 
+    /// Whether only words are refused that say nothing of them.
+    ghost AreExact: { Type 0 };
+
     /// Reads the fields of these names, each written with its `=`.
     fn take(alloc: Global, names: &[&str], words: &[&[u8]]) -> Result<Self, Fault>
-        ensures { IfOk result (Said (piece_texts names.now) words.now) };
+        ensures value { IfOk result (Said (piece_texts names.now) words.now) }
+        ensures none { IfErr result (λ fault. AreExact
+            → Blames (Said (piece_texts names.now) words.now) fault) };
 }
 
 impl Parts for () {
     ghost Said = { λ _ _ _. Unit {0} };
+
+    ghost AreExact = { Unit {0} };
 
     fn take(_alloc: Global, _names: &[&str], _words: &[&[u8]]) -> Result<(), Fault> {
         Ok(())
@@ -60,9 +68,11 @@ impl Parts for () {
 }
 
 /// Reads the field of this name, written with its `=`.
-#[tactic(auto, using(crate::proofs::Saying::field_said, crate::proofs::Saying::field_left_out))]
+#[tactic(auto, using(crate::proofs::Saying::field_said, crate::proofs::Saying::field_left_out, crate::proofs::Refusing::twice_blamed, crate::proofs::Refusing::field_blamed, crate::proofs::Refusing::none_blamed))]
 fn take_field<T: Value>(alloc: Global, name: &str, words: &[&[u8]]) -> Result<T, Fault>
-    ensures { IfOk result (SayField T.notation (behind_name name.now words.now)) }
+    ensures value { IfOk result (SayField T.notation (behind_name name.now words.now)) }
+    ensures none { IfErr result (λ fault. T.notation.IsExact
+        → Blames (SayField T.notation (behind_name name.now words.now)) fault) }
 {
     match field_of(words, name)? {
         Some(text) => T::parse(alloc, text),
@@ -72,6 +82,8 @@ fn take_field<T: Value>(alloc: Global, name: &str, words: &[&[u8]]) -> Result<T,
 
 impl<A: Value, B: Parts> Parts for (A, B) {
     ghost Said = { SayPair A.notation B.Said };
+
+    ghost AreExact = { A.notation.IsExact × B.AreExact };
 
     fn take(alloc: Global, names: &[&str], words: &[&[u8]]) -> Result<(A, B), Fault> {
         let [name, others @ ..] = names else {
@@ -94,6 +106,9 @@ pub fn values_of<T: Parts>(alloc: Global, words: &[&[u8]], names: &[&str]) -> Re
         (λ _. list_all (λ word. list_any (λ name. is_named name.now word.now) names.now) words.now
         ≡ true) }
     ensures said { IfOk result (T.Said (piece_texts names.now) words.now) }
+    ensures none { IfErr result (λ fault. T.AreExact → Blames (λ it.
+        (list_all (λ word. list_any (λ name. is_named name.now word.now) names.now) words.now
+        ≡ true) × T.Said (piece_texts names.now) words.now it) fault) }
 {
     if !are_named(words, names) {
         return Err(Fault::Malformed);
@@ -113,5 +128,7 @@ pub trait Form: Drop {
 
     /// What these words are the fields of.
     fn read(alloc: Global, words: &[&[u8]]) -> Result<Self, Fault>
-        ensures { IfOk result (AreFields fields words.now) };
+        ensures value { IfOk result (AreFields fields words.now) }
+        ensures none { IfErr result (λ fault. fields.IsExact
+            → Blames (AreFields fields words.now) fault) };
 }

@@ -1,7 +1,8 @@
 //! A message as a line.
-ghost use Rattle.std.specs.Prelude.{◌≡◌, ◌++◌, false, IfOk, OnOk};
+ghost use Rattle.std.specs.Prelude.{◌≡◌, ◌++◌, false, IfErr, IfOk, OnOk};
+ghost use Rattle.lines.specs.Readings.{Blames};
 ghost use Rattle.journal_protocol.specs.Frames.{type_of};
-ghost use Rattle.frame_lines.specs.Messages.{AreFieldsOf, fields_of, message_text};
+ghost use Rattle.frame_lines.specs.Messages.{AreFieldsOf, HasNoFuture, fields_of, message_text};
 ghost use Rattle.frame_lines.specs.Notation.{put_all};
 
 use crate::forms::Form;
@@ -73,6 +74,8 @@ pub fn print_message(message: &Message, line: &mut Line) -> Result<(), AllocErro
 pub fn parse_message(alloc: Global, ty: MessageType, words: &[&[u8]]) -> Result<Message, Fault>
     ensures typed { IfOk result (λ message. type_of message ≡ ty) }
     ensures fields { IfOk result (AreFieldsOf words.now) }
+    ensures none { IfErr result (λ fault. HasNoFuture ty
+        → Blames (λ message. (type_of message ≡ ty) × AreFieldsOf words.now message) fault) }
 {
     match ty {
         MessageType::Start => Ok(Message::Start(Start::read(alloc, words)?)),

@@ -1,12 +1,12 @@
 //! The values of fields as they are written on a line.
-ghost use Rattle.std.specs.Prelude.{◌≡◌, ◌++◌, IfOk, IfSome, OnOk, true};
+ghost use Rattle.std.specs.Prelude.{◌≡◌, ◌<◌, ◌++◌, length, IfErr, IfNone, IfOk, IfSome, OnOk, false, true};
+ghost use Rattle.lines.specs.Readings.{Blames};
 ghost use Rattle.line_parts.specs.Words.{IsNumberOf, text_at};
 ghost use Rattle.frame_lines.specs.Notation.{Notation, SayItems, SaysInside, SaysPair, bytes_notation, flag_notation, header_notation, list_notation, items_text, number, optional, pair, string};
 
 use bytes::Bytes;
 use journal_protocol::Header;
-use line_parts::atoms::{shared_of, text_of, u32_of};
-use lines::atoms::number_of;
+use line_parts::atoms::{shared_of, text_of, u32_of, u64_of};
 use lines::line::Line;
 use lines::pieces::{between, pieces, words_within};
 use plain::{Fault, Items, Text};
@@ -25,11 +25,14 @@ pub trait Value: Drop {
         ensures { OnOk result (line.new ≡ line.old ++ notation.text self.now) };
 
     fn parse(alloc: Global, text: &[u8]) -> Result<Self, Fault>
-        ensures { IfOk result (notation.Says text.now) };
+        ensures value { IfOk result (notation.Says text.now) }
+        ensures none { IfErr result (λ fault. notation.IsExact
+            → Blames (notation.Says text.now) fault) };
 
     /// The default, if there is one. Without one the field must always stand.
     fn missing(alloc: Global) -> Option<Self>
-        ensures { IfSome result (λ it. notation.is_left_out it ≡ true) };
+        ensures value { IfSome result (λ it. notation.is_left_out it ≡ true) }
+        ensures none { IfNone result ((it : Self) → notation.is_left_out it ≡ false) };
 }
 
 impl Value for u32 {
@@ -64,7 +67,7 @@ impl Value for u64 {
     }
 
     fn parse(_alloc: Global, text: &[u8]) -> Result<u64, Fault> {
-        number_of(text).ok_or(Fault::Malformed)
+        u64_of(text)
     }
 
     fn missing(_alloc: Global) -> Option<u64> {
@@ -136,6 +139,7 @@ impl Value for Text {
     }
 }
 
+#[tactic(auto, using(crate::proofs::Refusing::some_blamed))]
 impl<T: Value> Value for Option<T> {
     ghost notation = { optional T.notation };
 
@@ -175,8 +179,11 @@ fn print_items<T: Value>(items: &[T], line: &mut Line) -> Result<(), AllocError>
 }
 
 /// The items between commas.
+#[tactic(auto, using(crate::proofs::Refusing::piece_blamed, crate::proofs::Refusing::unclosed_items_blamed))]
 fn items_of<T: Value>(alloc: Global, text: &[u8]) -> Result<Items<T>, Fault>
-    ensures { IfOk result (SayItems T.notation.Says text.now) }
+    ensures value { IfOk result (SayItems T.notation.Says text.now) }
+    ensures none { IfErr result (λ fault. T.notation.IsExact
+        → Blames (SayItems T.notation.Says text.now) fault) }
 {
     let mut items = Items::new(alloc);
     if text.is_empty() {
@@ -189,6 +196,7 @@ fn items_of<T: Value>(alloc: Global, text: &[u8]) -> Result<Items<T>, Fault>
     Ok(items)
 }
 
+#[tactic(auto, using(crate::proofs::Refusing::list_blamed, crate::proofs::Refusing::no_list_blamed))]
 impl<T: Value> Value for Items<T> {
     ghost notation = { list_notation T.notation };
 
@@ -225,9 +233,11 @@ fn print_pair<A: Value, B: Value>(first: &A, second: &B, line: &mut Line) -> Res
 }
 
 /// The value of the word at this place.
-#[tactic(auto, using(crate::proofs::Saying::said_at))]
+#[tactic(auto, using(crate::proofs::Saying::said_at, crate::proofs::Refusing::word_blamed))]
 fn value_at<T: Value>(alloc: Global, words: &[&[u8]], place: usize) -> Result<T, Fault>
-    ensures { IfOk result (T.notation.Says (text_at place words.now)) }
+    ensures value { IfOk result (T.notation.Says (text_at place words.now)) }
+    ensures none { IfErr result (λ fault. T.notation.IsExact → place < length words.now
+        → Blames (T.notation.Says (text_at place words.now)) fault) }
 {
     match words.get(place) {
         Some(word) => T::parse(alloc, *word),
@@ -236,8 +246,11 @@ fn value_at<T: Value>(alloc: Global, words: &[&[u8]], place: usize) -> Result<T,
 }
 
 /// The two values in round brackets.
+#[tactic(auto, using(crate::proofs::Refusing::no_pair_blamed, crate::proofs::Refusing::not_two_blamed, crate::proofs::Refusing::first_blamed, crate::proofs::Refusing::second_blamed))]
 fn pair_of<A: Value, B: Value>(alloc: Global, text: &[u8]) -> Result<(A, B), Fault>
-    ensures { IfOk result (SaysPair A.notation.Says B.notation.Says text.now) }
+    ensures value { IfOk result (SaysPair A.notation.Says B.notation.Says text.now) }
+    ensures none { IfErr result (λ fault. A.notation.IsExact → B.notation.IsExact
+        → Blames (SaysPair A.notation.Says B.notation.Says text.now) fault) }
 {
     let words = words_within(alloc, text, b'(', b')')?;
     if words.len() != 2 {
