@@ -1,9 +1,8 @@
 -- Texts that C gives, and lines that are refused.
-use Rattle.std.proofs.Common.{◌≡◌, ℕ, List, true, false, Bool, Ok, Err, Result, refl, sym, subst, ap}
+use Rattle.std.proofs.Common.{◌≡◌, ℕ, List, true, false, Bool, Ok, Err, refl, sym, subst}
 use Rattle.std.specs.Str.{IsUtf8, is_utf8}
 use Rattle.std.proofs.lemmas.Str.{IsUtf8-from_is_utf8, is_utf8-from_IsUtf8}
 use Rattle.plain.specs.declared.fault.Fault.TheVariants.{Malformed}
-use Rattle.journal_protocol.specs.NotificationId.{NotificationId}
 use Rattle.journal_protocol.specs.NotificationId.TheVariants.{SignalName}
 use Rattle.lines.specs.Readings.{Blames}
 use Rattle.frame_lines.specs.FrameLines.{LineShows, LineShowsAsIs}
