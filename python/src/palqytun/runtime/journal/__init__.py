@@ -15,6 +15,8 @@ notifications, and judges whether a suspension is awake. What `frames` does besi
     is_awake(frame, entries) whether a suspension is awake by the notifications among some entries
 """
 
+from palqytun.journals import DEFAULT_VERSION
+
 from .frames import (
     CANCEL,
     Attach,
@@ -54,7 +56,7 @@ from .frames import (
     value,
     void,
 )
-from .rules import DEFAULT_VERSION, Dishonest, Entry, Journal, Stored
+from .rules import Dishonest, Entry, Journal, Stored
 
 __all__ = [
     "CANCEL",
