@@ -11,3 +11,4 @@ pub mod Saying
 pub mod Showing
 pub mod Streaming
 pub mod Typing
+pub mod Unshown

@@ -7,7 +7,7 @@ use Rattle.journal_protocol.specs.MessageType.{MessageType}
 use Rattle.journal_protocol.specs.Message.{Message}
 use Rattle.lines.specs.Atoms.{IsAtom, IsNumber}
 use Rattle.lines.specs.Pieces.{AreWords}
-use Rattle.frame_lines.specs.Messages.{AreFieldsOf}
+use Rattle.frame_lines.specs.Messages.{AreFieldsOf, HasNoFuture}
 use Rattle.frame_lines.specs.Names.{type_word}
 
 -- a frame as it is: `raw`, the number of its type, and its body
@@ -60,3 +60,14 @@ LineShows line shown = (words : List (Bor (List ℕ))) × AreWords line words ×
 abbrev pub LineShowsAsIs : List ℕ → List ℕ → Type 0
 LineShowsAsIs line shown =
     (words : List (Bor (List ℕ))) × AreWords line words × ShowAsIs words shown
+
+-- the words show these bytes as a message without a future
+abbrev pub ShowWithoutFuture : List (Bor (List ℕ)) → List ℕ → Type 0
+ShowWithoutFuture [] shown = ⊥
+ShowWithoutFuture (name ∷ others) shown =
+    (named : IsNamed name.now others shown) × HasNoFuture named.ty
+
+-- the words of a line show these bytes as a message without a future
+abbrev pub LineShowsWithoutFuture : List ℕ → List ℕ → Type 0
+LineShowsWithoutFuture line shown =
+    (words : List (Bor (List ℕ))) × AreWords line words × ShowWithoutFuture words shown

@@ -4,7 +4,7 @@ use Rattle.std.specs.Str.{IsTrimAscii, IsUtf8}
 use Rattle.std.specs.declared.io.Error.{Error as IoError}
 use Rattle.journal_protocol.specs.RawMessage.{RawMessage}
 use Rattle.journal_protocol.specs.Frames.{Malformed, Partial, Whole, next_of}
-use Rattle.frame_lines.specs.FrameLines.{LineShows, LineShowsAsIs}
+use Rattle.frame_lines.specs.FrameLines.{LineShows, LineShowsAsIs, LineShowsWithoutFuture}
 use Rattle.frame_lines.specs.Printed.{frame_text, rest_text}
 use Rattle.frame_lines.specs.declared.run.Unread.{Unread}
 use Rattle.frame_lines.specs.declared.run.Unread.TheVariants as unread
@@ -80,10 +80,14 @@ pub record AreShown (text bytes : List ℕ) : Type 0 where
   pub lines : List (List ℕ)
   pub shown : AreShownBefore lines text [] bytes
 
--- a line that is no comment, and isn't UTF-8 or shows no frame as it is and no rest
+-- no bytes are what the line shows as they are, or as a message without a future
+abbrev pub ShowsNothing : List ℕ → Type 0
+ShowsNothing line = (bytes : List ℕ) → (LineShowsAsIs line bytes → ⊥)
+    × (LineShowsWithoutFuture line bytes → ⊥)
+
+-- a line that is no comment, and isn't UTF-8 or shows nothing
 abbrev pub IsUnshownInside : List ℕ → Type 0
-IsUnshownInside line =
-    (IsComment line → ⊥) × ((IsUtf8 line → ⊥) ⊎ ((bytes : List ℕ) → LineShowsAsIs line bytes → ⊥))
+IsUnshownInside line = (IsComment line → ⊥) × ((IsUtf8 line → ⊥) ⊎ ShowsNothing line)
 
 -- the same of what stands on the line without the blanks around it
 abbrev pub IsUnshown : List ℕ → Type 0

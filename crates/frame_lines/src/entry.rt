@@ -5,7 +5,7 @@ ghost use Rattle.lines.specs.Atoms.{IsAtom};
 ghost use Rattle.lines.specs.Readings.{Blames};
 ghost use Rattle.frame_lines.specs.Messages.{HasNoFuture};
 ghost use Rattle.frame_lines.specs.Printed.{frame_text, raw_text, rest_text};
-ghost use Rattle.frame_lines.specs.FrameLines.{Encodes, IsRaw, LineShows, LineShowsAsIs, ShowAsIs, Shows};
+ghost use Rattle.frame_lines.specs.FrameLines.{Encodes, IsRaw, LineShows, LineShowsAsIs, LineShowsWithoutFuture, ShowAsIs, ShowWithoutFuture, Shows};
 
 use crate::message::{parse_message, print_message};
 use crate::type_names::type_named;
@@ -85,28 +85,41 @@ fn frame_of_raw(alloc: Global, number: &[u8], body: &[u8]) -> Result<Bytes, Faul
     Ok(raw_frame(alloc, number, &body)?)
 }
 
-/// The bytes that the words of a line show. When a message's words are refused is said of `parse_message`. Words that show bytes as
-/// they are, or a stream's rest, are refused only if memory ran out.
-pub fn frame_of_words(alloc: Global, words: &[&[u8]]) -> Result<Bytes, Fault>
-    ensures value { IfOk result (Shows words.now) }
+/// The bytes that words show as they are: a frame of any type, or a stream's rest.
+fn bytes_as_is(alloc: Global, words: &[&[u8]]) -> Result<Bytes, Fault>
+    ensures value { IfOk result (ShowAsIs words.now) }
     ensures none { IfErr result (Blames (ShowAsIs words.now)) }
 {
     match words {
         [b"raw", number, body] => frame_of_raw(alloc, *number, *body),
         [b"rest", rest] => shared(alloc, *rest),
-        [name, fields @ ..] => match type_named(*name) {
-            Some(ty) => frame_of_message(alloc, ty, fields),
-            None => Err(Fault::Malformed),
-        },
-        [] => Err(Fault::Malformed),
+        _ => Err(Fault::Malformed),
+    }
+}
+
+/// The bytes that the words of a line show. Words that show bytes as they are, or as a message without a future, are refused only if
+/// memory ran out.
+#[tactic(auto, using(crate::proofs::Unshown::as_is_shows, crate::proofs::Unshown::named_not_as_is, crate::proofs::Unshown::named_blamed, crate::proofs::Unshown::unnamed_blamed))]
+pub fn frame_of_words(alloc: Global, words: &[&[u8]]) -> Result<Bytes, Fault>
+    ensures value { IfOk result (Shows words.now) }
+    ensures none { IfErr result (Blames (ShowAsIs words.now)) }
+    ensures message { IfErr result (Blames (ShowWithoutFuture words.now)) }
+{
+    let [name, fields @ ..] = words else {
+        return Err(Fault::Malformed);
+    };
+    match type_named(*name) {
+        Some(ty) => frame_of_message(alloc, ty, fields),
+        None => bytes_as_is(alloc, words),
     }
 }
 
 /// The bytes that a line shows.
-#[tactic(auto, using(crate::proofs::Showing::line_blamed, crate::proofs::Showing::unclosed_line_blamed))]
+#[tactic(auto, using(crate::proofs::Showing::line_blamed, crate::proofs::Showing::unclosed_line_blamed, crate::proofs::Unshown::message_line_blamed, crate::proofs::Unshown::unclosed_message_blamed))]
 pub fn frame_of(alloc: Global, line: &[u8]) -> Result<Bytes, Fault>
     ensures value { IfOk result (LineShows line.now) }
     ensures none { IfErr result (Blames (LineShowsAsIs line.now)) }
+    ensures message { IfErr result (Blames (LineShowsWithoutFuture line.now)) }
 {
     let words = words(alloc, line)?;
     frame_of_words(alloc, words.as_slice())
