@@ -1,5 +1,6 @@
 """The same history in other ways: in one attempt that nothing stops, from each part of its journal, and without an allocation."""
 import os
+import re
 from random import Random
 
 from simulation.checks import check_journal, check_round, check_whole
@@ -10,6 +11,7 @@ from simulation.texts import notification_of
 
 STARVED = '500 ""'  # the error of a round whose attempt found no memory
 FAULTS = ("fault Memory\n", "fault NoSuchId\n")
+PLACE = re.compile(r"round \d+(, event \d+)?: [^\n]*\n")  # of a fault, on standard error
 MOST = 1 << 14  # the last allocation that is refused
 
 
@@ -79,7 +81,8 @@ def check_refused(played: Played, dice: Random, shim: str, mark: str) -> bool:
     if ran == ordinary:
         return was_refused
     where = f"without allocation {at}"
-    if ran.said or not was_refused or ran.status not in (0, 1):
+    says_place = ran.out in FAULTS and PLACE.fullmatch(ran.said)
+    if (ran.said and not says_place) or not was_refused or ran.status not in (0, 1):
         raise Bad(f"{where} it ends with status {ran.status}, {ran.said!r}")
     if ran.status == 1 and ran.out not in ("", *FAULTS):
         raise Bad(f"{where} it writes {ran.out!r}")

@@ -9,6 +9,8 @@ use Rattle.vm_store.specs.declared.types.RoundFault.{RoundFault}
 use Rattle.vm_store.specs.declared.types.RoundFault.TheVariants as round_fault
 use Rattle.round_scripts.specs.declared.script.Script.{Script}
 use Rattle.round_reports.specs.Printed.{fault_text}
+use Rattle.round_reports.specs.declared.stop.Stop.{Stop}
+use Rattle.round_reports.specs.declared.stop.Stop.TheVariants.{World}
 use Rattle.round_reports.specs.Runs.{IsPlayed, MakeNoWorld, RoundsEnd, ScriptEnds, first_journal, setting_of}
 
 -- no entry is given
@@ -33,10 +35,10 @@ entries_make_no_world entries fault some (inl memory) = inl memory
 entries_make_no_world entries fault some (inr (inl (none, is))) = absurd (some (ap length none))
 entries_make_no_world entries fault some (inr (inr first)) = inr first
 
-pub is_played : (meaning : Meaning) (version : Version) (script : Script) (fault : Option RoundFault) (report : List ℕ) → AreGiven [] script.entries.items
-    → RoundsEnd meaning (setting_of version script.given) script.rounds.items (first_journal script.given.input script.entries.items) fault report → ScriptEnds meaning version script fault report
-is_played meaning version script fault report fits ends = inl (record { fits = fits; ends = ends })
+pub is_played : (meaning : Meaning) (version : Version) (script : Script) (stop : Option Stop) (report : List ℕ) → AreGiven [] script.entries.items
+    → RoundsEnd meaning (setting_of version script.given) script.rounds.items (first_journal script.given.input script.entries.items) stop report → ScriptEnds meaning version script stop report
+is_played meaning version script stop report fits ends = inl (record { fits = fits; ends = ends })
 
-pub has_no_world : (meaning : Meaning) (version : Version) (script : Script) (fault : Option RoundFault) (report : List ℕ) (why : RoundFault) → MakeNoWorld script.entries.items why → fault ≡ Some why → report ≡ fault_text why
-    → ScriptEnds meaning version script fault report
-has_no_world meaning version script fault report why is_why is_fault is_report = inr (record { why = why; is_why = is_why; is_fault = is_fault; is_report = is_report })
+pub has_no_world : (meaning : Meaning) (version : Version) (script : Script) (stop : Option Stop) (report : List ℕ) (why : RoundFault) → MakeNoWorld script.entries.items why → stop ≡ Some (World why) → report ≡ fault_text why
+    → ScriptEnds meaning version script stop report
+has_no_world meaning version script stop report why is_why is_stop is_report = inr (record { why = why; is_why = is_why; is_stop = is_stop; is_report = is_report })

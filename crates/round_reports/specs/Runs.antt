@@ -8,6 +8,7 @@ use Rattle.journal_protocol.specs.Message.TheVariants as message
 use Rattle.journal_protocol.specs.Version.{Version}
 use Rattle.vm_model.specs.Calls.{Meaning}
 use Rattle.vm_rounds.specs.Inside.{report_view}
+use Rattle.vm_rounds.specs.Places.{RoundsStop}
 use Rattle.vm_rounds.specs.Rounds.{RoundsDo, RoundsFault}
 use Rattle.vm_store.specs.Given.{AreGiven, FirstGiven}
 use Rattle.vm_store.specs.Worlds.{pairs_given}
@@ -27,6 +28,8 @@ use Rattle.run_ends.specs.declared.run_end.RunEnd.TheVariants.{Refused, ReadFail
 use Rattle.round_reports.specs.declared.run_end.Ending.{Ending}
 use Rattle.round_reports.specs.declared.run_end.Refusal.{Refusal}
 use Rattle.round_reports.specs.declared.run_end.Refusal.TheVariants.{UnknownHandler, UnknownContentType, NoMeaning}
+use Rattle.round_reports.specs.declared.stop.Stop.{Stop}
+use Rattle.round_reports.specs.declared.stop.Stop.TheVariants.{Rounds, World}
 
 -- what all attempts of a script's world are made with
 abbrev pub setting_of : Version → Given → Setting
@@ -43,16 +46,20 @@ abbrev pub first_journal : List ℕ → List (List ℕ) → List (List ℕ)
 first_journal input [] = encoding (message.Input (record { headers = []; value = input })) ∷ []
 first_journal input (entry ∷ entries) = entry ∷ entries
 
--- how rounds end, and their report: all have run; or a fault has stopped them, and the report is
--- its name
-abbrev pub RoundsEnd : Meaning → Setting → List Round → List (List ℕ) → Option RoundFault → List ℕ
+-- how the rounds of a world end, and their report: all have run; or a fault has stopped them at
+-- this place, and the report is its name
+abbrev pub RoundsEnd : Meaning → Setting → List Round → List (List ℕ) → Option Stop → List ℕ
     → Type 0
 RoundsEnd meaning setting rounds journal None report =
     (reports : List Report) × (after : List (List ℕ))
     × RoundsDo meaning setting rounds journal (map report_view reports) after
     × IsPrinted reports report
-RoundsEnd meaning setting rounds journal (Some fault) report = RoundsFault meaning setting rounds
-    journal fault × (report ≡ fault_text fault)
+RoundsEnd meaning setting rounds journal (Some (Rounds at)) report =
+    RoundsFault meaning setting rounds journal at.fault
+    × ((before : List Report)
+    × RoundsStop meaning setting rounds journal (map report_view before) at)
+    × (report ≡ fault_text at.fault)
+RoundsEnd meaning setting rounds journal (Some (World fault)) report = ⊥
 
 -- why no world is made of these entries: the first of them that has a fault has this one; or there
 -- is no memory
@@ -60,35 +67,35 @@ abbrev pub MakeNoWorld : List (List ℕ) → RoundFault → Type 0
 MakeNoWorld entries fault = (fault ≡ round_fault.Memory) ⊎ FirstGiven [] entries fault
 
 -- No entry of the script has a fault, and its rounds end over its world.
-pub record IsPlayed (meaning : Meaning) (version : Version) (script : Script) (fault : Option RoundFault) (report : List ℕ) : Type 0 where
+pub record IsPlayed (meaning : Meaning) (version : Version) (script : Script) (stop : Option Stop) (report : List ℕ) : Type 0 where
   pub fits : AreGiven [] script.entries.items
   pub ends : RoundsEnd meaning (setting_of version script.given) script.rounds.items
-      (first_journal script.given.input script.entries.items) fault report
+      (first_journal script.given.input script.entries.items) stop report
 
 -- No world is made of the script's entries, and the report is the name of the fault.
-pub record HasNoWorld (script : Script) (fault : Option RoundFault) (report : List ℕ) : Type 0 where
+pub record HasNoWorld (script : Script) (stop : Option Stop) (report : List ℕ) : Type 0 where
   pub why : RoundFault
   pub is_why : MakeNoWorld script.entries.items why
-  pub is_fault : fault ≡ Some why
+  pub is_stop : stop ≡ Some (World why)
   pub is_report : report ≡ fault_text why
 
 -- how a script ends, and its report
-abbrev pub ScriptEnds : Meaning → Version → Script → Option RoundFault → List ℕ → Type 0
-ScriptEnds meaning version script fault report =
-    IsPlayed meaning version script fault report ⊎ HasNoWorld script fault report
+abbrev pub ScriptEnds : Meaning → Version → Script → Option Stop → List ℕ → Type 0
+ScriptEnds meaning version script stop report =
+    IsPlayed meaning version script stop report ⊎ HasNoWorld script stop report
 
 -- a text is read as a script, and its rounds are played over its world, if there is one
-pub record Plays (meaning : Meaning) (version : Version) (text : List ℕ) (fault : Option RoundFault) (report : List ℕ) : Type 0 where
+pub record Plays (meaning : Meaning) (version : Version) (text : List ℕ) (stop : Option Stop) (report : List ℕ) : Type 0 where
   pub script : Script
   pub is_read : IsScriptRead text script
-  pub ends : ScriptEnds meaning version script fault report
+  pub ends : ScriptEnds meaning version script stop report
 
 -- The text is all that the reader had left, where this is known, and this holds of its report.
-pub record PlaysAll (meaning : Meaning) (version : Version) (left : Option (List ℕ)) (fault : Option RoundFault) (written : List ℕ → Type 0) : Type 0 where
+pub record PlaysAll (meaning : Meaning) (version : Version) (left : Option (List ℕ)) (stop : Option Stop) (written : List ℕ → Type 0) : Type 0 where
   pub text : List ℕ
   pub report : List ℕ
   pub all : IfSome left (λ bytes. text ≡ bytes)
-  pub plays : Plays meaning version text fault report
+  pub plays : Plays meaning version text stop report
   pub is_written : written report
 
 -- The text is all that the reader had left, where this is known, and its line of this number is the
@@ -100,14 +107,14 @@ pub record StopsThere (left : Option (List ℕ)) (number : ℕ) : Type 0 where
 
 -- what is written of a report into a writer that held and now holds these bytes, where the rounds
 -- have ended so
-abbrev pub ReportEnds : (IoError → Type 0) → Option (List ℕ) → Option (List ℕ) → Option RoundFault
+abbrev pub ReportEnds : (IoError → Type 0) → Option (List ℕ) → Option (List ℕ) → Option Stop
     → List ℕ → RunEnd Refusal Ending → Type 0
-ReportEnds write_fails held holds fault report (Refused why) = ⊥
-ReportEnds write_fails held holds fault report (ReadFailed e) = ⊥
-ReportEnds write_fails held holds fault report NoMemory = ⊥
-ReportEnds write_fails held holds fault report (WriteFailed ending e) = write_fails e
-    × (ending.stopped_by ≡ fault) × AppendsSome held holds report
-ReportEnds write_fails held holds fault report (Written ending) = (ending.stopped_by ≡ fault)
+ReportEnds write_fails held holds stop report (Refused why) = ⊥
+ReportEnds write_fails held holds stop report (ReadFailed e) = ⊥
+ReportEnds write_fails held holds stop report NoMemory = ⊥
+ReportEnds write_fails held holds stop report (WriteFailed ending e) = write_fails e
+    × (ending.stopped_by ≡ stop) × AppendsSome held holds report
+ReportEnds write_fails held holds stop report (Written ending) = (ending.stopped_by ≡ stop)
     × Appends held holds report
 
 -- Why a run is refused: there is no such handler, it is no content type, or the line of this number
@@ -120,7 +127,7 @@ RoundsRefused stops read (NoMeaning line) = stops line × read
 -- What each end of a run says. `plays` says that a script was played up to such an end, and what is
 -- written of its report into a writer that held and now holds these bytes; `stops` that the line of
 -- a number has no meaning; `read` that all was read, and `unwritten` that nothing was written.
-abbrev pub RoundsSay : (Option RoundFault → (List ℕ → Type 0) → Type 0) → (ℕ → Type 0)
+abbrev pub RoundsSay : (Option Stop → (List ℕ → Type 0) → Type 0) → (ℕ → Type 0)
     → Option (List ℕ) → Option (List ℕ) → (IoError → Type 0) → (IoError → Type 0) → Type 0 → Type 0
     → RunEnd Refusal Ending → Type 0
 RoundsSay plays stops held holds read_fails write_fails read unwritten end =

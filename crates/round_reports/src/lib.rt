@@ -5,3 +5,4 @@ pub mod play;
 pub mod report;
 pub mod run;
 pub mod run_end;
+pub mod stop;

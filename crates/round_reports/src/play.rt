@@ -5,6 +5,7 @@ ghost use Rattle.round_scripts.specs.Scripts.{IsScriptRead, IsUnreadFor, no_part
 ghost use Rattle.round_reports.specs.Runs.{MakeNoWorld, Plays, RoundsEnd, ScriptEnds, first_journal, setting_of};
 
 use crate::report::{report_of, report_of_fault};
+use crate::stop::Stop;
 use bytes::Bytes;
 use journal_protocol::Version;
 use lines::line::Line;
@@ -12,13 +13,13 @@ use round_scripts::given::Given;
 use round_scripts::script::{Script, Unread, script_of};
 use std::alloc::{AllocError, Global};
 use vm_attempt::Handler;
-use vm_rounds::{Round, RoundFault, World, run_rounds};
+use vm_rounds::{Round, RoundFault, World, play_rounds};
 
-/// The report of a script, and the fault that stopped its rounds, if there is one.
+/// The report of a script, and what stopped it, if a fault did.
 #[derive(Drop)]
 pub struct Played {
     pub report: Line,
-    pub fault: Option<RoundFault>,
+    pub stop: Option<Stop>,
 }
 
 /// The world of a script: it begins with the entries, or with its input if there are none.
@@ -53,24 +54,24 @@ fn world_of(
     }
 }
 
-/// Plays rounds over a world.
-fn play_rounds<H: Handler>(
+/// Plays rounds over a world, and reports them.
+fn report_rounds<H: Handler>(
     alloc: Global,
     handler: &H,
     world: World,
     rounds: &[Round],
 ) -> Result<Played, AllocError>
     ensures { IfOk result (λ played. RoundsEnd (H.meaning handler.now) world.setting rounds.now
-        world.journal played.fault played.report) }
+        world.journal played.stop played.report) }
 {
-    match run_rounds(handler, world, rounds) {
+    match play_rounds(handler, world, rounds) {
         Ok((world, reports)) => Ok(Played {
             report: report_of(alloc, &world, reports.as_slice())?,
-            fault: None,
+            stop: None,
         }),
-        Err(fault) => Ok(Played {
-            report: report_of_fault(alloc, fault)?,
-            fault: Some(fault),
+        Err(stopped) => Ok(Played {
+            report: report_of_fault(alloc, stopped.at.fault)?,
+            stop: Some(Stop::Rounds(stopped.at)),
         }),
     }
 }
@@ -83,7 +84,7 @@ fn play<H: Handler>(
     handler: &H,
     script: Script,
 ) -> Result<Played, AllocError>
-    ensures { IfOk result (λ played. ScriptEnds (H.meaning handler.now) version script played.fault
+    ensures { IfOk result (λ played. ScriptEnds (H.meaning handler.now) version script played.stop
         played.report) }
 {
     let Script {
@@ -93,12 +94,12 @@ fn play<H: Handler>(
     } = script;
     match world_of(alloc, version, given, entries) {
         Ok(world) => {
-            let played = play_rounds(alloc, handler, world, rounds.as_slice())?;
+            let played = report_rounds(alloc, handler, world, rounds.as_slice())?;
             Ok(played)
         }
         Err(fault) => Ok(Played {
             report: report_of_fault(alloc, fault)?,
-            fault: Some(fault),
+            stop: Some(Stop::World(fault)),
         }),
     }
 }
@@ -111,7 +112,7 @@ pub fn play_text<H: Handler>(
     text: &[u8],
 ) -> Result<Played, Unread>
     ensures plays { IfOk result
-        (λ played. Plays (H.meaning handler.now) version text.now played.fault played.report) }
+        (λ played. Plays (H.meaning handler.now) version text.now played.stop played.report) }
     ensures unread { IfErr result (IsUnreadFor text.now no_parts) }
 {
     match script_of(alloc, text) {

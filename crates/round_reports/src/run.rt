@@ -19,10 +19,10 @@ use vm_attempt::Handler;
 /// Writes the report.
 fn write_report<W: Sink>(played: Played, writer: &mut W) -> RunEnd
     ensures { ReportEnds (W.fails writer.old) (W.contents writer.old) (W.contents writer.new)
-        played.fault played.report result }
+        played.stop played.report result }
 {
-    let Played { report, fault } = played;
-    let ending = Ending { stopped_by: fault };
+    let Played { report, stop } = played;
+    let ending = Ending { stopped_by: stop };
     match writer.write_whole(report.as_str().as_bytes()) {
         Ok(()) => RunEnd::Written(ending),
         Err(error) => RunEnd::WriteFailed(ending, error),

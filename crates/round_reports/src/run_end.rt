@@ -2,14 +2,14 @@
 ghost use Rattle.std.specs.Prelude.{◌≡◌};
 ghost use Rattle.round_reports.specs.Statuses.{rounds_status, rounds_refusal_status};
 
+use crate::stop::Stop;
 use run_ends::exit_status::{ExitStatus, HasStatus};
-use vm_rounds::RoundFault;
 
-/// How rounds end.
+/// How a script ends.
 #[derive(Clone, Copy, Debug, PartialEq, Eq)]
 pub struct Ending {
-    /// The fault that has stopped them, which the report names. Without one all have run, and the report says what they did.
-    pub stopped_by: Option<RoundFault>,
+    /// What has stopped it: the report names the fault. If nothing has, all its rounds have run, and the report says what they did.
+    pub stopped_by: Option<Stop>,
 }
 
 impl HasStatus for Ending {

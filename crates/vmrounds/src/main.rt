@@ -5,7 +5,8 @@ use command_lines::asks_for_help;
 use plain::Fault;
 use plans::reading::plan_of;
 use round_reports::run::{run, run_handler};
-use round_reports::run_end::{Refusal, RunEnd};
+use round_reports::run_end::{Ending, Refusal, RunEnd};
+use round_reports::stop::Stop;
 use std::env::{self, Env};
 use std::io;
 use std::process::ExitCode;
@@ -100,6 +101,13 @@ fn main(rt: HostRuntime) -> ExitCode {
         }
         RunEnd::Refused(Refusal::NoMeaning(number)) => {
             let _ = rt.eprintln(format_args!("line {number} has no meaning"));
+        }
+        RunEnd::Written(
+            Ending {
+                stopped_by: Some(Stop::Rounds(at)),
+            },
+        ) => {
+            let _ = rt.eprintln(format_args!("{at}"));
         }
         _ => {}
     }

@@ -1,0 +1,11 @@
+//! What stops a script.
+use vm_rounds::{PlacedFault, RoundFault};
+
+/// What stops a script.
+#[derive(Clone, Copy, Debug, PartialEq, Eq)]
+pub enum Stop {
+    /// No world is made: the first entry that has a fault has this one, or memory ran out.
+    World(RoundFault),
+    /// The rounds are stopped here, by this fault.
+    Rounds(PlacedFault),
+}
