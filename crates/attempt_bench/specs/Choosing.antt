@@ -40,17 +40,17 @@ bytes_taken (Some answer.Cancelled) = None
 bytes_taken (Some (answer.Completed is)) = None
 bytes_taken None = None
 
--- the step behind the take: what was taken is the output, or else there is a sleep
+-- the step after the take: an output of what was taken; if that was nothing, a sleep
 abbrev pub chosen_step : Option (List ℕ) → Step
 chosen_step (Some bytes) = output_step bytes
 chosen_step None = sleep_step
 
--- the step behind that: the end, or an await of the sleep
+-- the step after that: the end, or an await of the sleep
 abbrev pub later_step : Option (List ℕ) → Step
 later_step (Some bytes) = step.End
 later_step None = step.Await (Single second_handle)
 
--- the step after so many answers
+-- the handler's next step, by the number of its answers so far, and by what it took
 abbrev pub choose_step : List Answer → Step
 choose_step answers =
     if length answers == 1 then step.CompleteAwakeable (codes "prom_1") (Success (codes "v"))

@@ -6,7 +6,7 @@ use Rattle.vm_types.specs.declared.steps.Step.TheVariants as step
 use Rattle.await_trees.specs.declared.tree.UnresolvedFuture.TheVariants.{Single}
 use Rattle.attempt_bench.specs.Steps.{first_handle, sleep_step, output_step}
 
--- the step after so many answers
+-- the handler's next step, by the number of its answers so far
 abbrev pub nap_step : List Answer → Step
 nap_step answers =
     if length answers == 1 then sleep_step

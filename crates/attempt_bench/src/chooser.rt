@@ -13,9 +13,8 @@ use vm_parts::{
     Answer, NonEmptyValue, NotificationHandle, PayloadOptions, Step, UnresolvedFuture, Value,
 };
 
-/// Completes the awakeable "prom_1" with "v", makes an awakeable, awaits it and takes its result. Where that is a
-/// success it writes the same bytes as its output; else it sleeps to 1000 ms, awaits the sleep and writes an empty
-/// output. Then it ends.
+/// Completes the awakeable "prom_1" with "v", makes an awakeable, awaits it and takes its result. If that is a success, it writes the same
+/// bytes as its output; else it sleeps to 1000 ms, awaits the sleep and writes an empty output. Then it ends.
 #[derive(Drop)]
 pub struct Chooser {
     pub alloc: Global,

@@ -8,7 +8,7 @@ pub const START_FRONT: &[u8] = b"\0\x01\0\0\0\0\0\0\0\x42\
     \0\0\0\0\0\0\0\x03abc\
     \0\0\0\0\0\0\0\0";
 
-/// What stands behind the number.
+/// What stands after the number.
 pub const START_BACK: &[u8] = b"\0\0\0\0\0\0\0\0\
     \x01\
     \0\0\0\0\
@@ -89,7 +89,7 @@ pub const AWAITING_ON_SIGNAL_17: &[u8] = b"\0\x07\0\0\0\0\0\0\0\x2a\
     \0\0\0\0\0\0\0\0\
     \0";
 
-/// The first command behind the input is no clearing of a key.
+/// The first command after the input is no clearing of a key.
 pub const NO_CLEAR_AT_1: &[u8] = b"\0\x03\0\0\0\0\0\0\0\x39\
     \0\0\x02\x3a\
     \0\0\0\0\0\0\0\x18CommandTypeMismatchError\
@@ -122,7 +122,7 @@ pub const ANOTHER_COMPLETE_AT_1: &[u8] = b"\0\x03\0\0\0\0\0\0\0\x35\
     \0\
     \0";
 
-/// The second command behind the input is no setting of a key.
+/// The second command after the input is no setting of a key.
 pub const NO_SET_AT_2: &[u8] = b"\0\x03\0\0\0\0\0\0\0\x39\
     \0\0\x02\x3a\
     \0\0\0\0\0\0\0\x18CommandTypeMismatchError\
@@ -177,7 +177,7 @@ pub const ANOTHER_OUTPUT_AT_2: &[u8] = b"\0\x03\0\0\0\0\0\0\0\x35\
     \0\
     \0";
 
-/// The third command behind the input is no sleep.
+/// The third command after the input is no sleep.
 pub const NO_SLEEP_AT_3: &[u8] = b"\0\x03\0\0\0\0\0\0\0\x39\
     \0\0\x02\x3a\
     \0\0\0\0\0\0\0\x18CommandTypeMismatchError\
@@ -188,7 +188,7 @@ pub const NO_SLEEP_AT_3: &[u8] = b"\0\x03\0\0\0\0\0\0\0\x39\
     \0\
     \0";
 
-/// The fourth command behind the input is no output.
+/// The fourth command after the input is no output.
 pub const NO_OUTPUT_AT_4: &[u8] = b"\0\x03\0\0\0\0\0\0\0\x39\
     \0\0\x02\x3a\
     \0\0\0\0\0\0\0\x18CommandTypeMismatchError\

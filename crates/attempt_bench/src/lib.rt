@@ -1,5 +1,5 @@
-//! The test bench for whole attempts: handlers whose runs are known beforehand, their runs with their frames, and what
-//! rows tell of an attempt. Frames that others need too, and headers, are those of `vectors`.
+//! The test bench for whole attempts: handlers whose runs are known beforehand, their runs with their frames, and what rows expect of an
+//! attempt. Frames that others need too, and headers, are those of `vectors`.
 #![tactic(auto)]
 
 pub mod asker;

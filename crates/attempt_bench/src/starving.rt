@@ -1,11 +1,10 @@
-//! A handler that finds no memory.
-//! Its meaning is that of another, which it asks as long as it finds some.
+//! A handler that runs out of memory. Its meaning is that of another, which it asks until then.
 
 use std::alloc::AllocError;
 use vm_attempt::Handler;
 use vm_parts::{Answer, Step};
 
-/// The other handler, which finds no memory for the step after so many answers.
+/// The other handler, but out of memory for the step after this number of answers.
 #[derive(Drop)]
 pub struct Starving<H> {
     pub handler: H,

@@ -1,5 +1,5 @@
-//! What rows tell of an attempt: its answers, its errors and what it sends. A row that doesn't hold is a failure.
-//! The attempts are made for the version 7, under the options by default.
+//! What rows expect of an attempt: its answers, its errors and what it sends. A row that doesn't hold is a failure. The attempts are made
+//! for the version 7, under the options by default.
 
 use bytes::Bytes;
 use invocation_vm::{AwaitingOnPolicy, VMOptions, VMResult, Value};
@@ -9,7 +9,7 @@ use vectors::headers::Headers;
 use vm_attempt::{Attempt, Handler, Progress};
 use vm_parts::Answer;
 
-/// An answer, as a row tells it.
+/// An answer, as a row has it.
 #[derive(Clone, Copy, Debug)]
 pub enum Told {
     /// The input is "Till".

@@ -1,5 +1,5 @@
 //! Whole runs of handlers: the entries of the journal in order, the answers, and what stands at the end.
-//! An attempt is given a beginning of the entries as known; notifications behind it arrive, commands behind it are written.
+//! An attempt is given the first entries as known; notifications after these arrive, commands after these are written.
 
 use crate::frames::{START_BACK, START_FRONT};
 use crate::told::Told;
@@ -31,14 +31,14 @@ pub struct Run {
     pub ending: Ending,
 }
 
-/// What an attempt is fed, and what it has to write, where a beginning of the entries is known.
+/// What an attempt is fed, and what it has to write, if the first entries are known.
 #[derive(Drop)]
 pub struct Replay {
     /// Start and the known entries.
     pub recorded: Vec<u8>,
-    /// The notifications behind them.
+    /// The notifications after the known entries.
     pub arrivals: Vec<u8>,
-    /// The commands behind them, and the last frame.
+    /// The commands after the known entries, and the last frame.
     pub written: Vec<u8>,
 }
 
@@ -52,7 +52,7 @@ impl Ending {
     }
 }
 
-/// Adds a Start that tells so many known entries.
+/// Adds a Start with this number of known entries.
 fn put_start(bytes: &mut Vec<u8>, known: u32) -> Result<(), AllocError> {
     bytes.extend_from_slice(START_FRONT)?;
     bytes.extend_from_slice(&known.to_be_bytes())?;
@@ -88,7 +88,7 @@ fn put_commands(bytes: &mut Vec<u8>, entries: &[Entry]) -> Result<(), AllocError
 }
 
 impl Run {
-    /// The attempt to which so many entries are known.
+    /// The attempt for which the first `known` entries are known.
     pub fn replay(&self, alloc: Global, known: usize) -> Result<Replay, Fail> {
         let (front, back) = self.entries.split_at_checked(known).ok_or("fewer entries")?;
         let mut recorded = Vec::new(alloc);

@@ -35,7 +35,7 @@ front_within : {X : Type 0} (xs ys : List X) → length xs ≤ length (xs ++ ys)
 front_within [] ys = omega arith
 front_within (x ∷ xs) ys = let e = front_within xs ys in omega arith
 
--- what stands on the stack behind a node, and what the node and it make
+-- the stack that holds the trees after a node, and what they and the node make
 pub record Behind (n : Node) (stack : List UnresolvedFuture) (whole : Forest) : Type 0 where
   pub a_leaf : (h : ℕ) → n.label ≡ Leaf h → Single (record { 0 = h }) ∷ stack ≡ futures_at whole
   pub enough : (k : FutureKind) → n.label ≡ Inner k → n.count ≤ length stack

@@ -146,7 +146,7 @@ first_grows at bt h d = go (at h) d
     go Succeeded d = refl
     go Failed d = refl
 
--- where no leaf had an outcome, the first outcomes are those of now
+-- if no leaf had an outcome, the first outcomes are those of now
 module _ (at bt : ℕ → Outcome) where
   mutual
     pub first_outcome : (t : Tree) → Waits at t → outcome (first_at at bt) t ≡ outcome bt t

@@ -25,8 +25,8 @@ abbrev pub in_some : Option (Vec UnresolvedFuture Global) → ℕ
 in_some None = 0
 in_some (Some row) = in_row row.items
 
--- A node over `found` nodes was taken apart, with so many left. Then there is one node fewer; or as
--- many, and the next tree has fewer than the one before.
+-- A node over `found` nodes was taken apart, and `left` nodes are left besides. Then there is one
+-- node fewer; or as many, and the next tree has fewer than the one before.
 abbrev pub Fewer : ℕ → ℕ → ℕ → ℕ → Type 0
 Fewer found left tree others =
     (tree + others ≡ found + left) ⊎ ((tree + others ≡ suc (found + left)) × (tree ≤ found))

@@ -1,4 +1,4 @@
--- What a tree has come to, once each leaf has.
+-- The outcome of a tree, by those of its leaves.
 use Rattle.std.specs.Prelude.{ℕ, ◌≡◌, Bool, true, false, cond, ◌&&◌, ◌||◌}
 use Rattle.journal_protocol.specs.FutureKind.{FutureKind}
 use Rattle.journal_protocol.specs.FutureKind.TheVariants.{FirstCompleted, AllCompleted, FirstSucceededOrAllFailed, AllSucceededOrFirstFailed, Unknown}
@@ -66,7 +66,7 @@ abbrev mutual
 abbrev pub awake : {L : Type 0} → (L → Outcome) → TreeOver L → Bool
 awake at t = is_done (outcome at t) || fires at t
 
--- what a leaf came to stays so
+-- an outcome that a leaf has stays so
 abbrev pub Grows : (ℕ → Outcome) → (ℕ → Outcome) → Type 0
 Grows at bt = (h : ℕ) → is_done (at h) ≡ true → bt h ≡ at h
 

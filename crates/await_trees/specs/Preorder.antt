@@ -23,7 +23,7 @@ abbrev pub preorders_on : List (List UnresolvedFuture) → List Node
 preorders_on [] = []
 preorders_on (row ∷ rows) = preorders_on rows ++ preorders (forest_of row)
 
--- one row of trees behind another
+-- one row of trees after another
 abbrev pub forests_joined : Forest → Forest → Forest
 forests_joined none rs = rs
 forests_joined (more t ts) rs = more t (forests_joined ts rs)

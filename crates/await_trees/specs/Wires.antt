@@ -80,7 +80,7 @@ module _ (id : ℕ → Option NotificationId) where
 
 -- ---- how it reads
 
--- so many trees of a row
+-- the first n trees of a row
 abbrev pub first_trees : {L : Type 0} → ℕ → ForestOver L → ForestOver L
 first_trees zero ts = none
 first_trees (suc n) none = none
@@ -104,7 +104,7 @@ read_node n ts = node n.kind
     (leaves CompletionId n.waiting_completions
     (leaves SignalId n.waiting_signals (leaves SignalName n.waiting_named_signals ts)))
 
--- the trees that nodes in preorder are: in a node nest as many of those behind it as it says
+-- the trees that nodes in preorder represent: in each node nest as many trees after it as it says
 abbrev pub readings : List FutureNode → ForestOver NotificationId
 readings [] = none
 readings (n ∷ ns) = more (read_node n (first_trees n.nested (readings ns)))
@@ -120,7 +120,7 @@ tree_of_nodes ns = first_tree (readings ns)
 
 -- ---- leaves by their ids
 
--- what a leaf has come to, by its id
+-- the outcome of a leaf, by its id
 abbrev pub outcome_of_leaf : (NotificationId → Outcome) → Option NotificationId → Outcome
 outcome_of_leaf at None = Pending
 outcome_of_leaf at (Some i) = at i

@@ -29,7 +29,7 @@ pub fn node_over(kind: FutureKind, children: Items<UnresolvedFuture>) -> Unresol
     }
 }
 
-/// Moves so many trees from the top of a stack into a row, the top first.
+/// Pops `count` trees from a stack into a row, the top first.
 fn take_trees(
     alloc: Global,
     trees: &mut Vec<UnresolvedFuture>,

@@ -8,8 +8,8 @@ ghost use Rattle.await_trees.specs.Same.{Same};
 ghost use Rattle.await_trees.specs.Tree.{Tree};
 ghost use Rattle.await_trees.specs.Wires.{sent, tree_of_nodes, outcome_of_leaf, Mapped};
 
-/// What is sent of a tree is one whole future, and where each handle stands for an id, it is awake just where the
-/// tree is, whatever the ids have come to.
+/// What is sent of a tree is one whole future. If each handle stands for an id, it is awake exactly if the tree is, for all
+/// outcomes of the ids.
 pub fn wire_futures_wake_as_trees()
     ensures whole { (id : ℕ → Option NotificationId) (t : Tree) → IsFuture (sent id t) }
     ensures alike { (id : ℕ → Option NotificationId) (at : NotificationId → Outcome) (t : Tree)
@@ -17,8 +17,8 @@ pub fn wire_futures_wake_as_trees()
         ≡ awake (λ h. outcome_of_leaf at (id h)) t }
 {}
 
-/// In which order the children of a node stand, and how often, is of no account: neither for what the tree has come to,
-/// nor for whether it is awake.
+/// In which order the children of a node stand, and how often, is of no account: neither for the tree's outcome, nor for
+/// whether it is awake.
 pub fn order_and_repetition_change_nothing()
     ensures outcome { (at : ℕ → Outcome) (t u : Tree) → Same t u → outcome at t ≡ outcome at u }
     ensures awake { (at : ℕ → Outcome) (t u : Tree) → Same t u → awake at t ≡ awake at u }

@@ -1,4 +1,4 @@
-//! A tree is let go by a loop: however deep it is, its nodes are taken off one by one, and it takes no memory.
+//! A tree is dropped by a loop: however deep it is, its nodes are taken off one by one, and it takes no memory.
 ghost use Rattle.std.specs.Prelude.{◌≡◌, ◌+◌, MatchOption};
 ghost use Rattle.await_trees.specs.Counts.{count, in_row, in_some, Fewer};
 
@@ -6,7 +6,7 @@ use crate::tree::UnresolvedFuture;
 use plain::Items;
 use std::mem;
 
-/// The last tree of a row, where one is left.
+/// The last tree of a row, if one is left.
 fn last_of(row: Option<Vec<UnresolvedFuture>>) -> Option<(UnresolvedFuture, Vec<UnresolvedFuture>)>
     ensures { MatchOption result (in_some row
         ≡ 0) (λ next. Fewer 0 (in_some row) (count next.0) (in_row next.1.items)) }
@@ -21,9 +21,10 @@ fn last_of(row: Option<Vec<UnresolvedFuture>>) -> Option<(UnresolvedFuture, Vec<
     }
 }
 
-/// The next tree to be taken apart, and the trees that are then left, by the trees that are left now and the children of
-/// the tree that was taken apart. One of two rows goes into the other, in the place of the next tree; an empty one never does,
-/// so each node is put below another once at most, and letting go takes time in proportion to the nodes. None where no tree is left.
+/// The next tree to be taken apart, and the trees that are then left, by the trees that are left now and the children of the
+/// tree that was taken apart. One of two rows goes into the other, in the place of the next tree; an empty one never does, so
+/// each node is put below another once at most, and the whole drop takes time in proportion to the nodes. None if no tree is
+/// left.
 pub fn turn(
     row: Option<Vec<UnresolvedFuture>>,
     found: Option<Vec<UnresolvedFuture>>,

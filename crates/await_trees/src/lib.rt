@@ -1,5 +1,4 @@
-//! What a handler awaits: trees over handles, what they come to once their leaves have, and the nodes of a tree in
-//! preorder.
+//! What a handler awaits: trees over handles, their outcomes once their leaves have some, and the nodes of a tree in preorder.
 #![tactic(auto)]
 
 pub mod copying;

@@ -1,4 +1,4 @@
-//! What a leaf or a node has come to.
+//! The outcome of a leaf or a node.
 ghost use Rattle.std.specs.Prelude.{◌≡◌};
 ghost use Rattle.await_trees.specs.Outcomes.{outcome_of, is_done, fires_on, waits_for};
 

@@ -1,5 +1,5 @@
-//! The text of a tree: a leaf is its number, a node its name and its children in round brackets. It is written by a loop,
-//! from the tree's nodes; where there is no memory for them, it is an error of the writer.
+//! The text of a tree: a leaf is its number, a node its name and its children in round brackets. It is written by a loop, from
+//! the tree's nodes; if there is no memory for them, it is an error of the writer.
 use crate::listing::list_nodes;
 use crate::nodes::{Label, Node};
 use crate::tree::UnresolvedFuture;
@@ -17,7 +17,7 @@ fn name_of(kind: FutureKind) -> &'static str {
     }
 }
 
-/// Closes the nodes that have no child left behind this one, and tells that another comes, if one does.
+/// Closes the nodes that have no child left after this one, and writes a comma if another comes.
 fn close<W: fmt::Write>(f: &mut fmt::Formatter<W>, left: &mut Vec<usize>) -> fmt::Result {
     while let Some(children) = left.pop() {
         if children > 1 {

@@ -159,7 +159,7 @@ any_more : (xs ys : List NotificationResult) → any xs ≡ true → any (xs ++ 
 any_more [] ys h = cc
 any_more (x ∷ xs) ys h = refl
 
--- results so far, those of one more notification, and those behind it
+-- results so far, those of one more notification, and those after it
 module _ (listed : Bool) (ds bs one rest es : List NotificationResult) (few : length one ≤ 1) where
   one_comes : (any (ds ++ bs) || any es) ≡ false → (any ((ds ++ bs) ++ one) || any es) ≡ true
       → option_or (pick listed ((ds ++ bs) ++ one)) (pick listed es) ≡ option_or (option_or (pick listed ds) (pick listed es)) (first ((bs ++ one) ++ rest))
@@ -185,7 +185,7 @@ some_known [] [] rest es b e h = rw (e, h) refl
 
 -- ---- a leaf
 
--- an outcome comes where there is a result, and stays
+-- an outcome comes once there is a result, and stays
 pub record Comes (at : ℕ → Outcome) (has : ℕ → Bool) (o : Outcome) : Type 0 where
   pub none_yet : (n : ℕ) → has n ≡ false → at n ≡ Pending
   pub at_once : has 0 ≡ true → at 0 ≡ o
@@ -288,7 +288,7 @@ outcome_is delivery v h n =
     first_outcomes (λ n. leaf_outcome delivery (used v n) h) (λ n. earlier delivery v n h) (λ n. has_result_for (id_at h v.handles) (ready_after n v))
     (result_outcome (first_result_for delivery (id_at h v.handles) v)) refl (λ n. refl) c.none_yet c.at_once c.then c.stays c.done n
 
--- which is an outcome where there is one
+-- which is an outcome if there is a result
 pub done_is : (delivery : SignalDelivery) (v : Arrived) (h n : ℕ)
     → is_done (cond (has_result_for (id_at h v.handles) (ready_after n v)) (result_outcome (first_result_for delivery (id_at h v.handles) v)) Pending) ≡ has_result_for (id_at h v.handles) (ready_after n v)
 done_is delivery v h n = go (has_result_for (id_at h v.handles) (ready_after n v)) refl

@@ -103,7 +103,7 @@ once_stays delivery v o m n h le d =
     let known : is_done (id_outcome Queued xs v.ready.eager (id_at h v.handles)) ≡ true = rw (← o.queued) d in
     rw (o.queued, split) (outcome_stays xs ys (drop n q) v.ready.eager once o.completions (id_at h v.handles) known)
 
--- where nothing is replaced, the first outcome in a try is the outcome of now
+-- if nothing is replaced, the first outcome in a try is the outcome of now
 module _ (delivery : SignalDelivery) (v : Arrived) (stays : Stays delivery v) where
   plain_now : (n h : ℕ) → outcomes delivery v n h ≡ leaf_outcome delivery (used v n) h
   plain_now zero h = refl

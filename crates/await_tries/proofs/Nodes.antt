@@ -49,7 +49,7 @@ others_same ns kids lids i w r b l before behind m c d =
     let n = get_or-set_other ns i m w blank d in
     (n, rw n (other_children ns kids lids i m r b c d l before behind))
 
--- ---- what nodes spell does not depend on lesser nodes
+-- ---- what nodes represent does not depend on lesser nodes
 
 module _ (ns ms : List Node) (kids lids : List ℕ) (i : ℕ) (len : length ms ≡ length ns)
     (same : (m : ℕ) → m < length ns → i < m → (node_at ms m ≡ node_at ns m) × (children ms lids m ≡ children ns kids m)) where

@@ -1,4 +1,4 @@
--- What pruned nodes spell is what is left of the tree.
+-- The tree that pruned nodes represent is what is left of the tree.
 use Rattle.std.proofs.Common.{◌≡◌, ℕ, ◌<◌, Bool, false, ◌||◌, List, [], ◌∷◌, length, sym, ◌∙◌}
 use Rattle.journal_protocol.specs.FutureKind.{FutureKind}
 use Rattle.await_trees.specs.declared.outcome.Outcome.{Outcome}
@@ -22,7 +22,7 @@ above_swept ended n (sweeps.kept d s p) a = above_put n p a.0 (above_swept ended
 
 module _ (at : ℕ → Outcome) (ended : ℕ → Bool) (ns ms : List Node) (kids lids : List ℕ) (len : length ms ≡ length ns) (pruned : Pruned ended ns kids ms lids)
     (known : (m : ℕ) (u : Tree) → Spells ns kids m u → ended m ≡ is_done (outcome at u)) where
-  -- what a node spells now
+  -- what a node represents now
   abbrev pub Now : Tree → ℕ → Type 0
   Now t n = (r : Tree) × Spells ms lids n r × Residual at t r
 

@@ -60,7 +60,7 @@ module _ (v : ℕ → Bool) where
   goes (x ∷ xs) (suc p) zero l b h rs s = absurd (omega arith)
   goes (x ∷ xs) (suc p) (suc m) l b h rs s = swept_more x _ _ (λ us t. goes xs p m (omega arith) (omega arith) h us t) rs s
 
-  -- where no child goes, all are left
+  -- if no child is removed, all are left
   pub all_stay : (cs : List ℕ) → ((p : ℕ) → p < length cs → v (get_or cs p 0) ≡ false) → Swept v cs cs
   all_stay [] h = none_left
   all_stay (c ∷ cs) h = kept (h 0 (omega arith)) (all_stay cs (λ p l. h (suc p) (omega arith))) here

@@ -23,7 +23,7 @@ module _ (delivery : SignalDelivery) (v : Arrived) (t : Tree) (ns : List Node) (
       let f : FollowsCourse (outcomes delivery v) t root = rw r (follow 0 t spelled) in
       is n ∙ course_wakes delivery v t root f n
 
-  -- where it stays pending, pruned nodes spell what is left
+  -- if it stays pending, pruned nodes represent what is left
   pub left_spelled : NeverAwake delivery v t → (ms : List Node) (lids : List ℕ) → length ms ≡ length ns → Pruned (ends_at cs) ns kids ms lids → (r : Tree) × Spells ms lids 0 r × LeftPending delivery v t r
   left_spelled asleep ms lids len pruned =
       let at = outcomes delivery v (length v.queued) in

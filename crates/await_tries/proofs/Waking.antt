@@ -86,7 +86,7 @@ module _ (delivery : SignalDelivery) (v : Arrived) where
         alike = λ bt g. rw (same_outcome (outcomes delivery v all) bt g p quiet, same_fires (outcomes delivery v all) bt g p quiet) refl;
       }
 
-  -- a tree has its outcome by all that wait, where it comes to one
+  -- a tree has its outcome once all that came is used, if it gets one
   pub ends_known : (t : Tree) (c : Course) → FollowsCourse (outcomes delivery v) t c → is_some (end_of c) ≡ is_done (outcome (outcomes delivery v all) t)
   ends_known t c f = go c.done (is_done c.outcome) refl refl
     where

@@ -30,7 +30,7 @@ pub record LeastAwake (delivery : SignalDelivery) (v : Arrived) (t : Tree) (n : 
 abbrev pub NeverAwake : SignalDelivery → Arrived → Tree → Type 0
 NeverAwake delivery v t = (m : ℕ) → m ≤ length v.queued → awake (outcomes delivery v m) t ≡ false
 
--- whatever the leaves come to later, the two are awake alike
+-- for all later outcomes of the leaves, the two are awake alike
 abbrev pub AwakeAlike : (ℕ → Outcome) → Tree → Tree → Type 0
 AwakeAlike at t r = (bt : ℕ → Outcome) → Grows at bt → awake bt r ≡ awake bt t
 

@@ -1,4 +1,4 @@
--- What the leaf of a handle has come to.
+-- The outcome of the leaf of a handle.
 use Rattle.std.specs.Prelude.{ℕ, Option, Some, None}
 use Rattle.journal_protocol.specs.NotificationResult.{NotificationResult}
 use Rattle.journal_protocol.specs.NotificationResult.TheVariants.{Void, Value, Failure, StateKeys, InvocationId}

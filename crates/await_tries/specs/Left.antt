@@ -17,7 +17,7 @@ abbrev pub read_label : Label → Forest → Tree
 read_label (Leaf h) ts = leaf h
 read_label (Inner k) ts = node k ts
 
--- the tree at a node, at most so many nodes deep
+-- the tree at a node, at most this number of nodes deep
 abbrev pub read : List Node → List ℕ → ℕ → ℕ → Tree
 read ns kids zero n = leaf 0
 read ns kids (suc f) n = read_label (node_at ns n).label
@@ -27,7 +27,7 @@ read ns kids (suc f) n = read_label (node_at ns n).label
 abbrev pub tree_left : Left → Tree
 tree_left l = read l.nodes l.kids (length l.nodes) 0
 
--- the first node spells a tree
+-- the first node represents a tree
 pub record IsTreeLeft (l : Left) : Type 0 where
   pub ranged : Ranged l.nodes l.kids
   pub spelled : Spells l.nodes l.kids 0 (tree_left l)

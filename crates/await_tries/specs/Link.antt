@@ -5,7 +5,7 @@ use Rattle.await_tries.specs.Ranges.{Ranged}
 use Rattle.await_tries.specs.Spells.{Spells}
 use Rattle.await_trees.specs.Tree.{Tree}
 
--- the first node spells the tree
+-- the first node represents the tree
 pub record Linked (ns : List Node) (kids : List ℕ) (t : Tree) : Type 0 where
   pub some : 0 < length ns
   pub ranged : Ranged ns kids

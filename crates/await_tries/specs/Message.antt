@@ -1,4 +1,4 @@
--- What a suspension tells, over all later arrivals.
+-- What a suspension says, over all later arrivals.
 use Rattle.std.specs.Prelude.{ℕ, ◌≡◌, ◌+◌, List, take, length, Option}
 use Rattle.journal_protocol.specs.Notification.{Notification}
 use Rattle.journal_protocol.specs.NotificationId.{NotificationId}

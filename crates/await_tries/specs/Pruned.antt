@@ -1,4 +1,4 @@
--- Nodes without the children that have come to an outcome.
+-- Nodes without the children that have got an outcome.
 use Rattle.std.specs.Prelude.{ℕ, ◌≡◌, ◌<◌, Bool, true, false, List, [], ◌∷◌, length}
 use Rattle.await_trees.specs.declared.nodes.Node.{Node}
 use Rattle.await_tries.specs.Spells.{node_at, children}

@@ -1,4 +1,4 @@
--- The tree that nodes spell.
+-- The tree that nodes represent.
 use Rattle.std.specs.Prelude.{ℕ, ◌≡◌, ◌<◌, List, [], ◌∷◌, length, take, drop, get_or}
 use Rattle.journal_protocol.specs.FutureKind.{FutureKind}
 use Rattle.await_trees.specs.declared.nodes.Label.TheVariants.{Leaf, Inner}
@@ -21,7 +21,7 @@ AllAbove n [] = Unit {0}
 AllAbove n (c ∷ cs) = (n < c) × AllAbove n cs
 
 mutual
-  -- the node of a number spells a tree; its children have greater numbers
+  -- the node with this number represents a tree; its children have greater numbers
   pub data Spells (ns : List Node) (kids : List ℕ) : ℕ → Tree → Type 0 where
     a_leaf : {n h : ℕ} → n < length ns → (node_at ns n).label ≡ Leaf h → Spells ns kids n (leaf h)
     a_node : {n : ℕ} {k : FutureKind} {ts : Forest} → n < length ns → (node_at ns n).label ≡ Inner k

@@ -20,14 +20,13 @@ abbrev pub coming : List Node → List ℕ → List Row → Forest
 coming ns kids [] = none
 coming ns kids (r ∷ rs) = forests_joined (reads ns kids (row_rest kids r)) (coming ns kids rs)
 
--- rows lie within the list, and their numbers spell their trees
+-- rows lie within the list, and their numbers represent their trees
 abbrev pub Sound : List Node → List ℕ → List Row → Type 0
 Sound ns kids [] = Unit {0}
 Sound ns kids (r ∷ rs) = (r.end ≤ length kids)
     × SpellAll ns kids (row_rest kids r) (reads ns kids (row_rest kids r)) × Sound ns kids rs
 
--- the next node is the root of the first tree, and its children come next; none, where no tree is
--- left
+-- the next node is the root of the first tree, and its children come next; None, if no tree is left
 abbrev pub Steps : List Node → List ℕ → List Row → Option ℕ → List Row → Type 0
 Steps ns kids rows None after = coming ns kids rows ≡ none
 Steps ns kids rows (Some n) after =

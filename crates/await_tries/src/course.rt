@@ -1,4 +1,4 @@
-//! What a tree comes to as notifications are used, and by how many.
+//! The outcome of a tree as notifications are used, and how many it takes.
 ghost use Rattle.std.specs.Prelude.{◌≡◌, ◌≢◌, ◌<◌, ℕ, ◌&&◌, ◌||◌, true, false, Some, length, slice_index_or};
 ghost use Rattle.arrivals.specs.Came.{enough};
 ghost use Rattle.await_trees.specs.Outcomes.{outcome_of, is_done, fires_on, waits_for};
@@ -7,8 +7,8 @@ ghost use Rattle.await_tries.specs.Courses.{outcome_by, course_at, any_fires_by,
 use await_trees::outcome::{fires_on, outcome_of, waits_for};
 use await_trees::{FutureKind, Outcome};
 
-/// By how many notifications a tree has its outcome, and by how many the await that it stands in wakes on its account;
-/// none where all that came are too few.
+/// A tree's outcome; how many notifications it takes until the tree has it; and how many until the await that it stands in
+/// wakes on its account. None: all that came are too few.
 #[derive(Clone, Copy)]
 pub struct Course {
     pub outcome: Outcome,
@@ -16,7 +16,7 @@ pub struct Course {
     pub fired: Option<usize>,
 }
 
-/// By how many the one or the other is so.
+/// How many it takes until the one or the other is so.
 fn sooner(a: Option<usize>, b: Option<usize>) -> Option<usize>
     ensures { (n : ℕ) → enough result n ≡ (enough a n || enough b n) }
 {
@@ -27,7 +27,7 @@ fn sooner(a: Option<usize>, b: Option<usize>) -> Option<usize>
     }
 }
 
-/// By how many both are so.
+/// How many it takes until both are so.
 fn later(a: Option<usize>, b: Option<usize>) -> Option<usize>
     ensures { (n : ℕ) → enough result n ≡ (enough a n && enough b n) }
 {
@@ -38,7 +38,7 @@ fn later(a: Option<usize>, b: Option<usize>) -> Option<usize>
 }
 
 impl Course {
-    /// By how many the tree has an outcome, where it comes to one.
+    /// How many notifications it takes until the tree has an outcome, if it gets one.
     pub fn end(self) -> Option<usize>
         ensures { result ≡ end_of self }
     {
@@ -60,7 +60,7 @@ impl Course {
         }
     }
 
-    /// By how many the tree is awake.
+    /// How many notifications it takes until the tree is awake.
     pub fn awake(self) -> Option<usize>
         ensures { (n : ℕ) → enough result n ≡ (is_done (outcome_by self n) || enough self.fired n) }
     {

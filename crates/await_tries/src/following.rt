@@ -14,7 +14,7 @@ use journal_protocol::NotificationResult;
 use std::alloc::{AllocError, Global};
 use vm_parts::{AsyncResults, SignalDelivery};
 
-/// What a leaf has come to by the result that its handle has.
+/// The outcome of a leaf, by the result that its handle has.
 fn outcome_with(given: Option<&NotificationResult>) -> Outcome
     ensures { result ≡ result_outcome (option_copied given.entry) }
 {
@@ -41,7 +41,7 @@ fn leaf_course(results: &AsyncResults, delivery: SignalDelivery, handle: u32) ->
     }
 }
 
-/// The course of a node, by those of the nodes behind it.
+/// The course of a node, by those of the nodes after it.
 fn node_course(
     results: &AsyncResults,
     delivery: SignalDelivery,

@@ -9,8 +9,8 @@ ghost use Rattle.await_tries.specs.Later.{WakesAlike, EachOnce, EachLeaf, IsAbse
 ghost use Rattle.await_tries.specs.Message.{MessageWakes};
 ghost use Rattle.await_tries.specs.Used.{used};
 
-/// What is left of a pending tree wakes as the tree does, whatever comes later, as long as no present result is replaced;
-/// and none is, where signals are queued and each completion comes once. So does what is sent of it, where each handle
+/// What is left of a pending tree wakes as the tree does, for all later notifications, as long as no present result is
+/// replaced; and none is, if signals are queued and each completion comes once. So does what is sent of it, if each handle
 /// stands for an id.
 pub fn residuals_wake_as_trees()
     ensures alike { (delivery : Delivery) (v : Arrived) (t r : Tree) → LeftPending delivery v t r
@@ -26,7 +26,7 @@ pub fn residuals_have_no_result()
         → EachLeaf (IsAbsent delivery (used v (length v.queued))) r }
 {}
 
-/// Where no present result is replaced, a try ends at the least number by what the leaves are at each number.
+/// If no present result is replaced, a try ends at the least number by what the leaves are at each number.
 pub fn tries_are_plainly_least()
     ensures { (delivery : Delivery) (v : Arrived) → Stays delivery v → (t : Tree) (n : ℕ)
         → LeastAwake delivery v t n → PlainlyLeast delivery v t n }

@@ -7,7 +7,7 @@ ghost use Rattle.await_tries.specs.Link.{Linked};
 use await_trees::Node;
 use std::alloc::{AllocError, Global};
 
-/// Moves so many numbers from the top of a stack to the end of the children, the top first.
+/// Pops `count` numbers from a stack and pushes them to the end of the children, the top first.
 fn take_roots(roots: &mut Vec<usize>, kids: &mut Vec<usize>, count: usize) -> Result<(), AllocError>
     ensures kids { IfOk result (λ _. count ≤ length roots.old.items → kids.new.items
         ≡ kids.old.items ++ take count (reverse roots.old.items)) }

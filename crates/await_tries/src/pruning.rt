@@ -1,4 +1,4 @@
-//! What is left of a tree: its nodes without the children that have come to an outcome.
+//! What is left of a tree: its nodes without the children that have got an outcome.
 ghost use Rattle.std.specs.Prelude.{◌≡◌, ◌≢◌, ◌≤◌, ◌<◌, ◌+◌, ℕ, take, drop, length, slice_index_or, IfOk};
 ghost use Rattle.std.specs.BinaryHeap.{heap_items};
 ghost use Rattle.await_tries.specs.Courses.{course_at, end_of, ends_at};
@@ -13,10 +13,10 @@ use std::alloc::{AllocError, Global};
 use std::cmp::Reverse;
 use std::collections::BinaryHeap;
 
-/// By how many a child comes to its outcome, and its place: the least is the greatest of a heap.
+/// How many notifications it takes until a child has its outcome, and its place: the least is the greatest of a heap.
 type Due = Reverse<(usize, usize)>;
 
-/// When each child that comes to an outcome has it.
+/// When each child that gets an outcome has it.
 fn list_due(
     alloc: Global,
     children: &[usize],
@@ -37,8 +37,8 @@ fn list_due(
     Ok(due)
 }
 
-/// Lets the children go that come to an outcome, each when it has it: the last child takes the place of one that goes. Tells
-/// how many are left.
+/// Removes the children that get an outcome, each when it has it: the last child takes the place of one that is removed.
+/// Answers how many are left.
 fn sweep(alloc: Global, children: &mut [usize], courses: &[Course]) -> Result<usize, AllocError>
     requires { (k : ℕ) → k < length children.old
         → slice_index_or children.old k 0 < length courses.now }
@@ -87,7 +87,7 @@ fn sweep_range(
     sweep(alloc, range, courses)
 }
 
-/// Removes the children of one node that come to an outcome.
+/// Removes the children of one node that get an outcome.
 fn prune_node(
     alloc: Global,
     nodes: &mut Vec<Node>,
@@ -115,7 +115,7 @@ fn prune_node(
     Ok(())
 }
 
-/// Removes all children that come to an outcome.
+/// Removes all children that get an outcome.
 pub fn prune(
     alloc: Global,
     nodes: &mut Vec<Node>,

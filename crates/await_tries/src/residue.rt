@@ -22,7 +22,7 @@ impl Model for Residue {
     ghost invariant = { λ r. IsTreeLeft (record { nodes = r.nodes.items; kids = r.kids.items }) };
 }
 
-/// What a try of a future came to.
+/// The outcome of a try of a future.
 #[derive(Drop)]
 pub enum Resolution {
     /// It is awake.

@@ -37,8 +37,8 @@ fn try_leaf(
     Ok(Resolution::Pending(Residue::new(nodes, Vec::new(alloc))))
 }
 
-/// Uses notifications in order of arrival until the future is awake, and no further. Where none wakes it, all are used and
-/// what is left of it is answered. All memory is taken before the first notification is used: want of it changes nothing.
+/// Uses notifications in order of arrival until the future is awake, and no further. If none wakes it, all are used and what is
+/// left of it is answered. All memory is taken before the first notification is used: if it runs out, nothing has changed.
 pub fn try_future(
     alloc: Global,
     results: &mut AsyncResults,

@@ -13,7 +13,7 @@ pub struct Row {
     pub end: usize,
 }
 
-/// The next node, where one is left; its children come behind it.
+/// The next node, if one is left; its children come after it.
 pub fn next_node(
     nodes: &[Node],
     kids: &[usize],

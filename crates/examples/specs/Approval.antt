@@ -1,4 +1,5 @@
--- The approval: it hands an awakeable's id to the mail, and gives what the awakeable is completed with.
+-- The approval: it hands an awakeable's id to the mail, and gives what the awakeable is completed
+-- with.
 use Rattle.std.specs.Prelude.{codes, List, ℕ}
 use Rattle.flows.specs.Calls.{value}
 use Rattle.flows.specs.Code.{Code, ◌>>=◌}
@@ -6,4 +7,5 @@ use Rattle.flows.specs.Promises.{awakeable}
 use Rattle.flows.specs.Steps.{send}
 
 abbrev pub approval : Code (List ℕ)
-approval = awakeable >>= λ made. send (codes "Mail") (codes "ask") made.id >>= λ _. value made.handle
+approval =
+    awakeable >>= λ made. send (codes "Mail") (codes "ask") made.id >>= λ _. value made.handle

@@ -1,4 +1,5 @@
--- The saga: it books a flight and then a hotel. A fault of the second gives the flight back, and is the saga's fault.
+-- The saga: it books a flight and then a hotel. A fault of the second gives the flight back, and is
+-- the saga's fault.
 use Rattle.std.specs.Prelude.{codes, List, ℕ}
 use Rattle.flows.specs.Calls.{call}
 use Rattle.flows.specs.Code.{Code, Fail, ◌>>=◌, rescued}

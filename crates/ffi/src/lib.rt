@@ -13,7 +13,7 @@ ghost use Rattle.sessions.specs.Statuses.{status_named};
 use sessions::{Told, Vm, calls};
 use std::alloc::Global;
 
-/// Makes an empty session, where memory is found. One that was there is let go.
+/// Makes an empty session, if memory is found. One that was there is dropped.
 #[unsafe(no_mangle)]
 pub extern "C" fn palqytun_new(alloc: Global, vm: &mut Vm) -> u32
     ensures made { IsNewSession (status_named result) vm.new.value }
@@ -22,7 +22,7 @@ pub extern "C" fn palqytun_new(alloc: Global, vm: &mut Vm) -> u32
     calls::open(alloc, vm)
 }
 
-/// Performs a line, and tells how long its answer is, which `palqytun_answer` reads.
+/// Performs a line. Returns the length of its answer, which `palqytun_answer` reads.
 #[unsafe(no_mangle)]
 pub extern "C" fn palqytun_line(alloc: Global, vm: &mut Vm, line: &[u8]) -> Told
     ensures sent { LineSent alloc line.now (status_named result.status) result.len vm.old.value
@@ -32,7 +32,7 @@ pub extern "C" fn palqytun_line(alloc: Global, vm: &mut Vm, line: &[u8]) -> Told
     calls::perform_line(alloc, vm, line)
 }
 
-/// Writes the last answer to the front of `out`, where there is room for it, and tells how long it is.
+/// Writes the last answer to the front of `out`, if it has room for it. Returns the answer's length either way.
 #[unsafe(no_mangle)]
 pub extern "C" fn palqytun_answer(alloc: Global, vm: &mut Vm, out: &mut [u8]) -> Told
     ensures kept { vm.new.value ≡ vm.old.value }
@@ -51,7 +51,7 @@ pub extern "C" fn palqytun_feed(alloc: Global, vm: &mut Vm, bytes: &[u8]) -> u32
     calls::feed(alloc, vm, bytes)
 }
 
-/// Moves all of the VM's output to the front of `out`, where there is room for it, and tells how long it is.
+/// Moves all of the VM's output to the front of `out`, if it has room for it. Returns the output's length either way.
 #[unsafe(no_mangle)]
 pub extern "C" fn palqytun_take_output(alloc: Global, vm: &mut Vm, out: &mut [u8]) -> Told
     ensures taken { OutputTaken (status_named result.status) result.len out.old out.new vm.old.value
@@ -61,7 +61,7 @@ pub extern "C" fn palqytun_take_output(alloc: Global, vm: &mut Vm, out: &mut [u8
     calls::take_output(alloc, vm, out)
 }
 
-/// Lets the session go, if there is one.
+/// Drops the session, if there is one.
 #[unsafe(no_mangle)]
 pub extern "C" fn palqytun_free(alloc: Global, vm: &mut Vm)
     ensures { vm.new.value ≡ None }

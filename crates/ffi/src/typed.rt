@@ -29,12 +29,13 @@ use typed_calls::state::{
 };
 use typed_calls::values::GivenValue;
 
-/// Writes a part of the last reply to the front of `out`, where there is room for it, and tells how long it is.
+/// Writes a part of the last reply to the front of `out`, if it has room for it. Returns the part's length either way.
 #[unsafe(no_mangle)]
 pub extern "C" fn palqytun_part(alloc: Global, vm: &mut Vm, at: usize, out: &mut [u8]) -> Told
     ensures kept { vm.new.value ≡ vm.old.value }
     ensures known { result.status ≤ 9 }
-    ensures read { PartRead at (status_named result.status) result.len out.old out.new vm.old.value }
+    ensures read { PartRead at (status_named result.status) result.len out.old out.new
+        vm.old.value }
 {
     read_part(alloc, vm, at, out)
 }
@@ -462,7 +463,7 @@ pub extern "C" fn palqytun_propose(
     )
 }
 
-/// Gives the error of a run that was executed for so many milliseconds; its policy says whether it is tried again.
+/// Proposes the error of a run that was executed for this number of milliseconds; its policy says whether it is tried again.
 #[unsafe(no_mangle)]
 pub extern "C" fn palqytun_propose_retryable(
     alloc: Global,

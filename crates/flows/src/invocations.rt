@@ -33,7 +33,8 @@ impl<'a> Context<'a> {
         input: &Bytes,
         time: Duration,
     ) -> Result<(), Exit>
-        ensures { Follows (send_at service.now handler.now input.now time) self.old result self.new }
+        ensures { Follows (send_at service.now handler.now input.now time) self.old result
+            self.new }
     {
         match self.answered() {
             None => Err(Exit::Next(Step::Send {

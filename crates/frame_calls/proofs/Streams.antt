@@ -10,7 +10,7 @@ use Rattle.invocation_vm.specs.Frames.{Tail, Rest, Garbage, frames_from, frames_
 use Rattle.invocation_vm.proofs.Cuts.{frames_of-next}
 use Rattle.await_trees.specs.Outcomes.{awake}
 use Rattle.await_trees.specs.Wires.{tree_of_nodes}
-use Rattle.vm_attempt.specs.Journals.{notified_by}
+use Rattle.vm_model.specs.JournalFrames.{notified_by}
 use Rattle.vm_store.specs.Entries.{note_of}
 use Rattle.awake_futures.specs.Waking.{is_awake_by, only_came, outcome_in}
 use Rattle.frame_lines.specs.Runs.{HasNoFrame}

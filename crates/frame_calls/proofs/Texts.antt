@@ -5,7 +5,7 @@ use Rattle.std.proofs.lemmas.Str.{IsUtf8-from_is_utf8, is_utf8-from_IsUtf8}
 use Rattle.plain.specs.declared.fault.Fault.TheVariants.{Malformed}
 use Rattle.journal_protocol.specs.NotificationId.TheVariants.{SignalName}
 use Rattle.lines.specs.Readings.{Blames}
-use Rattle.frame_lines.specs.FrameLines.{LineShows, LineShowsAsIs}
+use Rattle.frame_lines.specs.FrameLines.{LineShows}
 use Rattle.frame_calls.specs.declared.status.Status.{Status}
 use Rattle.frame_calls.specs.declared.status.Status.TheVariants as status
 use Rattle.frame_calls.specs.Answers.{LineRead, NoneWritten, WrittenOrWhy}
@@ -31,7 +31,7 @@ no_memory line = record { why = tt }
 pub no_text : (line : List ℕ) → ¬ IsUtf8 line → IsRefusedLine line status.BadText
 no_text line bad = record { why = bad }
 
-pub no_meaning : (line : List ℕ) → Blames (LineShowsAsIs line) Malformed → IsRefusedLine line status.BadLine
+pub no_meaning : (line : List ℕ) → Blames (LineShows line) Malformed → IsRefusedLine line status.BadLine
 no_meaning line blames = record { why = blames.nothing refl }
 
 -- what a line shows is written

@@ -1,15 +1,15 @@
 -- Why a line shows nothing.
 use Rattle.std.specs.Prelude.{ℕ, List}
 use Rattle.std.specs.Str.{IsUtf8}
-use Rattle.frame_lines.specs.FrameLines.{LineShowsAsIs}
+use Rattle.frame_lines.specs.Runs.{ShowsNothing}
 use Rattle.frame_calls.specs.declared.status.Status.{Status}
 use Rattle.frame_calls.specs.declared.status.Status.TheVariants as status
 
--- no memory was found; or the line isn't UTF-8, or shows no frame as it is
+-- no memory was found; or the line isn't UTF-8, or shows nothing
 abbrev pub RefusesLine : Status → List ℕ → Type 0
 RefusesLine status.NoMemory line = Unit {0}
 RefusesLine status.BadText line = ¬ IsUtf8 line
-RefusesLine status.BadLine line = (shown : List ℕ) → LineShowsAsIs line shown → ⊥
+RefusesLine status.BadLine line = ShowsNothing line
 RefusesLine named line = ⊥
 
 -- why a line is refused

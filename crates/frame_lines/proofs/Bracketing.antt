@@ -43,6 +43,12 @@ is_behind word text behind e =
     let named : is_named word text ≡ true = (bytes_eq-Decides word (take (length word) text)).1 begins in
     rw named (ap Some (ap (drop (length word)) e ∙ drop-append_seam word behind))
 
+pub begins_with : (word text behind : List ℕ) → text_behind word text ≡ Some behind → text ≡ word ++ behind
+begins_with word text behind at = behind_is word text behind at
+
+pub begins_without : (word text : List ℕ) → text_behind word text ≡ None → (behind : List ℕ) → text ≢ word ++ behind
+begins_without word text none behind e = cc (sym none ∙ is_behind word text behind e)
+
 front_is : (word text inside : List ℕ) → IsPlainWord word → IsBehind word text inside → front text ≡ word
 front_is word text inside plain is = ap front is ∙ plain (inside ++ 41 ∷ [])
 

@@ -5,10 +5,14 @@ pub mod Growing
 pub mod Listing
 pub mod Naming
 pub mod Nesting
+pub mod Opening
+pub mod Parting
 pub mod Putting
+pub mod Reading
 pub mod Refusing
 pub mod Saying
 pub mod Showing
 pub mod Streaming
 pub mod Typing
 pub mod Unshown
+pub mod Wholes

@@ -1,8 +1,8 @@
--- Fields behind what stands already.
+-- Fields that are printed after a text.
 use Rattle.std.proofs.Common.{◌≡◌, ◌++◌, Bool, List, [], ◌∷◌, ℕ, Some, None, refl, sym, append_assoc, ap, ◌∙◌}
 use Rattle.frame_lines.specs.Notation.{Field, Printed, put, put_all}
 
--- what is printed behind a text doesn't depend on it
+-- what is printed after a text doesn't depend on it
 abbrev behind : List ℕ → Printed → Printed
 behind before so_far = (before ++ so_far.0, so_far.1)
 
@@ -18,11 +18,11 @@ all_behind before so_far (f ∷ fields) = ap (λ s. put_all s fields) (one_behin
 pub put_behind : (before text : List ℕ) (is_first : Bool) (fields : List Field) → (put_all (before ++ text, is_first) fields).0 ≡ before ++ (put_all (text, is_first) fields).0
 put_behind before text is_first fields = ap (λ s. s.0) (all_behind before (text, is_first) fields)
 
--- fields behind what is opened behind a text
+-- fields after a front, which itself stands after a text
 pub printed_behind : (before front opened after : List ℕ) (is_first last : Bool) (fields : List Field) → opened ≡ before ++ front → put_all (opened, is_first) fields ≡ (after, last) → after ≡ before ++ (put_all (front, is_first) fields).0
 printed_behind before front opened after is_first last fields is printed = ap (λ s. s.0) (sym printed) ∙ ap (λ t. (put_all (t, is_first) fields).0) is ∙ put_behind before front is_first fields
 
--- and what stands behind the fields
+-- and a tail after the fields
 pub closed_behind : (before front opened after closed tail : List ℕ) (is_first last : Bool) (fields : List Field) → opened ≡ before ++ front → put_all (opened, is_first) fields ≡ (after, last) → closed ≡ after ++ tail → closed ≡ before ++ ((put_all (front, is_first) fields).0 ++ tail)
 closed_behind before front opened after closed tail is_first last fields is printed behind =
     behind ∙ ap (λ t. t ++ tail) (printed_behind before front opened after is_first last fields is printed) ∙ append_assoc before (put_all (front, is_first) fields).0 tail

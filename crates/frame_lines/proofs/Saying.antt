@@ -1,4 +1,4 @@
--- What the texts behind a field's name say.
+-- What the texts after a field's name say.
 use Rattle.std.proofs.Common.{◌≡◌, ◌<◌, true, List, [], ◌∷◌, ℕ, length, get_or, sym, subst}
 use Rattle.std.specs.Borrow.{Bor}
 use Rattle.line_parts.specs.Words.{text_at}

@@ -1,14 +1,12 @@
 -- Which words show nothing as it is.
-use Rattle.std.proofs.Common.{◌≡◌, ◌≢◌, ℕ, List, [], ◌∷◌, length, get_or, inl, inr, sym, subst, ◌∙◌, arith}
+use Rattle.std.proofs.Common.{◌≡◌, ℕ, List, [], ◌∷◌, length, get_or, inl, inr, sym, subst, ◌∙◌, arith}
 use Rattle.std.specs.Borrow.{Bor}
 use Rattle.plain.specs.declared.fault.Fault.{Fault}
 use Rattle.plain.specs.declared.fault.Fault.TheVariants.{Malformed}
 use Rattle.lines.specs.Atoms.{IsAtom}
 use Rattle.lines.specs.Readings.{Blames}
-use Rattle.lines.specs.Pieces.{AreWords, outside, place}
-use Rattle.lines.proofs.Closing.{words_close}
-use Rattle.lines.proofs.Once.{Same, words_once}
-use Rattle.frame_lines.specs.FrameLines.{AreRaw, IsRaw, IsRest, LineShowsAsIs, ShowAsIs}
+use Rattle.lines.proofs.Once.{Same}
+use Rattle.frame_lines.specs.FrameLines.{AreRaw, IsRaw, IsRest, ShowAsIs}
 
 -- a frame as it is whose body is refused
 pub body_blamed : (number body : List ℕ) (fault : Fault) → Blames (IsAtom body) fault → Blames (IsRaw number body) fault
@@ -43,18 +41,8 @@ same_rest (a ∷ []) [] shown all rest = absurd all
 same_rest (a ∷ []) (c ∷ d ∷ vs) shown all rest = absurd all.1
 same_rest (a ∷ []) (c ∷ []) shown all rest = subst (λ n. IsAtom n shown) all.0 rest
 
-same_shown : (ws vs : List (Bor (List ℕ))) (shown : List ℕ) → Same ws vs → ShowAsIs ws shown → ShowAsIs vs shown
+pub same_shown : (ws vs : List (Bor (List ℕ))) (shown : List ℕ) → Same ws vs → ShowAsIs ws shown → ShowAsIs vs shown
 same_shown [] vs shown all as_is = absurd as_is
 same_shown (a ∷ ws) [] shown all as_is = absurd all
 same_shown (a ∷ ws) (c ∷ vs) shown all (inl (raw, frame)) = inl (sym all.0 ∙ raw, same_raw ws vs shown all.1 frame)
 same_shown (a ∷ ws) (c ∷ vs) shown all (inr (is, rest)) = inr (sym all.0 ∙ is, same_rest ws vs shown all.1 rest)
-
--- a line whose words are blamed
-pub line_blamed : (line : List ℕ) (words : List (Bor (List ℕ))) (fault : Fault) → AreWords line words → Blames (ShowAsIs words) fault → Blames (LineShowsAsIs line) fault
-line_blamed line words fault are blames = record {
-  nothing = λ bad shown as_is. blames.nothing bad shown (same_shown as_is.0 words shown (words_once line as_is.0 words as_is.1 are) as_is.2);
-}
-
--- a line that isn't closed
-pub unclosed_line_blamed : (line : List ℕ) (fault : Fault) → (fault ≡ Malformed → place line ≢ outside) → Blames (LineShowsAsIs line) fault
-unclosed_line_blamed line fault unclosed = record { nothing = λ bad shown as_is. unclosed bad (words_close line as_is.0 as_is.1) }

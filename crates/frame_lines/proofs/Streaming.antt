@@ -7,7 +7,7 @@ use Rattle.journal_protocol.specs.Frames.{Whole, next_of}
 use Rattle.frame_lines.specs.Printed.{frame_text}
 use Rattle.frame_lines.specs.Runs.{ArePrinted, AreShown, AreShownBefore, HasNoFrame, IsBadLine, IsFirstOfLines, IsShownBy, IsUnshown, line_text, rest_lines}
 
--- What is printed of the rest is printed of the whole stream, behind this text.
+-- This text, and after it what is printed of the rest, is what is printed of the whole stream.
 pub record PrintsOn (stream rest text : List ℕ) : Type 0 where
   pub on : (more : List ℕ) → ArePrinted rest more → ArePrinted stream (text ++ more)
 
@@ -34,7 +34,7 @@ frame_printed stream rest behind text next raw so_far whole is = record {
 pub all_printed : (stream rest text printed : List ℕ) → PrintsOn stream rest text → HasNoFrame rest → printed ≡ text ++ rest_lines rest → ArePrinted stream printed
 all_printed stream rest text printed so_far none is = subst (ArePrinted stream) (sym is) (so_far.on (rest_lines rest) (record { frames = []; rest = rest; are_frames = refl; no_more = none; is = refl }))
 
--- The first lines of a text are read, so many, and show these bytes.
+-- The first `number` lines of a text are read, and show these bytes.
 pub record HasRead (text rest bytes : List ℕ) (number : ℕ) : Type 0 where
   pub lines : List (List ℕ)
   pub shown : AreShownBefore lines text rest bytes

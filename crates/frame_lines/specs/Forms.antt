@@ -134,7 +134,7 @@ sleep_fields =
     field (codes "result_completion_id") (λ m. m.result_completion_id) (number 32) (
     field (codes "name") (λ m. m.name) string nothing))
 
--- the fields of a request, and others behind them
+-- the fields of a request, and others after them
 abbrev pub behind_request : {A : Type 0} → (A → CallRequest) → Fields A → Fields A
 behind_request request others =
     field (codes "service_name") (λ m. (request m).service_name) string (

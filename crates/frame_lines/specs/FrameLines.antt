@@ -7,7 +7,7 @@ use Rattle.journal_protocol.specs.MessageType.{MessageType}
 use Rattle.journal_protocol.specs.Message.{Message}
 use Rattle.lines.specs.Atoms.{IsAtom, IsNumber}
 use Rattle.lines.specs.Pieces.{AreWords}
-use Rattle.frame_lines.specs.Messages.{AreFieldsOf, HasNoFuture}
+use Rattle.frame_lines.specs.Messages.{AreFieldsOf}
 use Rattle.frame_lines.specs.Names.{type_word}
 
 -- a frame as it is: `raw`, the number of its type, and its body
@@ -18,12 +18,12 @@ pub record IsRaw (number body frame : List ℕ) : Type 0 where
   pub is_body : IsAtom body bytes_of
   pub is : frame ≡ numbered_frame (digits_value 10 number) bytes_of
 
--- a frame as it is, by the words behind `raw`
+-- a frame as it is, by the words after `raw`
 abbrev pub AreRaw : List (Bor (List ℕ)) → List ℕ → Type 0
 AreRaw (number ∷ body ∷ []) frame = IsRaw number.now body.now frame
 AreRaw others frame = ⊥
 
--- the rest of a stream, by the word behind `rest`
+-- the rest of a stream, by the word after `rest`
 abbrev pub IsRest : List (Bor (List ℕ)) → List ℕ → Type 0
 IsRest (rest ∷ []) shown = IsAtom rest.now shown
 IsRest others shown = ⊥
@@ -55,19 +55,3 @@ Shows (name ∷ others) shown = ShowAsIs (name ∷ others) shown ⊎ IsNamed nam
 -- the words of a line show these bytes
 abbrev pub LineShows : List ℕ → List ℕ → Type 0
 LineShows line shown = (words : List (Bor (List ℕ))) × AreWords line words × Shows words shown
-
--- the words of a line show these bytes as they are
-abbrev pub LineShowsAsIs : List ℕ → List ℕ → Type 0
-LineShowsAsIs line shown =
-    (words : List (Bor (List ℕ))) × AreWords line words × ShowAsIs words shown
-
--- the words show these bytes as a message without a future
-abbrev pub ShowWithoutFuture : List (Bor (List ℕ)) → List ℕ → Type 0
-ShowWithoutFuture [] shown = ⊥
-ShowWithoutFuture (name ∷ others) shown =
-    (named : IsNamed name.now others shown) × HasNoFuture named.ty
-
--- the words of a line show these bytes as a message without a future
-abbrev pub LineShowsWithoutFuture : List ℕ → List ℕ → Type 0
-LineShowsWithoutFuture line shown =
-    (words : List (Bor (List ℕ))) × AreWords line words × ShowWithoutFuture words shown

@@ -3,6 +3,8 @@ pub mod Names
 pub mod Notation
 pub mod Choices
 pub mod Futures
+pub mod FutureWords
+pub mod OpenFutures
 pub mod Forms
 pub mod Messages
 pub mod Printed

@@ -2,8 +2,6 @@
 use Rattle.std.specs.Prelude.{◌≡◌, ℕ, List, [], false}
 use Rattle.std.specs.Borrow.{Bor}
 use Rattle.journal_protocol.specs.Frames.{type_of}
-use Rattle.journal_protocol.specs.MessageType.{MessageType}
-use Rattle.journal_protocol.specs.MessageType.TheVariants as type
 use Rattle.journal_protocol.specs.Message.{Message}
 use Rattle.journal_protocol.specs.Message.TheVariants as message
 use Rattle.frame_lines.specs.Forms.{awaiting_on_fields, call_fields, clear_all_state_fields, clear_state_fields, complete_awakeable_fields, complete_promise_fields, error_fields, get_eager_state_fields, get_eager_state_keys_fields, get_lazy_state_fields, get_lazy_state_keys_fields, get_state_ephemeral_command_fields, get_state_ephemeral_notification_fields, input_fields, invocation_fields, notification_fields, one_way_call_fields, output_fields, promise_fields, propose_run_completion_fields, propose_run_completion_ack_fields, run_fields, send_signal_fields, set_state_fields, sleep_fields, start_fields, suspension_fields}
@@ -80,12 +78,6 @@ AreFieldsOf words (message.AttachInvocation m) = AreFields invocation_fields wor
 AreFieldsOf words (message.GetInvocationOutput m) = AreFields invocation_fields words m
 AreFieldsOf words (message.Output m) = AreFields output_fields words m
 AreFieldsOf words (message.Notification m) = AreFields notification_fields words m
-
--- no field of the type's messages is a future
-abbrev pub HasNoFuture : MessageType → Type 0
-HasNoFuture type.Suspension = ⊥
-HasNoFuture type.AwaitingOn = ⊥
-HasNoFuture other = Unit {0}
 
 -- the name of its type, and its fields
 abbrev pub message_text : Message → List ℕ

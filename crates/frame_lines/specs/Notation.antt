@@ -20,7 +20,7 @@ pub record Notation (A : Type 0) : Type 1 where
 
 -- ---- values
 
--- decimal digits of a number of so many bits; left out at 0
+-- decimal digits of a number of `bits` bits; left out at 0
 abbrev pub number : ℕ → Notation ℕ
 number bits = record {
   text = decimal;
@@ -45,7 +45,7 @@ flag_notation = record {
 abbrev pub is_nothing : {A : Type 0} → List A → Bool
 is_nothing xs = length xs == 0
 
--- bytes in quotes, or as hex digits; left out where there are none
+-- bytes in quotes, or as hex digits; left out if there are none
 abbrev pub bytes_notation : Notation (List ℕ)
 bytes_notation =
     record { text = quoted; is_left_out = is_nothing; Says = IsAtom; IsExact = Unit {0} }
@@ -66,7 +66,7 @@ abbrev pub SaysSome : {A : Type 0} → (List ℕ → A → Type 0) → List ℕ 
 SaysSome Says text None = ⊥
 SaysSome Says text (Some value) = Says text value
 
--- the value; left out where there is none
+-- the value; left out if there is none
 abbrev pub optional : {A : Type 0} → Notation A → Notation (Option A)
 optional value = record {
   text = text_of_some value.text;
@@ -97,7 +97,7 @@ abbrev pub SaysList : {A : Type 0} → (List ℕ → A → Type 0) → List ℕ 
 SaysList Says text items =
     (inside : List ℕ) × IsWithin 91 93 text inside × SaysInside (SayItems Says) inside items
 
--- the items in square brackets; left out where there are none
+-- the items in square brackets; left out if there are none
 abbrev pub list_notation : {A : Type 0} → Notation A → Notation (List A)
 list_notation item = record {
   text = λ items. codes "[" ++ items_text item.text items ++ codes "]";
@@ -107,7 +107,8 @@ list_notation item = record {
 }
 
 -- two words in round brackets say the two values
-pub record SaysPair {A B : Type 0} (First : List ℕ → A → Type 0) (Second : List ℕ → B → Type 0) (text : List ℕ) (two : A × B) : Type 0 where
+pub record SaysPair {A B : Type 0} (First : List ℕ → A → Type 0) (Second : List ℕ → B → Type 0)
+    (text : List ℕ) (two : A × B) : Type 0 where
   pub words : List (Bor (List ℕ))
   pub are_words : AreWordsWithin 40 41 text words
   pub are_two : length words ≡ 2
@@ -142,7 +143,7 @@ Field = List ℕ × Option (List ℕ)
 abbrev pub Printed : Type 0
 Printed = List ℕ × Bool
 
--- a field more: its name, `=` and its text, behind a blank unless it is the first
+-- adds a field: its name, `=` and its text, after a blank unless it is the first
 unfoldable pub put : Printed → Field → Printed
 put so_far (name, None) = so_far
 put so_far (name, Some text) = (
@@ -151,14 +152,15 @@ put so_far (name, Some text) = (
   false,
 )
 
--- fields, one behind another
+-- adds fields, one after another
 abbrev pub put_all : Printed → List Field → Printed
 put_all so_far fields = fold put so_far fields
 
 abbrev pub unless_left_out : {A : Type 0} → Notation A → A → Option (List ℕ)
 unless_left_out value it = if value.is_left_out it then None else Some (value.text it)
 
--- What the texts behind a field's name say: one the value, none a default. Two say nothing.
+-- What the texts after a field's name say. One text says the value, none the default; two say
+-- nothing.
 abbrev pub SayField : {A : Type 0} → Notation A → List (List ℕ) → A → Type 0
 SayField value [] it = value.is_left_out it ≡ true
 SayField value (text ∷ []) it = value.Says text it
@@ -186,7 +188,7 @@ nothing = record {
   IsExact = Unit {0};
 }
 
--- a field of this name, which has this of the value, and others behind it
+-- a field of this name, whose value is this part of the whole, and others after it
 abbrev pub field : {A B : Type 0} → List ℕ → (B → A) → Notation A → Fields B → Fields B
 field {A = A} name part value others = record {
   printed = λ it. (name, unless_left_out value (part it)) ∷ others.printed it;
@@ -211,13 +213,13 @@ SayPair first Others [] words two = ⊥
 SayPair first Others (name ∷ names) words two = SayField first (texts_named name words) two.0
     × Others names words two.1
 
--- ---- brackets behind a word
+-- ---- brackets after a word
 
--- the text is this in round brackets, behind a word
+-- the text is a word, and after it this in round brackets
 abbrev pub IsBehind : List ℕ → List ℕ → List ℕ → Type 0
 IsBehind word text inside = text ≡ word ++ 40 ∷ (inside ++ 41 ∷ [])
 
--- a value in round brackets, behind a word
+-- a value in round brackets, after a word
 abbrev pub holding : {A : Type 0} → List ℕ → Notation A → A → List ℕ
 holding word value it = word ++ codes "(" ++ value.text it ++ codes ")"
 
@@ -230,7 +232,7 @@ HoldsAfterWord word value text it =
 abbrev pub closed : Printed → List ℕ
 closed so_far = so_far.0 ++ codes ")"
 
--- fields in round brackets, behind a word
+-- fields in round brackets, after a word
 abbrev pub bracketed : {A : Type 0} → List ℕ → Fields A → A → List ℕ
 bracketed word fields it = closed (put_all (word ++ codes "(", true) (fields.printed it))
 

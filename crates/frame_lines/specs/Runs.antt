@@ -1,10 +1,13 @@
 -- What the program's two runs read and write.
 use Rattle.std.specs.Prelude.{◌≡◌, ◌≢◌, ◌⊎◌, ◌+◌, ℕ, List, [], ◌∷◌, ◌++◌, length, flat_map, All, Option, IfSome}
+use Rattle.std.proofs.Common.{Global}
 use Rattle.std.specs.Str.{IsTrimAscii, IsUtf8}
+use Rattle.std.specs.declared.vec.Vec.{Vec}
 use Rattle.std.specs.declared.io.Error.{Error as IoError}
+use Rattle.hints.specs.Places.{IsLineNumbered}
 use Rattle.journal_protocol.specs.RawMessage.{RawMessage}
 use Rattle.journal_protocol.specs.Frames.{Malformed, Partial, Whole, next_of}
-use Rattle.frame_lines.specs.FrameLines.{LineShows, LineShowsAsIs, LineShowsWithoutFuture}
+use Rattle.frame_lines.specs.FrameLines.{LineShows}
 use Rattle.frame_lines.specs.Printed.{frame_text, rest_text}
 use Rattle.frame_lines.specs.declared.run.Unread.{Unread}
 use Rattle.frame_lines.specs.declared.run.Unread.TheVariants as unread
@@ -38,8 +41,8 @@ abbrev pub rest_lines : List ℕ → List ℕ
 rest_lines [] = []
 rest_lines (b ∷ rest) = line_text (rest_text (b ∷ rest))
 
--- A line for each whole frame of the stream, in order, and one for what is behind them, if there is
--- anything.
+-- A line for each whole frame of the stream, in order, and one for the bytes after them, if there
+-- are any.
 pub record ArePrinted (stream lines : List ℕ) : Type 0 where
   pub frames : List RawMessage
   pub rest : List ℕ
@@ -67,7 +70,7 @@ IsShownInside line bytes = (IsComment line × (bytes ≡ [])) ⊎ LineShows line
 abbrev pub IsShownBy : List ℕ → List ℕ → Type 0
 IsShownBy line bytes = (inside : List ℕ) × IsTrimAscii line inside × IsShownInside inside bytes
 
--- the text's lines show these bytes, one line behind another, up to this rest
+-- the text's lines show these bytes, one line after another, up to this rest
 abbrev pub AreShownBefore : List (List ℕ) → List ℕ → List ℕ → List ℕ → Type 0
 AreShownBefore [] text rest bytes = (text ≡ rest) × (bytes ≡ [])
 AreShownBefore (line ∷ lines) text rest bytes =
@@ -80,10 +83,9 @@ pub record AreShown (text bytes : List ℕ) : Type 0 where
   pub lines : List (List ℕ)
   pub shown : AreShownBefore lines text [] bytes
 
--- no bytes are what the line shows as they are, or as a message without a future
+-- no bytes are what the line shows
 abbrev pub ShowsNothing : List ℕ → Type 0
-ShowsNothing line = (bytes : List ℕ) → (LineShowsAsIs line bytes → ⊥)
-    × (LineShowsWithoutFuture line bytes → ⊥)
+ShowsNothing line = (bytes : List ℕ) → LineShows line bytes → ⊥
 
 -- a line that is no comment, and isn't UTF-8 or shows nothing
 abbrev pub IsUnshownInside : List ℕ → Type 0
@@ -117,24 +119,29 @@ NoneIsBad stream number = ⊥
 -- ---- runs
 
 -- All that the reader had left, where this is known, is written in the other form.
-pub record Turns (turned : List ℕ → List ℕ → Type 0) (left : Option (List ℕ)) (written : List ℕ → Type 0) : Type 0 where
+pub record Turns (turned : List ℕ → List ℕ → Type 0) (left : Option (List ℕ))
+    (written : List ℕ → Type 0) : Type 0 where
   pub input : List ℕ
   pub output : List ℕ
   pub all : IfSome left (λ bytes. input ≡ bytes)
   pub is_turned : turned input output
   pub is_written : written output
 
--- The line of this number of all that the reader had left, where this is known, has no meaning.
-pub record StopsAtLine (bad : List ℕ → ℕ → Type 0) (left : Option (List ℕ)) (number : ℕ) : Type 0 where
+-- The line of this number of all that the reader had left, where this is known, has no meaning. The
+-- copy, if there is one, is that line.
+pub record StopsAtLine (bad : List ℕ → ℕ → Type 0) (left : Option (List ℕ)) (number : ℕ)
+    (copy : Option (Vec ℕ Global)) : Type 0 where
   pub input : List ℕ
   pub all : IfSome left (λ bytes. input ≡ bytes)
   pub is_bad : bad input number
+  pub is_copy : IfSome copy (λ line. IsLineNumbered input number line.items)
 
 -- Why a run is refused: the line of this number has no meaning. `bad` says which lines have none,
 -- and `read` that all was read. The arguments are looked at before such a run begins.
 abbrev pub TellsRefusal : (List ℕ → ℕ → Type 0) → Option (List ℕ) → Type 0 → Refusal → Type 0
 TellsRefusal bad left read refusal.Usage = ⊥
-TellsRefusal bad left read (refusal.BadLine number) = StopsAtLine bad left number × read
+TellsRefusal bad left read (refusal.BadLine number copy) =
+    StopsAtLine bad left number copy × read
 
 -- What each end of a run says. `turned` says what an input is in the other form, and `bad` which of
 -- its lines has no meaning; `held` and `holds` are what the writer held and holds now; `read` says

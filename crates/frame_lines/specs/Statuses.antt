@@ -7,4 +7,4 @@ use Rattle.frame_lines.specs.declared.refusal.Refusal.TheVariants.{Usage, BadLin
 -- 2 if the arguments make no sense, 1 if a line has no meaning
 abbrev pub frames_refusal_status : Refusal → ExitStatus
 frames_refusal_status Usage = status.Usage
-frames_refusal_status (BadLine number) = status.Failed
+frames_refusal_status (BadLine number copy) = status.Failed

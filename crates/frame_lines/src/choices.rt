@@ -50,7 +50,7 @@ fn in_brackets(text: &[u8]) -> Option<&[u8]>
     }
 }
 
-/// What stands in round brackets behind this word, if the text is that.
+/// The content of the round brackets after this word, if the text is the word and the brackets.
 #[tactic(auto, using(crate::proofs::Bracketing::within_behind, crate::proofs::Bracketing::not_behind, crate::proofs::Bracketing::not_within))]
 fn held<'a>(text: &'a [u8], word: &str) -> Option<&'a [u8]>
     ensures inside { IfSome result (λ inside. IsBehind word.now text.now inside.now) }

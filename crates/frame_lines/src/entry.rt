@@ -3,9 +3,8 @@ ghost use Rattle.std.specs.Prelude.{◌≡◌, ◌++◌, IfErr, IfOk, OnOk};
 ghost use Rattle.journal_protocol.specs.Frames.{numbered_frame};
 ghost use Rattle.lines.specs.Atoms.{IsAtom};
 ghost use Rattle.lines.specs.Readings.{Blames};
-ghost use Rattle.frame_lines.specs.Messages.{HasNoFuture};
 ghost use Rattle.frame_lines.specs.Printed.{frame_text, raw_text, rest_text};
-ghost use Rattle.frame_lines.specs.FrameLines.{Encodes, IsRaw, LineShows, LineShowsAsIs, LineShowsWithoutFuture, ShowAsIs, ShowWithoutFuture, Shows};
+ghost use Rattle.frame_lines.specs.FrameLines.{Encodes, IsRaw, LineShows, ShowAsIs, Shows};
 
 use crate::message::{parse_message, print_message};
 use crate::type_names::type_named;
@@ -49,7 +48,7 @@ pub fn print_rest(rest: &[u8], line: &mut Line) -> Result<(), AllocError>
 #[tactic(auto, using(crate::proofs::Typing::encodes_blamed))]
 fn frame_of_message(alloc: Global, ty: MessageType, words: &[&[u8]]) -> Result<Bytes, Fault>
     ensures value { IfOk result (Encodes ty words.now) }
-    ensures none { IfErr result (λ fault. HasNoFuture ty → Blames (Encodes ty words.now) fault) }
+    ensures none { IfErr result (Blames (Encodes ty words.now)) }
 {
     let message = parse_message(alloc, ty, words)?;
     Ok(Encoder::new(alloc).encode(&message)?)
@@ -97,13 +96,11 @@ fn bytes_as_is(alloc: Global, words: &[&[u8]]) -> Result<Bytes, Fault>
     }
 }
 
-/// The bytes that the words of a line show. Words that show bytes as they are, or as a message without a future, are refused only if
-/// memory ran out.
-#[tactic(auto, using(crate::proofs::Unshown::as_is_shows, crate::proofs::Unshown::named_not_as_is, crate::proofs::Unshown::named_blamed, crate::proofs::Unshown::unnamed_blamed))]
+/// The bytes that the words of a line show. They are refused only if they show none, or memory ran out.
+#[tactic(auto, using(crate::proofs::Unshown::as_is_shows))]
 pub fn frame_of_words(alloc: Global, words: &[&[u8]]) -> Result<Bytes, Fault>
     ensures value { IfOk result (Shows words.now) }
-    ensures none { IfErr result (Blames (ShowAsIs words.now)) }
-    ensures message { IfErr result (Blames (ShowWithoutFuture words.now)) }
+    ensures none { IfErr result (Blames (Shows words.now)) }
 {
     let [name, fields @ ..] = words else {
         return Err(Fault::Malformed);
@@ -115,11 +112,10 @@ pub fn frame_of_words(alloc: Global, words: &[&[u8]]) -> Result<Bytes, Fault>
 }
 
 /// The bytes that a line shows.
-#[tactic(auto, using(crate::proofs::Showing::line_blamed, crate::proofs::Showing::unclosed_line_blamed, crate::proofs::Unshown::message_line_blamed, crate::proofs::Unshown::unclosed_message_blamed))]
+#[tactic(auto, using(crate::proofs::Unshown::line_blamed, crate::proofs::Unshown::unclosed_line_blamed))]
 pub fn frame_of(alloc: Global, line: &[u8]) -> Result<Bytes, Fault>
     ensures value { IfOk result (LineShows line.now) }
-    ensures none { IfErr result (Blames (LineShowsAsIs line.now)) }
-    ensures message { IfErr result (Blames (LineShowsWithoutFuture line.now)) }
+    ensures none { IfErr result (Blames (LineShows line.now)) }
 {
     let words = words(alloc, line)?;
     frame_of_words(alloc, words.as_slice())

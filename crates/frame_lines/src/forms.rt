@@ -19,7 +19,7 @@ use lines::line::Line;
 use plain::Fault;
 use std::alloc::{AllocError, Global};
 
-/// Writes a field, if it isn't left out, behind a blank unless it is the first. Answers whether the next is the first.
+/// Writes a field, if it isn't left out. A blank stands before each field but the first. Returns whether the next field is the first.
 #[tactic(auto, unfolding(crate::specs::Notation::put))]
 pub fn print_field<T: Value>(
     line: &mut Line,

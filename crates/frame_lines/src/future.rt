@@ -4,7 +4,7 @@ ghost use Rattle.journal_protocol.specs.FutureNode.{FutureNode};
 ghost use Rattle.frame_lines.specs.Futures.{ends_text, future_notation, future_text, node_head_text, left_then, node_fields, nodes_text};
 
 use crate::forms::{Form, print_field, values_of};
-use crate::nested::{Begun, begun_of};
+use crate::nested::nodes_of;
 use crate::value::Value;
 use journal_protocol::{Future, FutureKind, FutureNode};
 use lines::line::Line;
@@ -38,7 +38,7 @@ impl Form for FutureNode {
     }
 }
 
-/// What stands behind a future's own fields: its end, or the front of the list of those that nest in it.
+/// What follows a future's own fields: its closing bracket, or the front of the list of its nested futures.
 fn behind_fields(nested: u64) -> &'static str
     ensures { result.now ≡ (if nested == 0 then codes ")" else codes " nested=[") }
 {
@@ -55,7 +55,8 @@ fn print_head(node: &FutureNode, line: &mut Line) -> Result<(), AllocError>
     Ok(())
 }
 
-/// Ends the futures whose nested ones are all written, where so many are left at each level, the innermost last.
+/// Ends each open future whose nested futures are all written. `left` counts, for each open future, its nested ones that haven't ended,
+/// with the one that was just written. The innermost is last.
 #[tactic(auto, using(crate::proofs::Nesting::ends_begun, crate::proofs::Nesting::ends_more, crate::proofs::Nesting::another_comes, crate::proofs::Nesting::one_less_left, crate::proofs::Nesting::all_ended, crate::proofs::Nesting::none_left))]
 fn print_ends(left: &mut Vec<u64>, line: &mut Line) -> Result<(), AllocError>
     ensures text { OnOk result (line.new ≡ line.old ++ ends_text (reverse left.old.items)) }
@@ -98,12 +99,7 @@ fn print_nodes(alloc: Global, nodes: &[FutureNode], line: &mut Line) -> Result<(
     Ok(())
 }
 
-fn node_of(alloc: Global, future: &Begun<'_>) -> Result<FutureNode, Fault> {
-    let mut node = FutureNode::read(alloc, future.fields.as_slice())?;
-    node.nested = future.nested.unwrap_or(0);
-    Ok(node)
-}
-
+#[tactic(auto, using(crate::proofs::Wholes::says_whole))]
 impl Value for Future {
     ghost notation = { future_notation };
 
@@ -116,10 +112,7 @@ impl Value for Future {
     }
 
     fn parse(alloc: Global, text: &[u8]) -> Result<Future, Fault> {
-        let mut nodes = Items::new(alloc);
-        for future in &begun_of(alloc, text)? {
-            nodes.push(node_of(alloc, future)?)?;
-        }
+        let nodes = Items::from_vec(nodes_of(alloc, text)?);
         Future::from_nodes(nodes).ok_or(Fault::Malformed)
     }
 

@@ -11,3 +11,4 @@ pub mod refusal;
 pub mod run;
 pub mod type_names;
 pub mod value;
+mod words;

@@ -2,7 +2,7 @@
 ghost use Rattle.std.specs.Prelude.{◌≡◌, ◌++◌, false, IfErr, IfOk, OnOk};
 ghost use Rattle.lines.specs.Readings.{Blames};
 ghost use Rattle.journal_protocol.specs.Frames.{type_of};
-ghost use Rattle.frame_lines.specs.Messages.{AreFieldsOf, HasNoFuture, fields_of, message_text};
+ghost use Rattle.frame_lines.specs.Messages.{AreFieldsOf, fields_of, message_text};
 ghost use Rattle.frame_lines.specs.Notation.{put_all};
 
 use crate::forms::Form;
@@ -20,7 +20,7 @@ use lines::line::Line;
 use plain::Fault;
 use std::alloc::{AllocError, Global};
 
-/// Writes the message's fields behind its name.
+/// Writes the message's fields. Its name stands on the line already.
 #[tactic(auto, unfolding(crate::specs::Messages::fields_of))]
 fn print_fields(message: &Message, line: &mut Line) -> Result<bool, AllocError>
     ensures { IfOk result (λ then. put_all (line.old, false) (fields_of message.now)
@@ -74,8 +74,8 @@ pub fn print_message(message: &Message, line: &mut Line) -> Result<(), AllocErro
 pub fn parse_message(alloc: Global, ty: MessageType, words: &[&[u8]]) -> Result<Message, Fault>
     ensures typed { IfOk result (λ message. type_of message ≡ ty) }
     ensures fields { IfOk result (AreFieldsOf words.now) }
-    ensures none { IfErr result (λ fault. HasNoFuture ty
-        → Blames (λ message. (type_of message ≡ ty) × AreFieldsOf words.now message) fault) }
+    ensures none { IfErr result
+        (Blames (λ message. (type_of message ≡ ty) × AreFieldsOf words.now message)) }
 {
     match ty {
         MessageType::Start => Ok(Message::Start(Start::read(alloc, words)?)),

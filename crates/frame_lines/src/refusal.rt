@@ -5,12 +5,12 @@ ghost use Rattle.frame_lines.specs.Statuses.{frames_refusal_status};
 use run_ends::exit_status::{ExitStatus, HasStatus};
 
 /// Why a run is refused.
-#[derive(Clone, Copy, Debug, PartialEq, Eq)]
+#[derive(Debug, Drop)]
 pub enum Refusal {
     /// The arguments make no sense. Nothing was read.
     Usage,
-    /// The line of this number, counted from 1, has no meaning.
-    BadLine(u64),
+    /// The line of this number, counted from 1, has no meaning. Its bytes, if there was memory for them, are for a message to a person.
+    BadLine(u64, Option<Vec<u8>>),
 }
 
 impl HasStatus for Refusal {
@@ -19,7 +19,7 @@ impl HasStatus for Refusal {
     fn status(&self) -> ExitStatus {
         match self {
             Refusal::Usage => ExitStatus::Usage,
-            Refusal::BadLine(_) => ExitStatus::Failed,
+            Refusal::BadLine(_, _) => ExitStatus::Failed,
         }
     }
 }

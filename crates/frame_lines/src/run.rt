@@ -9,6 +9,7 @@ ghost use Rattle.frame_lines.specs.Runs.{AddsToOutput, AreShown, ArePrinted, Has
 use crate::entry::{frame_of, print_frame, print_rest};
 use crate::refusal::{Refusal, RunEnd};
 use bytes::Bytes;
+use hints::place::copy_of_line;
 use journal_protocol::{Decoder, RawMessage};
 use lines::line::Line;
 use memchr::memchr;
@@ -52,7 +53,7 @@ fn next_whole(decoder: &mut Decoder) -> Result<Option<RawMessage>, AllocError>
     }
 }
 
-/// The lines of the frames that wait, and of what is behind them.
+/// A line for each whole frame that waits in the decoder, and one for the bytes after them, if there are any.
 #[tactic(auto, using(crate::proofs::Streaming::none_printed, crate::proofs::Streaming::frame_printed, crate::proofs::Streaming::all_printed))]
 fn lines_of(alloc: Global, mut decoder: Decoder) -> Result<Line, AllocError>
     ensures { IfOk result (λ text. ArePrinted decoder text) }
@@ -77,8 +78,8 @@ fn lines_of_stream(alloc: Global, stream: Vec<u8>) -> Result<Line, AllocError>
 
 /// Reads a stream of frames to its end, and writes a line a frame. Bytes that are no whole frame are the last line.
 pub fn decode<R: Source, W: Sink>(alloc: Global, reader: &mut R, writer: &mut W) -> RunEnd
-    // Reading has failed, or memory was lacking, and nothing is written. Each other run has read all that there was, and has written
-    // a line for each whole frame, in order, and one for the rest, if there is one; or a beginning of them, where writing has failed.
+    // If reading has failed or the run is out of memory, nothing is written. Each other run has read the whole input. It has written a
+    // line for each whole frame, in order, and one for the rest, if there is one; or only a beginning of them, if writing has failed.
     ensures { Tells ArePrinted NoneIsBad (R.remaining reader.old) (W.contents writer.old)
         (W.contents writer.new) (R.fails reader.old) (W.fails writer.old)
         (IsAtEnd (R.remaining reader.new)) (writer.new ≡ writer.old) result }
@@ -178,10 +179,10 @@ pub fn frames_of(alloc: Global, text: &[u8]) -> Result<Vec<u8>, Unread>
     Ok(frames)
 }
 
-/// Reads lines to their end, and writes the frames that they show. Where a line has no meaning nothing is written.
+/// Reads lines to their end, and writes the frames that they show. If a line has no meaning, nothing is written.
 pub fn encode<R: Source, W: Sink>(alloc: Global, reader: &mut R, writer: &mut W) -> RunEnd
-    // As for `decode`, and what is written are the bytes that the lines show, one line behind another; or nothing, where the line of
-    // the number that is told shows none.
+    // As for `decode`, but what is written are the bytes that the lines show, one line after another. If a line has no meaning, nothing
+    // is written, and the result has the number of the first such line.
     ensures { Tells AreShown IsBadLine (R.remaining reader.old) (W.contents writer.old)
         (W.contents writer.new) (R.fails reader.old) (W.fails writer.old)
         (IsAtEnd (R.remaining reader.new)) (writer.new ≡ writer.old) result }
@@ -196,6 +197,9 @@ pub fn encode<R: Source, W: Sink>(alloc: Global, reader: &mut R, writer: &mut W)
             Err(error) => RunEnd::WriteFailed((), error),
         },
         Err(Unread::Memory) => RunEnd::NoMemory,
-        Err(Unread::Line(number)) => RunEnd::Refused(Refusal::BadLine(number)),
+        Err(Unread::Line(number)) => {
+            let line = copy_of_line(alloc, text.as_slice(), number);
+            RunEnd::Refused(Refusal::BadLine(number, line))
+        }
     }
 }

@@ -12,7 +12,7 @@ use lines::pieces::{between, pieces, words_within};
 use plain::{Fault, Items, Text};
 use std::alloc::{AllocError, Global};
 
-/// A type whose values stand behind a field's name.
+/// A type that a field can have. Its values stand after the field's name and `=`.
 pub trait Value: Drop {
     /// How the values are printed.
     ghost notation: { Notation Self };

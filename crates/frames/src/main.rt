@@ -4,6 +4,7 @@
 use command_lines::asks_for_help;
 use frame_lines::refusal::{Refusal, RunEnd};
 use frame_lines::run::{decode, encode};
+use hints::note::frame_note;
 use std::env::{self, Env};
 use std::io;
 use std::process::ExitCode;
@@ -40,6 +41,16 @@ fn turn(rt: &HostRuntime, encodes: bool) -> RunEnd {
     }
 }
 
+/// Says which line is no frame, and what could stand there.
+fn print_refused(rt: &HostRuntime, number: u64, line: &Option<Vec<u8>>) {
+    let _ = rt.eprintln(format_args!("frames: line {number} is no frame"));
+    if let Some(line) = line
+        && let Some(note) = frame_note(rt.alloc(), number, line.as_slice())
+    {
+        let _ = rt.eprintln(note.as_str());
+    }
+}
+
 fn main(rt: HostRuntime) -> ExitCode {
     if asks_for_help(&rt) {
         let _ = rt.println(format_args!("{USAGE}\n{HELP}"));
@@ -50,13 +61,11 @@ fn main(rt: HostRuntime) -> ExitCode {
         Ok(None) => RunEnd::Refused(Refusal::Usage),
         Err(error) => RunEnd::ReadFailed(error),
     };
-    match end {
+    match &end {
         RunEnd::Refused(Refusal::Usage) => {
             let _ = rt.eprintln(USAGE);
         }
-        RunEnd::Refused(Refusal::BadLine(number)) => {
-            let _ = rt.eprintln(format_args!("frames: line {number} is no frame"));
-        }
+        RunEnd::Refused(Refusal::BadLine(number, line)) => print_refused(&rt, *number, line),
         _ => {}
     }
     ExitCode::from(end.code())

@@ -85,7 +85,8 @@ pub record StarvesAmong (raws : List RawMessage) (old new : Machine) : Type 0 wh
   pub starved : IsStarved reached no_memory new
 
 -- a call that brings these messages, and answers nothing or out of memory
-pub record Leaves (raws : List RawMessage) (after : View) (r : Result Unit AllocError) (old new : View) : Type 0 where
+pub record Leaves (raws : List RawMessage) (after : View) (r : Result Unit AllocError)
+    (old new : View) : Type 0 where
   pub ok : OnOk r (new ≡ after)
   pub err : OnErr r (StarvesAmong raws old.machine new.machine)
 

@@ -115,7 +115,8 @@ pub trait VM: Sized {
     /// Reads the value of a state key and leaves nothing of it in the journal, for what doesn't steer the handler. Where the VM knows
     /// the key the value is there at once; else it is asked for, which closed input refuses. It needs V8, and is refused in replay.
     fn ephemeral_state_get(&mut self, key: String) -> VMResult<EphemeralCompletionId>
-        ensures { Calls (ephemeral_step (string_bytes key)) result (view self.old) (view self.new) };
+        ensures { Calls (ephemeral_step (string_bytes key)) result (view self.old)
+            (view self.new) };
 
     /// Takes the value of an ephemeral read, where it is there: void, where the key has no value. In replay it is refused.
     fn take_ephemeral_notification(&mut self, id: EphemeralCompletionId) -> VMResult<Option<Value>>
@@ -199,7 +200,8 @@ pub trait VM: Sized {
 
     /// As `sys_state_get`, of the keys that have a value, sorted by their bytes.
     fn sys_state_get_keys(&mut self, name: Option<String>) -> VMResult<NotificationHandle>
-        ensures { CallsRead (reads.Keys (name_or_empty name)) result (view self.old) (view self.new) };
+        ensures { CallsRead (reads.Keys (name_or_empty name)) result (view self.old)
+            (view self.new) };
 
     /// Makes an awakeable: an id for others to complete it by, and a handle to await it by. It has no command, and is
     /// refused where the options disable replay.

@@ -80,7 +80,7 @@ suspension_format = spelled suspension suspension_by_parts suspension_same
 
 -- ---- start
 
--- a start as nested pairs of its twelve fields, in the order in which they are spelled
+-- a start as nested pairs of its twelve fields, in the order in which they are encoded
 abbrev pub start_by_parts : Format Start
 start_by_parts = via (λ s. (
   s.id,
@@ -175,7 +175,7 @@ pub awaiting_on_same : (m : AwaitingOn) → awaiting_on m ≡ (awaiting_on_by_pa
 unfolding awaiting_on
 awaiting_on_same m = refl
 
--- the format of the body that tells what an attempt awaits: one whole future, and a flag
+-- the format of the body that reports what an attempt awaits: one whole future, and a flag
 abbrev pub awaiting_on_format : Format AwaitingOn
 awaiting_on_format = spelled awaiting_on awaiting_on_by_parts awaiting_on_same
 

@@ -22,7 +22,7 @@ start_body s = fields (bytes s.id ∷ bytes s.debug_id ∷ bytes s.key ∷ u32s 
     ∷ u64s s.duration ∷ u64s s.random_seed ∷ option bytes s.scope ∷ option bytes s.limit_key
     ∷ option bytes s.idempotency_key ∷ [])
 
--- an input: headers: a count (u64) and so many headers; value (bytes)
+-- an input: headers: a count (u64) and the headers; value (bytes)
 unfoldable pub input : InputCommand → List ℕ
 input m = fields (list header m.headers ∷ bytes m.value ∷ [])
 
@@ -38,7 +38,7 @@ output_body m = fields (value_or_failure m.result ∷ [])
 unfoldable pub suspension : Suspension → List ℕ
 suspension m = fields (future m.future ∷ [])
 
--- ---- what an attempt tells of itself
+-- ---- what an attempt reports of itself
 
 -- what the attempt awaits: a future, and whether it is executing side effects (0 or 1)
 unfoldable pub awaiting_on : AwaitingOn → List ℕ

@@ -21,7 +21,7 @@ kind FirstSucceededOrAllFailed = 2 ∷ []
 kind AllSucceededOrFirstFailed = 3 ∷ []
 kind Unknown = 4 ∷ []
 
--- the kind whose number, 0 to 4, is the first byte; none where it is another byte or none is left
+-- the kind whose number, 0 to 4, is the first byte; none if it is another byte or none is left
 unfoldable pub read_kind : Reading FutureKind
 read_kind = read_case (
     read_if_number 0 (read_as (λ _. FirstCompleted) read_nothing) (
@@ -99,15 +99,15 @@ parts_format = pair_format
     (pair_format (list_format u32_format)
     (pair_format (list_format u32_format) (list_format text_format)))) u64_format
 
--- the format of a node: spelled as its parts, one behind the other, and read back into a node
+-- the format of a node: encoded as its parts, one after the other, and read back into a node
 abbrev pub node_format : Format FutureNode
 node_format = spelled node (via parts_of of_parts (λ _. refl) (λ _. refl) parts_format) (λ _. refl)
 
 -- ---- a future: its nodes in preorder
 
--- Whether these nodes are so many whole futures: before each node at least one future is still
--- awaited, and behind the last node none is. A node is one of those awaited, and the futures that
--- nest directly in it are awaited next.
+-- Whether these nodes are this number of whole futures: before each node at least one future is
+-- still awaited, and after the last node none is. A node is one of those awaited, and the futures
+-- that nest directly in it are awaited next.
 abbrev pub are_whole : ℕ → List FutureNode → Bool
 are_whole zero [] = true
 are_whole zero (n ∷ nodes) = false
@@ -122,7 +122,7 @@ IsFuture nodes = IsTrue (are_whole 1 nodes)
 unfoldable pub future : List FutureNode → List ℕ
 future nodes = flat_map node nodes
 
--- These nodes are a future of its parts: a head, and behind it the nodes of each of its children;
+-- These nodes are a future of its parts: a head, and after it the nodes of each of its children;
 -- and the bytes are what the head waits for, and the list of the children's bytes.
 pub record Layout (nodes : List FutureNode) : Type 0 where
   pub top : FutureNode
@@ -138,7 +138,7 @@ future_valid nodes = AllByRecursion node_format.valid nodes × IsFuture nodes
 
 -- ---- reading a future
 
--- so many futures, of no more nodes than n
+-- reads this number of whole futures, of at most n nodes in all
 unfoldable pub read_nodes : ℕ → ℕ → Reading (List FutureNode)
 read_nodes n zero bs = Some ([], bs)
 read_nodes zero (suc awaited) bs = None
@@ -158,7 +158,8 @@ kind_long Unknown = omega arith
 
 pub node_long : (n : FutureNode) → 0 < length (node n)
 node_long n =
-    let others = list u32s n.waiting_completions ++ (list u32s n.waiting_signals ++ list bytes n.waiting_named_signals) in
+    let others = list u32s n.waiting_completions
+    ++ (list u32s n.waiting_signals ++ list bytes n.waiting_named_signals) in
     omega (
       arith,
       kind_long n.kind,
@@ -179,9 +180,11 @@ nodes_are (suc n) zero bs xs rest e =
     (rw (← s.0) refl, rw (← s.0) tt, (λ i. flat_map node (s.0 i) ++ s.1 i))
 nodes_are zero (suc awaited) bs xs rest e = absurd cc
 nodes_are (suc n) (suc awaited) bs xs rest e =
-    let more = λ (x : FutureNode) (mid : List ℕ). read_then (read_nodes n (awaited + x.nested) mid) (λ xs rest. Some (x ∷ xs, rest)) in
+    let more = λ (x : FutureNode) (mid : List ℕ). read_then (read_nodes n (awaited + x.nested) mid)
+    (λ xs rest. Some (x ∷ xs, rest)) in
     let k = then_some (node_format.read bs) more xs rest e in
-    let q = then_some (read_nodes n (awaited + k.0.nested) k.1) (λ xs rest. Some (k.0 ∷ xs, rest)) xs rest k.3 in
+    let q = then_some (read_nodes n (awaited + k.0.nested) k.1) (λ xs rest. Some (k.0 ∷ xs, rest))
+    xs rest k.3 in
     let s = same_some (k.0 ∷ q.0) xs q.1 rest q.3 in
     let a = node_format.read_is bs k.0 k.1 k.2 in
     let b = nodes_are n (awaited + k.0.nested) k.1 q.0 q.1 q.2 in (
@@ -214,7 +217,8 @@ nodes_read zero (suc awaited) (x ∷ xs) rest w v l =
       length-append (flat_map node (x ∷ xs)) rest,
     ))
 nodes_read (suc n) (suc awaited) (x ∷ xs) rest w v l =
-    let split = ap (λ t. t ++ rest) (flat_map-cons node x xs) ∙ append_assoc (node x) (flat_map node xs) rest in
+    let split = ap (λ t. t ++ rest) (flat_map-cons node x xs)
+    ∙ append_assoc (node x) (flat_map node xs) rest in
     let m : length (node x ++ (flat_map node xs ++ rest)) ≤ suc n = rw (← split) l in
     rw (
       split,
@@ -229,7 +233,7 @@ unfolding read_future future future_valid
 future_reads nodes rest v =
     nodes_read (length (flat_map node nodes ++ rest)) 1 nodes rest v.1 v.0 (omega arith)
 
--- the format of a future: its nodes one behind the other, with no count in front, since the nodes
+-- the format of a future: its nodes one after the other, with no count in front, since the nodes
 -- say where it ends
 abbrev pub future_format : Format (List FutureNode)
 future_format = record {
@@ -247,14 +251,15 @@ first_of_whole : (a b : ℕ) (xs : List FutureNode) → IsTrue (are_whole (a + b
     → (p : List FutureNode) × (q : List FutureNode) × (xs ≡ p ++ q) × IsTrue (are_whole a p)
     × IsTrue (are_whole b q)
 first_of_whole zero b xs w = let e : 0 + b ≡ b = omega arith in ([], xs, refl, refl, rw e at w)
-first_of_whole (suc a) b [] w = let e : suc a + b ≡ suc (a + b) = omega arith in let h = rw e at w in absurd (false≢true h)
+first_of_whole (suc a) b [] w = let e : suc a + b ≡ suc (a + b) = omega arith in
+    let h = rw e at w in absurd (false≢true h)
 first_of_whole (suc a) b (x ∷ xs) w =
     let e : suc a + b ≡ suc (a + b) = omega arith in
     let d : (a + b) + x.nested ≡ (a + x.nested) + b = omega arith in
     let h = first_of_whole (a + x.nested) b xs (rw (← d) (rw e at w)) in
     (x ∷ h.0, h.1, ap (λ t. x ∷ t) h.2, h.3, h.4)
 
--- so many whole futures, one by one
+-- the nodes of n whole futures, cut into the nodes of each
 each_whole : (n : ℕ) (xs : List FutureNode) → IsTrue (are_whole n xs)
     → (children : List (List FutureNode)) × (n ≡ length children)
     × (xs ≡ flat_map (λ c. c) children) × AllByRecursion IsFuture children
@@ -323,6 +328,6 @@ of_parts_whole nodes l =
     rw l.placed (subst (λ n. IsTrue (are_whole n (flat_map (λ c. c) l.children))) e
     (children_whole l.children l.each))
 
--- The layout is recursive: nodes are a future exactly where they are a future of its parts.
+-- The layout is recursive: nodes are a future exactly if they are a future of its parts.
 pub layout : (nodes : List FutureNode) → IsFuture nodes ↔ Layout nodes
 layout nodes = (laid_out nodes, of_parts_whole nodes)

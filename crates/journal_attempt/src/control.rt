@@ -1,4 +1,4 @@
-//! What an attempt tells of itself: what it waits for.
+//! What an attempt reports of itself: what it waits for.
 ghost use Rattle.std.specs.Prelude.{◌≡◌};
 
 use crate::Future;

@@ -108,8 +108,8 @@ impl Wire for FutureNode {
     }
 }
 
-/// How many futures are awaited behind a node in which so many nest, where `awaited` were before it. None if no future
-/// was, or if there is no room for one node each.
+/// How many futures are still awaited after a node in which `nested` futures nest, if `awaited` were before it. None if no future was, or
+/// if there is no room for one node each.
 fn awaited_behind(awaited: u64, nested: u64, room: usize) -> Option<u64>
     ensures { MatchOption result ((awaited ≡ 0) ⊎ (room + 1 < awaited + nested))
         (λ n. (0 < awaited) × (n + 1 ≡ awaited + nested) × (n ≤ room)) }
@@ -196,7 +196,7 @@ impl Future {
     /// The future of its nodes in preorder, if they are one whole future.
     pub fn from_nodes(nodes: Items<FutureNode>) -> Option<Future>
         ensures value { result ≡ (if are_whole 1 nodes then Some nodes else None) }
-        // Exactly where they are a future of its parts.
+        // Exactly if they are a future of its parts.
         ensures layout { IsSome result ↔ Layout nodes }
     {
         if !is_whole(nodes.as_slice()) {

@@ -16,7 +16,7 @@ use Rattle.journal_calls.specs.declared.invocations.InvocationCommand.{Invocatio
 
 -- ---- call request
 
--- a call's request as nested pairs of its ten fields, in the order in which they are spelled
+-- a call's request as nested pairs of its ten fields, in the order in which they are encoded
 abbrev pub call_request_by_parts : Format CallRequest
 call_request_by_parts = via
     (λ r. (

@@ -20,8 +20,8 @@ abbrev pub signal_valid : Signal → Type 0
 signal_valid (by.Index n) = u32_format.valid n
 signal_valid (by.Name name) = text_format.valid name
 
--- 0 and a u32 are a signal's number, 1 and a text its name; none where another byte stands in front
--- or either can't be read
+-- 0 and a u32 are a signal's number, 1 and a text its name; none if another byte stands in front or
+-- either can't be read
 unfoldable pub read_signal : Reading Signal
 read_signal = read_case (
     read_if_number 0 (read_as by.Index u32_format.read) (
@@ -58,8 +58,8 @@ signal_result_valid sent.Void = Unit {0}
 signal_result_valid (sent.Value bs) = bytes_format.valid bs
 signal_result_valid (sent.Failure f) = failure_format.valid f
 
--- 0 is void, 1 and bytes are a value, 2 and a failure are that failure; none where another byte
--- stands in front or what is behind it can't be read
+-- 0 is void, 1 and bytes are a value, 2 and a failure are that failure; none if another byte stands
+-- in front or what is after it can't be read
 unfoldable pub read_signal_result : Reading SignalResult
 read_signal_result = read_case (
     read_if_number 0 (read_as (λ _. sent.Void) read_nothing) (
@@ -145,7 +145,7 @@ target_valid (of.WorkflowId w) = workflow_id_format.valid w
 target_valid (of.IdempotencyId w) = idempotency_id_format.valid w
 
 -- 0 and a text are an invocation's id, 1 and a workflow's run, 2 and a call by its idempotency key;
--- none where another byte stands in front or what is behind it can't be read
+-- none if another byte stands in front or what is after it can't be read
 unfoldable pub read_target : Reading InvocationTarget
 read_target = read_case (
     read_if_number 0 (read_as of.InvocationId text_format.read) (

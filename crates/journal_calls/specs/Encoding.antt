@@ -23,8 +23,8 @@ use Rattle.journal_values.specs.Encoding.{header, failure, value_or_failure}
 -- ---- calls
 
 -- what a call asks for: service, handler and key (texts); idempotency key, scope, limit key: each
--- 0, or 1 and a text; headers: a count (u64) and so many headers; parameter (bytes), the completion
--- id of the invocation's id (u32), name (text)
+-- 0, or 1 and a text; headers: a count (u64) and the headers; parameter (bytes), the completion id
+-- of the invocation's id (u32), name (text)
 unfoldable pub call_request : CallRequest → List ℕ
 call_request r = fields (bytes r.service_name ∷ bytes r.handler_name ∷ bytes r.key
     ∷ option bytes r.idempotency_key ∷ option bytes r.scope ∷ option bytes r.limit_key

@@ -8,7 +8,7 @@ use Rattle.journal_errors.specs.declared.error_message.ErrorMessage.{ErrorMessag
 
 -- ---- error
 
--- an error as nested pairs of its eight fields, in the order in which they are spelled
+-- an error as nested pairs of its eight fields, in the order in which they are encoded
 abbrev pub error_by_parts : Format ErrorMessage
 error_by_parts = via (λ m.
     (m.code, (m.message, (m.stacktrace, (m.behavior, (m.index, (m.ty, (m.name, m.delay))))))))

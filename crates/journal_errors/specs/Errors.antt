@@ -29,12 +29,11 @@ plain_error code message related = record {
 abbrev pub named_error : NamedFault → Option RelatedCommand → Error
 named_error f related = plain_error (code_of f) (text_of f) related
 
--- want of memory: code 500 and no text, about no command
+-- out of memory: code 500 and no text, about no command
 abbrev pub no_memory : Error
 no_memory = named_error fault.Memory None
 
--- what is answered to bytes that were not read: want of memory, or, where they are malformed,
--- BadMessage
+-- the error for bytes that were not read: out of memory; or, if they are malformed, BadMessage
 abbrev pub fault_error : Fault → Error
 fault_error Memory = no_memory
 fault_error Malformed = named_error fault.BadMessage None
@@ -48,7 +47,7 @@ name_if_any (c ∷ cs) = Some (c ∷ cs)
 abbrev pub capped_millis : Duration → ℕ
 capped_millis d = min (as_nanos d / 1_000_000) (2 ^ 64 - 1)
 
--- the name of the command that an error is about; none where it is about none or the name is empty
+-- the name of the command that an error is about; none if it is about none or the name is empty
 abbrev pub related_name : Option RelatedCommand → Option (List ℕ)
 related_name None = None
 related_name (Some r) = name_if_any r.name

@@ -46,7 +46,7 @@ code_of fault.EmptyGetStateEphemeralNotification = 571
 code_of fault.UnexpectedInvocationIdResult = 571
 code_of fault.StateKeyIsNotUtf8 = 571
 
--- want of memory has no text
+-- the text of a named fault; out of memory has none
 unfoldable pub text_of : NamedFault → List ℕ
 text_of fault.BadRequest = codes "BAD_REQUEST"
 text_of fault.MissingContentType = codes "MISSING_CONTENT_TYPE"

@@ -8,7 +8,7 @@ use Rattle.journal_errors.specs.declared.error.ErrorBehavior.TheVariants.{Retry,
 
 -- ---- what is to be done after an error
 
--- 0 retry, 1 pause, 2 fail; none where it is another byte or no byte is left
+-- 0 retry, 1 pause, 2 fail; none if it is another byte or no byte is left
 unfoldable pub read_behavior : Reading ErrorBehavior
 read_behavior = read_case (
     read_if_number 0 (read_as (λ _. Retry) read_nothing) (

@@ -1,4 +1,4 @@
-//! The errors of the layer. One that a named fault makes takes no memory, so want of memory has a form.
+//! The errors of the layer. One that a named fault makes takes no memory, so it can be made also if memory is out.
 ghost use Rattle.std.specs.Prelude.{◌≡◌, [], Some, None, IfOk, string_bytes};
 ghost use Rattle.wire.specs.Fault.TheVariants as wire_fault;
 ghost use Rattle.journal_errors.specs.Errors.{plain_error, named_error, no_memory, fault_error, error_message, name_if_any, capped_millis};
@@ -35,7 +35,7 @@ pub struct Error {
     pub related_command: Option<RelatedCommand>,
 }
 
-/// Written out, so that who lets an error go calls this: a derived drop is taken apart at each way out of a function.
+/// Written out, so that a caller who drops an error calls this: a derived drop is taken apart at each way out of a function.
 impl Drop for Error {
     fn drop(self) {
         let Self {

@@ -6,7 +6,7 @@ ghost use Rattle.std.specs.Option.{option_copied};
 pub trait HeaderMap: Drop {
     type Error: Drop;
 
-    /// What stands under a name: `None` where it can't be read, `Some(None)` where there is no such header.
+    /// What stands under a name: `None` if it can't be read, `Some(None)` if the request has no such header.
     ghost found: { Self → List ℕ → Option (Option (List ℕ)) };
 
     fn extract(&self, name: &str) -> Result<Option<&str>, Self::Error>

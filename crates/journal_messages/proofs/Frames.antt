@@ -1,4 +1,4 @@
--- Where a frame is whole, and where it isn't.
+-- When a frame is whole, and when it isn't.
 use Rattle.std.proofs.Common.{◌≡◌, ℕ, ◌<◌, ◌≤◌, ◌+◌, ◌^◌, List, ◌++◌, length, take, drop, Option, Some, None, refl, sym, ap, ◌∙◌, append_assoc, arith}
 use Rattle.std.specs.Int.{w16, w64, from_be_bytes}
 use Rattle.std.proofs.lemmas.List.{length-append, length-take, take-append-drop, drop-take, drop_at}

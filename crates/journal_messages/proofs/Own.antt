@@ -17,7 +17,7 @@ set_spelled : (c : SetStateCommand) → set_state c ≡ bytes c.name ++ (bytes c
 unfolding set_state
 set_spelled c = refl
 
--- behind their length
+-- the bytes after their length
 bytes_behind : (v : List ℕ) → drop 8 (bytes v) ≡ v
 unfolding bytes u64s
 bytes_behind v = refl

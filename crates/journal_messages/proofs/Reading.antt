@@ -1,4 +1,4 @@
--- A body is read exactly where it is a message's.
+-- A body is read exactly if it is a message's.
 use Rattle.std.proofs.Common.{◌≡◌, ℕ, List, Option, Some, None, refl, sym, ap, ◌∙◌, subst}
 use Rattle.std.specs.Prelude.{Result, Ok, Err}
 use Rattle.std.specs.Option.{option_map}

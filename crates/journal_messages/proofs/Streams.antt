@@ -100,7 +100,7 @@ read_more stream ms m ty b rest next h f e v n o = record {
 pub read_piece : (stream piece : List ℕ) (ms : List Message) (rest : List ℕ) → Read stream ms rest → Read (stream ++ piece) ms (rest ++ piece)
 read_piece stream piece ms rest h = record { whole = ap (λ t. t ++ piece) h.whole ∙ append_assoc (flat_map encoding ms) rest piece; each = h.each }
 
--- a stream is no messages where some of its pieces end in a bad rest
+-- a stream is no messages if some of its pieces end in a bad rest
 pub refused : (stream more whole : List ℕ) (ms : List Message) (rest : List ℕ) → Read stream ms rest → IsBad (rest ++ more) → stream ++ more ≡ whole → (messages : List Message) (left : List ℕ) → Splits whole messages left → ⊥
 refused stream more whole ms rest h b e messages left s =
     no_split ms messages (rest ++ more) left h.each s.each b s.partial

@@ -46,7 +46,7 @@ use Rattle.journal_messages.specs.declared.message.Message.TheVariants.{Start, S
 
 -- ---- what is looked at of bodies that several messages have
 
--- the parameter isn't looked at where payloads are ignored
+-- the parameter isn't compared if payloads are ignored
 abbrev pub request_equal : Bool → CallRequest → CallRequest → Bool
 request_equal ignore a b = pointwise nat_eq a.service_name b.service_name
     && pointwise nat_eq a.handler_name b.handler_name && pointwise nat_eq a.key b.key
@@ -231,7 +231,7 @@ abbrev pub get_invocation_output_equal : InvocationCommand → Message → Bool
 get_invocation_output_equal a (GetInvocationOutput b) = invocation_equal a b
 get_invocation_output_equal a _ = false
 
--- the result isn't looked at where payloads are ignored
+-- the result isn't compared if payloads are ignored
 abbrev pub output_equal : Bool → OutputCommand → Message → Bool
 output_equal ignore a (Output b) = ignore || (values_of.ghosts).eq a.result b.result
 output_equal ignore a _ = false

@@ -8,7 +8,7 @@ use Rattle.journal_calls.specs.declared.signals.SignalResult.TheVariants as sent
 use Rattle.journal_messages.specs.declared.message.Message.{Message}
 use Rattle.journal_messages.specs.declared.message.Message.TheVariants as message
 
--- a payload, or this in its place where payloads are ignored
+-- a payload, or this in its place if payloads are ignored
 abbrev pub payload : {A : Type 0} → Bool → A → A → A
 payload true nothing given = nothing
 payload false nothing given = given

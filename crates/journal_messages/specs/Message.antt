@@ -55,7 +55,7 @@ type_of (message.GetInvocationOutput _) = type.GetInvocationOutputCommand
 type_of (message.Output _) = type.OutputCommand
 type_of (message.Notification _) = type.Notification
 
--- the message's fields, one behind the other; an end has none
+-- the message's fields, one after the other; an end has none
 abbrev pub body : Message → List ℕ
 body (message.Start m) = start_body m
 body (message.Suspension m) = suspension m
@@ -96,7 +96,7 @@ numbered_frame n b = u16s n ++ bytes b
 abbrev pub frame : MessageType → List ℕ → List ℕ
 frame ty b = numbered_frame (type_number ty) b
 
--- how many bytes the frame at the front has, by the length that stands behind its type's number
+-- how many bytes the frame at the front has, by the length that stands after its type's number
 unfoldable pub frame_size : List ℕ → ℕ
 frame_size bs = 10 + from_be_bytes w64 (take 8 (drop 2 bs))
 
@@ -137,7 +137,7 @@ IsValid (message.GetInvocationOutput m) = invocation_format.valid m
 IsValid (message.Output m) = output_format.valid m
 IsValid (message.Notification m) = notification_format.valid m
 
--- a body is read exactly where it is a message's
+-- a body is read exactly if it is a message's
 abbrev pub DecodesTo : MessageType → List ℕ → Result Message Fault → Type 0
 DecodesTo ty b (Ok m) = IsValid m × (type_of m ≡ ty) × (b ≡ body m)
 DecodesTo ty b (Err Memory) = Unit {0}

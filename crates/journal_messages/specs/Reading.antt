@@ -1,4 +1,4 @@
--- The message that a body spells, as a function of the body.
+-- The message that a body encodes, as a function of the body.
 use Rattle.std.specs.Prelude.{ℕ, List, Option}
 use Rattle.std.specs.Option.{option_map}
 use Rattle.wire.specs.Format.{Format}
@@ -20,7 +20,7 @@ use Rattle.journal_errors.specs.declared.types.MessageType.TheVariants as type
 use Rattle.journal_messages.specs.declared.message.Message.{Message}
 use Rattle.journal_messages.specs.declared.message.Message.TheVariants as message
 
--- what the whole body spells in a format, and not a byte more; none where it is anything else
+-- the value whose encoding in a format is the whole body; None if it is no value's
 unfoldable pub body_as : {A : Type 0} → Format A → List ℕ → Option A
 body_as = read_all
 
@@ -48,7 +48,7 @@ proposal_in = body_as propose_run_completion_format
 unfoldable pub ephemeral_notification_in : List ℕ → Option GetStateEphemeralNotification
 ephemeral_notification_in = body_as get_state_ephemeral_notification_format
 
--- the message of this type that the body spells
+-- the message of this type that the body encodes
 unfoldable pub message_in : MessageType → List ℕ → Option Message
 message_in type.Start b = option_map message.Start (start_in b)
 message_in type.Suspension b = option_map message.Suspension (body_as suspension_format b)

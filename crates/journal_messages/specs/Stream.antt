@@ -22,10 +22,10 @@ pub record IsPart (bs : List ℕ) : Type 0 where
       ++ rest → ⊥
   pub well_formed : IsMalformed bs → ⊥
 
--- ---- what the decoder answers: the first frame as it is spelled, and as a function
+-- ---- what the decoder answers: the first frame by its encoding, and as a function
 
--- A frame was taken from the front of old, new is left; or nothing was, since only a part is there,
--- or by want of memory, or since the number at the front is no type's.
+-- A frame was taken from the front of old, new is left. Or none was: only a part of it is there, or
+-- memory is out, or the number at the front is no type's.
 abbrev pub Next : List ℕ → Result (Option RawMessage) Fault → List ℕ → Type 0
 Next old (Ok (Some raw)) new = (length raw.body < 2 ^ 64) × (old ≡ frame raw.ty raw.body ++ new)
 Next old (Ok None) new = (new ≡ old) × IsPart old

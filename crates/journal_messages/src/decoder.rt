@@ -20,7 +20,7 @@ pub struct Decoder {
     waiting: Waiting,
 }
 
-/// Written out, so that who lets a decoder go calls this: a derived drop is proved once more in each crate above.
+/// Written out, so that a caller who drops a decoder calls this: a derived drop is proved once more in each crate above.
 impl Drop for Decoder {
     fn drop(self) {
         let Decoder {
@@ -49,8 +49,8 @@ impl Decoder {
         }
     }
 
-    /// Takes the next piece of the stream. An `Err` changes nothing. The piece is kept as it is where nothing waits;
-    /// else it is put together with what waits.
+    /// Takes the next piece of the stream. An `Err` changes nothing. The piece is kept as it is if nothing waits; else it is put together
+    /// with what waits.
     pub fn push(&mut self, piece: Bytes) -> Result<(), AllocError>
         ensures ok { OnOk result (self.new ≡ self.old ++ piece) }
         ensures err { OnErr result (self.new ≡ self.old) }
@@ -96,7 +96,7 @@ impl Decoder {
     }
 }
 
-/// The type's number at the front, and the bytes behind it.
+/// The type's number at the front, and the bytes after it.
 #[tactic(auto, unfolding(wire::specs::Format::u16s))]
 fn number_at(bytes: &[u8]) -> Option<(u16, &[u8])>
     ensures { MatchOption result (length bytes.now < 2) (λ x. (x.0 < 2 ^ 16)
@@ -109,7 +109,7 @@ fn number_at(bytes: &[u8]) -> Option<(u16, &[u8])>
     Some((u16::from_be_bytes([front[0], front[1]]), rest))
 }
 
-/// The length at the front, and the bytes behind it.
+/// The length at the front, and the bytes after it.
 #[tactic(auto, unfolding(wire::specs::Format::u64s))]
 fn length_at(bytes: &[u8]) -> Option<(u64, &[u8])>
     ensures { MatchOption result (length bytes.now < 8) (λ x. (x.0 < 2 ^ 64)

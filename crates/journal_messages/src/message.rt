@@ -24,7 +24,7 @@ use journal_values::Notification;
 use std::alloc::{AllocError, Global};
 use wire::{Fault, Wire, put_head, set_length, whole};
 
-/// What the runtime and the attempt tell each other.
+/// A message from the runtime to the attempt, or from the attempt to the runtime.
 pub enum Message {
     Start(Start),
     Suspension(Suspension),
@@ -58,7 +58,7 @@ pub enum Message {
     Notification(Notification),
 }
 
-/// Written out, so that who lets a message go calls this: a derived drop is proved once more in each crate above.
+/// Written out, so that a caller who drops a message calls this: a derived drop is proved once more in each crate above.
 impl Drop for Message {
     fn drop(self) {
         match self {
@@ -244,7 +244,7 @@ impl RawMessage {
         self.ty.number() == ty.number()
     }
 
-    /// What the whole body spells, whatever the frame's type.
+    /// Decodes the whole body as a `T`. The frame's type isn't looked at.
     fn read_as<T: Wire>(&self, alloc: Global) -> Result<T, Fault>
         ensures { Read (body_as T.format self.now.body) result }
     {
@@ -362,7 +362,7 @@ impl RawMessage {
 }
 
 impl RawMessage {
-    /// The message that the body spells.
+    /// Decodes the body as a message of the frame's type.
     #[tactic(auto, using(crate::proofs::Reading::decodes))]
     pub fn read(&self, alloc: Global) -> Result<Message, Fault>
         ensures read { Read (message_in self.now.ty self.now.body) result }

@@ -17,7 +17,7 @@ pub fn messages_of(alloc: Global, pieces: &[Bytes]) -> Result<Vec<Message>, Faul
     // No other messages are, so it doesn't matter how the stream was cut.
     ensures only { IfOk result (λ out. (others : List Message) (rest : List ℕ)
         → Splits (flat_map (λ piece. piece) pieces.now) others rest → out.items ≡ others) }
-    // It is malformed only where it is no messages at all up to such a rest.
+    // It is malformed only if it is no messages at all up to such a rest.
     ensures refused { IfErr result (IsRefused (flat_map (λ piece. piece) pieces.now)) }
 {
     let mut decoder = Decoder::new(alloc);

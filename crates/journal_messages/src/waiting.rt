@@ -5,7 +5,7 @@ ghost use Rattle.journal_messages.specs.Waiting.{waiting_bytes};
 use bytes::{Bytes, BytesMut};
 use std::alloc::{AllocError, Global};
 
-/// The bytes that wait, all behind one another in memory.
+/// The bytes that wait, without a gap between them in memory.
 #[derive(Drop)]
 pub enum Waiting {
     /// The rest of one piece, whose memory it shares.
@@ -30,7 +30,7 @@ impl Waiting {
         }
     }
 
-    /// Adds a piece, which is copied only where bytes wait. An `Err` changes nothing.
+    /// Adds a piece, which is copied only if bytes wait. An `Err` changes nothing.
     pub fn add(&mut self, alloc: Global, piece: Bytes) -> Result<(), AllocError>
         ensures ok { OnOk result (waiting_bytes self.new ≡ waiting_bytes self.old ++ piece) }
         ensures err { OnErr result (waiting_bytes self.new ≡ waiting_bytes self.old) }
@@ -73,8 +73,8 @@ fn join(alloc: Global, front: &Bytes, back: &Bytes) -> Result<BytesMut, AllocErr
     Ok(joined)
 }
 
-/// Adds a piece behind what waits. Where the room is too small, there is then room for as much again, so that many
-/// little pieces are added in linear time. An `Err` changes nothing.
+/// Adds a piece after what waits. If the room is too small, it is at least doubled, so that many little pieces are added in linear time. An
+/// `Err` changes nothing.
 fn append(joined: &mut BytesMut, piece: &Bytes) -> Result<(), AllocError>
     ensures ok { OnOk result (joined.new.items ≡ joined.old.items ++ piece.now) }
     ensures err { OnErr result (joined.new.items ≡ joined.old.items) }

@@ -18,7 +18,7 @@ ghost use Rattle.journal_messages.specs.SetStateCommand.{SetStateCommand};
 ghost use Rattle.journal_messages.specs.Frames.{Malformed, Partial, Whole, next_of};
 ghost use Rattle.journal_messages.specs.Notification.{Notification};
 
-/// A frame is read off the front of a stream, whatever follows; so is a message's encoding.
+/// A frame is read off the front of a stream, with any bytes after it; so is a message's encoding.
 #[tactic(auto, using(journal_messages::proofs::Cuts::whole_spelled, journal_messages::proofs::Alone::framed, journal_messages::proofs::Alone::nothing_is_partial))]
 pub fn frames_are_read_off()
     ensures frame { (ty : MessageType) (b rest : List ℕ) → length b < 2 ^ 64
@@ -28,7 +28,7 @@ pub fn frames_are_read_off()
     ensures nothing { next_of [] ≡ Partial }
 {}
 
-/// The length of the frame at the front is known from its bytes, whatever follows. No frame is empty.
+/// The length of the frame at the front is known from its bytes, with any bytes after it. No frame is empty.
 #[tactic(auto, using(journal_messages::proofs::Framing::frame_sized, journal_messages::proofs::Framing::frame_there, journal_messages::proofs::Streams::frame_long))]
 pub fn frames_have_their_length()
     ensures size { (ty : MessageType) (b rest : List ℕ) → length b < 2 ^ 64
@@ -84,8 +84,8 @@ pub fn bodies_are_read_back()
         → proposal_in (body (message.ProposeRunCompletion a)) ≡ Some a }
 {}
 
-/// What is read of a command's own body says what the command says, if the two have one name and one key: the value that a
-/// command sets, and the result of an eager read. This holds too where the command doesn't fit its frame.
+/// What is read of a command's own body says what the command says, if the two have one name and one key: the value that a command sets,
+/// and the result of an eager read. This holds also if the command doesn't fit its frame.
 #[tactic(auto, using(journal_messages::proofs::Own::value_said, journal_messages::proofs::Own::result_said))]
 pub fn stored_messages_keep_what_they_say()
     ensures value { (a b : SetStateCommand) → a.name ≡ b.name → a.key ≡ b.key

@@ -1,6 +1,6 @@
-//! The layer of messages and their bytes, as the layers above see it: the messages, what writes and reads them, replay's comparison,
-//! and the laws that proofs above go by. They hold whatever the layout of a frame is, so another layer of these words and laws could
-//! take its place.
+//! The layer of messages and their bytes, as the layers above see it: the messages, what writes and reads them, replay's comparison, and
+//! the laws that proofs above go by. The laws don't fix the layout of a frame, so another layer of these words and laws could take its
+//! place.
 #![tactic(auto)]
 
 mod laws;

@@ -13,8 +13,7 @@ abbrev pub void_or_value_valid : VoidOrValue → Type 0
 void_or_value_valid state.Void = Unit {0}
 void_or_value_valid (state.Value bs) = bytes_format.valid bs
 
--- 0 is void, 1 and bytes are a value; none where another byte stands in front or the bytes end
--- before
+-- 0 is void, 1 and bytes are a value; none if another byte stands in front or the bytes end before
 unfoldable pub read_void_or_value : Reading VoidOrValue
 read_void_or_value = read_case (
     read_if_number 0 (read_as (λ _. state.Void) read_nothing) (

@@ -36,7 +36,7 @@ get_eager_state m = fields (bytes m.name ∷ bytes m.key ∷ option void_or_valu
 unfoldable pub get_lazy_state : GetLazyStateCommand → List ℕ
 get_lazy_state m = fields (bytes m.name ∷ bytes m.key ∷ u32s m.result_completion_id ∷ [])
 
--- a read of the keys at hand: 0, or 1 and a count (u64) and so many keys (bytes); name (text)
+-- a read of the keys at hand: 0, or 1, a count (u64) and the keys (bytes); name (text)
 unfoldable pub get_eager_state_keys : GetEagerStateKeysCommand → List ℕ
 get_eager_state_keys m = fields (option (list bytes) m.value ∷ bytes m.name ∷ [])
 

@@ -11,7 +11,7 @@ use Rattle.journal_values.specs.declared.notification.NotificationId.TheVariants
 use Rattle.journal_values.specs.declared.notification.NotificationResult.{NotificationResult}
 use Rattle.journal_values.specs.declared.notification.NotificationResult.TheVariants as result
 
--- two strings of bytes, one behind the other, each with its length (u64) in front
+-- two strings of bytes, one after the other, each with its length (u64) in front
 abbrev pub pair_of_texts : List ℕ × List ℕ → List ℕ
 pair_of_texts p = bytes p.0 ++ bytes p.1
 
@@ -19,7 +19,7 @@ pair_of_texts p = bytes p.0 ++ bytes p.1
 abbrev pub header : Header → List ℕ
 header h = fields (bytes h.key ∷ bytes h.value ∷ [])
 
--- a failure: code (u32), message (text), metadata: a count (u64) and so many pairs of texts
+-- a failure: code (u32), message (text), metadata: a count (u64) and the pairs of texts
 unfoldable pub failure : Failure → List ℕ
 failure f = fields (u32s f.code ∷ bytes f.message ∷ list pair_of_texts f.metadata ∷ [])
 
@@ -34,8 +34,8 @@ notification_id (id.CompletionId n) = 0 ∷ u32s n
 notification_id (id.SignalId n) = 1 ∷ u32s n
 notification_id (id.SignalName name) = 2 ∷ bytes name
 
--- 0 for void, 1 and a value's bytes, 2 and a failure, 3 and state keys: a count (u64) and so many
--- of bytes, or 4 and an invocation's id (text)
+-- 0 for void, 1 and a value's bytes, 2 and a failure, 3 and state keys: a count (u64) and the keys
+-- (bytes), or 4 and an invocation's id (text)
 abbrev pub notification_result : NotificationResult → List ℕ
 notification_result result.Void = 0 ∷ []
 notification_result (result.Value bs) = 1 ∷ bytes bs

@@ -12,7 +12,7 @@ use Rattle.journal_values.specs.declared.notification.NotificationId.TheVariants
 use Rattle.journal_values.specs.declared.notification.NotificationResult.{NotificationResult}
 use Rattle.journal_values.specs.declared.notification.NotificationResult.TheVariants as result
 
--- two texts, one behind the other
+-- two texts, one after the other
 abbrev pub texts_format : Format (List ℕ × List ℕ)
 texts_format = pair_format text_format text_format
 
@@ -51,8 +51,8 @@ abbrev pub value_valid : ValueOrFailure → Type 0
 value_valid (value.Value bs) = bytes_format.valid bs
 value_valid (value.Failure f) = failure_format.valid f
 
--- 0 and bytes are a value, 1 and a failure are that failure; none where another byte stands in
--- front or the rest can't be read
+-- 0 and bytes are a value, 1 and a failure are that failure; none if another byte stands in front
+-- or the rest can't be read
 unfoldable pub read_value : Reading ValueOrFailure
 read_value = read_case (
     read_if_number 0 (read_as value.Value bytes_format.read) (
@@ -89,8 +89,8 @@ id_valid (id.CompletionId n) = u32_format.valid n
 id_valid (id.SignalId n) = u32_format.valid n
 id_valid (id.SignalName name) = text_format.valid name
 
--- 0 and a u32 are a completion, 1 and a u32 a signal, 2 and a text a signal's name; none where
--- another byte stands in front or what is behind it can't be read
+-- 0 and a u32 are a completion, 1 and a u32 a signal, 2 and a text a signal's name; none if another
+-- byte stands in front or what is after it can't be read
 unfoldable pub read_id : Reading NotificationId
 read_id = read_case (
     read_if_number 0 (read_as id.CompletionId u32_format.read) (
@@ -135,7 +135,7 @@ result_valid (result.StateKeys keys) = (list_format bytes_format).valid keys
 result_valid (result.InvocationId name) = text_format.valid name
 
 -- 0 is void, 1 and bytes are a value, 2 a failure, 3 state keys, 4 and a text an invocation's id;
--- none where another byte stands in front or what is behind it can't be read
+-- none if another byte stands in front or what is after it can't be read
 unfoldable pub read_result : Reading NotificationResult
 read_result = read_case (
     read_if_number 0 (read_as (λ _. result.Void) read_nothing) (

@@ -12,7 +12,7 @@ use Rattle.layers.specs.Own.{front_if}
 use Rattle.layer_vectors.specs.Laws.{whole_frame}
 use Rattle.layer_vectors.specs.Short.{body_in, short_front, short_front_in}
 
--- so many bytes and a number stand after the length
+-- n bytes and a number stand after the length
 pub record IsFramed (bs : List ℕ) (n : ℕ) : Type 0 where
   pub long : n + 6 ≤ length bs
   pub len : n ≡ from_be_bytes w32 (take 4 bs)

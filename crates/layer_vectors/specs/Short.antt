@@ -15,12 +15,12 @@ abbrev pub mark_of : Bool → ℕ
 mark_of false = 0
 mark_of true = 1
 
--- the length in four bytes, so many bytes, and the type's number in two
+-- the length in four bytes, as many bytes, and the type's number in two
 abbrev pub short_frame : MessageType → List ℕ → List ℕ
 short_frame ty payload =
     to_be_bytes w32 (length payload) ++ payload ++ to_be_bytes w16 (type_number ty)
 
--- the frame of a message; either mark spells it
+-- the frame of a message; with either mark it encodes the same message
 abbrev pub short : Short → Message → List ℕ
 short layer m = short_frame (type_of m) (mark_of layer.mark ∷ body m)
 
@@ -39,7 +39,7 @@ short_front_in None b rest = Malformed
 short_front_in (Some ty) None rest = Malformed
 short_front_in (Some ty) (Some b) rest = front_if (message_in ty b) rest
 
--- what follows a length: so many bytes and the number of a type, or not all of them yet
+-- what follows a length n: n bytes and the number of a type, or not all of them yet
 abbrev pub sized : ℕ → List ℕ → Front
 sized n bs = if nat_lt (length bs) (n + 2) then Partial
     else short_front_in (type_at (from_be_bytes w16 (take 2 (drop n bs)))) (body_in (take n bs))

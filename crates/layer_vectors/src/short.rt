@@ -1,4 +1,4 @@
-//! Messages in other bytes: lengths in four bytes, the type after the body, and a body that is spelled in two ways.
+//! Messages in other bytes: lengths in four bytes, the type after the body, and a body that is encoded in one of two ways.
 ghost use Rattle.std.specs.Prelude.{◌≡◌, ◌<◌, ◌≤◌, ◌+◌, ◌^◌, drop, IfErr, IfOk, length, MatchOption, take};
 ghost use Rattle.std.specs.Int.{from_be_bytes, w16, w32};
 ghost use Rattle.journal_protocol.specs.Types.{type_at};
@@ -12,8 +12,8 @@ use journal_protocol::{Decoder, Encoder, Message, MessageType, RawMessage};
 use layers::{Layer, LayerFault};
 use std::alloc::{AllocError, Global};
 
-/// A frame is a length (4 bytes, the most significant first), so many bytes, and the type's number (2 bytes). The first of those bytes
-/// is a mark, 0 or 1, and the body follows; both marks spell the same message.
+/// A frame is a length (4 bytes, the most significant first), as many bytes, and the type's number (2 bytes). The first of those bytes is a
+/// mark, 0 or 1, and the body follows; the frames with either mark encode the same message.
 #[derive(Drop)]
 pub struct Short {
     pub alloc: Global,
@@ -61,7 +61,7 @@ fn payload_len(bytes: &[u8]) -> Option<usize>
     Some(len)
 }
 
-/// The type whose number stands after so many bytes.
+/// The type whose number stands after the first `len` bytes.
 fn type_after(bytes: &[u8], len: usize) -> Option<MessageType>
     requires { len + 2 ≤ length bytes.now }
     ensures { result ≡ type_at (from_be_bytes w16 (take 2 (drop len bytes.now))) }

@@ -54,7 +54,7 @@ pub record Translates (front : List ℕ → Front) (frame : Message → List ℕ
   pub partial : front rest ≡ Partial
 
 -- Why a stream isn't translated: after some messages there is no frame, or the frame of one that
--- doesn't fit the other layer. Want of memory says nothing of it.
+-- doesn't fit the other layer. Out of memory says nothing of the stream.
 abbrev pub RefusesStream : (List ℕ → Front) → (Message → Type 0) → List ℕ → LayerFault → Type 0
 RefusesStream front Fits rest Memory = Unit {0}
 RefusesStream front Fits rest BadBytes = front rest ≡ Malformed

@@ -8,7 +8,7 @@ use Rattle.journal_protocol.specs.Frames as frame
 use Rattle.journal_protocol.proofs.Facts as law
 use Rattle.layers.specs.Layers.{Front, Whole, Partial, Malformed}
 
--- the message that a frame's body spells, if there is one
+-- the message at the front, if a frame's body encodes one; else the front is malformed
 abbrev pub front_if : Option Message → List ℕ → Front
 front_if (Some m) rest = Whole m rest
 front_if None rest = Malformed

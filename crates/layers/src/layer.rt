@@ -41,13 +41,13 @@ impl From<Fault> for LayerFault {
     }
 }
 
-/// Messages as bytes. Those above go by these words and laws alone, whatever the bytes are.
+/// Messages as bytes. The layers above use these words and laws alone, and don't depend on the bytes.
 pub trait Layer {
     ghost use Rattle.std.specs.Prelude.{◌≡◌, ◌++◌, ◌<◌, List, length, ℕ};
     ghost use Rattle.layers.specs.Layers.{Encoded, Front, IsFrontRead, Malformed, Whole};
     ghost use Rattle.journal_protocol.specs.Message.{Message};
 
-    /// The bytes of a message's frame. A layer may spell a message in several ways; each value of the type writes one.
+    /// The bytes of a message's frame. A layer may have several encodings of a message; each value of the type writes one.
     ghost frame: { Self → Message → List ℕ };
 
     /// The messages that have a frame.
@@ -56,7 +56,7 @@ pub trait Layer {
     /// What is at the front of a stream.
     ghost front: { List ℕ → Front };
 
-    /// A message is read back from its frame, whatever follows.
+    /// A message is read back from its frame, with any bytes after it.
     ghost read_back: { (layer : Self) (m : Message) (rest : List ℕ)
         → Fits m → front (frame layer m ++ rest) ≡ Whole m rest };
 

@@ -78,7 +78,7 @@ at_index_blamed text ws fault are blames = record {
   nothing = λ bad command is. blames.nothing bad command.0 (subst (λ t. IsNumberOf 32 t command.0) (sym (same_at 0 ws is.words (words_within_once 40 41 text ws is.words are is.are_words))) is.is_index);
 }
 
--- a type and a name behind an index
+-- a type and a name after an index
 behind_index : (words : List (Bor (List ℕ))) (ty : CommandType) (name : Option (List ℕ)) → length words ≡ 3 → IsType (text_at 1 words) ty → IsCommandName (text_at 2 words) name → AreTypeAndName (drop 1 words) (ty, name)
 behind_index [] ty name three is_type is_name = absurd (omega arith)
 behind_index (w ∷ words) ty name three is_type is_name = (omega arith, is_type, is_name)

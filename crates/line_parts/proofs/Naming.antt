@@ -1,4 +1,4 @@
--- The texts behind a name, word by word.
+-- The texts after a name, word by word.
 use Rattle.std.proofs.lemmas.Bool.{eqb-true}
 use Rattle.std.proofs.Common.{◌≡◌, ◌≢◌, ◌<◌, ◌+◌, ◌&&◌, Bool, if◌then◌else◌, refl, ◌++◌, ℕ, List, [], ◌∷◌, Option, Some, None, true, false, length, take, drop, get_or, sym, ap, ◌∙◌, subst, arith}
 use Rattle.std.specs.Prelude.{MatchOption}
@@ -22,7 +22,7 @@ texts_none name words i d h e = let more = texts_one_more name words i d h in (r
 pub texts_some : (name : List ℕ) (words : List (Bor (List ℕ))) (i : ℕ) (d : Bor (List ℕ)) (text : List ℕ) → i < length words → text_behind name (get_or words i d).now ≡ Some text → texts_named name (take (i + 1) words) ≡ texts_named name (take i words) ++ text ∷ []
 texts_some name words i d text h e = let more = texts_one_more name words i d h in rw e at more
 
--- the only text behind the name, if there is one
+-- the only text after the name, if there is one
 abbrev pub IsOnly : List ℕ → List (Bor (List ℕ)) → Option (Bor (List ℕ)) → Type 0
 IsOnly name words found = MatchOption found (texts_named name words ≡ []) (λ text. texts_named name words ≡ text.now ∷ [])
 
@@ -64,6 +64,6 @@ begins_so a name (c ∷ cs) behind e = sym (eqb-true a c (first_too _ _ (begun _
 pub otherwise : (a b : ℕ) (name text behind : List ℕ) → text_behind (a ∷ name) text ≡ Some behind → get_or text 0 0 ≡ b → a ≢ b → ⊥
 otherwise a b name text behind e first differ = differ (sym (begins_so a name text behind e) ∙ first)
 
--- one text stands behind a name
+-- only one text stands after a name
 pub same_text : (a b : List ℕ) → Some a ≡ Some b → a ≡ b
 same_text a b e = search e

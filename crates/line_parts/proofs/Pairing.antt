@@ -1,4 +1,4 @@
--- Lists that grow side by side: words and what they spell.
+-- Lists that grow side by side: words and what they encode.
 use Rattle.std.proofs.Common.{◌≡◌, ◌<◌, ◌+◌, ◌++◌, ℕ, List, [], ◌∷◌, length, take, get_or, sym, subst}
 use Rattle.std.proofs.lemmas.List.{take_more}
 use Rattle.std.specs.Borrow.{Bor}

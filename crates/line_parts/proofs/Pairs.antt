@@ -28,11 +28,11 @@ same_at i (w ∷ ws) [] all = absurd all
 same_at zero (w ∷ ws) (v ∷ vs) all = all.0
 same_at (suc i) (w ∷ ws) (v ∷ vs) all = same_at i ws vs all.1
 
--- a text in brackets has so many words
+-- all ways to split a text in brackets into words give the same number of words
 pub within_length : (opening closing : ℕ) (text : List ℕ) (ws vs : List (Bor (List ℕ))) → AreWordsWithin opening closing text ws → AreWordsWithin opening closing text vs → length ws ≡ length vs
 within_length opening closing text ws vs a b = same_length ws vs (words_within_once opening closing text ws vs a b)
 
--- and these
+-- and the same words
 pub within_at : (i opening closing : ℕ) (text : List ℕ) (ws vs : List (Bor (List ℕ))) (d : Bor (List ℕ)) → i < length ws → AreWordsWithin opening closing text ws → AreWordsWithin opening closing text vs → text_at i vs ≡ (get_or ws i d).now
 within_at i opening closing text ws vs d h a b = sym (same_at i ws vs (words_within_once opening closing text ws vs a b)) ∙ sym (word_at ws i d h)
 
@@ -63,7 +63,7 @@ pairs_blamed words i d fault h blames = record { nothing = λ bad pairs are. go 
     go bad (w ∷ words) zero (p ∷ pairs) h none are = none p are.0
     go bad (w ∷ words) (suc i) (p ∷ pairs) h none are = go bad words i pairs (omega arith) none are.1
 
--- a header that is no pair, behind other words
+-- a header that is no pair, after other words
 behind_first : (name : List ℕ) (w : Bor (List ℕ)) (words : List (Bor (List ℕ))) (found : Option (List ℕ)) → text_behind name w.now ≡ found → ((headers : List Header) → AreHeaders (texts_named name words) headers → ⊥)
     → (headers : List Header) → AreHeaders (texts_named name (w ∷ words)) headers → ⊥
 behind_first name w words None at none headers are = none headers (rw at at are)

@@ -16,7 +16,7 @@ text_is_at i words d bytes h is = subst (λ t. IsText t bytes) (word_at words i 
 pub atom_is_at : (i : ℕ) (words : List (Bor (List ℕ))) (d : Bor (List ℕ)) (bytes : List ℕ) → i < length words → IsAtom (get_or words i d).now bytes → IsAtom (text_at i words) bytes
 atom_is_at i words d bytes h is = subst (λ t. IsAtom t bytes) (word_at words i d h) is
 
--- the words behind some
+-- the words after the first n
 pub behind_is : {A : Type 0} (n : ℕ) (words : List A) → take (length words - n) (drop n words) ≡ drop n words
 behind_is n words = ap (λ m. take m (drop n words)) (sym (length-drop n words)) ∙ take-length (drop n words)
 
@@ -24,7 +24,7 @@ pub drop_first : (words : List (Bor (List ℕ))) → drop 1 words ≡ words_afte
 drop_first [] = refl
 drop_first (w ∷ words) = refl
 
--- and those behind the first
+-- and those after the first
 pub others_are : (words : List (Bor (List ℕ))) → take (length words - 1) (drop 1 words) ≡ words_after_first words
 others_are words = behind_is 1 words ∙ drop_first words
 
@@ -32,7 +32,7 @@ pub drop_two_more : (words others : List (Bor (List ℕ))) → others ≡ drop 1
 drop_two_more [] others e = ap (drop 2) e
 drop_two_more (w ∷ words) others e = ap (drop 2) e
 
--- one text, and two behind it
+-- one text, and two after it
 pub three_texts_are : (words others : List (Bor (List ℕ))) (first second third : List ℕ) → others ≡ drop 1 words → IsText (text_at 0 words) first → AreTwoTexts others (second, third) → AreThreeTexts words (first, second, third)
 three_texts_are [] others first second third e is are = let two = subst (λ ws. AreTwoTexts ws (second, third)) e are in (is, two.0, two.1)
 three_texts_are (w ∷ words) others first second third e is are = let two = subst (λ ws. AreTwoTexts ws (second, third)) e are in (is, two.0, two.1)

@@ -1,4 +1,4 @@
--- Blanks behind the commas of a tree's text.
+-- Blanks after the commas of a tree's text.
 use Rattle.std.proofs.Common.{◌≡◌, ◌<◌, ℕ, zero, suc, Bool, true, false, List, [], ◌∷◌, length, get_or, refl, ap, arith}
 use Rattle.std.specs.Prelude.{◌==◌}
 use Rattle.line_parts.specs.Trees.{comma, without_blanks}

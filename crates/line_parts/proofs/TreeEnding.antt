@@ -1,4 +1,4 @@
--- A text that spells a tree goes on as it is read; where it doesn't go on, it spells none.
+-- A text that encodes a tree goes on as it is read; if it doesn't go on, it encodes none.
 use Rattle.std.proofs.Common.{◌≡◌, ◌≢◌, ◌<◌, ◌+◌, ◌++◌, ◌⊎◌, inl, inr, ℕ, zero, suc, true, false, List, [], ◌∷◌, Option, Some, None, Result, IfErr, length, drop, get_or, refl, sym, ap, ◌∙◌, subst, arith, append_assoc, length-append}
 use Rattle.std.proofs.lemmas.List.{append-nil}
 use Rattle.std.proofs.lemmas.Bool.Decides.{nat_tests}
@@ -69,7 +69,7 @@ closes_breaks zero text e = subst Breaks (sym e) tt
 closes_breaks (suc nodes) text (others, behind, none, e, o, c) = subst Breaks (sym (e ∙ ap (λ z. z ++ 41 ∷ behind) o)) refl
 closes_breaks (suc nodes) text (others, behind, more t ts, e, (inside, o, s), c) = subst Breaks (sym (e ∙ ap (λ z. z ++ 41 ∷ behind) o)) refl
 
--- no bracket opens behind a tree
+-- no bracket opens after a tree
 closes_no_opening : (nodes : ℕ) (text rest : List ℕ) → ClosesNodes nodes text → text ≡ 40 ∷ rest → ⊥
 closes_no_opening zero text rest e o = let long = ap length (sym e ∙ o) in absurd (omega arith)
 closes_no_opening (suc nodes) text rest (others, behind, none, e, o, c) i =
@@ -77,7 +77,7 @@ closes_no_opening (suc nodes) text rest (others, behind, none, e, o, c) i =
 closes_no_opening (suc nodes) text rest (others, behind, more t ts, e, (inside, o, s), c) i =
     let first = ap (λ t. get_or t 0 0) (sym i ∙ e ∙ ap (λ z. z ++ 41 ∷ behind) o) in absurd (omega arith)
 
--- trees and the bracket behind them
+-- trees and the bracket after them
 forest_on : (nodes : ℕ) (inside behind : List ℕ) (t : Tree) (ts : Forest) → SpellsForest inside (more t ts) → ClosesNodes nodes behind → GoesOn (suc nodes) None (inside ++ 41 ∷ behind)
 forest_on nodes inside behind t none s c = (inside, 41 ∷ behind, t, refl, s, ([], behind, none, refl, refl, c))
 forest_on nodes inside behind t (more u us) (first, others, e, s, f) c =
@@ -136,7 +136,7 @@ no_kind nodes text word rest inside fault w e opens blames bad on = go (begun no
     go (inl (handle, number, c)) = closes_no_opening nodes (behind_word text) inside c (sym e ∙ opens)
     go (inr (kind, children, within, behind, k, o, s, c)) = blames.nothing bad kind (w ∙ k)
 
--- what stands behind a node's bracket
+-- what stands after a node's bracket
 opened : (nodes : ℕ) (text rest inside : List ℕ) → rest ≡ behind_word text → rest ≡ 40 ∷ inside → GoesOn nodes None text
     → (children : Forest) × (within behind : List ℕ) × (inside ≡ within ++ 41 ∷ behind) × SpellsForest within children × ClosesNodes nodes behind
 opened nodes text rest inside e opens on = go (begun nodes text on)
@@ -161,7 +161,7 @@ node_goes_on nodes more_nodes text rest inside m e opens other on = go (opened n
         let n : suc nodes ≡ more_nodes = omega arith in
         subst (λ k. GoesOn k None inside) n (subst (GoesOn (suc nodes) None) (sym o) (forest_on nodes within after t ts s c))
 
--- ---- behind a tree
+-- ---- after a tree
 
 pub over : (nodes : ℕ) (text : List ℕ) → nodes ≡ 0 → 0 < length text → ClosesNodes nodes text → ⊥
 over nodes text n some c = let long = ap length (subst (λ k. ClosesNodes k text) n c) in absurd (omega arith)
@@ -195,7 +195,7 @@ neither nodes fewer text n closes commas c = go (inner nodes fewer text n c)
 
 -- ---- the whole text
 
--- a text that spells a tree goes on from its beginning
+-- a text that encodes a tree goes on from its beginning
 pub goes_on_first : (text : List ℕ) (nodes : ℕ) → nodes ≡ 0 → (t : Tree) → SpellsTree text t → GoesOn nodes None text
 goes_on_first text nodes n t s = subst (λ k. GoesOn k None text) (sym n) (text, [], t, sym (append-nil text), s, refl)
 
@@ -207,7 +207,7 @@ closes_some : (nodes : ℕ) (text : List ℕ) → 0 < nodes → ClosesNodes node
 closes_some zero text h c = absurd (omega arith)
 closes_some (suc nodes) text h (others, behind, forest, e, o, c) = let long = ap length e in omega (arith, long, length-append others (41 ∷ behind))
 
--- where the text ends, no node is open and a tree was read
+-- if the text ends, no node is open and a tree was read
 pub ends_open : (nodes : ℕ) (last : Option UnresolvedFuture) (rest : List ℕ) → rest ≡ [] → 0 < nodes → GoesOn nodes last rest → ⊥
 ends_open nodes None rest e h (own, behind, t, i, s, c) = let long = ap length (sym e ∙ i) in let some = tree_some own t s in absurd (omega (arith, long, some, length-append own behind))
 ends_open nodes (Some future) rest e h c = let some = closes_some nodes rest h c in let long = ap length e in absurd (omega arith)

@@ -54,7 +54,7 @@ put_first : (own rest : List ℕ) (u : UnresolvedFuture) (us : List UnresolvedFu
 put_first own rest u [] t s r = (own, rest, refl, s, r)
 put_first own rest u (v ∷ us) t s r = (own, rest, refl, s, r)
 
--- trees with a comma behind each, and one more
+-- trees with a comma after each, and one more
 spells_all : (inside own : List ℕ) (us : List UnresolvedFuture) (t : UnresolvedFuture) → AreFollowed inside us → SpellsTree own (tree_of t) → SpellsForest (inside ++ own) (forest_of (us ++ t ∷ []))
 spells_all inside own [] t e s = subst (λ z. SpellsForest (z ++ own) (forest_of (t ∷ []))) (sym e) s
 spells_all inside own (u ∷ us) t h s =

@@ -7,11 +7,11 @@ use Rattle.std.specs.List.{filter_map, list_all, list_any, starts_with}
 abbrev pub is_named : List ℕ → List ℕ → Bool
 is_named name word = starts_with nat_eq word name
 
--- the text behind the name that a word begins with
+-- the text after the name that a word begins with
 unfoldable pub text_behind : List ℕ → List ℕ → Option (List ℕ)
 text_behind name word = if is_named name word then Some (drop (length name) word) else None
 
--- the texts behind this name
+-- the texts after this name
 abbrev pub texts_named : List ℕ → List (Bor (List ℕ)) → List (List ℕ)
 texts_named name words = filter_map (λ word. text_behind name word.now) words
 
@@ -25,7 +25,7 @@ IsOptional Says [] None = Unit {0}
 IsOptional Says (text ∷ []) (Some value) = Says text value
 IsOptional Says found value = ⊥
 
--- what is said by a field that may stand once; where it doesn't stand, it is the default
+-- what is said by a field that may stand once; if it doesn't stand, it is the default
 abbrev pub IsSet : {A : Type 0} → (List ℕ → A → Type 0) → A → List (List ℕ) → A → Type 0
 IsSet Says default [] value = value ≡ default
 IsSet Says default (text ∷ []) value = Says text value

@@ -1,11 +1,11 @@
--- Where a reader stands in the text of a tree: behind the beginnings of the nodes that are open.
+-- How far a reader is in the text of a tree: after the beginnings of the nodes that are open.
 use Rattle.std.specs.Prelude.{◌≡◌, ◌==◌, ◌||◌, ℕ, zero, suc, Bool, if◌then◌else◌, List, [], ◌∷◌, ◌++◌, Option, Some, None}
 use Rattle.await_trees.specs.Tree.{Tree, Forest, none, more, tree_of}
 use Rattle.await_trees.specs.declared.tree.UnresolvedFuture.{UnresolvedFuture}
 use Rattle.line_parts.specs.Trees.{SpellsTree, SpellsForest, kind_name, opening, closing, comma}
 use Rattle.line_parts.specs.declared.trees.OpenNode.{OpenNode}
 
--- these trees, with a comma behind each
+-- these trees, with a comma after each
 abbrev pub AreFollowed : List ℕ → List UnresolvedFuture → Type 0
 AreFollowed text [] = text ≡ []
 AreFollowed text (future ∷ futures) = (own behind : List ℕ) × (text ≡ own ++ comma ∷ behind)
@@ -27,28 +27,28 @@ abbrev pub IsReadLast : List ℕ → Option UnresolvedFuture → Type 0
 IsReadLast text None = text ≡ []
 IsReadLast text (Some future) = SpellsTree text (tree_of future)
 
--- the text is the beginnings of the open nodes, what was read whole behind them, and the rest
+-- the text is the beginnings of the open nodes, what was read whole after them, and the rest
 abbrev pub StandsAt : List ℕ → List OpenNode → Option UnresolvedFuture → List ℕ → Type 0
 StandsAt text nodes last rest = (before own : List ℕ) × (text ≡ before ++ (own ++ rest))
     × Begin before nodes × IsReadLast own last
 
 -- ---- what may follow
 
--- trees behind a child, with a comma in front of each
+-- trees after a child, with a comma in front of each
 abbrev pub AreOthers : List ℕ → Forest → Type 0
 AreOthers text none = text ≡ []
 AreOthers text (more t ts) = (inside : List ℕ) × (text ≡ comma ∷ inside)
     × SpellsForest inside (more t ts)
 
--- what follows a tree within so many nodes: for each, the innermost first, further trees and its
--- bracket
+-- what follows a tree within `nodes` open nodes: for each, the innermost first, further trees and
+-- its bracket
 abbrev pub ClosesNodes : ℕ → List ℕ → Type 0
 ClosesNodes zero text = text ≡ []
 ClosesNodes (suc nodes) text = (others behind : List ℕ) × (forest : Forest)
     × (text ≡ others ++ closing ∷ behind) × AreOthers others forest × ClosesNodes nodes behind
 
--- what follows within so many nodes, behind a tree that was read whole; where none was, a tree
--- comes first
+-- what follows within `nodes` open nodes, after a tree that was read whole; if none was read, a
+-- tree comes first
 abbrev pub GoesOn : ℕ → Option UnresolvedFuture → List ℕ → Type 0
 GoesOn nodes None text = (own behind : List ℕ) × (t : Tree) × (text ≡ own ++ behind)
     × SpellsTree own t × ClosesNodes nodes behind

@@ -15,7 +15,7 @@ use Rattle.line_parts.specs.Words.{IsNumberOf}
 abbrev pub is_slash : ℕ → Bool
 is_slash b = b == 47
 
--- the number in front of the first slash, over that behind it
+-- the number in front of the first slash, over that after it
 pub record IsFraction (text : List ℕ) (fraction : Fraction) : Type 0 where
   pub at : ℕ
   pub slash : position is_slash text ≡ Some at
@@ -63,8 +63,7 @@ pub record IsExponential (text : List ℕ) (growth : Growth) : Type 0 where
   pub are_bounds : AreBounds words growth.bounds
   pub only : are_named exponential_names (words_without (codes "pause") words) ≡ true
 
--- `infinite`, `none`, `fixed(..)` or `exp(..)`; where the delay grows, the interval is the longest
--- one
+-- `infinite`, `none`, `fixed(..)` or `exp(..)`; if the delay grows, the interval is the longest one
 abbrev pub IsPolicy : List ℕ → RetryPolicy → Type 0
 IsPolicy text policy.Infinite = text ≡ codes "infinite"
 IsPolicy text policy.None = text ≡ codes "none"

@@ -127,14 +127,15 @@ pub record AreDetails (words : List (Bor (List ℕ))) (error : Error) : Type 0 w
       error.behavior
   pub delay : IsOptional IsTime (texts_named (codes "delay=") words) error.next_retry_delay
 
--- the words begin with an error's code and text, and the options behind them say the rest of it
+-- the words begin with an error's code and text, and the options after them say the rest of it
 pub record IsError (words : List (Bor (List ℕ))) (error : Error) : Type 0 where
   pub first : HasCodeAndText error.code error.message words
   pub details : AreDetails (drop 2 words) error
   pub by_itself : error.related_command ≡ None
 
 -- the error that is reported, and the command that it relates to
-pub record IsReport (words : List (Bor (List ℕ))) (report : Error × Option CommandRelationship) : Type 0 where
+pub record IsReport (words : List (Bor (List ℕ)))
+    (report : Error × Option CommandRelationship) : Type 0 where
   pub error : IsError words report.0
   pub related : IsOptional IsRelated (texts_named (codes "rel=") (drop 2 words)) report.1
   pub only : are_named error_names (drop 2 words) ≡ true

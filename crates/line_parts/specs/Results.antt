@@ -1,4 +1,4 @@
--- What executing a run came to, as it is proposed.
+-- The outcome of executing a run, as it is proposed.
 use Rattle.std.specs.Prelude.{◌≡◌, ℕ, Bool, true, List, [], ◌∷◌, drop, codes}
 use Rattle.std.specs.Borrow.{Bor}
 use Rattle.std.specs.declared.time.Duration.{Duration}
@@ -35,7 +35,7 @@ exit_of_value (value.Success bytes) = exit.Success bytes
 exit_of_value (value.Failure failure) = exit.TerminalFailure failure
 
 -- the words are a result, with or without a policy: a value, in front of the policy, or `retryable`
--- and what is told of the failure
+-- and the failure's details
 abbrev pub IsResult : List (Bor (List ℕ)) → RunExitResult → Type 0
 IsResult words (exit.Success bytes) = IsValue (but_last is_policy words) (value.Success bytes)
 IsResult words (exit.TerminalFailure failure) = IsValue (but_last is_policy words)

@@ -21,7 +21,8 @@ AreHeaders found headers =
     AllZip (λ text header. IsPair text (header.key, header.value)) found headers
 
 -- what the options of a call say of its target, and the call's name
-pub record HasCallOptions (words : List (Bor (List ℕ))) (called : Target × Option (List ℕ)) : Type 0 where
+pub record HasCallOptions (words : List (Bor (List ℕ)))
+    (called : Target × Option (List ℕ)) : Type 0 where
   pub key : IsOptional IsText (texts_named (codes "key=") words) called.0.key
   pub idempotency_key : IsOptional IsText (texts_named (codes "idem=") words)
       called.0.idempotency_key
@@ -36,13 +37,15 @@ call_names = codes "key=" ∷ codes "idem=" ∷ codes "scope=" ∷ codes "limit=
     ∷ codes "name=" ∷ []
 
 -- the options of a call, and `unstable` or not
-pub record AreCallOptions (words : List (Bor (List ℕ))) (target : Target) (name : Option (List ℕ)) (options : PayloadOptions) : Type 0 where
+pub record AreCallOptions (words : List (Bor (List ℕ))) (target : Target) (name : Option (List ℕ))
+    (options : PayloadOptions) : Type 0 where
   pub named : HasCallOptions (words_without (codes "unstable") words) (target, name)
   pub unstable : HasFlag (codes "unstable") words options.unstable_serialization
   pub only : are_named call_names (words_without (codes "unstable") words) ≡ true
 
 -- those of a call whose result nobody waits for, which may have a time too
-pub record AreSendOptions (words : List (Bor (List ℕ))) (target : Target) (time : Option Duration) (name : Option (List ℕ)) (options : PayloadOptions) : Type 0 where
+pub record AreSendOptions (words : List (Bor (List ℕ))) (target : Target) (time : Option Duration)
+    (name : Option (List ℕ)) (options : PayloadOptions) : Type 0 where
   pub named : HasCallOptions (words_without (codes "unstable") words) (target, name)
   pub timed : IsOptional IsTime (texts_named (codes "at=") (words_without (codes "unstable") words))
       time
@@ -55,7 +58,8 @@ pub record HasScope (words : List (Bor (List ℕ))) (scope : Option (List ℕ)) 
   pub only : are_named (codes "scope=" ∷ []) words ≡ true
 
 -- `[skey=T] [scope=T]` alone
-pub record HasKeyAndScope (words : List (Bor (List ℕ))) (found : Option (List ℕ) × Option (List ℕ)) : Type 0 where
+pub record HasKeyAndScope (words : List (Bor (List ℕ)))
+    (found : Option (List ℕ) × Option (List ℕ)) : Type 0 where
   pub keyed : IsOptional IsText (texts_named (codes "skey=") words) found.0
   pub scoped : IsOptional IsText (texts_named (codes "scope=") words) found.1
   pub only : are_named (codes "skey=" ∷ codes "scope=" ∷ []) words ≡ true
@@ -70,7 +74,7 @@ pub record IsCallOf (words : List (Bor (List ℕ))) (call : IdempotencyId) : Typ
   pub texts : AreThreeTexts words (call.service_name, call.handler_name, call.idempotency_key)
   pub options : HasKeyAndScope (drop 3 words) (call.service_key, call.scope)
 
--- this word and those behind it name this invocation: by its id, by its workflow, or by an
+-- this word and those after it name this invocation: by its id, by its workflow, or by an
 -- idempotency key
 abbrev pub NamesBehind : List ℕ → List (Bor (List ℕ)) → InvocationTarget → Type 0
 NamesBehind word others (target.InvocationId id) = (word ≡ codes "id") × IsOneText others id

@@ -1,5 +1,5 @@
--- How a tree of awaits is spelled, in one word: a handle by its digits, and a node by its kind's
--- name and its children in round brackets, with a comma between each two. Blanks behind a comma say
+-- How a tree of awaits is written, in one word: a handle by its digits, and a node by its kind's
+-- name and its children in round brackets, with a comma between each two. Blanks after a comma say
 -- nothing.
 use Rattle.std.specs.Prelude.{◌≡◌, ◌==◌, ◌&&◌, ℕ, Bool, true, false, if◌then◌else◌, List, [], ◌∷◌, ◌++◌, codes}
 use Rattle.journal_protocol.specs.FutureKind.{FutureKind}
@@ -27,13 +27,13 @@ kind_name AllSucceededOrFirstFailed = codes "asff"
 kind_name Unknown = codes "un"
 
 abbrev mutual
-  -- the text spells a tree
+  -- the text encodes this tree
   pub SpellsTree : List ℕ → Tree → Type 0
   SpellsTree text (leaf handle) = IsNumberOf 32 text handle
   SpellsTree text (node kind children) = (inside : List ℕ)
       × (text ≡ kind_name kind ++ opening ∷ (inside ++ closing ∷ [])) × SpellsForest inside children
 
-  -- the text spells trees, with a comma between each two
+  -- the text encodes these trees, with a comma between each two
   pub SpellsForest : List ℕ → Forest → Type 0
   SpellsForest text none = text ≡ []
   SpellsForest text (more t none) = SpellsTree text t
@@ -44,17 +44,17 @@ abbrev mutual
 abbrev pub IsKind : List ℕ → FutureKind → Type 0
 IsKind word kind = word ≡ kind_name kind
 
--- the text without blanks behind its commas; the first says whether a comma, and no more than
--- blanks, stands in front of it
+-- the text without blanks after its commas; the flag says whether a comma stands before the text,
+-- with only blanks between
 abbrev pub without_blanks : Bool → List ℕ → List ℕ
 without_blanks after_comma [] = []
 without_blanks after_comma (c ∷ cs) =
     if after_comma && c == 32 then without_blanks true cs else c ∷ without_blanks (c == comma) cs
 
--- the text spells the tree that is awaited, without a blank
+-- the text encodes the tree that is awaited, without a blank
 abbrev pub SpellsClosely : List ℕ → UnresolvedFuture → Type 0
 SpellsClosely text future = SpellsTree text (tree_of future)
 
--- the text, without blanks behind its commas, spells the tree that is awaited
+-- the text, without blanks after its commas, encodes the tree that is awaited
 abbrev pub SpellsFuture : List ℕ → UnresolvedFuture → Type 0
 SpellsFuture text future = SpellsClosely (without_blanks false text) future

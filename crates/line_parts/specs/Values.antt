@@ -1,4 +1,4 @@
--- Values, pairs and options behind a call's arguments.
+-- Values, pairs, and the options after a call's arguments.
 use Rattle.std.specs.Prelude.{◌≡◌, ◌≤◌, ◌-◌, ℕ, Bool, true, not, if◌then◌else◌, List, [], ◌∷◌, length, drop, take, Option, codes, filter, nat_eq}
 use Rattle.std.specs.Borrow.{Bor}
 use Rattle.std.specs.Cmp.Lexicographic.{pointwise}
@@ -38,8 +38,7 @@ pub record IsFailure (words : List (Bor (List ℕ))) (failure : TerminalFailure)
   pub first : HasCodeAndText failure.code failure.message words
   pub pairs : ArePairs (drop 2 words) failure.metadata
 
--- this word and those behind it are a value: `success` and bytes, or `failure` and what is told of
--- it
+-- this word and those after it are a value: `success` and bytes, or `failure` and its details
 abbrev pub IsValueBehind : List ℕ → List (Bor (List ℕ)) → NonEmptyValue → Type 0
 IsValueBehind word others (value.Success bytes) = (word ≡ codes "success") × IsOneAtom others bytes
 IsValueBehind word others (value.Failure failure) = (word ≡ codes "failure")
@@ -53,7 +52,7 @@ IsValue words value = IsValueBehind (text_at 0 words) (words_after_first words) 
 abbrev pub last_is : (List ℕ → Bool) → List (Bor (List ℕ)) → Bool
 last_is passes words = passes (text_at (length words - 1) words)
 
--- the words without the last, where that passes
+-- the words without the last, if that passes
 abbrev pub but_last : (List ℕ → Bool) → List (Bor (List ℕ)) → List (Bor (List ℕ))
 but_last passes words = if last_is passes words then take (length words - 1) words else words
 
@@ -62,7 +61,8 @@ abbrev pub is_unstable : List ℕ → Bool
 is_unstable word = pointwise nat_eq word (codes "unstable")
 
 -- a value, and `unstable` or nothing
-pub record HasValue (words : List (Bor (List ℕ))) (value : NonEmptyValue × PayloadOptions) : Type 0 where
+pub record HasValue (words : List (Bor (List ℕ)))
+    (value : NonEmptyValue × PayloadOptions) : Type 0 where
   pub is_value : IsValue (but_last is_unstable words) value.0
   pub unstable : value.1.unstable_serialization ≡ last_is is_unstable words
 

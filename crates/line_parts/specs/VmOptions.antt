@@ -73,8 +73,8 @@ IsReplay text it = text ≡ replay_word it
 abbrev pub IsDelivery : List ℕ → SignalDelivery → Type 0
 IsDelivery text it = text ≡ delivery_word it
 
--- An option is what the word behind its name stands for, and as by default where it isn't named.
--- The seed stands apart.
+-- An option is what the word after its name stands for; it is the default if it isn't named. The
+-- seed stands apart.
 pub record ArePolicies (words : List (Bor (List ℕ))) (options : VMOptions) : Type 0 where
   pub cancel : IsSet IsCancel default_options.implicit_cancellation
       (texts_named (codes "cancel=") words)

@@ -6,18 +6,18 @@ use Rattle.lines.specs.Atoms.{IsAtom, IsText}
 use Rattle.await_trees.specs.declared.handle.NotificationHandle.{NotificationHandle}
 use Rattle.vm_types.specs.declared.types.EphemeralCompletionId.{EphemeralCompletionId}
 
--- the text of a word, or nothing where there are no so many words
+-- the text of the word at this index; empty if there are fewer words
 abbrev pub text_at : ℕ → List (Bor (List ℕ)) → List ℕ
 text_at i [] = []
 text_at zero (word ∷ words) = word.now
 text_at (suc i) (word ∷ words) = text_at i words
 
--- the words behind the first
+-- the words after the first
 abbrev pub words_after_first : List (Bor (List ℕ)) → List (Bor (List ℕ))
 words_after_first [] = []
 words_after_first (word ∷ words) = words
 
--- the decimal digits of a number of so many bits
+-- the decimal digits of a number below 2 ^ bits
 abbrev pub IsNumberOf : ℕ → List ℕ → ℕ → Type 0
 IsNumberOf bits text number =
     IsNumeral 10 text × (number ≡ digits_value 10 text) × (number < 2 ^ bits)

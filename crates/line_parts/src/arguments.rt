@@ -15,7 +15,7 @@ use std::alloc::{AllocError, Global};
 use std::time::Duration;
 use vm_parts::{EphemeralCompletionId, NotificationHandle, PayloadOptions};
 
-/// The options behind a command's arguments.
+/// The options after a command's arguments.
 #[derive(Drop)]
 pub struct Extras {
     pub name: Option<Text>,
@@ -190,7 +190,7 @@ pub fn text_alone(alloc: Global, arguments: &[&[u8]]) -> Result<Text, Fault>
     Ok(text)
 }
 
-/// `T T`, and the words behind them.
+/// `T T`, and the words after them.
 #[tactic(auto, using(crate::proofs::Missing::first_of_two, crate::proofs::Missing::second_of_two))]
 pub fn two_texts<'w, 'a>(
     alloc: Global,
@@ -210,7 +210,7 @@ pub fn two_texts<'w, 'a>(
     }
 }
 
-/// `T T T`, and the words behind them.
+/// `T T T`, and the words after them.
 #[tactic(auto, using(crate::proofs::Missing::first_of_three, crate::proofs::Missing::others_of_three, crate::proofs::Places::three_texts_are, crate::proofs::Places::drop_two_more))]
 pub fn three_texts<'w, 'a>(
     alloc: Global,

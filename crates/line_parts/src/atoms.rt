@@ -44,7 +44,7 @@ pub fn text_of(alloc: Global, text: &[u8]) -> Result<Text, Fault>
     Ok(Text::from_string(string_of(alloc, text)?))
 }
 
-/// The number of decimal digits, where it fits sixteen bits.
+/// The number of decimal digits, if it fits sixteen bits.
 pub fn u16_of(text: &[u8]) -> Result<u16, Fault>
     ensures value { IfOk result (IsNumberOf 16 text.now) }
     ensures none { IfErr result (Blames (IsNumberOf 16 text.now)) }
@@ -53,7 +53,7 @@ pub fn u16_of(text: &[u8]) -> Result<u16, Fault>
     u16::try_from(number).map_err(|_| Fault::Malformed)
 }
 
-/// The number of decimal digits, where it fits thirty-two bits.
+/// The number of decimal digits, if it fits thirty-two bits.
 pub fn u32_of(text: &[u8]) -> Result<u32, Fault>
     ensures value { IfOk result (IsNumberOf 32 text.now) }
     ensures none { IfErr result (Blames (IsNumberOf 32 text.now)) }
@@ -62,7 +62,7 @@ pub fn u32_of(text: &[u8]) -> Result<u32, Fault>
     u32::try_from(number).map_err(|_| Fault::Malformed)
 }
 
-/// The number of decimal digits, where it fits sixty-four bits.
+/// The number of decimal digits, if it fits sixty-four bits.
 pub fn u64_of(text: &[u8]) -> Result<u64, Fault>
     ensures value { IfOk result (IsNumberOf 64 text.now) }
     ensures none { IfErr result (Blames (IsNumberOf 64 text.now)) }
@@ -123,7 +123,7 @@ fn milliseconds(number: u128) -> Option<Duration>
     Some(Duration::new(seconds, (number % 1000) as u32 * 1_000_000))
 }
 
-/// The duration of so many nanoseconds, in decimal digits.
+/// A duration, from the decimal digits of its nanoseconds.
 fn nanoseconds_of(digits: &[u8]) -> Option<Duration>
     ensures digits { IfSome result (λ _. IsNumeral 10 digits.now) }
     ensures value { IfSome result (λ duration. as_nanos duration ≡ digits_value 10 digits.now) }
@@ -134,7 +134,7 @@ fn nanoseconds_of(digits: &[u8]) -> Option<Duration>
     nanoseconds(number)
 }
 
-/// The duration of so many milliseconds, in decimal digits.
+/// A duration, from the decimal digits of its milliseconds.
 fn milliseconds_of(digits: &[u8]) -> Option<Duration>
     ensures digits { IfSome result (λ _. IsNumeral 10 digits.now) }
     ensures value { IfSome result (λ duration. as_nanos duration
@@ -146,7 +146,7 @@ fn milliseconds_of(digits: &[u8]) -> Option<Duration>
     milliseconds(number)
 }
 
-/// What stands in front of `ns`, where the text ends so.
+/// What stands in front of `ns`, if the text ends so.
 fn before_ns(text: &[u8]) -> Option<&[u8]>
     ensures { MatchOption result ((front : List ℕ) → text.now ≢ front
         ++ codes "ns") (λ front. text.now ≡ front.now ++ codes "ns") }
@@ -154,7 +154,7 @@ fn before_ns(text: &[u8]) -> Option<&[u8]>
     text.strip_suffix(b"ns")
 }
 
-/// A number of milliseconds, or of nanoseconds with `ns` right behind.
+/// A number of milliseconds, or of nanoseconds with `ns` right after it.
 #[tactic(auto, using(crate::proofs::Timing::nanos_is, crate::proofs::Timing::millis_is, crate::proofs::Timing::nanos_blamed, crate::proofs::Timing::millis_blamed))]
 pub fn duration_of(text: &[u8]) -> Result<Duration, Fault>
     ensures value { IfOk result (IsTime text.now) }

@@ -5,7 +5,7 @@ ghost use Rattle.line_parts.specs.Fields.{is_named, text_behind, texts_named};
 
 use plain::Fault;
 
-/// The text behind the name that a word begins with.
+/// The text after the name that a word begins with.
 #[tactic(auto, unfolding(crate::specs::Fields::text_behind))]
 pub fn text_behind<'a>(word: &'a [u8], name: &str) -> Option<&'a [u8]>
     ensures { MatchOption result (text_behind name.now word.now
@@ -14,7 +14,7 @@ pub fn text_behind<'a>(word: &'a [u8], name: &str) -> Option<&'a [u8]>
     word.strip_prefix(name.as_bytes())
 }
 
-/// The text behind this name, where one stands; `Malformed` where there are two.
+/// The text after this name, if a word begins with it; `Malformed` if more than one does.
 pub fn field_of<'a>(words: &[&'a [u8]], name: &str) -> Result<Option<&'a [u8]>, Fault>
     ensures found { IfOk result
         (λ found. MatchOption found (texts_named name.now words.now

@@ -1,5 +1,5 @@
-//! The parts of a script's line: what its words spell, and that a word is refused only where it spells nothing.
-//! Where a later step fails, what was read before is dropped by a call, not at the function's end: laid out there it is dear to prove.
+//! The parts of a script's line: the values that its words encode. A word is refused only if it encodes none.
+//! If a later step fails, what was read before is dropped by a call, not at the function's end: laid out there it is dear to prove.
 #![tactic(auto)]
 
 pub mod arguments;

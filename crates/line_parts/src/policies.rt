@@ -151,7 +151,7 @@ fn are_of_growth(words: &[&[u8]]) -> bool
     )
 }
 
-/// What stands in brackets behind `fixed`.
+/// The bounds in brackets after `fixed`.
 #[tactic(auto, using(crate::proofs::Retrying::fixed_unbracketed, crate::proofs::Retrying::fixed_bounds, crate::proofs::Retrying::fixed_others))]
 fn fixed_of(alloc: Global, text: &[u8]) -> Result<Bounds, Fault>
     ensures value { IfOk result (IsFixed text.now) }
@@ -184,7 +184,7 @@ fn growth_among(alloc: Global, words: &[&[u8]]) -> Result<Growth, Fault>
     })
 }
 
-/// What stands in brackets behind `exp`.
+/// The growth in brackets after `exp`.
 #[tactic(auto, using(crate::proofs::Retrying::growth_unbracketed, crate::proofs::Retrying::growth_blamed))]
 fn growth_of(alloc: Global, text: &[u8]) -> Result<Growth, Fault>
     ensures value { IfOk result (IsExponential text.now) }

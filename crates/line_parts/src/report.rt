@@ -1,4 +1,4 @@
-//! The words behind `error`: what the handler's runner reports.
+//! The words after `error`: what the handler's runner reports.
 ghost use Rattle.std.specs.Prelude.{◌≡◌, [], IfErr, IfOk, codes, string_bytes};
 ghost use Rattle.journal_protocol.specs.ErrorBehavior.TheVariants as behavior;
 ghost use Rattle.lines.specs.Atoms.{IsText};
@@ -208,7 +208,8 @@ fn related_in(alloc: Global, words: &[&[u8]]) -> Result<Option<CommandRelationsh
 fn stack_in(alloc: Global, words: &[&[u8]]) -> Result<Option<String>, Fault>
     ensures value { IfOk result
         (λ stack. IsSet IsText [] (texts_named (codes "stack=") words.now) (stack_or stack [])) }
-    ensures none { IfErr result (Blames (IsSet IsText [] (texts_named (codes "stack=") words.now))) }
+    ensures none { IfErr result
+        (Blames (IsSet IsText [] (texts_named (codes "stack=") words.now))) }
 {
     match field_of(words, "stack=") {
         Ok(Some(text)) => match string_of(alloc, text) {
@@ -290,7 +291,7 @@ fn error_with(code: u16, message: String, details: Details) -> Error
     delayed(stacked(error, stack), delay)
 }
 
-/// `N T`, and among the words behind them `[stack=T] [behaviour=..] [delay=D]`.
+/// `N T`, and among the words after them `[stack=T] [behaviour=..] [delay=D]`.
 #[tactic(auto, using(crate::proofs::Reporting::code_blamed, crate::proofs::Reporting::message_blamed, crate::proofs::Reporting::details_blamed))]
 pub fn error_of(alloc: Global, words: &[&[u8]]) -> Result<Error, Fault>
     ensures value { IfOk result (IsError words.now) }
@@ -309,7 +310,7 @@ fn are_options(words: &[&[u8]]) -> bool
     are_named(words, &["stack=", "behaviour=", "delay=", "rel="])
 }
 
-/// The command that an error relates to, where its options are no others than it may have.
+/// The command that an error relates to. `Malformed` if the error has other options than it may have.
 #[tactic(auto, using(crate::proofs::Reporting::options_blamed, crate::proofs::Reporting::related_blamed))]
 fn relationship_alone(
     alloc: Global,

@@ -1,4 +1,4 @@
-//! What executing a run came to, as it is proposed: `H RESULT [policy=P]`.
+//! The outcome of executing a run, as it is proposed: `H RESULT [policy=P]`.
 ghost use Rattle.std.specs.Prelude.{◌≡◌, IfErr, IfOk};
 ghost use Rattle.lines.specs.Readings.{Blames};
 ghost use Rattle.line_parts.specs.Fields.{are_named};
@@ -70,7 +70,7 @@ fn settled(value: NonEmptyValue) -> RunExitResult
     }
 }
 
-/// `V`, or `retryable` and what is told of the failure, with or without a policy.
+/// `V`, or `retryable` and the failure's details, with or without a policy.
 #[tactic(auto, using(crate::proofs::Proposing::retryable_blamed, crate::proofs::Proposing::value_blamed, crate::proofs::Proposing::nothing_blamed))]
 fn result_of(alloc: Global, words: &[&[u8]]) -> Result<RunExitResult, Fault>
     ensures value { IfOk result (IsResult words.now) }

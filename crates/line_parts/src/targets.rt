@@ -73,7 +73,7 @@ fn call_of(alloc: Global, words: &[&[u8]]) -> Result<IdempotencyId, Fault>
     }
 }
 
-/// `T` behind `id`.
+/// `T` after `id`.
 #[tactic(auto, using(crate::proofs::Targeting::id_blamed))]
 fn target_by_id(alloc: Global, words: &[&[u8]]) -> Result<AttachInvocationTarget, Fault>
     ensures value { IfOk result (NamesBehind (codes "id") words.now) }
@@ -85,7 +85,7 @@ fn target_by_id(alloc: Global, words: &[&[u8]]) -> Result<AttachInvocationTarget
     }
 }
 
-/// `T T [scope=T]` behind `workflow`.
+/// `T T [scope=T]` after `workflow`.
 #[tactic(auto, using(crate::proofs::Targeting::workflow_blamed))]
 fn target_by_workflow(alloc: Global, words: &[&[u8]]) -> Result<AttachInvocationTarget, Fault>
     ensures value { IfOk result (NamesBehind (codes "workflow") words.now) }
@@ -97,7 +97,7 @@ fn target_by_workflow(alloc: Global, words: &[&[u8]]) -> Result<AttachInvocation
     }
 }
 
-/// `T T T [skey=T] [scope=T]` behind `idem`.
+/// `T T T [skey=T] [scope=T]` after `idem`.
 #[tactic(auto, using(crate::proofs::Targeting::call_blamed))]
 fn target_by_call(alloc: Global, words: &[&[u8]]) -> Result<AttachInvocationTarget, Fault>
     ensures value { IfOk result (NamesBehind (codes "idem") words.now) }
@@ -109,7 +109,7 @@ fn target_by_call(alloc: Global, words: &[&[u8]]) -> Result<AttachInvocationTarg
     }
 }
 
-/// The invocation that this word and those behind it name.
+/// The invocation that this word and those after it name.
 fn target_behind(
     alloc: Global,
     word: &[u8],

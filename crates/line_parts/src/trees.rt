@@ -1,4 +1,4 @@
-//! Trees of awaits, as a line spells them: `17`, or `fc(17, ac(18, 19), un())`.
+//! Trees of awaits, as a line writes them: `17`, or `fc(17, ac(18, 19), un())`.
 ghost use Rattle.std.specs.Prelude.{◌≡◌, ◌≢◌, ◌++◌, ◌<◌, ℕ, List, None, Some, false, length, ◌∷◌, IfErr, IfNone, IfOk, IfSome};
 ghost use Rattle.lines.specs.Readings.{Blames};
 ghost use Rattle.line_parts.specs.OpenNodes.{GoesOn, StandsAt, behind_word, is_break, word_of};
@@ -74,7 +74,7 @@ fn cut(text: &[u8]) -> (&[u8], &[u8])
     text.split_at(text.len())
 }
 
-/// What stands behind this byte, if the text begins with it.
+/// The rest of the text after this byte, if the text begins with it.
 fn behind(byte: u8, text: &[u8]) -> Option<&[u8]>
     ensures some { IfSome result (λ rest. text.now ≡ byte ∷ rest.now) }
     ensures none { IfNone result ((rest : List ℕ) → text.now ≢ byte ∷ rest) }
@@ -88,7 +88,7 @@ fn behind(byte: u8, text: &[u8]) -> Option<&[u8]>
 /// What was read last, if it is a tree that is whole; and the rest of the text.
 type Read<'a> = (Option<UnresolvedFuture>, &'a [u8]);
 
-/// Reads a handle, an empty node, or the beginning of a node, which is then open; and the rest behind it.
+/// Reads a handle, an empty node, or the beginning of a node, which is then open; and the rest after it.
 #[tactic(auto, using(crate::proofs::TreeEnding::handle_goes_on))]
 fn begin<'a>(alloc: Global, nodes: &mut Vec<OpenNode>, text: &'a [u8]) -> Result<Read<'a>, Fault>
     ensures stands { IfOk result (λ read. (whole : List ℕ)
@@ -114,7 +114,7 @@ fn begin<'a>(alloc: Global, nodes: &mut Vec<OpenNode>, text: &'a [u8]) -> Result
     Ok((None, inside))
 }
 
-/// Puts a tree into the innermost open node, and reads the comma or the bracket behind it.
+/// Puts a tree into the innermost open node, and reads the comma or the bracket after it.
 #[tactic(auto, using(crate::proofs::TreeEnding::over, crate::proofs::TreeEnding::closing_goes_on, crate::proofs::TreeEnding::neither))]
 fn go_on<'a>(
     nodes: &mut Vec<OpenNode>,
@@ -143,7 +143,7 @@ fn go_on<'a>(
     Ok((None, rest))
 }
 
-/// Reads one piece more of the text, and tells what was read last.
+/// Reads one piece more of the text. Returns the tree that was read whole last, if any, and the rest.
 fn read_on<'a>(
     alloc: Global,
     nodes: &mut Vec<OpenNode>,
@@ -166,7 +166,7 @@ fn read_on<'a>(
     }
 }
 
-/// The tree that a text spells without a blank.
+/// The tree that a text without blanks encodes.
 #[tactic(auto, using(crate::proofs::TreeReading::stands_first, crate::proofs::TreeReading::stands_last))]
 fn tree_without_blanks(alloc: Global, text: &[u8]) -> Result<UnresolvedFuture, Fault>
     ensures value { IfOk result (SpellsClosely text.now) }
@@ -198,7 +198,7 @@ fn has_blank(text: &[u8]) -> bool
     false
 }
 
-/// The text without blanks behind its commas.
+/// The text without blanks after its commas.
 fn without_blanks(alloc: Global, text: &[u8]) -> Result<Vec<u8>, AllocError>
     ensures { IfOk result (λ tight. tight.items ≡ without_blanks false text.now) }
 {
@@ -214,7 +214,7 @@ fn without_blanks(alloc: Global, text: &[u8]) -> Result<Vec<u8>, AllocError>
     Ok(tight)
 }
 
-/// The tree that a word spells. Blanks may stand behind its commas.
+/// The tree that a word encodes. Blanks may stand after its commas.
 pub fn tree_of_word(alloc: Global, text: &[u8]) -> Result<UnresolvedFuture, Fault>
     ensures value { IfOk result (SpellsFuture text.now) }
     ensures none { IfErr result (Blames (SpellsFuture text.now)) }

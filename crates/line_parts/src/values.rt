@@ -58,7 +58,7 @@ fn failure_of(alloc: Global, words: &[&[u8]]) -> Result<TerminalFailure, Fault>
     }
 }
 
-/// The value that this word and those behind it are.
+/// The value that this word and those after it are.
 #[tactic(auto, using(crate::proofs::Failing::success_blamed, crate::proofs::Failing::failure_blamed))]
 fn value_behind(alloc: Global, word: &[u8], others: &[&[u8]]) -> Result<NonEmptyValue, Fault>
     ensures value { IfOk result (IsValueBehind word.now others.now) }

@@ -83,14 +83,14 @@ pub fn time_in(words: &[&[u8]], place: usize) -> Result<Duration, Fault>
     }
 }
 
-/// The words behind the first so many.
+/// The words after the first `count`.
 pub fn behind<'w, 'a>(words: &'w [&'a [u8]], count: usize) -> &'w [&'a [u8]]
     ensures { result.now ≡ drop count words.now }
 {
     words.get(count..).unwrap_or_default()
 }
 
-/// The words behind the first.
+/// The words after the first.
 #[tactic(auto, using(crate::proofs::Places::drop_first))]
 pub(crate) fn but_first<'w, 'a>(words: &'w [&'a [u8]]) -> &'w [&'a [u8]]
     ensures { result.now ≡ words_after_first words.now }

@@ -1,4 +1,4 @@
--- Where a text is blamed: nothing is what it says.
+-- When a text is blamed: nothing is what it says.
 use Rattle.std.proofs.Common.{◌≡◌, ◌≢◌, ◌<◌, ◌-◌, ◌++◌, inl, inr, ℕ, zero, suc, List, [], ◌∷◌, Option, Some, None, length, drop, get_or, ap, sym, refl, subst, ◌∙◌, arith, length-append, append_assoc}
 use Rattle.std.proofs.Math.Seq.{get_or-append_seam}
 use Rattle.std.proofs.lemmas.List.{append_cancel_right}
@@ -12,7 +12,7 @@ use Rattle.lines.specs.Atoms.{IsAtom, IsText, Spells, first_char, first_hex}
 use Rattle.lines.specs.Pieces.{IsWithin}
 use Rattle.lines.specs.Readings.{Blames, One, Two, Three}
 
--- want of memory blames no text
+-- out of memory blames no text
 pub memory_blames : {A : Type 0} (Says : A → Type 0) → Blames Says Memory
 memory_blames Says = record { nothing = λ bad. absurd (cc bad) }
 
@@ -63,7 +63,7 @@ ends_otherwise opening closing text inside other e =
 begins_with : (a b : ℕ) (xs ys : List ℕ) → a ∷ xs ≡ b ∷ ys → (a ≡ b → ⊥) → ⊥
 begins_with a b xs ys e differ = differ (ap (λ t. get_or t 0 0) e)
 
--- hex digits that spell nothing
+-- hex digits that encode nothing
 pub hex_blamed : (text digits : List ℕ) (fault : Fault) → text ≡ 48 ∷ 120 ∷ digits → Blames (Spells first_hex digits) fault → Blames (IsAtom text) fault
 hex_blamed text digits fault e blames = record { nothing = λ bad bytes atom. go bad bytes atom }
   where
@@ -79,7 +79,7 @@ unquoted_blamed text fault other blames = record { nothing = λ bad bytes atom. 
     go bad bytes (inl (inside, q, s)) = blames.nothing bad inside q
     go bad bytes (inr (others, q, s)) = other others q
 
--- quotes in which nothing is spelled
+-- quotes whose text encodes nothing
 pub quoted_blamed : (text inside : List ℕ) (fault : Fault) → ((digits : List ℕ) → text ≡ 48 ∷ 120 ∷ digits → ⊥) → IsWithin 34 34 text inside → Blames (Spells first_char inside) fault → Blames (IsAtom text) fault
 quoted_blamed text inside fault other e blames = record { nothing = λ bad bytes atom. go bad bytes atom }
   where
@@ -90,12 +90,12 @@ quoted_blamed text inside fault other e blames = record { nothing = λ bad bytes
 
 -- ---- bytes taken off one by one
 
--- what is spelled goes on where nothing is found
+-- a text that isn't empty, and doesn't begin with the encoding of a byte, encodes no bytes
 pub spelling_ends : (first : List ℕ → Option (ℕ × List ℕ)) (text : List ℕ) (bytes : List ℕ) → 0 < length text → first text ≡ None → Spells first text bytes → ⊥
 spelling_ends first text [] some none e = let long = ap length e in absurd (omega arith)
 spelling_ends first text (b ∷ bytes) some none (rest, e, s) = cc (sym none ∙ e)
 
--- what is spelled by the whole text begins with these bytes, and the rest spells what follows
+-- all that the whole text encodes begins with these bytes, and the rest encodes what follows
 abbrev pub GoesOn : (List ℕ → Option (ℕ × List ℕ)) → List ℕ → List ℕ → List ℕ → Type 0
 GoesOn first text rest bytes = (all : List ℕ) → Spells first text all → (tail : List ℕ) × (all ≡ bytes ++ tail) × Spells first rest tail
 
@@ -125,7 +125,7 @@ goes_on_more first text rest behind bytes more byte empty e m on all s = go (on 
           subst (λ (x : ℕ × List ℕ). Spells first x.1 next) same spelled,
         )
 
--- a text spells one list of bytes
+-- a text encodes at most one list of bytes
 pub spells_once : (first : List ℕ → Option (ℕ × List ℕ)) (text xs ys : List ℕ) → first [] ≡ None → Spells first text xs → Spells first text ys → xs ≡ ys
 spells_once first text [] [] empty s t = refl
 spells_once first text [] (b ∷ ys) empty s (rest, e, t) = absurd (cc (sym empty ∙ ap first (sym s) ∙ e))

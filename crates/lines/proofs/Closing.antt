@@ -1,4 +1,4 @@
--- Where a text can't be cut: its quotes and brackets aren't closed.
+-- When a text can't be cut: its quotes and brackets aren't closed.
 use Rattle.std.proofs.Common.{◌≡◌, ◌≢◌, ◌<◌, ◌≤◌, ◌+◌, ◌-◌, ◌^◌, ◌++◌, ℕ, List, [], ◌∷◌, Option, Some, None, length, take, drop, fold, get_or, suc, Ok, Err, IfErr, Result, ap, sym, refl, ◌∙◌, arith}
 use Rattle.std.specs.Borrow.{Bor}
 use Rattle.std.specs.List.{All}
@@ -11,13 +11,13 @@ use Rattle.lines.specs.declared.pieces.Quotes.TheVariants.{Outside, Inside, Esca
 use Rattle.lines.specs.Pieces.{nesting_after, place, outside, IsPiece, AreWords}
 use Rattle.lines.proofs.Cutting.{IsCut, ended}
 
--- behind a bracket that closes none there is no place
+-- after a bracket that was closed without being opened there is no place
 pub fold_none : (text : List ℕ) → fold nesting_after None text ≡ None
 unfolding nesting_after
 fold_none [] = refl
 fold_none (b ∷ text) = fold_none text
 
--- pieces with a neutral byte behind each are closed
+-- pieces with a neutral byte after each are closed
 pub ended_closed : (separator : ℕ) (pieces : List (Bor (List ℕ))) → All (λ p. IsPiece separator p.now) pieces → nesting_after outside separator ≡ outside → place (ended separator pieces) ≡ outside
 ended_closed separator [] whole neutral = refl
 ended_closed separator (p ∷ ps) whole neutral =
@@ -26,7 +26,7 @@ ended_closed separator (p ∷ ps) whole neutral =
     ∙ ap (λ s. fold nesting_after s (ended separator ps)) (fold-append nesting_after outside p.now (separator ∷ []) ∙ ap (λ s. nesting_after s separator) first ∙ neutral)
     ∙ ended_closed separator ps (λ k d h. whole (suc k) d (omega arith)) neutral
 
--- the place behind what is cut is that of the text
+-- the place after what is cut is that of the text
 pub cut_place : (separator start i : ℕ) (text : List ℕ) (pieces : List (Bor (List ℕ))) (n : Nesting) → IsCut separator start i text pieces n → nesting_after outside separator ≡ outside → place (take i text) ≡ Some n
 cut_place separator start i text pieces n cut neutral =
     ap place cut.text_is ∙ fold-append nesting_after outside (ended separator pieces) cut.piece
@@ -51,7 +51,7 @@ brackets_within (b ∷ text) n m e = go (λ k. brackets_within text k m) (nestin
         let more = rest k e in
         omega arith
 
--- where a bracket closes none, the text isn't closed
+-- if a bracket is closed that wasn't opened, the text isn't closed
 pub unclosed_within : (separator start i : ℕ) (text : List ℕ) (pieces : List (Bor (List ℕ))) (n : Nesting) → IsCut separator start i text pieces n → nesting_after outside separator ≡ outside
     → i < length text → length text < 2 ^ 64 → (n.brackets < 2 ^ 64 - 1 → nesting_after (Some n) (get_or text i 0) ≡ None) → place text ≢ outside
 unclosed_within separator start i text pieces n cut neutral less small closes closed =
@@ -65,7 +65,7 @@ unclosed_within separator start i text pieces n cut neutral less small closes cl
     ∙ ap (λ s. fold nesting_after s (drop (i + 1) text)) more ∙ fold_none (drop (i + 1) text) in
     cc (sym whole ∙ closed)
 
--- where its end stands in brackets or quotes, the text isn't closed
+-- if its end stands in brackets or quotes, the text isn't closed
 pub unclosed_end : (separator start i : ℕ) (text : List ℕ) (pieces : List (Bor (List ℕ))) (n : Nesting) → IsCut separator start i text pieces n → nesting_after outside separator ≡ outside
     → i ≡ length text → Some n ≢ outside → place text ≢ outside
 unclosed_end separator start i text pieces n cut neutral end within closed =

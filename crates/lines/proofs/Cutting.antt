@@ -9,7 +9,7 @@ use Rattle.std.proofs.lemmas.List.Sums.{fold-append}
 use Rattle.lines.specs.declared.pieces.Nesting.{Nesting}
 use Rattle.lines.specs.Pieces.{nesting_after, place, outside, IsUncut, IsPiece, ArePieces}
 
--- the pieces, with a separator behind each
+-- the pieces, with a separator after each
 abbrev pub ended : ℕ → List (Bor (List ℕ)) → List ℕ
 ended separator pieces = flat_map (λ p. p.now ++ separator ∷ []) pieces
 
@@ -33,7 +33,7 @@ uncut_more separator b xs uncut here k h =
     (λ j less e p. uncut j less (sym (get_or_append_left xs (b ∷ []) 0 j less) ∙ e) (ap place (sym (take-append-le j xs (b ∷ []) (omega arith))) ∙ p))
     last k (omega (arith, length-append xs (b ∷ [])))
 
--- where the text begins, nothing is cut
+-- at the beginning of the text nothing is cut
 pub cut_none : (separator : ℕ) (text : List ℕ) (pieces : List (Bor (List ℕ))) (nesting : Nesting) → pieces ≡ [] → Some nesting ≡ outside → IsCut separator 0 0 text pieces nesting
 cut_none separator text pieces nesting none e = rw none record {
   piece = [];
@@ -76,7 +76,7 @@ whole_more separator start i text pieces n p cut e is =
     let piece : IsPiece separator p.now = rw same (cut.at ∙ e, cut.uncut) in
     All-append (λ q. IsPiece separator q.now) pieces (p ∷ []) cut.whole (search rules)
 
--- and its separator behind it
+-- and its separator after it
 pub ended_more : (separator : ℕ) (pieces : List (Bor (List ℕ))) (p : Bor (List ℕ)) → ended separator pieces ++ (p.now ++ separator ∷ []) ≡ ended separator (pieces ++ p ∷ [])
 ended_more separator pieces p = flat_map_more (λ (q : Bor (List ℕ)). q.now ++ separator ∷ []) [] pieces p
 

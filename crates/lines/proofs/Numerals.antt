@@ -30,6 +30,6 @@ front_is_less i ds =
     let whole = ap (digits_value 10) (sym (take-append-drop i ds)) ∙ after_both 0 (take i ds) (drop i ds) in
     omega (arith, grows (drop i ds) (digits_value 10 (take i ds)))
 
--- where the first digits don't fit, the whole doesn't
+-- if the first digits don't fit, the whole doesn't
 pub too_large : (text : List ℕ) (i : ℕ) → i < length text → 2 ^ 64 ≤ digits_value 10 (take i text) * 10 + digit_value (get_or text i 0) → IsNumber text → ⊥
 too_large text i h large number = absurd (omega (arith, digits_value_more 10 text i h, front_is_less (i + 1) text, number.1))

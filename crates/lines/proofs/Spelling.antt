@@ -27,7 +27,7 @@ pub printed_more : (f : ℕ → List ℕ) (before line after xs : List ℕ) (i x
 printed_more f before line after xs i x h e l a =
     a ∙ ap (λ y. y ++ f x) l ∙ flat_map_more f before (take i xs) x ∙ ap (λ y. before ++ flat_map f (take i xs ++ y ∷ [])) e ∙ ap (λ y. before ++ flat_map f y) (sym (take_more xs i x h))
 
--- a text without a quote and a backslash is spelled as it is
+-- a text without a quote and a backslash encodes itself
 spelled_as_is : (text : List ℕ) → ((k : ℕ) → k < length text → (get_or text k 0 ≢ 34) × (get_or text k 0 ≢ 92)) → Spells first_char text text
 unfolding first_char
 spelled_as_is [] plain = refl

@@ -21,7 +21,7 @@ word_more : (words longer pieces : List (Bor (List ℕ))) (p : Bor (List ℕ)) �
 unfolding with_word
 word_more words longer pieces p are e = e ∙ ap (λ ws. ws ++ filter is_word (p ∷ [])) are ∙ sym (filter-append is_word pieces (p ∷ []))
 
--- where the text begins, nothing is cut
+-- at the beginning of the text nothing is cut
 pub words_none : (text : List ℕ) (words : List (Bor (List ℕ))) (nesting : Nesting) → words ≡ [] → Some nesting ≡ outside → IsCutToWords 0 0 text words nesting
 words_none text words nesting none e = record { pieces = []; cut = cut_none 32 text [] nesting refl e; words_are = none }
 
@@ -45,12 +45,12 @@ pub words_all : (start : ℕ) (text : List ℕ) (words longer : List (Bor (List 
 words_all start text words longer n p c e now long =
     (c.pieces ++ p ∷ [], cut_all 32 start text c.pieces (c.pieces ++ p ∷ []) n p c.cut e now refl, word_more words longer c.pieces p c.words_are long)
 
--- a letter or a digit changes nothing but behind a backslash
+-- a letter or a digit changes nothing except after a backslash
 plain_within : (n : Nesting) (b : ℕ) → is_ascii_alphanumeric b ≡ true → n.quotes ≢ Escaped → nesting_after (Some n) b ≡ Some n
 unfolding nesting_after
 plain_within n b plain free = grind (arith, nat_tests)
 
--- letters and digits more, so many
+-- `count` letters and digits more
 pub words_plain : (start i to : ℕ) (text : List ℕ) (words : List (Bor (List ℕ))) (n : Nesting) (count : ℕ) → i + count ≡ to → IsCutToWords start i text words n → (i < to → n.quotes ≢ Escaped)
     → to ≤ length text → ArePlain i to text → IsCutToWords start to text words n
 words_plain start i to text words n zero e c free h plain = subst (λ j. IsCutToWords start j text words n) (omega arith) c
@@ -65,7 +65,7 @@ words_plain start i to text words n (suc count) e c free h plain =
 abbrev pub IsAsciiTo : ℕ → List ℕ → Type 0
 IsAsciiTo i text = (k : ℕ) → k < i → get_or text k 0 < 128
 
--- a byte more, and letters and digits behind it
+-- a byte more, and letters and digits after it
 pub ascii_more : (i to : ℕ) (text : List ℕ) → IsAsciiTo i text → get_or text i 0 < 128 → ArePlain (i + 1) to text → IsAsciiTo to text
 ascii_more i to text before here plain k less = go (nat_lt k i) refl (nat_eq k i) refl
   where

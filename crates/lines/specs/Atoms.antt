@@ -30,7 +30,7 @@ first_hex [] = None
 first_hex (high ∷ []) = None
 first_hex (high ∷ low ∷ rest) = before (hex_byte high low) rest
 
--- the byte of an escape behind its backslash, and what follows
+-- the byte of an escape after its backslash, and what follows
 unfoldable pub escaped : List ℕ → Option (ℕ × List ℕ)
 escaped [] = None
 escaped (c ∷ rest) =
@@ -53,7 +53,7 @@ abbrev pub IsQuoted : List ℕ → List ℕ → Type 0
 IsQuoted text bytes =
     (inside : List ℕ) × (text ≡ 34 ∷ (inside ++ 34 ∷ [])) × Spells first_char inside bytes
 
--- bytes as hex digits behind 0x
+-- bytes as hex digits after 0x
 abbrev pub IsHex : List ℕ → List ℕ → Type 0
 IsHex text bytes = (digits : List ℕ) × (text ≡ 48 ∷ 120 ∷ digits) × Spells first_hex digits bytes
 

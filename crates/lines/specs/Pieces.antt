@@ -14,15 +14,15 @@ opens b = b == 40 || b == 91 || b == 123
 abbrev pub closes : ℕ → Bool
 closes b = b == 41 || b == 93 || b == 125
 
--- in which quotes a place behind the byte is: " begins and ends them, and between them \ escapes
+-- in which quotes the text is after the byte: " begins and ends them, and between them \ escapes
 -- the next byte
 abbrev pub quotes_behind : Quotes → ℕ → Quotes
 quotes_behind Outside b = if b == 34 then Inside else Outside
 quotes_behind Inside b = if b == 34 then Outside else if b == 92 then Escaped else Inside
 quotes_behind Escaped b = Inside
 
--- In how many brackets a place behind the byte is. Between quotes none is counted, and none closes
--- that wasn't opened.
+-- In how many brackets the text is after the byte. Brackets between quotes don't count. None if the
+-- byte closes a bracket that wasn't opened.
 abbrev pub brackets_behind : Quotes → ℕ → ℕ → Option ℕ
 brackets_behind Outside n b =
     if opens b then Some (n + 1) else if closes b then (if n == 0 then None else Some (n - 1))
@@ -34,7 +34,7 @@ abbrev pub nested : Option ℕ → Quotes → Option Nesting
 nested None quotes = None
 nested (Some n) quotes = Some (record { brackets = n; quotes = quotes })
 
--- in which brackets and quotes a place behind the byte is
+-- in which brackets and quotes the text is after the byte
 unfoldable pub nesting_after : Option Nesting → ℕ → Option Nesting
 nesting_after None b = None
 nesting_after (Some n) b = nested (brackets_behind n.quotes n.brackets b) (quotes_behind n.quotes b)
@@ -61,8 +61,8 @@ ArePlain from to text =
 abbrev pub IsPiece : ℕ → List ℕ → Type 0
 IsPiece separator text = (place text ≡ outside) × IsUncut separator text
 
--- The text is these pieces, with a separator between each two: with one behind each piece they are
--- the text with one behind it.
+-- The text is these pieces, with a separator between each two. Said with one separator more: the
+-- pieces, with a separator after each, are the text with a separator after it.
 abbrev pub ArePieces : ℕ → List ℕ → List (Bor (List ℕ)) → Type 0
 ArePieces separator text pieces =
     All (λ p. IsPiece separator p.now) pieces
@@ -76,7 +76,7 @@ piece_texts pieces = map (λ p. p.now) pieces
 abbrev pub is_word : Bor (List ℕ) → Bool
 is_word piece = not (length piece.now == 0)
 
--- these words, and the piece where it is one
+-- these words, and the piece if it is one
 unfoldable pub with_word : List (Bor (List ℕ)) → Bor (List ℕ) → List (Bor (List ℕ))
 with_word words piece = words ++ filter is_word (piece ∷ [])
 
@@ -90,7 +90,8 @@ abbrev pub IsWithin : ℕ → ℕ → List ℕ → List ℕ → Type 0
 IsWithin opening closing text inside = text ≡ opening ∷ (inside ++ closing ∷ [])
 
 -- the words of what stands between an opening and a closing byte
-pub record AreWordsWithin (opening closing : ℕ) (text : List ℕ) (words : List (Bor (List ℕ))) : Type 0 where
+pub record AreWordsWithin (opening closing : ℕ) (text : List ℕ)
+    (words : List (Bor (List ℕ))) : Type 0 where
   pub inside : List ℕ
   pub within : IsWithin opening closing text inside
   pub are_words : AreWords inside words

@@ -14,7 +14,8 @@ pub record One {A C : Type 0} (First : A → Type 0) (make : A → C) (made : C)
   pub is : made ≡ make first
 
 -- one value, made of what is said of its two parts
-pub record Two {A B C : Type 0} (First : A → Type 0) (Second : B → Type 0) (make : A → B → C) (made : C) : Type 0 where
+pub record Two {A B C : Type 0} (First : A → Type 0) (Second : B → Type 0) (make : A → B → C)
+    (made : C) : Type 0 where
   pub first : A
   pub second : B
   pub is_first : First first
@@ -22,7 +23,8 @@ pub record Two {A B C : Type 0} (First : A → Type 0) (Second : B → Type 0) (
   pub is : made ≡ make first second
 
 -- one value, made of what is said of its three parts
-pub record Three {A B C D : Type 0} (First : A → Type 0) (Second : B → Type 0) (Third : C → Type 0) (make : A → B → C → D) (made : D) : Type 0 where
+pub record Three {A B C D : Type 0} (First : A → Type 0) (Second : B → Type 0) (Third : C → Type 0)
+    (make : A → B → C → D) (made : D) : Type 0 where
   pub first : A
   pub second : B
   pub third : C

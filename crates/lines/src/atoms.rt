@@ -27,7 +27,7 @@ pub fn number_of(text: &[u8]) -> Option<u64>
     Some(number)
 }
 
-/// The value of a hex digit, in either case. Most are below ten, which one comparison tells.
+/// The value of a hex digit, in either case. Most are below ten, so that is asked first.
 fn hex_value(digit: u8) -> Option<u8>
     ensures { result ≡ (if is_digit digit 16 then Some (digit_value digit) else None) }
 {
@@ -62,7 +62,7 @@ fn first_hex(text: &[u8]) -> Option<(u8, &[u8])>
     }
 }
 
-/// The byte of an escape behind its backslash, and what follows.
+/// The byte of an escape after its backslash, and what follows.
 #[tactic(auto, unfolding(crate::specs::Atoms::escaped))]
 fn escape_of(text: &[u8]) -> Option<(u8, &[u8])>
     ensures value { MatchOption result (escaped text.now ≡ None) (λ found. escaped text.now
@@ -109,7 +109,7 @@ fn bytes_of_hex(alloc: Global, digits: &[u8]) -> Result<Vec<u8>, Fault>
     Ok(bytes)
 }
 
-/// Whether all between quotes stands for itself, as where there is no escape.
+/// Whether all characters between quotes stand for themselves. That is so if there is no escape.
 #[tactic(auto, using(crate::proofs::Spelling::all_stand_for_themselves))]
 fn is_verbatim(text: &[u8]) -> bool
     ensures { IsTrue result → Spells first_char text.now text.now }

@@ -11,7 +11,7 @@ use std::marker::Model;
 /// How many bytes become hex digits at a time.
 const HEX_PIECE: usize = 512;
 
-/// A line that is being written: a word, and fields behind it. Contracts see its bytes.
+/// A line that is being written: a word, and fields after it. Contracts see its bytes.
 #[derive(Debug, Drop)]
 pub struct Line {
     text: String,
@@ -49,7 +49,7 @@ impl Line {
         }
     }
 
-    /// An empty line with room for so many bytes.
+    /// An empty line with room for `bytes` bytes.
     pub fn with_capacity(alloc: Global, bytes: usize) -> Result<Line, AllocError>
         ensures { IfOk result (λ line. line ≡ []) }
     {
@@ -82,7 +82,7 @@ impl Line {
         Ok(())
     }
 
-    /// Writes a bracket behind which a first field takes no blank.
+    /// Writes a bracket after which a first field takes no blank.
     pub fn open(&mut self, bracket: &str) -> Result<(), AllocError>
         ensures { OnOk result (self.new ≡ self.old ++ bracket.now) }
     {

@@ -13,7 +13,7 @@ use std::alloc::{AllocError, Global};
 enum Quotes {
     Outside,
     Inside,
-    /// Inside, behind a backslash.
+    /// Inside, after a backslash.
     Escaped,
 }
 
@@ -36,14 +36,14 @@ impl Nesting {
         self.brackets == 0 && self.quotes == Quotes::Outside
     }
 
-    /// The nesting behind one byte more; nothing where it closes a bracket that wasn't opened.
+    /// The nesting after one byte more; `None` if it closes a bracket that wasn't opened.
     #[tactic(auto, unfolding(crate::specs::Pieces::nesting_after))]
     fn behind(self, byte: u8) -> Option<Nesting>
         ensures some { IfSome result (λ after. nesting_after (Some self) byte ≡ Some after) }
         ensures none { IfNone result (self.brackets < 2 ^ 64 - 1 → nesting_after (Some self) byte
             ≡ None) }
     {
-        // Most bytes are letters and digits, which change nothing but behind a backslash.
+        // Most bytes are letters and digits, which change nothing except after a backslash.
         if byte.is_ascii_alphanumeric() && self.quotes != Quotes::Escaped {
             return Some(self);
         }
@@ -62,8 +62,8 @@ impl Nesting {
         Some(Nesting { brackets, quotes })
     }
 
-    /// The end of the letters and digits that stand from a place on. They change nothing, but behind a backslash one does,
-    /// so there it is the place itself.
+    /// The end of the letters and digits that stand from a place on. They change nothing, except the one after a backslash: there the end
+    /// is the place itself.
     fn plain_end(self, text: &[u8], from: usize) -> usize
         requires { from ≤ length text.now }
         ensures within { (from ≤ result) × (result ≤ length text.now) }

@@ -1,8 +1,11 @@
 //! Frames by name, for tests: the results that arrive, and the entries that a journal holds.
+ghost use Rattle.std.specs.Prelude.{◌≡◌, IfOk};
+ghost use Rattle.palqytun.specs.Worlds.{input_entry};
+
 use bytes::Bytes;
 use journal_protocol::{
-    Encoder, Failure, Message, Notification, NotificationId, NotificationResult, OutputCommand,
-    SleepCommand, ValueOrFailure,
+    Encoder, Failure, InputCommand, Message, Notification, NotificationId, NotificationResult,
+    OutputCommand, SleepCommand, ValueOrFailure,
 };
 use plain::{Items, Text};
 use std::alloc::{AllocError, Global};
@@ -67,6 +70,16 @@ pub fn named_signal(alloc: Global, name: &str, bytes: &'static [u8]) -> Result<B
     Encoder::new(alloc).encode(&Message::Notification(Notification {
         id: NotificationId::SignalName(Text::from_str(alloc, name)?),
         result: NotificationResult::Value(Bytes::from_static(bytes)),
+    }))
+}
+
+/// The journal's first entry: an input of these bytes.
+pub fn input(alloc: Global, bytes: &'static [u8]) -> Result<Bytes, AllocError>
+    ensures { IfOk result (λ entry. entry ≡ input_entry bytes.now) }
+{
+    Encoder::new(alloc).encode(&Message::Input(InputCommand {
+        headers: Items::new(alloc),
+        value: Bytes::from_static(bytes),
     }))
 }
 

@@ -4,5 +4,7 @@
 
 pub mod frames;
 pub mod handler;
+mod reports;
 pub mod testing;
 pub mod vm;
+mod worlds;

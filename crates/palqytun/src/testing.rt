@@ -1,10 +1,19 @@
 //! Crash tests: a world holds an invocation's journal, and rounds play attempts over it that die where you say.
+ghost use Rattle.std.specs.Prelude.{◌≡◌, ◌↔◌, IfOk, IsOk, OnOk, vec_len};
+ghost use Rattle.palqytun.specs.Reports.{HasError, commands_sent, ending_of};
+ghost use Rattle.palqytun.specs.Worlds.{test_world};
+ghost use Rattle.vm_rounds.specs.Guarantees.{told};
+ghost use Rattle.vm_rounds.specs.Rounds.{RoundsDo};
+
 pub use crate::frames::{
-    cancel, failed, failed_output, invocation_id, named_signal, output, signal, sleep, value, void,
+    cancel, failed, failed_output, input, invocation_id, named_signal, output, signal, sleep,
+    value, void,
 };
+pub use crate::reports::{Ending, commands_sent, ending_of};
+pub use crate::worlds::WorldBuilder;
 use bytes::Bytes;
-use invocation_vm::{NotificationHandle, RetryPolicy, RunExitResult, VMOptions, Version};
-use plain::{Items, Text};
+use invocation_vm::{NotificationHandle, RetryPolicy, RunExitResult};
+use plain::Items;
 use std::alloc::{AllocError, Global};
 use std::test::Fail;
 use vm_attempt::Handler;
@@ -21,26 +30,12 @@ fn fail(stopped: &StoppedRounds) -> Fail {
     Fail::new(format_args!("the rounds stopped in {}", stopped.at))
 }
 
-/// An invocation "test" in version 7 with this input, the options' defaults, and no state.
-pub fn world_of(alloc: Global, input: &'static [u8]) -> Result<World, Fail> {
-    let identity = Identity {
-        id: Bytes::from_static(b"test"),
-        debug_id: Text::from_str(alloc, "test")?,
-        key: Text::empty(alloc),
-        random_seed: 0,
-        scope: None,
-        limit_key: None,
-        idempotency_key: None,
-    };
-    let (options, input) = (VMOptions::default(), Bytes::from_static(input));
-    match World::new(
-        alloc,
-        identity,
-        options,
-        Version::V7,
-        input,
-        Vec::new(alloc),
-    ) {
+/// The world of an invocation "test" in version 7 with this input, the options' defaults, no key and no state. `WorldBuilder` makes
+/// others.
+pub fn world_of(alloc: Global, input: &'static [u8]) -> Result<World, Fail>
+    ensures { IfOk result (λ w. w ≡ test_world input.now) }
+{
+    match WorldBuilder::new(alloc, input)?.build() {
         Ok(world) => Ok(world),
         Err(fault) => Err(no_world(fault)),
     }
@@ -111,6 +106,23 @@ impl Plan {
     }
 }
 
+/// Rounds of a handler over a world's journal, one after another, each with a report. If an event can't happen, the failure says
+/// which, and why.
+pub fn play<H: Handler>(
+    handler: &H,
+    world: World,
+    rounds: &[Round],
+) -> Result<(World, Vec<Report>), Fail>
+    ensures played { IfOk result (λ r. RoundsDo (H.meaning handler.now) world.setting rounds.now
+        world.journal (told r.1.items) r.0.journal) }
+    ensures setting { IfOk result (λ r. r.0.setting ≡ world.setting) }
+{
+    match play_rounds(handler, world, rounds) {
+        Ok(played) => Ok(played),
+        Err(stopped) => Err(fail(&stopped)),
+    }
+}
+
 /// One attempt for each step: the first makes one step, the next two, and so on. What each has written is stored; then what
 /// arrives after this step is stored too, and the process dies.
 pub fn crash_at_each_step<H: Handler>(
@@ -149,10 +161,8 @@ pub fn crash_at_each_step_with_runs<H: Handler>(
         }
         rounds.push(plan.crash())?;
     }
-    match play_rounds(handler, world, rounds.as_slice()) {
-        Ok((world, _)) => Ok(world),
-        Err(stopped) => Err(fail(&stopped)),
-    }
+    let (world, _) = play(handler, world, rounds.as_slice())?;
+    Ok(world)
 }
 
 /// The journal's entry at this place, from 0 on, is this one; else the failure says what stands there.
@@ -176,4 +186,77 @@ pub fn expect_end(world: &World, entry: &Bytes) -> Result<(), Fail> {
         0 => Err(Fail::from("the journal has no entries")),
         entries => expect_entry(world, entries - 1, entry),
     }
+}
+
+/// The attempt has ended so; else the failure says how it did.
+pub fn expect_ending(report: &Report, ending: Ending) -> Result<(), Fail>
+    ensures { OnOk result (ending_of report.now ≡ ending) }
+{
+    let found = ending_of(report)?;
+    if found == ending {
+        return Ok(());
+    }
+    match &report.error {
+        Some(error) => Err(Fail::new(format_args!(
+            "the attempt has failed with {error}, and its ending is not {ending:?}"
+        ))),
+        None => Err(Fail::new(format_args!(
+            "the attempt's ending is {found:?}, and not {ending:?}"
+        ))),
+    }
+}
+
+/// The attempt has failed with this code and text; else the failure says with what it did.
+pub fn expect_error(report: &Report, code: u16, message: &str) -> Result<(), Fail>
+    ensures { IsOk result ↔ HasError code message.now report.now.error }
+{
+    match &report.error {
+        Some(error) if error.code() == code && error.message() == message => Ok(()),
+        Some(error) => Err(Fail::new(format_args!(
+            "the attempt's error is {error}, and not [{code}] {message}"
+        ))),
+        None => Err(Fail::new(format_args!(
+            "the attempt has no error; it should be [{code}] {message}"
+        ))),
+    }
+}
+
+/// The handler was answered this many times, its input counted; else the failure says how often.
+pub fn expect_answers(report: &Report, count: usize) -> Result<(), Fail>
+    ensures { IsOk result ↔ (vec_len report.now.answers ≡ count) }
+{
+    let found = report.answers.len();
+    if found == count {
+        return Ok(());
+    }
+    Err(Fail::new(format_args!("the handler has {found} answers, and not {count}")))
+}
+
+/// Where the commands that were sent are others than those that were wanted.
+fn difference(sent: &[Bytes], wanted: &[Bytes]) -> Fail {
+    for (at, (found, wanted)) in sent.iter().zip(wanted).enumerate() {
+        if found != wanted {
+            return Fail::new(format_args!(
+                "command {at} that was sent is {found:?}, and not {wanted:?}"
+            ));
+        }
+    }
+    Fail::new(format_args!(
+        "the attempt has sent {} commands, and not {}",
+        sent.len(),
+        wanted.len()
+    ))
+}
+
+/// The attempt has sent these commands, in this order, and no others; else the failure says what it has sent in their place. Commands
+/// that it replayed aren't sent.
+#[tactic(auto, using(crate::proofs::Sending::same_rows))]
+pub fn expect_commands(report: &Report, commands: &[Bytes]) -> Result<(), Fail>
+    ensures { OnOk result (commands_sent report.now ≡ commands.now) }
+{
+    let sent = commands_sent(report)?;
+    if sent.as_slice() == commands {
+        return Ok(());
+    }
+    Err(difference(sent.as_slice(), commands))
 }

@@ -32,7 +32,7 @@ enum End {
     Done(Counters),
 }
 
-/// A call, with where the counters stand before it.
+/// A call, and the counters before it.
 #[derive(Clone, Copy)]
 struct Row {
     before: Counters,

@@ -3,7 +3,7 @@ use retries::{EntryRetryInfo, Fraction, NextRetry, OnMaxAttempts, RetryPolicy};
 use std::process::Abort;
 use std::time::Duration;
 
-/// A policy without bounds, with the delay behind each of these counts.
+/// A policy without bounds, with numbers of failures and its delay after each.
 #[derive(Drop)]
 struct Row<'a> {
     initial: Duration,
@@ -12,7 +12,7 @@ struct Row<'a> {
     delays: &'a [(u32, Duration)],
 }
 
-/// What the policy of a row says behind so many failures.
+/// What the policy of a row says after this number of failures.
 fn next_retry(row: &Row<'_>, count: u32) -> Option<NextRetry> {
     let factor = Fraction::new(row.fraction.0, row.fraction.1)?;
     let policy = RetryPolicy::exponential(

@@ -1,4 +1,4 @@
-//! Rows over the VM's parts: its public types, the state map, policies of retries, and awaits of trees; and the machine of a VM where its
+//! Rows over the VM's parts: its public types, the state map, policies of retries, and awaits of trees; and the machine of a VM whose
 //! counters end.
 #![tactic(auto)]
 

@@ -1,4 +1,4 @@
-// The small public types, where they are copied or shown. Conversions, names and defaults are in their contracts.
+// The small public types, when they are copied or shown. Conversions, names and defaults are in their contracts.
 use crate::trees::rows::{expect, texts_of};
 use plain::{Items, Text};
 use runs::RunHandle;

@@ -15,7 +15,7 @@ fn after(millis: u64) -> NextRetry {
     NextRetry::Retry(Some(Duration::from_millis(millis)))
 }
 
-/// What a policy says after so many tries in so many milliseconds is as each row has it.
+/// Each row holds of the policy: after this number of tries, in this number of milliseconds, this is its answer.
 fn holds(rt: &impl Abort, policy: &RetryPolicy, rows: &[(u32, u64, NextRetry)]) {
     for (count, millis, wanted) in rows {
         let next = policy.next_retry(tried(*count, *millis));

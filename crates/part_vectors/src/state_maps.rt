@@ -23,7 +23,7 @@ fn state_of(
 enum Seen {
     Unknown,
     Empty,
-    /// A value of so many bytes.
+    /// A value of this number of bytes.
     Value(usize),
 }
 
@@ -47,7 +47,7 @@ fn seen_at(alloc: Global, state: &StateMap, key: &str) -> Result<Seen, AllocErro
     Ok(seen_of(&known))
 }
 
-/// These keys, each with a comma behind it.
+/// These keys, each with a comma after it.
 fn line_of(alloc: Global, keys: &[Bytes]) -> Result<Vec<u8>, AllocError> {
     let mut line = Vec::new(alloc);
     for key in keys {
@@ -57,7 +57,7 @@ fn line_of(alloc: Global, keys: &[Bytes]) -> Result<Vec<u8>, AllocError> {
     Ok(line)
 }
 
-/// The known keys, each with a comma behind it.
+/// The known keys, each with a comma after it.
 fn keys_of(alloc: Global, state: &StateMap) -> Result<Option<Vec<u8>>, AllocError> {
     match state.keys(alloc)? {
         None => Ok(None),

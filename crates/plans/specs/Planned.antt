@@ -1,4 +1,5 @@
--- A plan: the steps that a handler makes one after another, whatever it is answered.
+-- A plan: a fixed list of steps, which a handler makes one after another. Its answers change
+-- nothing.
 use Rattle.std.specs.Prelude.{◌-◌, List, length, slice_get, Option, Some, None}
 use Rattle.vm_types.specs.declared.steps.Answer.{Answer}
 use Rattle.vm_types.specs.declared.steps.Step.{Step}

@@ -1,4 +1,4 @@
-//! A plan: a handler that makes its steps one after another, whatever it is answered.
+//! A plan: a handler with a fixed list of steps, which it makes one after another. Its answers change nothing.
 use crate::planned::Planned;
 use std::alloc::{AllocError, Global};
 use vm_parts::{Answer, Step};

@@ -10,7 +10,7 @@ use plain::Fault;
 use std::alloc::Global;
 use std::test::Fail;
 
-/// What a stream of so many bytes is.
+/// What the front of a stream is read as.
 #[derive(Clone, Copy, PartialEq)]
 enum Seen {
     /// No whole frame yet.
@@ -47,7 +47,7 @@ fn seen_again(alloc: Global, raw: &RawMessage, stream: &[u8]) -> Seen {
     }
 }
 
-/// What a stream is.
+/// What the front of this stream is read as.
 fn seen_in(alloc: Global, stream: &[u8]) -> Result<Seen, Fail> {
     let stream_again = Bytes::copy_from_slice(alloc, stream)?;
     Ok(match frame_in(alloc, stream_again) {

@@ -16,7 +16,7 @@ fn outer_nodes(alloc: Global) -> Result<Vec<u8>, AllocError> {
     Ok(body)
 }
 
-/// The bytes of a suspension on a future that nests as deep, where the deepest is of a kind.
+/// The bytes of a suspension on a future that nests as deep, and whose deepest node is of this kind.
 pub fn deep_body(alloc: Global, kind: u8) -> Result<Bytes, AllocError> {
     let mut body = outer_nodes(alloc)?;
     body.push(kind)?;

@@ -11,6 +11,8 @@ mod faults;
 #[cfg(test)]
 mod frame_rows;
 #[cfg(test)]
+mod lines_read_back;
+#[cfg(test)]
 mod messages;
 #[cfg(test)]
 mod printed_frames;

@@ -1,4 +1,4 @@
-// Streams and messages whose bytes were written out by hand from the layout; and that each call succeeds where there is memory.
+// Streams and messages whose bytes were written out by hand from the layout; and that each call succeeds if there is memory.
 use crate::deep_frames::{DEPTH, deep_body, deep_frame};
 use crate::faults::says;
 use crate::frame_rows::expect;
@@ -13,7 +13,7 @@ use plain::{Fault, Items, Text, is_same};
 use std::alloc::{AllocError, Global};
 use std::test::Fail;
 
-// A message is owned by a list: where a function lends one of its own, its proof takes all kinds of messages apart.
+// A message is owned by a list: if a function lends one of its own, its proof takes all kinds of messages apart.
 
 /// The message of a frame, as the only one.
 fn message_of(alloc: Global, raw: &RawMessage) -> Result<Items<Message>, Error> {
@@ -252,7 +252,7 @@ fn refuses_a_deep_future_that_is_cut_off(rt: HostRuntime) -> Result<(), Fail> {
     expect("a deep future that is cut off", is_refused)
 }
 
-/// A node in which so many futures nest.
+/// A node in which this number of futures nest.
 fn node(alloc: Global, nested: u64) -> FutureNode {
     FutureNode {
         kind: FutureKind::Unknown,
@@ -263,7 +263,7 @@ fn node(alloc: Global, nested: u64) -> FutureNode {
     }
 }
 
-/// Whether nodes in which so many futures nest are a future.
+/// Whether nodes in which these numbers of futures nest are a future.
 fn is_future(alloc: Global, nested: &[u64]) -> Result<bool, AllocError> {
     let mut nodes = Items::new(alloc);
     for n in nested {
@@ -312,7 +312,7 @@ fn are_same(a: &Option<RawMessage>, b: &Option<RawMessage>) -> bool {
     }
 }
 
-/// Whether the frame behind what was let go of is the same as that before it.
+/// Whether the frame after what was dropped is the same as that before it.
 fn is_let_go(decoder: &mut Decoder) -> Result<bool, Fault> {
     decoder.push(Bytes::from_static(NAP))?;
     let first = first_frame(decoder, Bytes::from_static(b"\0"))?;

@@ -208,7 +208,7 @@ fn is_nothing_written(alloc: Global, lines: &[u8]) -> bool {
     let mut out = Plain(Vec::new(alloc));
     let reads = failing_reads(alloc, &mut out);
     let end = encode(alloc, &mut Plain(lines), &mut out);
-    reads == [1; 2] && matches!(&end, RunEnd::Refused(Refusal::BadLine(1))) && out.0.is_empty()
+    reads == [1; 2] && matches!(&end, RunEnd::Refused(Refusal::BadLine(1, _))) && out.0.is_empty()
 }
 
 #[test]

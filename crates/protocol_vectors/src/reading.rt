@@ -1,4 +1,4 @@
-// Frames and messages, read and written: what several tests do, each with one thing that it lets go of.
+// Frames and messages, read and written: what several tests do. Each function drops the one thing that it makes.
 use bytes::Bytes;
 use journal_protocol::{Decoder, Encoder, Error, Message, RawMessage};
 use plain::Fault;

@@ -12,7 +12,7 @@ fn is_refused(alloc: Global, ty: MessageType, body: &[u8]) -> Result<bool, Fail>
     Ok(fault == Some(Fault::Malformed))
 }
 
-/// Whether the body of this one byte, and each that has another behind it, is refused.
+/// Whether the body of this one byte, and each that has another byte after it, is refused.
 fn refuses_behind(alloc: Global, ty: MessageType, first: u8) -> Result<bool, Fail> {
     if !is_refused(alloc, ty, &[first])? {
         return Ok(false);

@@ -56,7 +56,7 @@ abbrev pub index_text : ℤ → List ℕ
 index_text (pos n) = decimal n
 index_text (negsuc n) = codes "-" ++ decimal (n + 1)
 
--- the value that an answer has behind `ok`
+-- the value that an answer has after `ok`
 abbrev pub value_reply_text : Reply → List ℕ
 value_reply_text (reply.Made version) = version_text version
 value_reply_text (reply.Head head) = head_text head

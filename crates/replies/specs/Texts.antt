@@ -11,7 +11,7 @@ use Rattle.vm_types.specs.declared.values.Value.TheVariants as value
 
 -- ---- lists
 
--- each item behind a blank
+-- a blank and an item, for each item
 abbrev pub spaced : {A : Type 0} → (A → List ℕ) → List A → List ℕ
 spaced text items = flat_map (λ item. codes " " ++ text item) items
 
@@ -30,7 +30,7 @@ abbrev pub flag_text : Bool → List ℕ
 flag_text true = codes "true"
 flag_text false = codes "false"
 
--- a text, or `-` where there is none
+-- a text, or `-` for None
 abbrev pub optional_text : Option (List ℕ) → List ℕ
 optional_text None = codes "-"
 optional_text (Some text) = quoted text
@@ -42,7 +42,7 @@ pair_text p = codes "{" ++ quoted p.0 ++ codes " " ++ quoted p.1 ++ codes "}"
 abbrev pub header_text : Header → List ℕ
 header_text h = pair_text (h.key, h.value)
 
--- a failure: its code, its message, and what else is told of it
+-- a failure: its code, its message, and its metadata
 abbrev pub failure_text : TerminalFailure → List ℕ
 failure_text f = codes "failure " ++ decimal f.code ++ codes " " ++ quoted f.message
     ++ spaced pair_text f.metadata
@@ -54,7 +54,7 @@ value_text (value.Failure failure) = failure_text failure
 value_text (value.StateKeys keys) = codes "keys " ++ listed quoted keys
 value_text (value.InvocationId id) = codes "invocation " ++ quoted id
 
--- which invocation it is, and the headers, each field behind its name
+-- which invocation it is, and the headers, each field after its name
 abbrev pub invocation_text : Input → List ℕ
 invocation_text i = codes "id=" ++ quoted i.invocation_id ++ codes " seed=" ++ decimal i.random_seed
     ++ codes " key=" ++ quoted i.key ++ codes " headers=" ++ listed header_text i.headers

@@ -67,7 +67,7 @@ impl Shown for State {
     }
 }
 
-/// The code and the text; what else an error tells isn't printed.
+/// The code and the text. What else is in an error isn't printed.
 impl Shown for Error {
     ghost text = { error_text };
 

@@ -12,12 +12,12 @@ pub trait Shown {
     /// The text.
     ghost text: { Self → List ℕ };
 
-    /// Writes the text on a line, where there is memory for it.
+    /// Writes the text on a line, if there is memory for it.
     fn show(&self, line: &mut Line) -> Result<(), AllocError>
         ensures { OnOk result (line.new ≡ line.old ++ text self.now) };
 }
 
-/// Writes a value behind a word.
+/// Writes a value after a word.
 pub fn labelled<T: Shown>(label: &str, value: &T, line: &mut Line) -> Result<(), AllocError>
     ensures { OnOk result (line.new ≡ line.old ++ (label.now ++ T.text value.now)) }
 {
@@ -26,7 +26,7 @@ pub fn labelled<T: Shown>(label: &str, value: &T, line: &mut Line) -> Result<(),
     Ok(())
 }
 
-/// Writes each item behind a blank.
+/// Writes a blank and an item, for each item.
 pub fn spaced<T: Shown>(items: &[T], line: &mut Line) -> Result<(), AllocError>
     ensures { OnOk result (line.new ≡ line.old ++ spaced T.text items.now) }
 {

@@ -46,7 +46,7 @@ impl Shown for Text {
     }
 }
 
-/// `-` where there is none.
+/// Shown as `-` if it is `None`.
 impl Shown for Option<Text> {
     ghost text = { optional_text };
 

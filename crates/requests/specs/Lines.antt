@@ -72,7 +72,7 @@ AsksNothing text =
     HasNoWords text ⊎ ((words : List (Bor (List ℕ))) × HasWords text words × AskNothing words)
 
 -- What a line without blanks at its ends asks for. One that begins with `vm` makes a VM, and any
--- other is a call. It is bad where it has no words, and where its words make or ask for nothing.
+-- other is a call. It is bad if it has no words, or if its words make or ask for nothing.
 abbrev pub MakesRequest : List ℕ → Request → Type 0
 MakesRequest text request.Nothing = says_nothing text ≡ true
 MakesRequest text request.Bad =

@@ -75,7 +75,7 @@ verbs =
 unfoldable pub verb_named : List ℕ → Option Verb
 verb_named word = find (λ verb. pointwise nat_eq word (verb_name verb)) verbs
 
--- one word that spells the tree that is awaited, and no other word
+-- one word that encodes the tree that is awaited, and no other word
 abbrev pub IsAwaited : List (Bor (List ℕ)) → UnresolvedFuture → Type 0
 IsAwaited words future = (length words ≡ 1) × SpellsFuture (text_at 0 words) future
 
@@ -89,26 +89,29 @@ abbrev pub NamesTarget : List (Bor (List ℕ)) → Target × Option (List ℕ) �
 NamesTarget words named = AreCallOptions words named.0 named.1 named.2
 
 -- what is called, with which input, name and options
-pub record IsCall (words : List (Bor (List ℕ))) (call : Target × List ℕ × Option (List ℕ) × PayloadOptions) : Type 0 where
+pub record IsCall (words : List (Bor (List ℕ)))
+    (call : Target × List ℕ × Option (List ℕ) × PayloadOptions) : Type 0 where
   pub callee : HasCallee words (call.0.service, call.0.handler, call.1)
   pub options : AreCallOptions (drop 3 words) call.0 call.2 call.3
 
 -- what is called, with which input, until when, and with which name and options
-pub record IsDeadlineCall (words : List (Bor (List ℕ))) (call : Target × List ℕ × Duration × Option (List ℕ) × PayloadOptions) : Type 0 where
+pub record IsDeadlineCall (words : List (Bor (List ℕ)))
+    (call : Target × List ℕ × Duration × Option (List ℕ) × PayloadOptions) : Type 0 where
   pub callee : HasCallee words (call.0.service, call.0.handler, call.1)
   pub until : IsTime (text_at 3 words) call.2
   pub options : AreCallOptions (drop 4 words) call.0 call.3 call.4
 
 -- what is sent to, with which input, when, and with which name and options
-pub record IsSend (words : List (Bor (List ℕ))) (send : Target × List ℕ × Option Duration × Option (List ℕ) × PayloadOptions) : Type 0 where
+pub record IsSend (words : List (Bor (List ℕ)))
+    (send : Target × List ℕ × Option Duration × Option (List ℕ) × PayloadOptions) : Type 0 where
   pub callee : HasCallee words (send.0.service, send.0.handler, send.1)
   pub options : AreSendOptions (drop 3 words) send.0 send.2 send.3 send.4
 
--- nothing stands behind the name
+-- nothing stands after the name
 abbrev pub IsBare : List (Bor (List ℕ)) → Call → Call → Type 0
 IsBare words bare call = (length words ≡ 0) × (call ≡ bare)
 
--- what the words behind a call's name ask for: its arguments, in their places
+-- what the words after a call's name ask for: its arguments, in their places
 abbrev pub IsLine : Verb → List (Bor (List ℕ)) → Call → Type 0
 IsLine verb.Head words = IsBare words call.Head
 IsLine verb.Input words = One (IsOneAtom words) call.Input

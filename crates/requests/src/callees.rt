@@ -72,7 +72,7 @@ fn target_with(
     Ok((target, name))
 }
 
-/// `T T B`, and the words behind them.
+/// `T T B`, and the words after them.
 #[tactic(auto, using(crate::proofs::Calling::service_blamed, crate::proofs::Calling::handler_blamed, crate::proofs::Calling::input_blamed))]
 fn callee_of<'w, 'a>(
     alloc: Global,

@@ -243,7 +243,7 @@ fn await_of(alloc: Global, arguments: &[&[u8]]) -> Result<Call, Fault>
     Ok(Call::Step(Step::Await(future)))
 }
 
-/// Nothing stands behind the name of a call that takes no arguments.
+/// Checks that nothing stands after the name of a call that takes no arguments.
 fn nothing_in(arguments: &[&[u8]]) -> Result<(), Fault>
     ensures value { IfOk result (λ _. length arguments.now ≡ 0) }
     ensures none { (bare : Call) → IfErr result (Blames (IsBare arguments.now bare)) }
@@ -318,7 +318,7 @@ fn take_ephemeral_of(arguments: &[&[u8]]) -> Result<Call, Fault>
     Ok(Call::TakeEphemeral(id))
 }
 
-/// The call of this name, with the arguments behind it.
+/// The call of this name, with the arguments after it.
 #[inline(always)]
 fn call_named(alloc: Global, verb: Verb, arguments: &[&[u8]]) -> Result<Call, Fault>
     ensures value { IfOk result (IsLine verb arguments.now) }
@@ -489,7 +489,7 @@ fn makes(line: &[u8]) -> bool
     line == b"vm".as_slice() || line.starts_with(b"vm ")
 }
 
-/// What a line that begins with `vm` asks for. An `Err` is want of memory.
+/// What a line that begins with `vm` asks for. An `Err` is out of memory.
 fn parse_make<'a>(
     alloc: Global,
     words: &mut Vec<&'a [u8]>,
@@ -506,7 +506,7 @@ fn parse_make<'a>(
     }
 }
 
-/// What any other line that isn't empty asks for. An `Err` is want of memory.
+/// What any other line that isn't empty asks for. An `Err` is out of memory.
 fn parse_call<'a>(
     alloc: Global,
     words: &mut Vec<&'a [u8]>,

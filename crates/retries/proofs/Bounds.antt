@@ -33,7 +33,7 @@ within_or_grows f n k most h = elim (cases_lt f.numerator f.denominator) [
   | inr grows ↦ inr grows
 ]
 
--- the interval is what the multiplications alone come to, as far as a duration goes
+-- the interval is the result of the multiplications alone, as far as a duration goes
 interval-suc : (f : Fraction) (n k : ℕ) → n ≤ max_nanos → interval n f (suc k) ≡ min (multiplied f n k) max_nanos
 unfolding interval
 interval-suc f n zero h = sym (min-eq_left h) ∙ ap (λ (m : ℕ). min m max_nanos) (sym (multiplied-zero f n))

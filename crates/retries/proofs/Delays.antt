@@ -71,7 +71,7 @@ one_power : (k : ℕ) → 1 ^ k ≡ 1
 one_power zero = pow-zero 1
 one_power (suc k) = let p = pow-suc 1 k in omega (arith, p, one_power k)
 
--- after so many multiplications by a whole number nothing changes any more, as far as a duration goes
+-- after 9999 multiplications by a whole number nothing changes any more, as far as a duration goes
 settled : (n b k : ℕ) → 9999 ≤ k → min (n * b ^ 9999) max_nanos ≡ min (n * b ^ k) max_nanos
 settled zero b k many = let e : zero * b ^ 9999 ≡ zero * b ^ k = omega arith in ap (λ (m : ℕ). min m max_nanos) e
 settled (suc n) zero k many = ap (λ (m : ℕ). min (suc n * m) max_nanos) (zero_power 9999 (omega arith) ∙ sym (zero_power k (omega (arith, many))))

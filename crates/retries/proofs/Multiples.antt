@@ -49,6 +49,6 @@ multiplied_falls f n (suc k) h = omega (arith, multiplied_falls f n k h, multipl
 
 -- ---- quotients
 
--- a number whose product with the numerator is so many denominators and less than one more
+-- the result is q, if the product with the numerator is q denominators and less than one more
 pub times_is : (f : Fraction) (n q r : ℕ) → n * f.numerator ≡ q * f.denominator + r → r < f.denominator → times f n ≡ q
 times_is f n q r e h = ap (λ (m : ℕ). m / f.denominator) e ∙ div-mul-add q f.denominator r h

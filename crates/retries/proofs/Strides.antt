@@ -53,7 +53,7 @@ falling f e l (suc j) n next r apart down product room =
     let whole : multiplied f n (suc (suc j)) ≡ multiplied f next (suc j) = multiplied-first f n (suc j) ∙ ap (λ (m : ℕ). multiplied f m (suc j)) one in
     omega (arith, whole, rest)
 
--- so many steps as the room holds
+-- as many steps as the room holds stay within it
 pub within_room : (room change apart j : ℕ) → j ≤ room / change / apart → j * (change * apart) ≤ room
 within_room room change apart j h =
     let a = div-div-eq-div-mul room change apart in

@@ -1,4 +1,4 @@
--- Texts that are printed one behind the other.
+-- Texts that are printed one after another.
 use Rattle.std.proofs.Common.{◌≡◌, ℕ, suc, ◌+◌, ◌<◌, ◌≤◌, List, [], ◌∷◌, ◌++◌, length, drop, slice_index_or, refl, sym, ap, subst, ◌∙◌, append_assoc, arith, codes}
 use Rattle.std.proofs.lemmas.List.{append-nil, drop_all, drop_more}
 use Rattle.vm_rounds.specs.Rounds.{ReportView}
@@ -17,7 +17,7 @@ adds_then old now then first second = adds_more old now then second.0 first seco
 
 -- ---- a text for each item
 
--- Of the items so many are printed: the texts of the others behind them are those of all.
+-- The first `i` items are printed. With the texts of the others after them, the texts of all are printed.
 abbrev pub PrintsOn : {A : Type 0} → (ℕ → A → List ℕ → Type 0) → ℕ → List A → ℕ → List ℕ → List ℕ → Type 0
 PrintsOn holds n all i old now = (done : List ℕ) × (now ≡ old ++ done) × ((rest : List ℕ) → AreEach holds (n + i) (drop i all) rest → AreEach holds n all (done ++ rest))
 

@@ -13,7 +13,7 @@ use Rattle.vm_store.specs.declared.types.Report.{Report}
 use Rattle.vm_store.specs.declared.types.RoundFault.{RoundFault}
 use Rattle.vm_store.specs.declared.types.RoundFault.TheVariants as round_fault
 
--- ---- texts one behind the other
+-- ---- texts one after another
 
 -- something that this holds of is added
 abbrev pub AddsSuch : (List ℕ → Type 0) → List ℕ → List ℕ → Type 0
@@ -23,7 +23,7 @@ AddsSuch holds old new = (added : List ℕ) × holds added × (new ≡ old ++ ad
 abbrev pub AddsSome : List ℕ → List ℕ → Type 0
 AddsSome old new = (added : List ℕ) × (new ≡ old ++ added)
 
--- a text for each item, one behind the other; the items are numbered from this number on
+-- a text for each item, one after another; the items are numbered from this number on
 abbrev pub AreEach : {A : Type 0} → (ℕ → A → List ℕ → Type 0) → ℕ → List A → List ℕ → Type 0
 AreEach holds number [] text = text ≡ []
 AreEach holds number (item ∷ items) text = (first : List ℕ) × (rest : List ℕ)
@@ -45,7 +45,7 @@ answer_word answer.Cancelled = codes "cancelled"
 answer_word (answer.Taken value) = codes "taken"
 answer_word (answer.Completed is) = codes "completed"
 
--- what stands behind that word
+-- the value after that word; empty if the answer has none
 abbrev pub answer_value : Answer → List ℕ
 answer_value answer.Unit = []
 answer_value answer.Awake = []
@@ -72,23 +72,23 @@ error_line (Some e) = codes "error " ++ decimal e.code ++ codes " " ++ quoted e.
 abbrev pub count_text : List ℕ → ℕ → List ℕ
 count_text word count = word ++ decimal count ++ codes "\n"
 
--- what a round tells: its number, its answers, the frames that it sent, its error, and how many
+-- the text of a round: its number, its answers, the frames that it sent, its error, and how many
 -- entries the journal has
 pub record IsRoundText (number : ℕ) (report : ReportView) (text : List ℕ) : Type 0 where
   pub frames : List ℕ
   pub is : text ≡ count_text (codes "round ") number ++ answer_lines report.answers ++ frames
       ++ error_line report.error ++ count_text (codes "entries ") report.entries
 
--- what rounds tell, which are numbered from 1
+-- the texts of the rounds, which are numbered from 1
 abbrev pub AreRoundTexts : List Report → List ℕ → Type 0
 AreRoundTexts reports text =
     AreEach (λ number report. IsRoundText number (report_view report)) 1 reports text
 
--- what stands behind the rounds: the journal
+-- the text of the journal, which is printed after the rounds
 abbrev pub IsJournalText : List ℕ → Type 0
 IsJournalText text = (entries : List ℕ) × (text ≡ codes "journal\n" ++ entries)
 
--- what rounds tell, and the journal behind them
+-- a whole report: the text of each round, then the journal
 abbrev pub IsPrinted : List Report → List ℕ → Type 0
 IsPrinted reports text = (rounds : List ℕ) × (journal : List ℕ) × AreRoundTexts reports rounds
     × IsJournalText journal × (text ≡ rounds ++ journal)

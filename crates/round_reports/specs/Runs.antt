@@ -1,8 +1,11 @@
 -- What a run of the program does: it reads a whole script, plays its rounds, and writes their
 -- report.
 use Rattle.std.specs.Prelude.{◌≡◌, ◌⊎◌, ℕ, List, [], ◌∷◌, map, Option, Some, None, IfSome}
+use Rattle.std.proofs.Common.{Global}
 use Rattle.std.specs.Io.KnownBytes.{Appends}
 use Rattle.std.specs.declared.io.Error.{Error as IoError}
+use Rattle.std.specs.declared.vec.Vec.{Vec}
+use Rattle.hints.specs.Places.{IsLineNumbered}
 use Rattle.journal_protocol.specs.Frames.{encoding}
 use Rattle.journal_protocol.specs.Message.TheVariants as message
 use Rattle.journal_protocol.specs.Version.{Version}
@@ -67,7 +70,8 @@ abbrev pub MakeNoWorld : List (List ℕ) → RoundFault → Type 0
 MakeNoWorld entries fault = (fault ≡ round_fault.Memory) ⊎ FirstGiven [] entries fault
 
 -- No entry of the script has a fault, and its rounds end over its world.
-pub record IsPlayed (meaning : Meaning) (version : Version) (script : Script) (stop : Option Stop) (report : List ℕ) : Type 0 where
+pub record IsPlayed (meaning : Meaning) (version : Version) (script : Script) (stop : Option Stop)
+    (report : List ℕ) : Type 0 where
   pub fits : AreGiven [] script.entries.items
   pub ends : RoundsEnd meaning (setting_of version script.given) script.rounds.items
       (first_journal script.given.input script.entries.items) stop report
@@ -85,13 +89,15 @@ ScriptEnds meaning version script stop report =
     IsPlayed meaning version script stop report ⊎ HasNoWorld script stop report
 
 -- a text is read as a script, and its rounds are played over its world, if there is one
-pub record Plays (meaning : Meaning) (version : Version) (text : List ℕ) (stop : Option Stop) (report : List ℕ) : Type 0 where
+pub record Plays (meaning : Meaning) (version : Version) (text : List ℕ) (stop : Option Stop)
+    (report : List ℕ) : Type 0 where
   pub script : Script
   pub is_read : IsScriptRead text script
   pub ends : ScriptEnds meaning version script stop report
 
 -- The text is all that the reader had left, where this is known, and this holds of its report.
-pub record PlaysAll (meaning : Meaning) (version : Version) (left : Option (List ℕ)) (stop : Option Stop) (written : List ℕ → Type 0) : Type 0 where
+pub record PlaysAll (meaning : Meaning) (version : Version) (left : Option (List ℕ))
+    (stop : Option Stop) (written : List ℕ → Type 0) : Type 0 where
   pub text : List ℕ
   pub report : List ℕ
   pub all : IfSome left (λ bytes. text ≡ bytes)
@@ -99,11 +105,13 @@ pub record PlaysAll (meaning : Meaning) (version : Version) (left : Option (List
   pub is_written : written report
 
 -- The text is all that the reader had left, where this is known, and its line of this number is the
--- first that has no meaning.
-pub record StopsThere (left : Option (List ℕ)) (number : ℕ) : Type 0 where
+-- first that has no meaning. The copy, if there is one, is that line.
+pub record StopsThere (left : Option (List ℕ)) (number : ℕ) (copy : Option (Vec ℕ Global))
+    : Type 0 where
   pub text : List ℕ
   pub all : IfSome left (λ bytes. text ≡ bytes)
   pub stops : StopsAt text no_parts number
+  pub is_copy : IfSome copy (λ line. IsLineNumbered text number line.items)
 
 -- what is written of a report into a writer that held and now holds these bytes, where the rounds
 -- have ended so
@@ -118,18 +126,20 @@ ReportEnds write_fails held holds stop report (Written ending) = (ending.stopped
     × Appends held holds report
 
 -- Why a run is refused: there is no such handler, it is no content type, or the line of this number
--- has no meaning. `stops` says that it has none, and `read` that all was read.
-abbrev pub RoundsRefused : (ℕ → Type 0) → Type 0 → Refusal → Type 0
+-- has no meaning. `stops` says that it has none, and of which line a copy is; `read` that all was
+-- read.
+abbrev pub RoundsRefused : (ℕ → Option (Vec ℕ Global) → Type 0) → Type 0 → Refusal → Type 0
 RoundsRefused stops read UnknownHandler = Unit {0}
 RoundsRefused stops read UnknownContentType = Unit {0}
-RoundsRefused stops read (NoMeaning line) = stops line × read
+RoundsRefused stops read (NoMeaning number copy) = stops number copy × read
 
 -- What each end of a run says. `plays` says that a script was played up to such an end, and what is
 -- written of its report into a writer that held and now holds these bytes; `stops` that the line of
--- a number has no meaning; `read` that all was read, and `unwritten` that nothing was written.
-abbrev pub RoundsSay : (Option Stop → (List ℕ → Type 0) → Type 0) → (ℕ → Type 0)
-    → Option (List ℕ) → Option (List ℕ) → (IoError → Type 0) → (IoError → Type 0) → Type 0 → Type 0
-    → RunEnd Refusal Ending → Type 0
+-- a number has no meaning, and of which line a copy is; `read` that all was read, and `unwritten`
+-- that nothing was written.
+abbrev pub RoundsSay : (Option Stop → (List ℕ → Type 0) → Type 0)
+    → (ℕ → Option (Vec ℕ Global) → Type 0) → Option (List ℕ) → Option (List ℕ)
+    → (IoError → Type 0) → (IoError → Type 0) → Type 0 → Type 0 → RunEnd Refusal Ending → Type 0
 RoundsSay plays stops held holds read_fails write_fails read unwritten end =
     Says (RoundsRefused stops read) (λ written ending. plays ending.stopped_by written) held holds
     read_fails write_fails read unwritten end

@@ -15,4 +15,4 @@ rounds_status (Some stop) = status.Failed
 abbrev pub rounds_refusal_status : Refusal → ExitStatus
 rounds_refusal_status UnknownHandler = status.Usage
 rounds_refusal_status UnknownContentType = status.Failed
-rounds_refusal_status (NoMeaning line) = status.Usage
+rounds_refusal_status (NoMeaning number copy) = status.Usage

@@ -1,4 +1,4 @@
-//! The report: what each round tells, and the journal behind the last.
+//! Prints the report of a run: a text for each round, then the journal after the last round.
 ghost use Rattle.std.specs.Prelude.{◌≡◌, ◌++◌, IfOk, IfSome, OnOk};
 ghost use Rattle.journal_protocol.specs.Frames.{frame};
 ghost use Rattle.vm_rounds.specs.Inside.{report_view};
@@ -33,7 +33,7 @@ fn answer_word(answer: &Answer) -> &'static str
     }
 }
 
-/// What stands behind that word.
+/// The value that is printed after that word; empty if the answer has none.
 fn answer_value(alloc: Global, answer: &Answer) -> Result<Line, AllocError>
     ensures { IfOk result (λ value. value ≡ answer_value answer.now) }
 {
@@ -72,7 +72,7 @@ fn print_answers(alloc: Global, answers: &[Answer], report: &mut Line) -> Result
     Ok(())
 }
 
-/// The line of a frame, behind this word.
+/// The line of a frame: this word, then the frame.
 fn frame_line(alloc: Global, word: &str, raw: &RawMessage) -> Result<Line, AllocError> {
     let mut line = Line::new(alloc);
     line.word(word)?;
@@ -81,7 +81,7 @@ fn frame_line(alloc: Global, word: &str, raw: &RawMessage) -> Result<Line, Alloc
     Ok(line)
 }
 
-/// The line of bytes that are no frame, behind this word.
+/// The line of bytes that are no frame: this word, then the bytes.
 fn rest_line(alloc: Global, word: &str, rest: &[u8]) -> Result<Line, AllocError> {
     let mut line = Line::new(alloc);
     line.word(word)?;
@@ -102,7 +102,7 @@ fn next_whole(decoder: &mut Decoder) -> Result<Option<RawMessage>, AllocError>
     }
 }
 
-/// A line for each frame, each behind this word.
+/// A line for each frame. Each line begins with this word.
 fn print_frames(
     alloc: Global,
     word: &str,
@@ -118,7 +118,7 @@ fn print_frames(
     Ok(())
 }
 
-/// A line for each frame of these bytes, each behind this word, and one for bytes at the end that are no frame.
+/// A line for each frame of these bytes, and one for bytes at the end that are no frame. Each line begins with this word.
 fn print_bytes(
     alloc: Global,
     word: &str,

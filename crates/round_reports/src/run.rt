@@ -10,6 +10,7 @@ ghost use Rattle.run_ends.specs.declared.run_end.RunEnd.TheVariants.{Refused};
 use crate::play::{Played, play_text};
 use crate::run_end::{Ending, Refusal, RunEnd};
 use handlers::named::Named;
+use hints::place::copy_of_line;
 use journal_protocol::Version;
 use round_scripts::script::Unread;
 use std::alloc::Global;
@@ -57,7 +58,10 @@ pub fn run_handler<H: Handler, R: Source, W: Sink>(
     }
     match play_text(alloc, version, handler, text.as_slice()) {
         Ok(played) => write_report(played, writer),
-        Err(Unread::Line(number)) => RunEnd::Refused(Refusal::NoMeaning(number)),
+        Err(Unread::Line(number)) => {
+            let line = copy_of_line(alloc, text.as_slice(), number);
+            RunEnd::Refused(Refusal::NoMeaning(number, line))
+        }
         Err(Unread::Memory) => RunEnd::NoMemory,
     }
 }
@@ -79,9 +83,9 @@ pub fn run<R: Source, W: Sink>(
     ensures refused { IfSome (step_in_rounds handler.now) (λ _. version_of content_type.now ≡ None
         → (result ≡ Refused refusal.UnknownContentType) × (reader.new ≡ reader.old)
         × (writer.new ≡ writer.old)) }
-    // Each other run has read all that there was as a script and played its rounds, and all of the report is written, or a beginning
-    // where writing has failed; or reading has failed, the line of the number that is told is the first without a meaning, or memory
-    // was lacking, and nothing is written.
+    // Each other run ends in one of two ways. It has read the whole input as a script and played its rounds; then all of the report is
+    // written, or only a beginning, if writing has failed. Or nothing is written: reading has failed, the run is out of memory, or a line
+    // has no meaning. Then the result has the number of the first such line.
     ensures runs { IfSome (step_in_rounds handler.now)
         (λ meaning. IfSome (version_of content_type.now)
         (λ version. RoundsSay (PlaysAll meaning version (R.remaining reader.old))

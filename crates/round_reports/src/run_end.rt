@@ -24,14 +24,14 @@ impl HasStatus for Ending {
 }
 
 /// Why a run is refused.
-#[derive(Clone, Copy, Debug, PartialEq, Eq)]
+#[derive(Debug, Drop)]
 pub enum Refusal {
     /// There is no handler of this name. Nothing was read.
     UnknownHandler,
     /// The text is no content type of any version. Nothing was read.
     UnknownContentType,
-    /// The line of this number, counted from 1, has no meaning.
-    NoMeaning(u64),
+    /// The line of this number, counted from 1, has no meaning. Its bytes, if there was memory for them, are for a message to a person.
+    NoMeaning(u64, Option<Vec<u8>>),
 }
 
 impl HasStatus for Refusal {
@@ -39,7 +39,7 @@ impl HasStatus for Refusal {
 
     fn status(&self) -> ExitStatus {
         match self {
-            Refusal::UnknownHandler | Refusal::NoMeaning(_) => ExitStatus::Usage,
+            Refusal::UnknownHandler | Refusal::NoMeaning(_, _) => ExitStatus::Usage,
             Refusal::UnknownContentType => ExitStatus::Failed,
         }
     }

@@ -16,7 +16,7 @@ use Rattle.round_scripts.specs.Rounds.{AreKeys, IsWholeMilliseconds, SaysRound, 
 
 -- ---- keys
 
--- a text that is no key, behind other words
+-- a text that is no key, after other words
 behind_first : (name : List ℕ) (w : Bor (List ℕ)) (words : List (Bor (List ℕ))) (found : Option (List ℕ)) → text_behind name w.now ≡ found → ((keys : List (List ℕ)) → AreKeys (texts_named name words) keys → ⊥)
     → (keys : List (List ℕ)) → AreKeys (texts_named name (w ∷ words)) keys → ⊥
 behind_first name w words None at none keys are = none keys (rw at at are)

@@ -6,13 +6,14 @@ use Rattle.plain.specs.declared.fault.Fault.TheVariants.{Malformed}
 use Rattle.lines.specs.Atoms.{IsAtom}
 use Rattle.lines.specs.Pieces.{AreWords, outside, place}
 use Rattle.lines.specs.Readings.{Blames}
+use Rattle.frame_lines.specs.FrameLines.{Shows}
 use Rattle.line_parts.specs.Results.{IsProposal}
 use Rattle.line_parts.specs.Words.{IsNumberOf, words_after_first, text_at}
 use Rattle.line_parts.proofs.Places.{word_at}
 use Rattle.vm_store.specs.declared.types.Event.{Event}
 use Rattle.vm_store.specs.declared.types.Event.TheVariants as event
 use Rattle.round_scripts.specs.Rounds.{SaysRound}
-use Rattle.round_scripts.specs.Said.{AreSteps, IsCount, IsOneCount, SayNothing, SaysBehind, SaysEvent, SaysNothing, SaysWords, ShowsBytes, are_bytes, are_frame, are_rest, is_frame}
+use Rattle.round_scripts.specs.Said.{AreSteps, IsCount, IsOneCount, SayNothing, SaysBehind, SaysEvent, SaysNothing, SaysWords, ShowsBytes, are_bytes, are_rest}
 use Rattle.round_scripts.specs.Worlds.{SaysWorld}
 use Rattle.round_scripts.specs.declared.script_line.ScriptLine.{ScriptLine}
 use Rattle.round_scripts.specs.declared.script_line.ScriptLine.TheVariants as line
@@ -53,8 +54,8 @@ rest_blamed words fault rest = record { nothing = λ bad bytes is. absurd (cc (s
 pub bytes_blamed : (words : List (Bor (List ℕ))) (fault : Fault) → are_bytes words ≡ true → Blames (IsAtom (text_at 0 words)) fault → Blames (ShowsBytes words) fault
 bytes_blamed words fault are blames = record { nothing = λ bad bytes is. blames.nothing bad bytes (is.1 are) }
 
-pub frame_blamed : (words : List (Bor (List ℕ))) (fault : Fault) → are_rest words ≡ false → are_bytes words ≡ false → are_frame words ≡ false → Blames (ShowsBytes words) fault
-frame_blamed words fault rest bytes other = let is : are_frame words ≡ true = rw (rest, bytes) refl in absurd (cc (sym other ∙ is))
+pub frame_blamed : (words : List (Bor (List ℕ))) (fault : Fault) → are_bytes words ≡ false → Blames (Shows words) fault → Blames (ShowsBytes words) fault
+frame_blamed words fault other blames = record { nothing = λ bad bytes is. blames.nothing bad bytes (is.2 other) }
 
 -- ---- what happens
 
@@ -98,19 +99,19 @@ store_row word others fault e blames = record { nothing = λ bad happens is. go 
     go bad (event.Store n) is = blames.nothing bad n is.1
     go bad (event.RunResult handle result policy) is = apart 0 word (codes "store") (codes "run_result") (omega arith) e is.0
 
-pub arrive_row : (word : List ℕ) (others : List (Bor (List ℕ))) (fault : Fault) → word ≡ codes "arrive" → (are_frame others ≡ false → Blames (ShowsBytes others) fault) → is_frame word others ≡ false → Blames (SaysEvent word others) fault
-arrive_row word others fault e blames other = record { nothing = λ bad happens is. go bad happens is }
+pub arrive_row : (word : List ℕ) (others : List (Bor (List ℕ))) (fault : Fault) → word ≡ codes "arrive" → Blames (ShowsBytes others) fault → Blames (SaysEvent word others) fault
+arrive_row word others fault e blames = record { nothing = λ bad happens is. go bad happens is }
   where
     go : fault ≡ Malformed → (happens : Event) → SaysEvent word others happens → ⊥
     go bad (event.Piece n) is = apart 0 word (codes "arrive") (codes "piece") (omega arith) e is.0
     go bad event.Close is = apart 0 word (codes "arrive") (codes "close") (omega arith) e is.0
     go bad event.Step is = is
     go bad (event.Steps n) is = apart 0 word (codes "arrive") (codes "step") (omega arith) e is.0
-    go bad (event.Arrive bytes) is = (blames (subst (λ w. is_frame w others ≡ false) e other)).nothing bad bytes is.1
+    go bad (event.Arrive bytes) is = blames.nothing bad bytes is.1
     go bad (event.Store n) is = apart 0 word (codes "arrive") (codes "store") (omega arith) e is.0
     go bad (event.RunResult handle result policy) is = apart 0 word (codes "arrive") (codes "run_result") (omega arith) e is.0
 
--- the words of `close` and `run_result` behind them
+-- the words after `close` and `run_result`
 pub close_row : (word : List ℕ) (others : List (Bor (List ℕ))) (fault : Fault) → word ≡ codes "close" → Blames (SaysEvent (codes "close") others) fault → Blames (SaysEvent word others) fault
 close_row word others fault e blames = subst (λ w. Blames (SaysEvent w others) fault) (sym e) blames
 
@@ -156,16 +157,15 @@ no_row word others fault piece close step arrive store told = record { nothing =
 
 -- ---- rows
 
-pub event_row : (word : List ℕ) (others : List (Bor (List ℕ))) (fault : Fault) → word ≢ codes "world" → word ≢ codes "entry" → word ≢ codes "round" → (is_frame word others ≡ false → Blames (SaysEvent word others) fault) → is_frame word others ≡ false
-    → Blames (SaysBehind word others) fault
-event_row word others fault world entry round blames other = record { nothing = λ bad said is. go bad said is }
+pub event_row : (word : List ℕ) (others : List (Bor (List ℕ))) (fault : Fault) → word ≢ codes "world" → word ≢ codes "entry" → word ≢ codes "round" → Blames (SaysEvent word others) fault → Blames (SaysBehind word others) fault
+event_row word others fault world entry round blames = record { nothing = λ bad said is. go bad said is }
   where
     go : fault ≡ Malformed → (said : ScriptLine) → SaysBehind word others said → ⊥
     go bad line.Nothing is = is
     go bad (line.World given) is = world is.0
     go bad (line.Entry bytes) is = entry is.0
     go bad (line.Round opened) is = round is.0
-    go bad (line.Event happens) is = (blames other).nothing bad happens is
+    go bad (line.Event happens) is = blames.nothing bad happens is
 
 pub world_row : (word : List ℕ) (others : List (Bor (List ℕ))) (fault : Fault) → word ≡ codes "world" → Blames (SaysWorld others) fault → Blames (SaysBehind word others) fault
 world_row word others fault e blames = record { nothing = λ bad said is. go bad said is }
@@ -177,13 +177,13 @@ world_row word others fault e blames = record { nothing = λ bad said is. go bad
     go bad (line.Round opened) is = apart 0 word (codes "world") (codes "round") (omega arith) e is.0
     go bad (line.Event happens) is = (no_row word others Malformed (apart 0 word (codes "world") (codes "piece") (omega arith) e) (apart 0 word (codes "world") (codes "close") (omega arith) e) (apart 0 word (codes "world") (codes "step") (omega arith) e) (apart 0 word (codes "world") (codes "arrive") (omega arith) e) (apart 0 word (codes "world") (codes "store") (omega arith) e) (apart 0 word (codes "world") (codes "run_result") (omega arith) e)).nothing refl happens is
 
-pub entry_row : (word : List ℕ) (others : List (Bor (List ℕ))) (fault : Fault) → word ≡ codes "entry" → (are_frame others ≡ false → Blames (ShowsBytes others) fault) → is_frame word others ≡ false → Blames (SaysBehind word others) fault
-entry_row word others fault e blames other = record { nothing = λ bad said is. go bad said is }
+pub entry_row : (word : List ℕ) (others : List (Bor (List ℕ))) (fault : Fault) → word ≡ codes "entry" → Blames (ShowsBytes others) fault → Blames (SaysBehind word others) fault
+entry_row word others fault e blames = record { nothing = λ bad said is. go bad said is }
   where
     go : fault ≡ Malformed → (said : ScriptLine) → SaysBehind word others said → ⊥
     go bad line.Nothing is = is
     go bad (line.World given) is = apart 0 word (codes "entry") (codes "world") (omega arith) e is.0
-    go bad (line.Entry bytes) is = (blames (subst (λ w. is_frame w others ≡ false) e other)).nothing bad bytes is.1
+    go bad (line.Entry bytes) is = blames.nothing bad bytes is.1
     go bad (line.Round opened) is = apart 0 word (codes "entry") (codes "round") (omega arith) e is.0
     go bad (line.Event happens) is = (no_row word others Malformed (apart 0 word (codes "entry") (codes "piece") (omega arith) e) (apart 0 word (codes "entry") (codes "close") (omega arith) e) (apart 0 word (codes "entry") (codes "step") (omega arith) e) (apart 0 word (codes "entry") (codes "arrive") (omega arith) e) (apart 0 word (codes "entry") (codes "store") (omega arith) e) (apart 0 word (codes "entry") (codes "run_result") (omega arith) e)).nothing refl happens is
 
@@ -201,7 +201,7 @@ round_row word others fault e blames = record { nothing = λ bad said is. go bad
 
 -- no word
 pub no_words : (words : List (Bor (List ℕ))) → length words < 1 → SayNothing words
-no_words [] h = record { nothing = λ other said is. go said is }
+no_words [] h = record { nothing = go }
   where
     differs : (name : List ℕ) → get_or name 0 0 ≢ 0 → [] ≡ name → ⊥
     differs name some e = some (ap (λ t. get_or t 0 0) (sym e))
@@ -214,16 +214,16 @@ no_words [] h = record { nothing = λ other said is. go said is }
     go (line.Event happens) is = (no_row [] [] Malformed (differs (codes "piece") (omega arith)) (differs (codes "close") (omega arith)) (differs (codes "step") (omega arith)) (differs (codes "arrive") (omega arith)) (differs (codes "store") (omega arith)) (differs (codes "run_result") (omega arith))).nothing refl happens is
 no_words (w ∷ words) h = absurd (omega arith)
 
-pub words_say_nothing : (words others : List (Bor (List ℕ))) (d : Bor (List ℕ)) (fault : Fault) → 0 < length words → others ≡ words_after_first words → (is_frame (get_or words 0 d).now others ≡ false → Blames (SaysBehind (get_or words 0 d).now others) fault) → fault ≡ Malformed
+pub words_say_nothing : (words others : List (Bor (List ℕ))) (d : Bor (List ℕ)) (fault : Fault) → 0 < length words → others ≡ words_after_first words → Blames (SaysBehind (get_or words 0 d).now others) fault → fault ≡ Malformed
     → SayNothing words
-words_say_nothing words others d fault some e blames bad = record { nothing = λ other said is. go other said is }
+words_say_nothing words others d fault some e blames bad = record { nothing = go }
   where
     same : (get_or words 0 d).now ≡ text_at 0 words
     same = word_at words 0 d some
 
-    go : is_frame (text_at 0 words) (words_after_first words) ≡ false → (said : ScriptLine) → SaysWords words said → ⊥
-    go other said is =
-        (blames (subst (λ w. is_frame w others ≡ false) (sym same) (subst (λ ws. is_frame (text_at 0 words) ws ≡ false) (sym e) other))).nothing bad said (subst (λ w. SaysBehind w others said) (sym same) (subst (λ ws. SaysBehind (text_at 0 words) ws said) (sym e) is))
+    go : (said : ScriptLine) → SaysWords words said → ⊥
+    go said is =
+        blames.nothing bad said (subst (λ w. SaysBehind w others said) (sym same) (subst (λ ws. SaysBehind (text_at 0 words) ws said) (sym e) is))
 
 pub unclosed_says_nothing : (text : List ℕ) → place text ≢ outside → SaysNothing text
 unclosed_says_nothing text unclosed = inr (inl unclosed)

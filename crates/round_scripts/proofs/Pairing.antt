@@ -31,7 +31,7 @@ value_blamed text ws d fault are two blames = record {
 abbrev Entries : Type 0
 Entries = List (String Global × List ℕ)
 
--- a text that is no entry, behind other words
+-- a text that is no entry, after other words
 behind_first : (name : List ℕ) (w : Bor (List ℕ)) (words : List (Bor (List ℕ))) (found : Option (List ℕ)) → text_behind name w.now ≡ found → ((entries : Entries) → AreStateTexts (texts_named name words) entries → ⊥)
     → (entries : Entries) → AreStateTexts (texts_named name (w ∷ words)) entries → ⊥
 behind_first name w words None at none entries are = none entries (rw at at are)

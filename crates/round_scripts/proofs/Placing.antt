@@ -1,4 +1,4 @@
--- What has no place behind what was said before, and the lines in front of it.
+-- What has no place after what the lines before it have said, and those lines.
 use Rattle.std.proofs.Common.{◌≡◌, ◌≢◌, ◌+◌, inl, inr, ℕ, List, [], ◌∷◌, ◌++◌, None, length, ap, refl, sym, subst, ◌∙◌, arith, length-append}
 use Rattle.scripts.specs.Transcripts.{AreFirstLines, IsFirstLine}
 use Rattle.vm_store.specs.declared.types.Event.{Event}
@@ -46,7 +46,7 @@ read_adds_nothing text said before reads none = inr (said, reads, none)
 
 -- ---- the lines in front
 
--- so many lines of the text are read
+-- `number` lines of the text are read
 pub record HasRead (text rest : List ℕ) (before now : Parts) (number : ℕ) : Type 0 where
   pub lines : List (List ℕ)
   pub begins : AreFirstLines lines text rest

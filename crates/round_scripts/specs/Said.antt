@@ -1,6 +1,6 @@
 -- What a line of a script of rounds says: its first word names it, and its numbers are in their
 -- places.
-use Rattle.std.specs.Prelude.{◌≡◌, ◌≢◌, ◌⊎◌, ◌-◌, ◌^◌, ◌==◌, ◌&&◌, ◌||◌, ℕ, Bool, true, false, not, List, [], length, nat_eq, codes}
+use Rattle.std.specs.Prelude.{◌≡◌, ◌≢◌, ◌⊎◌, ◌-◌, ◌^◌, ◌==◌, ◌&&◌, ℕ, Bool, true, false, List, [], length, nat_eq, codes}
 use Rattle.std.specs.Borrow.{Bor}
 use Rattle.std.specs.Cmp.Lexicographic.{pointwise}
 use Rattle.std.specs.List.{starts_with}
@@ -26,7 +26,7 @@ IsCount text count = ((text ≡ codes "all") × (count ≡ 2 ^ 64 - 1)) ⊎ IsNu
 abbrev pub IsOneCount : List (Bor (List ℕ)) → ℕ → Type 0
 IsOneCount words count = (length words ≡ 1) × IsCount (text_at 0 words) count
 
--- one, where no word says how many, or the number that is the only word
+-- how many steps: the number that is the only word, or 1 if there is no word
 abbrev pub AreSteps : List (Bor (List ℕ)) → ℕ → Type 0
 AreSteps words steps =
     ((words ≡ []) × (steps ≡ 1)) ⊎ ((length words ≡ 1) × IsNumberOf 64 (text_at 0 words) steps)
@@ -45,7 +45,7 @@ ShowsBytes words bytes =
     (are_rest words ≡ false) × (are_bytes words ≡ true → IsAtom (text_at 0 words) bytes)
     × (are_bytes words ≡ false → Shows words bytes)
 
--- this word and those behind it say that this happens
+-- a line's first word and those after it say that this event happens
 abbrev pub SaysEvent : List ℕ → List (Bor (List ℕ)) → Event → Type 0
 SaysEvent word others (event.Piece n) = (word ≡ codes "piece") × IsOneCount others n
 SaysEvent word others event.Close = (word ≡ codes "close") × (others ≡ [])
@@ -56,7 +56,7 @@ SaysEvent word others (event.Store n) = (word ≡ codes "store") × IsOneCount o
 SaysEvent word others (event.RunResult handle result policy) = (word ≡ codes "run_result")
     × IsProposal others (record { handle = handle; result = result; policy = policy })
 
--- this word and those behind it say this
+-- a line's first word and those after it say this
 abbrev pub SaysBehind : List ℕ → List (Bor (List ℕ)) → ScriptLine → Type 0
 SaysBehind word others line.Nothing = ⊥
 SaysBehind word others (line.World given) = (word ≡ codes "world") × SaysWorld others given
@@ -81,20 +81,9 @@ SaysLine text said =
 
 -- ---- lines without a meaning
 
--- whether the words are to show a frame
-abbrev pub are_frame : List (Bor (List ℕ)) → Bool
-are_frame words = not (are_rest words) && not (are_bytes words)
-
--- whether this word and those after it are an arrival or an entry that is a frame
-abbrev pub is_frame : List ℕ → List (Bor (List ℕ)) → Bool
-is_frame word others = (pointwise nat_eq word (codes "arrive")
-    || pointwise nat_eq word (codes "entry")) && are_frame others
-
--- words that say nothing, unless they are an arrival or an entry that is a frame: which fields make
--- a message isn't said
+-- words that say nothing
 pub record SayNothing (words : List (Bor (List ℕ))) : Type 0 where
-  pub nothing : is_frame (text_at 0 words) (words_after_first words) ≡ false → (said : ScriptLine)
-      → SaysWords words said → ⊥
+  pub nothing : (said : ScriptLine) → SaysWords words said → ⊥
 
 -- why a line that isn't empty says nothing: it isn't UTF-8, its quotes or brackets aren't closed,
 -- or its words say nothing

@@ -119,18 +119,18 @@ pub record IsScriptRead (text : List ℕ) (script : Script) : Type 0 where
 
 -- ---- scripts that aren't read
 
--- what is said has no place behind what was said before
+-- what a line says has no place after what the lines before it have said
 pub record HasNoPlace (said : ScriptLine) (before : Parts) : Type 0 where
   pub nothing : (after : Parts) → Adds said before after → ⊥
 
--- a line without a meaning behind what was said before: it says nothing, or what it says has no
--- place
+-- a line without a meaning: it says nothing, or what it says has no place after what the lines
+-- before it have said
 abbrev pub AddsNothing : List ℕ → Parts → Type 0
 AddsNothing text before =
     IsUnread text ⊎ ((said : ScriptLine) × SaysLine text said × HasNoPlace said before)
 
--- The line of this number, counted from 1, has no meaning behind those before it, and each of these
--- has one.
+-- The line of this number, counted from 1, is the first without a meaning: each line before it has
+-- one.
 pub record StopsAt (text : List ℕ) (before : Parts) (number : ℕ) : Type 0 where
   pub lines : List (List ℕ)
   pub rest : List ℕ

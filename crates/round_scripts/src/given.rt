@@ -40,7 +40,7 @@ fn default_identity(alloc: Global) -> Result<Identity, AllocError>
     })
 }
 
-/// What a world is made of where nothing is said of it.
+/// The defaults that a world is made of, if the script has no `world` line.
 pub fn default_given(alloc: Global) -> Result<Given, AllocError>
     ensures { IfOk result (λ given. IsDefault given) }
 {
@@ -61,7 +61,8 @@ fn bytes_or(
     default: &'static [u8],
 ) -> Result<Bytes, Fault>
     ensures value { IfOk result (IsSet IsAtom default.now (texts_named name.now words.now)) }
-    ensures none { IfErr result (Blames (IsSet IsAtom default.now (texts_named name.now words.now))) }
+    ensures none { IfErr result
+        (Blames (IsSet IsAtom default.now (texts_named name.now words.now))) }
 {
     match field_of(words, name)? {
         Some(text) => shared_of(alloc, text),
@@ -73,7 +74,8 @@ fn bytes_or(
 #[tactic(auto, using(line_parts::proofs::Missing::set_blamed, line_parts::proofs::Missing::twice_set))]
 fn text_or(alloc: Global, words: &[&[u8]], name: &str, default: &str) -> Result<Text, Fault>
     ensures value { IfOk result (IsSet IsText default.now (texts_named name.now words.now)) }
-    ensures none { IfErr result (Blames (IsSet IsText default.now (texts_named name.now words.now))) }
+    ensures none { IfErr result
+        (Blames (IsSet IsText default.now (texts_named name.now words.now))) }
 {
     match field_of(words, name)? {
         Some(text) => text_of(alloc, text),
@@ -161,7 +163,7 @@ fn are_of_a_world(words: &[&[u8]]) -> bool
     )
 }
 
-/// What stands behind the word `world`; what isn't named is at its default.
+/// Parses the words after `world`. A part that they don't name has its default.
 #[tactic(auto, using(crate::proofs::Worlds::others_blamed, crate::proofs::Worlds::options_blamed, crate::proofs::Worlds::identity_blamed, crate::proofs::Worlds::input_blamed, crate::proofs::Worlds::state_blamed))]
 pub fn given_of(alloc: Global, words: &[&[u8]]) -> Result<Given, Fault>
     ensures value { IfOk result (SaysWorld words.now) }

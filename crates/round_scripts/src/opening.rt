@@ -71,7 +71,7 @@ fn are_of_a_round(words: &[&[u8]]) -> bool
     are_named(words, &["key=", "retry=", "duration="])
 }
 
-/// What stands behind the word `round`.
+/// Parses the words after `round`. The new round has no events yet.
 #[tactic(auto, using(crate::proofs::Beginning::flag_blamed, crate::proofs::Beginning::others_blamed, crate::proofs::Beginning::retry_blamed, crate::proofs::Beginning::duration_blamed, crate::proofs::Beginning::round_keys_blamed))]
 pub fn round_of(alloc: Global, words: &[&[u8]]) -> Result<Round, Fault>
     ensures value { IfOk result (SaysRound words.now) }

@@ -3,7 +3,7 @@ ghost use Rattle.std.specs.Prelude.{◌≡◌, false, codes, IfErr, IfOk};
 ghost use Rattle.lines.specs.Readings.{Blames};
 ghost use Rattle.requests.specs.Lines.{says_nothing};
 ghost use Rattle.plain.specs.declared.fault.Fault.TheVariants.{Malformed};
-ghost use Rattle.round_scripts.specs.Said.{AreSteps, IsCount, IsOneCount, IsUnread, SaysLine, SayNothing, IsScriptLine, SaysBehind, SaysEvent, SaysNothing, SaysWords, ShowsBytes, are_bytes, are_frame, are_rest, is_frame};
+ghost use Rattle.round_scripts.specs.Said.{AreSteps, IsCount, IsOneCount, IsUnread, SaysLine, SayNothing, IsScriptLine, SaysBehind, SaysEvent, SaysNothing, SaysWords, ShowsBytes, are_bytes, are_rest};
 
 use crate::given::given_of;
 use crate::opening::round_of;
@@ -54,8 +54,7 @@ fn are_bytes(words: &[&[u8]]) -> bool
 #[tactic(auto, using(crate::proofs::Nothing::rest_blamed, crate::proofs::Nothing::bytes_blamed, crate::proofs::Nothing::frame_blamed))]
 fn shown_by(alloc: Global, words: &[&[u8]]) -> Result<Bytes, Fault>
     ensures value { IfOk result (ShowsBytes words.now) }
-    ensures none { IfErr result (λ fault. are_frame words.now ≡ false
-        → Blames (ShowsBytes words.now) fault) }
+    ensures none { IfErr result (Blames (ShowsBytes words.now)) }
 {
     if are_rest(words) {
         return Err(Fault::Malformed);
@@ -67,7 +66,7 @@ fn shown_by(alloc: Global, words: &[&[u8]]) -> Result<Bytes, Fault>
     Ok(bytes)
 }
 
-/// What stands behind the word `run_result`.
+/// Parses the words after `run_result`.
 #[tactic(auto, using(crate::proofs::Nothing::proposal_blamed))]
 fn run_result_of(alloc: Global, words: &[&[u8]]) -> Result<Event, Fault>
     ensures value { IfOk result (SaysEvent (codes "run_result") words.now) }
@@ -106,7 +105,7 @@ fn steps_of(words: &[&[u8]]) -> Result<u64, Fault>
     }
 }
 
-/// Nothing stands behind the word `close`.
+/// Parses the words after `close`: there must be none.
 #[tactic(auto, using(crate::proofs::Nothing::close_blamed))]
 fn close_of(words: &[&[u8]]) -> Result<Event, Fault>
     ensures value { IfOk result (SaysEvent (codes "close") words.now) }
@@ -119,12 +118,11 @@ fn close_of(words: &[&[u8]]) -> Result<Event, Fault>
     }
 }
 
-/// What happens, as a word of a line and those behind it say.
+/// Parses a line of an event: its first word, and those after it.
 #[tactic(auto, using(crate::proofs::Nothing::piece_row, crate::proofs::Nothing::close_row, crate::proofs::Nothing::step_row, crate::proofs::Nothing::arrive_row, crate::proofs::Nothing::store_row, crate::proofs::Nothing::run_result_row, crate::proofs::Nothing::no_row))]
 fn event_behind(alloc: Global, word: &[u8], others: &[&[u8]]) -> Result<Event, Fault>
     ensures value { IfOk result (SaysEvent word.now others.now) }
-    ensures none { IfErr result (λ fault. is_frame word.now others.now ≡ false
-        → Blames (SaysEvent word.now others.now) fault) }
+    ensures none { IfErr result (Blames (SaysEvent word.now others.now)) }
 {
     if word == b"piece".as_slice() {
         let count = count_alone(others)?;
@@ -153,12 +151,11 @@ fn event_behind(alloc: Global, word: &[u8], others: &[&[u8]]) -> Result<Event, F
     Err(Fault::Malformed)
 }
 
-/// What a word of a line and those behind it say.
+/// Parses a line that is neither empty nor a comment: its first word, and those after it.
 #[tactic(auto, using(crate::proofs::Nothing::world_row, crate::proofs::Nothing::entry_row, crate::proofs::Nothing::round_row, crate::proofs::Nothing::event_row))]
 fn said_behind(alloc: Global, word: &[u8], others: &[&[u8]]) -> Result<ScriptLine, Fault>
     ensures value { IfOk result (SaysBehind word.now others.now) }
-    ensures none { IfErr result (λ fault. is_frame word.now others.now ≡ false
-        → Blames (SaysBehind word.now others.now) fault) }
+    ensures none { IfErr result (Blames (SaysBehind word.now others.now)) }
 {
     if word == b"world".as_slice() {
         let given = given_of(alloc, others)?;

@@ -40,7 +40,7 @@ pub struct SoFar {
     pub round: Option<Round>,
 }
 
-/// Something happens next in the last round; `Malformed` where there is none.
+/// Adds an event to the last round; `Malformed` if no round has begun.
 #[tactic(auto, using(crate::proofs::Placing::no_round))]
 fn add_event(so_far: &mut SoFar, event: Event) -> Result<(), Fault>
     ensures value { OnOk result
@@ -121,7 +121,7 @@ fn add_round(so_far: &mut SoFar, round: Round) -> Result<(), Fault>
     Ok(())
 }
 
-/// A line more; `Malformed` where it has no meaning behind those before.
+/// Adds a line; `Malformed` if it has no place after the lines before it.
 fn add(so_far: &mut SoFar, said: ScriptLine) -> Result<(), Fault>
     ensures value { OnOk result (Adds said (said_parts so_far.old) (said_parts so_far.new)) }
     ensures none { IfErr result (λ fault. fault ≡ Malformed
@@ -139,7 +139,8 @@ fn add(so_far: &mut SoFar, said: ScriptLine) -> Result<(), Fault>
 /// A line of the text more.
 #[tactic(auto, using(crate::proofs::Placing::unread_adds_nothing, crate::proofs::Placing::read_adds_nothing))]
 fn add_line(alloc: Global, so_far: &mut SoFar, line: &[u8]) -> Result<(), Fault>
-    ensures value { OnOk result (AddsLine line.now (said_parts so_far.old) (said_parts so_far.new)) }
+    ensures value { OnOk result
+        (AddsLine line.now (said_parts so_far.old) (said_parts so_far.new)) }
     ensures none { IfErr result (λ fault. fault ≡ Malformed
         → AddsNothing line.now (said_parts so_far.old)) }
 {

@@ -39,8 +39,8 @@ use Rattle.vm_attempt.specs.Blames.{IsHonest}
 use Rattle.vm_attempt.proofs.Honest.{honestly_fed}
 use Rattle.vm_steps.specs.Heard.{Heard}
 use Rattle.vm_attempt.specs.Honest.{FeedsHonestly, frame_bytes, honest_frames}
-use Rattle.vm_attempt.specs.Journals.{setup_with}
-use Rattle.vm_attempt.specs.Fixed.{fixed_by}
+use Rattle.vm_model.specs.JournalFrames.{setup_with}
+use Rattle.vm_model.specs.Fixed.{fixed_by}
 
 abbrev first : Start
 first = record { id = codes "abc"; debug_id = codes "abc"; key = []; known_entries = 3; state = []; partial = false; retry_count = 0; duration = 0; random_seed = 0; scope = None; limit_key = None; idempotency_key = None }
@@ -142,7 +142,7 @@ none_two h =
 
 -- ---- it makes no call
 
--- behind its sleep it ends
+-- after its sleep it ends
 then_ends : (i : InputCommand) (p : Point) → next setup sleeper (began setup i (void ∷ []) (stored_form slept ∷ [])) ≡ Some p → sleeper p.answers ≡ step.End
 unfolding sleeper is_utf8 chars header_equal message_in body_as sleep_body read_value bytes read_byte read_bytes read_text read_pair read_u16 read_u32 read_u64 u16s u32s u64s
 then_ends i p e = ap (λ (z : Point). sleeper z.answers) (sym (same_Some _ p e))

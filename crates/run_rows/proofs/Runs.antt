@@ -66,7 +66,7 @@ handle n = record { 0 = n }
 told : Answer
 told = answer.Input (told_input setup.identity input)
 
--- the answers after so many moves, and the recorded commands that are left
+-- the answers after n moves, and the recorded commands that are left
 told_by : Meaning → ℕ → List Notification → List RawMessage → Option (List Answer × List RawMessage)
 told_by m n ns cs = option_map (λ p. (p.answers, p.left)) (after setup m n (start setup input ns cs))
 
@@ -97,11 +97,11 @@ slept = stored_form (message.Sleep (record { wake_up_time = 1000; result_complet
 done : RawMessage
 done = stored_form (message.Output (record { result = given.Value [] }))
 
--- the point behind the sleep
+-- the point after the sleep
 asleep : Point
 asleep = point_in (after setup sleeper 1 (start setup input (void 1 ∷ []) (slept ∷ done ∷ [])))
 
--- the calls behind the input go through both recorded commands and the arrival
+-- the calls after the input use both recorded commands and the arrival
 told_two : told_by sleeper 5 (void 1 ∷ []) (slept ∷ done ∷ []) ≡ Some (told ∷ answer.Handle (handle 17) ∷ answer.Awake ∷ answer.Taken (Some value.Void) ∷ answer.Unit ∷ [], [])
 unfolding told_by point_in asleep slept done setup sleeper void told handle is_utf8 chars header_equal message_in body_as sleep_body output_body read_value bytes read_byte read_bytes read_text read_pair read_u16 read_u32 read_u64 u16s u32s u64s
 told_two = ap (option_map (λ p. (p.answers, p.left))) (awaits_one sleeper (handle 17) asleep (void 1) [] 2 refl refl refl refl refl refl)
@@ -109,7 +109,7 @@ told_two = ap (option_map (λ p. (p.answers, p.left))) (awaits_one sleeper (hand
 cleared : RawMessage
 cleared = stored_form (message.ClearState (record { name = []; key = codes "k" }))
 
--- a journal of another handler tells nothing behind the input
+-- on a journal of another handler no move leads on from the input
 other_journal : after setup sleeper 1 (start setup input [] (cleared ∷ [])) ≡ None
 unfolding setup sleeper cleared message_type
 other_journal = refl
@@ -126,7 +126,7 @@ chooser _ = step.End
 sent : NotificationResult → Notification
 sent r = record { id = SignalId 17; result = r }
 
--- the point behind the awakeable
+-- the point after the awakeable
 waiting : NotificationResult → List RawMessage → Point
 waiting r cs = point_in (after setup chooser 1 (start setup input (sent r ∷ []) cs))
 
@@ -151,7 +151,7 @@ reader _ = step.End
 read_eagerly : RawMessage
 read_eagerly = stored_form (message.GetEagerState (record { name = []; key = codes "k"; result = Some (stands.Value (codes "v")) }))
 
--- the recorded value is taken, whatever the state is
+-- the recorded value is taken, for all states
 told_read : told_by reader 2 [] (read_eagerly ∷ []) ≡ Some (told ∷ answer.Handle (handle 17) ∷ answer.Taken (Some (value.Success (codes "v"))) ∷ [], [])
 unfolding told_by setup reader read_eagerly told handle is_utf8 chars header_equal message_in body_as get_eager_state option read_value read_option read_flag bytes read_byte read_bytes read_text read_pair read_u16 read_u32 read_u64 u16s u32s u64s read_void_or_value lib.Utf8.encode
 told_read = refl
@@ -183,7 +183,8 @@ waits_one : (m : Meaning) (h : NotificationHandle) (p : Point) (n : Notification
 waits_one m h p n queue more is e c before =
     ap (λ o. and_then o (after setup m more)) (waits_next setup m (Single h) p is (ap (λ b. b || is_awake setup (Single h) p.derived) c ∙ wakes_by h p.derived ∙ ap (λ b. b || false) before) ∙ ap (λ q. uses_arrival q p) e)
 
--- the point behind the call: its handles are 17 and 18, and its invocation is cancelled with the handler's
+-- the point after the call: its handles are 17 and 18, and its invocation is cancelled with the
+-- handler's
 behind_call : Point
 behind_call = record (start setup input (child ∷ cancel ∷ []) (child_cancelled ∷ [])) {
   answers = told ∷ answer.Call both_handles ∷ [];

@@ -1,4 +1,4 @@
--- Steps of a run, one behind the other.
+-- Steps of a run, one after the other.
 use Rattle.std.proofs.Common.{Global, ◌≡◌, ℕ, zero, suc, ◌+◌, ◌-◌, ◌^◌, List, [], ◌++◌, Option, Some, None, refl, sym, ap, ◌∙◌, subst, inl, inr, ⊎_elim, arith}
 use Rattle.std.specs.Prelude.{Result, Ok, Err, IfOk, IfSome}
 use Rattle.std.specs.declared.alloc.AllocError.{AllocError}
@@ -17,7 +17,7 @@ use Rattle.vm_attempt.proofs.Under.{close_under, feed_under, step_under}
 use Rattle.runner.specs.Runs.{SendsWhole, Stepped, Drives, IsFed, IsTold, IsDriven, ServesAnew, end_after}
 use Rattle.runner.specs.declared.run_end.AttemptEnd.{AttemptEnd}
 use Rattle.runner.specs.declared.run_end.AttemptEnd.TheVariants as attempt_end
-use Rattle.vm_attempt.specs.Fixed.{Fixed, fixed_by}
+use Rattle.vm_model.specs.Fixed.{Fixed, fixed_by}
 
 -- only a step that gives an answer is not the last one
 goes_on : (last : Result Progress Error) → None ≡ end_after last → last ≡ Ok progress.Stepped

@@ -21,9 +21,9 @@ use Rattle.runner.specs.declared.run_end.Refusal.{Refusal}
 use Rattle.runner.specs.declared.run_end.Refusal.TheVariants as refusal
 use Rattle.run_ends.specs.declared.run_end.RunEnd.{RunEnd}
 use Rattle.run_ends.specs.Ends.{Says}
-use Rattle.vm_attempt.specs.Fixed.{fixed_by}
+use Rattle.vm_model.specs.Fixed.{fixed_by}
 
--- so many steps, each of which gave the handler one answer
+-- this number of steps, each of which gave the handler one answer
 abbrev pub Stepped : StepFunction → ℕ → Record → Record → Type 0
 Stepped meaning zero first now = now ≡ first
 Stepped meaning (suc n) first now = (before : Record) × Stepped meaning n first before
@@ -65,21 +65,20 @@ IsDriven holds_then meaning fresh input ending output =
 abbrev pub SendsWhole : Record → Type 0
 SendsWhole r = WholeFrames r.vm.machine.output
 
--- The input is all that the reader had left, where this is known, and this holds of the output.
+-- The input is all that the reader had left, if this is known, and this holds of the output.
 abbrev pub Serves : (Record → Type 0) → StepFunction → Record → Option (List ℕ) → (List ℕ → Type 0)
     → AttemptEnd → Type 0
 Serves holds_then meaning fresh left written ending =
     (input : List ℕ) × (output : List ℕ) × IfSome left (λ bytes. input ≡ bytes)
     × IsDriven holds_then meaning fresh input ending output × written output
 
--- Where no completion has two results, the answers of an attempt with the options by default are
--- told by the journal that it was fed and what it wrote.
+-- If no completion has two results, the answers of an attempt with the options by default follow
+-- from the journal that it was fed and from what it wrote.
 abbrev pub IsTold : StepFunction → Version → Record → Type 0
 IsTold meaning version r = NoneHasTwo (fixed_by meaning version default_options) (heard version r)
     → (r.answers ≡ []) ⊎ AnswersAreTold (fixed_by meaning version default_options) r
 
--- the same of a new attempt with the options by default, for the version that was asked for: its
--- answers are told
+-- the same of a new attempt with the options by default, for the version that was asked for
 abbrev pub ServesAnew : Global → Result Version Error → StepFunction → Option (List ℕ)
     → (List ℕ → Type 0) → AttemptEnd → Type 0
 ServesAnew alloc (Ok version) meaning left written ending = Serves (IsTold meaning version) meaning

@@ -18,7 +18,7 @@ use std::alloc::{AllocError, Global};
 use streams::{Sink, Source};
 use vm_attempt::{Attempt, ContentType, Handler, Progress};
 
-/// Makes a step, and tells how the attempt ends, if it is the last one.
+/// Makes a step. Returns how the attempt ends, if it is the last one.
 fn step_of<H: Handler>(attempt: &mut Attempt<H>) -> Option<AttemptEnd>
     ensures does { (last : Result Progress Error)
         × StepDoes (H.meaning attempt.old.handler) attempt.old.record_of last attempt.new.record_of
@@ -48,7 +48,7 @@ fn drive<H: Handler>(attempt: &mut Attempt<H>) -> AttemptEnd
     AttemptEnd::Stalled
 }
 
-/// Feeds an attempt all of its input. Want of memory is the attempt's from then on, and its next step answers it.
+/// Feeds an attempt all of its input. If memory runs out, the attempt keeps that, and its next step reports it.
 fn feed_all<H: Handler>(attempt: &mut Attempt<H>, input: Bytes)
     ensures fed { IsFed input attempt.old.record_of attempt.new.record_of }
     ensures handler { attempt.new.handler ≡ attempt.old.handler }
@@ -124,8 +124,8 @@ fn run_handler<H: Handler + Drop, R: Source, W: Sink>(
     }
 }
 
-/// Runs one attempt of the named handler. What is read is a journal with its Start in front, in the version that the
-/// content type names; what is written is all that the attempt sends, also where the VM failed.
+/// Runs one attempt of the named handler. What is read is a journal with its Start in front, in the version that the content type names;
+/// what is written is all that the attempt sends, also if the VM failed.
 pub fn run<R: Source, W: Sink>(
     alloc: Global,
     content_type: &str,
@@ -142,9 +142,9 @@ pub fn run<R: Source, W: Sink>(
         (λ _. IfErr (version_in (Some (Some content_type.now)))
         (λ why. (result ≡ Refused (refusal.ContentType why)) × (reader.new ≡ reader.old)
         × (writer.new ≡ writer.old))) }
-    // Each other run has read all that there was and served it to an attempt, whose answers are told by that journal and by what
-    // it wrote; or reading has failed, or memory was lacking behind it, and nothing is written. All that the attempt sends is
-    // written, or a beginning where writing has failed.
+    // Each other run has read all that there was and served it to an attempt, whose answers follow from that journal and from what it
+    // wrote; or reading has failed, or memory ran out after it, and nothing is written. All that the attempt sends is written, or a
+    // beginning if writing has failed.
     ensures runs { IfSome (step_named handler.now)
         (λ meaning. AttemptSays (version_in (Some (Some content_type.now)))
         (ServesAnew alloc (version_in (Some (Some content_type.now))) meaning

@@ -10,7 +10,7 @@ use vectors::transports::{Breaking, Pipe};
 
 const V7: &str = "application/vnd.restate.invocation.v7";
 
-/// How a run ends, as a row tells it.
+/// How a run ends, as a row has it.
 #[derive(Clone, Copy, Debug, PartialEq, Eq)]
 enum Told {
     Reported,
@@ -31,7 +31,7 @@ fn told_of(end: &RunEnd) -> Told {
                 stopped_by: Some(_),
             },
         ) => Told::Stopped,
-        RunEnd::Refused(Refusal::NoMeaning(line)) => Told::NoMeaning(*line),
+        RunEnd::Refused(Refusal::NoMeaning(line, _)) => Told::NoMeaning(*line),
         RunEnd::ReadFailed(_) => Told::ReadFailed,
         RunEnd::WriteFailed(_, _) => Told::WriteFailed,
         RunEnd::Refused(Refusal::UnknownHandler) => Told::UnknownHandler,
@@ -120,7 +120,7 @@ fn refused_arguments_read_and_write_nothing(rt: HostRuntime) {
     }
 }
 
-/// A read that fails behind this beginning of the script writes nothing.
+/// A read that fails after this beginning of the script writes nothing.
 fn assert_broken(rt: &impl Abort, alloc: Global, front: &[u8]) {
     let mut reader = Plain(Breaking {
         front: Cursor::new(front),

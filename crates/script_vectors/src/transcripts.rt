@@ -9,7 +9,7 @@ use std::test::Fail;
 use streams::{Plain, Sink, Source};
 use vectors::transports::{Breaking, Pipe};
 
-/// How a run ends, as a row tells it.
+/// How a run ends, as a row has it.
 #[derive(Clone, Copy, Debug)]
 enum Told {
     ReadFailed(ErrorKind),

@@ -1,4 +1,4 @@
--- A reply tells what a call did.
+-- A reply says what a call did.
 use Rattle.std.proofs.Common.{◌≡◌, inr, List, ℕ, Result, Option, Global}
 use Rattle.std.specs.declared.alloc.AllocError.{AllocError}
 use Rattle.journal_protocol.specs.Error.{Error}

@@ -16,7 +16,7 @@ lines_more : (lines : List (List ℕ)) (script rest line behind : List ℕ) → 
 lines_more [] script rest line behind same some first = subst (λ s. AreFirstLines (line ∷ []) s behind) (sym same) (some, (behind, first, refl))
 lines_more (l ∷ lines) script rest line behind (full, (next, is, more)) some first = (full, (next, is, lines_more lines next rest line behind more some first))
 
--- its answer behind the others
+-- its answer after the others
 answers_more : (alloc : Global) (lines : List (List ℕ)) (line : List ℕ) (old now new : Option CoreVM) (transcript answer : List ℕ)
     → AreAnswered alloc lines old now transcript → Transcribes alloc now new line answer → AreAnswered alloc (lines ++ line ∷ []) old new (transcript ++ (answer ++ 10 ∷ []))
 answers_more alloc [] line old now new transcript answer (same, none) told =

@@ -34,25 +34,28 @@ abbrev pub reply_of : {A : Type 0} → (A → Reply) → Result A Error → Repl
 reply_of f (Ok a) = f a
 reply_of f (Err e) = reply.Refused e
 
--- the reply to a call whose only error is want of memory
+-- the reply to a call whose only error is out of memory
 abbrev pub reply_or_memory : {A : Type 0} → (A → Reply) → Result A AllocError → Reply
 reply_or_memory f (Ok a) = f a
 reply_or_memory f (Err e) = reply.Refused no_memory
 
--- a call that is an event of the machine: the reply tells its result
-pub record Answers {A : Type 0} (f : A → Reply) (step : Machine → Outcome A) (answer : Reply) (old new : View) : Type 0 where
+-- a call that is an event of the machine: the reply has its result
+pub record Answers {A : Type 0} (f : A → Reply) (step : Machine → Outcome A) (answer : Reply)
+    (old new : View) : Type 0 where
   pub given : Result A Error
   pub calls : Calls step given old new
   pub told : answer ≡ reply_of f given
 
--- any other call of the VM, of which is said what it does: the reply tells its result
-pub record RepliesWith {A : Type 0} (f : A → Reply) (Done : Result A Error → View → View → Type 0) (answer : Reply) (old new : View) : Type 0 where
+-- any other call of the VM; `Done` says what it does, and the reply has its result
+pub record RepliesWith {A : Type 0} (f : A → Reply) (Done : Result A Error → View → View → Type 0)
+    (answer : Reply) (old new : View) : Type 0 where
   pub given : Result A Error
   pub calls : Done given old new
   pub told : answer ≡ reply_of f given
 
--- what comes in: nothing is told but want of memory
-pub record FeedsVm (raws : List RawMessage) (after : View) (answer : Reply) (old new : View) : Type 0 where
+-- the VM is fed frames: the reply is `Done`, or out of memory
+pub record FeedsVm (raws : List RawMessage) (after : View) (answer : Reply)
+    (old new : View) : Type 0 where
   pub given : Result Unit AllocError
   pub leaves : Leaves raws after given old new
   pub told : answer ≡ reply_or_memory (λ _. reply.Done) given
@@ -69,7 +72,7 @@ pub record TellsHead (version : Version) (answer : Reply) : Type 0 where
   pub head : IfOk given (λ head. head ≡ response_head version)
   pub told : answer ≡ reply_or_memory reply.Head given
 
--- the reply tells whether the handler may be run
+-- the reply says whether the handler may be run
 pub record TellsReady (machine : Machine) (answer : Reply) : Type 0 where
   pub given : Result Bool Error
   pub ready : IsReadyAt machine.failure machine.phase given

@@ -7,15 +7,17 @@ use Rattle.scripts.specs.Transcripts.{TranscriptIsWritten, IsBegun}
 use Rattle.scripts.specs.declared.run_end.RunEnd.{RunEnd}
 use Rattle.scripts.specs.declared.run_end.RunEnd.TheVariants.{ReadFailed, NoMemory, WriteFailed, Done}
 
--- Memory was lacking for a line: what is written are the answers of the lines before it.
-pub record IsOutOfMemoryAt (alloc : Global) (script : List ℕ) (old : Option CoreVM) (before after : Option (List ℕ)) : Type 0 where
+-- Out of memory at a line: what is written are the answers of the lines before it.
+pub record IsOutOfMemoryAt (alloc : Global) (script : List ℕ) (old : Option CoreVM)
+    (before after : Option (List ℕ)) : Type 0 where
   pub rest : List ℕ
   pub last : Option CoreVM
   pub is_written : TranscriptIsWritten alloc script rest old last before after
   pub is_left : rest ≢ []
 
 -- An answer was cut: what is written are the answers before it, and a beginning of it.
-pub record IsCut (alloc : Global) (script : List ℕ) (old : Option CoreVM) (before after : Option (List ℕ)) : Type 0 where
+pub record IsCut (alloc : Global) (script : List ℕ) (old : Option CoreVM)
+    (before after : Option (List ℕ)) : Type 0 where
   pub rest : List ℕ
   pub last : Option CoreVM
   pub between : Option (List ℕ)
@@ -23,7 +25,7 @@ pub record IsCut (alloc : Global) (script : List ℕ) (old : Option CoreVM) (bef
   pub is_left : rest ≢ []
   pub is_begun : IsBegun alloc rest last between after
 
--- what is written of a script's answers, where they have ended so
+-- what is written of a script's answers, if they have ended so
 abbrev pub EndsScript : Global → List ℕ → Option CoreVM → Option (List ℕ) → Option (List ℕ)
     → (IoError → Type 0) → RunEnd → Type 0
 EndsScript alloc script old before after write_fails (ReadFailed e) = ⊥
@@ -34,9 +36,10 @@ EndsScript alloc script old before after write_fails (WriteFailed e) = write_fai
 EndsScript alloc script old before after write_fails Done =
     (last : Option CoreVM) × TranscriptIsWritten alloc script [] old last before after
 
--- The script is all that the reader had left, where this is known, and its lines are answered from
--- no VM on.
-pub record IsRun (alloc : Global) (remaining before after : Option (List ℕ)) (write_fails : IoError → Type 0) (end : RunEnd) : Type 0 where
+-- The script is all that the reader had left, if this is known. Its lines are answered with no VM
+-- at first.
+pub record IsRun (alloc : Global) (remaining before after : Option (List ℕ))
+    (write_fails : IoError → Type 0) (end : RunEnd) : Type 0 where
   pub script : List ℕ
   pub read : IfSome remaining (λ bytes. script ≡ bytes)
   pub ends : EndsScript alloc script None before after write_fails end

@@ -11,14 +11,15 @@ use Rattle.replies.specs.Replies.{reply_text}
 use Rattle.scripts.specs.Performed.{Performed}
 
 -- what the line asks for was done, and the text of its reply is what is printed
-pub record Transcribes (alloc : Global) (old new : Option CoreVM) (line answer : List ℕ) : Type 0 where
+pub record Transcribes (alloc : Global) (old new : Option CoreVM)
+    (line answer : List ℕ) : Type 0 where
   pub request : Request
   pub reply : Reply
   pub reads : IsRequestLine line request
   pub performed : Performed alloc request old reply new
   pub printed : answer ≡ reply_text reply
 
--- Without memory nothing was done; or what the line asks for was done, and memory was lacking for
+-- Out of memory: nothing was done; or what the line asks for was done, and there was no memory for
 -- the text of its reply.
 abbrev pub IsUnanswered : Global → Option CoreVM → Option CoreVM → List ℕ → Type 0
 IsUnanswered alloc old new line = (new ≡ old)
@@ -45,19 +46,22 @@ AreAnswered alloc (line ∷ lines) old new transcript =
     × (transcript ≡ answer ++ 10 ∷ others)
 
 -- the script's lines are answered, up to this rest
-pub record IsTranscript (alloc : Global) (script rest : List ℕ) (old new : Option CoreVM) (transcript : List ℕ) : Type 0 where
+pub record IsTranscript (alloc : Global) (script rest : List ℕ) (old new : Option CoreVM)
+    (transcript : List ℕ) : Type 0 where
   pub lines : List (List ℕ)
   pub are_lines : AreFirstLines lines script rest
   pub are_answered : AreAnswered alloc lines old new transcript
 
--- their transcript is written behind what was there before
-pub record TranscriptIsWritten (alloc : Global) (script rest : List ℕ) (old new : Option CoreVM) (before after : Option (List ℕ)) : Type 0 where
+-- their transcript is written after what was there before
+pub record TranscriptIsWritten (alloc : Global) (script rest : List ℕ) (old new : Option CoreVM)
+    (before after : Option (List ℕ)) : Type 0 where
   pub transcript : List ℕ
   pub is_transcript : IsTranscript alloc script rest old new transcript
   pub appended : Appends before after transcript
 
 -- the first line of the rest is answered, and of its answer a beginning is written
-pub record IsBegun (alloc : Global) (rest : List ℕ) (old : Option CoreVM) (before after : Option (List ℕ)) : Type 0 where
+pub record IsBegun (alloc : Global) (rest : List ℕ) (old : Option CoreVM)
+    (before after : Option (List ℕ)) : Type 0 where
   pub line : List ℕ
   pub behind : List ℕ
   pub is_first : IsFirstLine rest line behind

@@ -24,7 +24,7 @@ use vm_asks::asks::{AnswerKind, command_answer};
 use vm_asks::{Ask, Command};
 use vm_parts::{Answer, Step};
 
-/// The answer of a call that answers nothing but want of memory.
+/// The answer of a call that has no result, and whose only error is out of memory.
 pub fn fed(given: Result<(), AllocError>) -> Reply
     ensures { result ≡ reply_or_memory (λ _. reply.Done) given }
 {
@@ -244,14 +244,14 @@ fn perform_call(vm: &mut CoreVM, call: Call) -> Reply
     }
 }
 
-/// Puts a VM, or none, in the place of the last, which is let go.
+/// Puts a VM, or none, in the place of the last, which is dropped.
 fn replace(vm: &mut Option<CoreVM>, new: Option<CoreVM>)
     ensures { vm.new ≡ new }
 {
     *vm = new;
 }
 
-/// Makes a new VM, and says which or why not.
+/// Makes a new VM. Answers its version, or why it wasn't made.
 #[tactic(auto, using(crate::proofs::Making::made_as_asked))]
 fn make(alloc: Global, content_type: ContentType, options: VMOptions) -> (Reply, Option<CoreVM>)
     ensures { VmIsMade alloc options (version_in (header_under content_type (codes "content-type")))
@@ -267,7 +267,7 @@ fn make(alloc: Global, content_type: ContentType, options: VMOptions) -> (Reply,
     }
 }
 
-/// Puts a new VM in the place of the last, which is let go first.
+/// Puts a new VM in the place of the last, which is dropped first.
 pub fn make_anew(
     alloc: Global,
     vm: &mut Option<CoreVM>,
@@ -284,7 +284,7 @@ pub fn make_anew(
     reply
 }
 
-/// Lets the last VM go, since no new one can be made.
+/// Drops the last VM, since no new one can be made.
 fn bad_make(vm: &mut Option<CoreVM>) -> Reply
     ensures vm { vm.new ≡ None }
     ensures reply { result ≡ reply.Bad }

@@ -127,7 +127,7 @@ fn answer_all<W: Sink>(
     RunEnd::Done
 }
 
-/// Answers a script from no VM on.
+/// Answers a script. There is no VM at first.
 fn drive<W: Sink>(alloc: Global, script: &[u8], writer: &mut W) -> RunEnd
     ensures { EndsScript alloc script.now None (W.contents writer.old) (W.contents writer.new)
         (W.fails writer.old) result }
@@ -140,9 +140,9 @@ fn drive<W: Sink>(alloc: Global, script: &[u8], writer: &mut W) -> RunEnd
 
 /// Reads a script to its end, and writes its transcript: for each line one line of answer.
 pub fn run<R: Source, W: Sink>(alloc: Global, reader: &mut R, writer: &mut W) -> RunEnd
-    // Reading has failed, and nothing is written. Each other run has read all that there was as a script, and has answered its
-    // first lines, whose answers are written: all of them; or those before a line for which memory was lacking; or those before
-    // an answer whose writing has failed, and a beginning of it.
+    // Reading has failed, and nothing is written. Each other run has read all that there was as a script, and has answered its first lines,
+    // whose answers are written: all of them; or those before a line at which memory ran out; or those before an answer whose writing has
+    // failed, and a beginning of it.
     ensures { IsRunEnd (IsRun alloc (R.remaining reader.old) (W.contents writer.old)
         (W.contents writer.new) (W.fails writer.old)) (R.fails reader.old)
         (IsAtEnd (R.remaining reader.new)) (writer.new ≡ writer.old) result }

@@ -10,7 +10,7 @@ use std::io;
 pub enum RunEnd {
     /// Reading failed. Nothing was written.
     ReadFailed(io::Error),
-    /// All was read, and then memory was lacking for a line. The answers of those before it are written.
+    /// All was read, and then memory ran out at a line. The answers of the lines before it are written.
     NoMemory,
     /// A beginning of an answer was written before writing failed. The answers before it are written.
     WriteFailed(io::Error),

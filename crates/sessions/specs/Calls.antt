@@ -15,26 +15,26 @@ use Rattle.sessions.specs.declared.status.Status.{Status}
 use Rattle.sessions.specs.declared.status.Status.TheVariants as status
 use Rattle.sessions.specs.Replies.{kept_told, part_of, summary}
 
--- what C is told of a call: of its reply; or why it isn't made
+-- what a call returns to C: its reply's summary; or, if it isn't made, the reason
 abbrev pub outcome_told : Result Reply Status → Replied
 outcome_told (Ok reply) = summary reply
 outcome_told (Err status) = kept_told status
 
--- the reply that is kept: that of the call; the last one where it isn't made
+-- the reply that is kept: that of the call; the last one if it isn't made
 abbrev pub reply_kept : Result Reply Status → Reply → Reply
 reply_kept (Ok reply) last = reply
 reply_kept (Err status) last = last
 
--- A call is made of a VM, of which is said what it does: C is told its reply, which is kept in the
--- place of the last; or why it isn't made.
+-- `does` says what the call does to the VM. The call is made: C gets its reply's summary, and the
+-- reply is kept in the place of the last. Or it isn't made: C gets the reason.
 abbrev pub IsMadeOf : (Result Reply Status → View → View → Type 0) → Result Replied Status → View
     → View → Reply → Reply → Type 0
 IsMadeOf does (Ok told) old new last kept = does (Ok kept) old new × (told ≡ summary kept)
 IsMadeOf does (Err status) old new last kept = does (Err status) old new × (kept ≡ last)
 
--- A call is made of a VM, of which is said what it does; C is told its outcome, and its reply is
--- kept.
-pub record IsCalled (does : Result Reply Status → View → View → Type 0) (replied : Replied) (old new : CoreVM) (last next : Reply) : Type 0 where
+-- `does` says what the call does to the VM. C gets the call's outcome, and its reply is kept.
+pub record IsCalled (does : Result Reply Status → View → View → Type 0) (replied : Replied)
+    (old new : CoreVM) (last next : Reply) : Type 0 where
   pub outcome : Result Reply Status
   pub done : does outcome (seen old) (seen new)
   pub told : replied ≡ outcome_told outcome
@@ -55,8 +55,8 @@ CalledFromC does told (Some old) (Some new) = OnVm does told old.vm new.vm old.r
 CalledFromC does told None None = told ≡ kept_told status.NoSession
 CalledFromC does told old new = ⊥
 
--- A VM is put into the session that there is, in the place of the last; or there is none, and C is
--- told why. The last answer to a line stays.
+-- A VM is put into the session that there is, in the place of the last. If there is none, C gets
+-- the reason. The last answer to a line stays.
 abbrev pub MadeFromC : Global → VMOptions → Result Version Error → Replied → Option Session
     → Option Session → Type 0
 MadeFromC alloc options wanted told (Some old) (Some new) =

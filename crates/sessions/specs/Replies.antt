@@ -1,4 +1,4 @@
--- What C is told of a reply: numbers at once, and its parts one by one.
+-- What C is given of a reply: numbers at once, and its parts one by one.
 use Rattle.std.specs.Prelude.{◌==◌, ◌/◌, ◌%◌, ◌-◌, ℕ, ℤ, pos, negsuc, Bool, true, false, if◌then◌else◌, List, length, slice_get, Option, Some, None}
 use Rattle.std.specs.Option.{option_map}
 use Rattle.journal_protocol.specs.Types.{type_number}
@@ -23,7 +23,7 @@ use Rattle.sessions.specs.declared.kind.Kind.{Kind}
 use Rattle.sessions.specs.declared.kind.Kind.TheVariants as kind
 use Rattle.sessions.specs.declared.replied.Replied.{Replied}
 use Rattle.sessions.specs.declared.status.Status.{Status}
-use Rattle.sessions.specs.Statuses.{code_of}
+use Rattle.sessions.specs.Statuses.{status_code}
 
 -- the number by which C sees what a reply is
 abbrev pub kind_code : Kind → ℕ
@@ -83,7 +83,7 @@ numbered_reply kind first second third = record {
   len = 0;
 }
 
--- a reply of this kind, with a large number and so many keys or pairs
+-- a reply of this kind, with a large number and a count of keys or pairs
 abbrev pub with_rows : Kind → ℕ → ℕ → Replied
 with_rows kind number rows = record {
   status = 0;
@@ -99,7 +99,7 @@ with_rows kind number rows = record {
 -- a call isn't made
 abbrev pub kept_told : Status → Replied
 kept_told status = record {
-  status = code_of status;
+  status = status_code status;
   kind = 0;
   first = 0;
   second = 0;
@@ -109,7 +109,7 @@ kept_told status = record {
   len = 0;
 }
 
--- an error of this code, with a command that it relates to where the first number is 1
+-- an error of this code, which relates to a command if the first number is 1
 abbrev pub error_numbers : ℕ → ℕ → ℕ → ℕ → Replied
 error_numbers code is_related index ty = record {
   status = 5;
@@ -204,7 +204,7 @@ told_of reply.Done = numbered_reply kind.Nothing 0 0 0
 abbrev pub one_part : List ℕ → ℕ → Option (List ℕ)
 one_part text at = if at == 0 then Some text else None
 
--- the key of a pair, where the place is even, or its value
+-- the key of a pair, if the place is even, or its value
 abbrev pub side : ℕ → List ℕ × List ℕ → List ℕ
 side at pair = if at % 2 == 0 then pair.0 else pair.1
 
@@ -212,7 +212,7 @@ side at pair = if at % 2 == 0 then pair.0 else pair.1
 abbrev pub in_pairs : List (List ℕ × List ℕ) → ℕ → Option (List ℕ)
 in_pairs pairs at = option_map (side at) (slice_get pairs (at / 2))
 
--- the key of a header, where the place is even, or its value
+-- the key of a header, if the place is even, or its value
 abbrev pub header_side : ℕ → Header → List ℕ
 header_side at header = if at % 2 == 0 then header.key else header.value
 
@@ -220,7 +220,7 @@ header_side at header = if at % 2 == 0 then header.key else header.value
 abbrev pub in_headers : List Header → ℕ → Option (List ℕ)
 in_headers headers at = option_map (header_side at) (slice_get headers (at / 2))
 
--- of a failure: the message, and behind it the metadata
+-- of a failure: the message, then the metadata
 abbrev pub in_failure : TerminalFailure → ℕ → Option (List ℕ)
 in_failure failure at = if at == 0 then Some failure.message else in_pairs failure.metadata (at - 1)
 
@@ -236,8 +236,8 @@ abbrev pub in_taken : Option Value → ℕ → Option (List ℕ)
 in_taken (Some value) at = in_value value at
 in_taken None at = None
 
--- of what the handler was called with: the bytes, the invocation's id and key, what else the caller
--- gave, and behind it the headers
+-- of the handler's input: the bytes, the invocation's id and key, what else the caller gave, then
+-- the headers
 abbrev pub in_input : Input → ℕ → Option (List ℕ)
 in_input input at =
     if at == 0 then Some input.input
@@ -267,7 +267,7 @@ in_error e at =
     else if at == 2 then name_of_command e.related_command
     else None
 
--- a part of a reply, a text or bytes, if there are so many
+-- the part of a reply at this index, a text or bytes, if it has one there
 abbrev pub part_of : Reply → ℕ → Option (List ℕ)
 part_of (reply.Refused e) at = in_error e at
 part_of (reply.Head head) at = in_headers head.headers at
@@ -280,6 +280,6 @@ abbrev pub part_len : Option (List ℕ) → ℕ
 part_len (Some part) = length part
 part_len None = 0
 
--- what C is told of a reply: its numbers, and the length of its first part
+-- what C is given at once of a reply: its numbers, and the length of its first part
 abbrev pub summary : Reply → Replied
 summary r = record (told_of r) { len = part_len (part_of r 0) }

@@ -6,17 +6,17 @@ use Rattle.sessions.specs.declared.status.Status.TheVariants as status
 -- 0: it was done; 1: no memory was found; 2: there is no session; 3: the session has no VM; 4:
 -- there is no room; 5: the VM refused the call; 6: a text isn't UTF-8; 7: nodes aren't one tree; 8:
 -- a number names no case; 9: the reply has no such part
-abbrev pub code_of : Status → ℕ
-code_of status.Done = 0
-code_of status.NoMemory = 1
-code_of status.NoSession = 2
-code_of status.NoVm = 3
-code_of status.NoRoom = 4
-code_of status.Refused = 5
-code_of status.BadText = 6
-code_of status.BadTree = 7
-code_of status.BadNumber = 8
-code_of status.NoPart = 9
+abbrev pub status_code : Status → ℕ
+status_code status.Done = 0
+status_code status.NoMemory = 1
+status_code status.NoSession = 2
+status_code status.NoVm = 3
+status_code status.NoRoom = 4
+status_code status.Refused = 5
+status_code status.BadText = 6
+status_code status.BadTree = 7
+status_code status.BadNumber = 8
+status_code status.NoPart = 9
 
 -- what a number says, from 9 on the same
 abbrev pub status_named : ℕ → Status

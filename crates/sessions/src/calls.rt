@@ -18,7 +18,7 @@ pub struct Told {
     pub len: usize,
 }
 
-/// What C is told.
+/// What a call returns to C: a status, and a length.
 pub(crate) fn tell(status: Status, len: usize) -> Told
     ensures status { status_named result.status ≡ status }
     ensures known { result.status ≤ 9 }
@@ -42,7 +42,7 @@ pub(crate) fn take(alloc: Global, vm: &mut Vm) -> Option<Box<Session>>
     }
 }
 
-/// Puts a session into the hands of C. One that was there is let go.
+/// Puts a session into the hands of C. One that was there is dropped.
 pub(crate) fn give(alloc: Global, vm: &mut Vm, session: Box<Session>)
     ensures { vm.new.value ≡ Some session.value }
 {
@@ -52,7 +52,7 @@ pub(crate) fn give(alloc: Global, vm: &mut Vm, session: Box<Session>)
     }
 }
 
-/// Makes an empty session, where memory is found. One that was there is let go.
+/// Makes an empty session, if memory is found. One that was there is dropped.
 pub fn open(alloc: Global, vm: &mut Vm) -> u32
     ensures made { IsNewSession (status_named result) vm.new.value }
     ensures known { result ≤ 9 }
@@ -67,7 +67,7 @@ pub fn open(alloc: Global, vm: &mut Vm) -> u32
     }
 }
 
-/// Performs a line, and tells how long its answer is, which `read_answer` reads.
+/// Performs a line. Returns the length of its answer, which `read_answer` reads.
 pub fn perform_line(alloc: Global, vm: &mut Vm, line: &[u8]) -> Told
     ensures sent { LineSent alloc line.now (status_named result.status) result.len vm.old.value
         vm.new.value }
@@ -84,7 +84,7 @@ pub fn perform_line(alloc: Global, vm: &mut Vm, line: &[u8]) -> Told
     }
 }
 
-/// Writes the last answer to the front of `out`, where there is room for it, and tells how long it is.
+/// Writes the last answer to the front of `out`, if it has room for it. Returns the answer's length either way.
 pub fn read_answer(alloc: Global, vm: &mut Vm, out: &mut [u8]) -> Told
     ensures kept { vm.new.value ≡ vm.old.value }
     ensures known { result.status ≤ 9 }
@@ -115,7 +115,7 @@ pub fn feed(alloc: Global, vm: &mut Vm, bytes: &[u8]) -> u32
     }
 }
 
-/// Moves all of the VM's output to the front of `out`, where there is room for it, and tells how long it is.
+/// Moves all of the VM's output to the front of `out`, if it has room for it. Returns the output's length either way.
 pub fn take_output(alloc: Global, vm: &mut Vm, out: &mut [u8]) -> Told
     ensures taken { OutputTaken (status_named result.status) result.len out.old out.new vm.old.value
         vm.new.value }
@@ -131,7 +131,7 @@ pub fn take_output(alloc: Global, vm: &mut Vm, out: &mut [u8]) -> Told
     }
 }
 
-/// Lets the session go, if there is one.
+/// Drops the session, if there is one.
 pub fn close(alloc: Global, vm: &mut Vm)
     ensures { vm.new.value ≡ None }
 {

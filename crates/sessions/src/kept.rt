@@ -1,4 +1,4 @@
-//! The reply to a call is kept in the place of the last, and C is told of it.
+//! The reply to a call is kept in the place of the last, and summed up for C.
 ghost use Rattle.std.specs.Prelude.{◌≡◌};
 ghost use Rattle.replies.specs.declared.reply.Reply.TheVariants as reply;
 ghost use Rattle.scripts.specs.Called.{reply_of};
@@ -13,7 +13,7 @@ use replies::Reply;
 use std::mem::{forget, replace};
 use vm_parts::{Answer, AwaitResponse, Value};
 
-/// Whether a reply may hold memory: not where it is known to be of numbers alone.
+/// Whether a reply may own memory: `false` only if it is known to be of numbers alone.
 fn may_hold_memory(reply: &Reply) -> bool {
     match reply {
         Reply::Nothing | Reply::Awaited(_) | Reply::Run(_) | Reply::State(_) | Reply::Index(_) =>
@@ -27,7 +27,7 @@ fn may_hold_memory(reply: &Reply) -> bool {
     }
 }
 
-/// Lets the reply go that was kept. It is apart, since what it takes apart is set to zero where it begins.
+/// Drops the reply that was kept. It is apart, since what it takes apart is set to zero where it begins.
 #[inline(never)]
 fn clear(kept: &mut Reply)
     ensures { kept.new ≡ reply.Nothing }
@@ -35,7 +35,7 @@ fn clear(kept: &mut Reply)
     *kept = Reply::Nothing;
 }
 
-/// Keeps a reply in the place of the last. Of numbers nothing is to be let go, so what is replaced then is forgotten: that is faster.
+/// Keeps a reply in the place of the last. The last is dropped only if it may own memory; else it is forgotten: that is faster.
 #[inline(always)]
 fn put(kept: &mut Reply, reply: Reply)
     ensures { kept.new ≡ reply }
@@ -56,7 +56,7 @@ fn first_len(reply: &Reply) -> usize
     }
 }
 
-/// What C is told of a reply.
+/// What C is given at once of a reply.
 fn summary(reply: &Reply) -> Replied
     ensures { result ≡ summary reply.now }
 {
@@ -65,7 +65,7 @@ fn summary(reply: &Reply) -> Replied
     replied
 }
 
-/// Keeps a reply, whichever it is.
+/// Keeps a reply of any kind.
 #[inline(never)]
 pub fn keep(kept: &mut Reply, reply: Reply) -> Replied
     ensures kept { kept.new ≡ reply }
@@ -75,7 +75,7 @@ pub fn keep(kept: &mut Reply, reply: Reply) -> Replied
     summary(kept)
 }
 
-/// Keeps the handle that a call was answered, or its error.
+/// Keeps the reply of a call that answers a handle: the handle, or the error.
 pub fn keep_handle(kept: &mut Reply, given: VMResult<NotificationHandle>) -> Replied
     ensures kept { kept.new ≡ reply_of (λ handle. reply.Answer (answer.Handle handle)) given }
     ensures told { result ≡ summary kept.new }
@@ -90,7 +90,7 @@ pub fn keep_handle(kept: &mut Reply, given: VMResult<NotificationHandle>) -> Rep
     }
 }
 
-/// Keeps that a call was made that answers nothing, or its error.
+/// Keeps the reply of a call that answers nothing: that it was made, or the error.
 pub fn keep_ended(kept: &mut Reply, given: VMResult<()>) -> Replied
     ensures kept { kept.new ≡ reply_of (λ _. reply.Answer answer.Unit) given }
     ensures told { result ≡ summary kept.new }
@@ -104,7 +104,7 @@ pub fn keep_ended(kept: &mut Reply, given: VMResult<()>) -> Replied
     }
 }
 
-/// Keeps what an await was answered, or its error.
+/// Keeps the reply of an await: its answer, or the error.
 pub fn keep_awaited(kept: &mut Reply, given: VMResult<AwaitResponse>) -> Replied
     ensures kept { kept.new ≡ reply_of reply.Awaited given }
     ensures told { result ≡ summary kept.new }
@@ -129,7 +129,7 @@ fn taken_len(taken: &Option<Value>) -> usize
     }
 }
 
-/// Keeps what was taken of a handle, or the error.
+/// Keeps the reply of a take: what was taken of a handle, or the error.
 pub fn keep_taken(kept: &mut Reply, given: VMResult<Option<Value>>) -> Replied
     ensures kept { kept.new ≡ reply_of (λ value. reply.Answer (answer.Taken value)) given }
     ensures told { result ≡ summary kept.new }

@@ -56,7 +56,7 @@ fn optional(text: &Option<Text>) -> Option<&[u8]>
     }
 }
 
-/// Of a failure: the message, and behind it the metadata.
+/// Of a failure: the message, then the metadata.
 fn in_failure(failure: &TerminalFailure, at: usize) -> Option<&[u8]>
     ensures { option_copied result ≡ in_failure failure.now at }
 {
@@ -89,7 +89,7 @@ fn in_value(value: &Value, at: usize) -> Option<&[u8]>
     }
 }
 
-/// Of what the handler was called with: the bytes, the invocation's id and key, what else the caller gave, and behind it the headers.
+/// Of the handler's input: the bytes, the invocation's id and key, what else the caller gave, then the headers.
 fn in_input(input: &Input, at: usize) -> Option<&[u8]>
     ensures { option_copied result ≡ in_input input.now at }
 {
@@ -140,7 +140,7 @@ fn in_error(error: &Error, at: usize) -> Option<&[u8]>
     }
 }
 
-/// A part of a reply, if there are so many.
+/// The part of a reply at this index, if it has one there.
 pub(crate) fn part_of(reply: &Reply, at: usize) -> Option<&[u8]>
     ensures { option_copied result ≡ part_of reply.now at }
 {

@@ -1,4 +1,4 @@
-//! What C is told of a reply at once: numbers.
+//! What C is given at once of a reply: numbers.
 ghost use Rattle.std.specs.Prelude.{◌≡◌};
 ghost use Rattle.sessions.specs.Replies.{with_rows, error_told, error_numbers, flag_code, handles_told, kept_told, number_told, response_told, state_code, taken_told, numbered_reply, told_of, value_told, version_code};
 
@@ -8,8 +8,8 @@ use journal_protocol::{Error, Version};
 use replies::Reply;
 use vm_parts::{Answer, AwaitResponse, State, Value};
 
-/// What C is told of a reply: how the call ended, what the reply is, the numbers in it, how many keys or pairs it has, and the length
-/// of its first part.
+/// What C is given at once of a reply: how the call ended, what the reply is, the numbers in it, how many keys or pairs it has, and the
+/// length of its first part.
 #[repr(C)]
 #[derive(Clone, Copy, Debug)]
 pub struct Replied {
@@ -39,7 +39,7 @@ pub(crate) fn numbered(kind: Kind, first: u32, second: u32, third: u32) -> Repli
     }
 }
 
-/// Of a reply with a large number, and so many keys or pairs.
+/// Of a reply with a large number, and a count of keys or pairs.
 fn with_rows(kind: Kind, number: u64, rows: usize) -> Replied
     ensures { result ≡ with_rows kind number rows }
 {
@@ -87,7 +87,7 @@ fn version_code(version: Version) -> u32
     }
 }
 
-/// Of an error with this code, and with a command that it relates to where the first number is 1.
+/// Of an error with this code. It relates to a command if the first number is 1.
 fn error_numbers(code: u16, is_related: u32, index: u32, ty: u32) -> Replied
     ensures { result ≡ error_numbers code is_related index ty }
 {
@@ -103,7 +103,7 @@ fn error_numbers(code: u16, is_related: u32, index: u32, ty: u32) -> Replied
     }
 }
 
-/// Of an error: its code, and of the command that it relates to that it is there, its index and its type.
+/// Of an error: its code; whether it relates to a command; and that command's index and type.
 fn tell_error(error: &Error) -> Replied
     ensures { result ≡ error_told error.now }
 {
@@ -192,7 +192,7 @@ fn tell_answer(answer: &Answer) -> Replied
     }
 }
 
-/// Of the index of the last command: nothing, where there is none.
+/// Of the index of the last command; of kind `Nothing` if there is none.
 fn tell_index(index: i64) -> Replied
     ensures { result ≡ number_told index }
 {

@@ -30,7 +30,7 @@ pub struct Session {
     pub reply: Reply,
 }
 
-/// Writes bytes to the front of `out`, where there is room for them; and how many there are.
+/// Writes bytes to the front of `out`, if it has room for them. Returns their number either way.
 fn write(bytes: &[u8], out: &mut [u8]) -> (Status, usize)
     ensures { Written bytes.now result.0 result.1 out.old out.new }
 {
@@ -55,7 +55,7 @@ fn feed_vm(alloc: Global, vm: &mut CoreVM, bytes: &[u8]) -> Status
     }
 }
 
-/// Moves all of a VM's output to the front of `out`, where there is room for it; and how long it is.
+/// Moves all of a VM's output to the front of `out`, if it has room for it. Returns the output's length either way.
 fn drain_vm(vm: &mut CoreVM, out: &mut [u8]) -> (Status, usize)
     ensures { Drained result.0 result.1 out.old out.new (Some vm.old) (Some vm.new) }
 {
@@ -82,7 +82,7 @@ impl Session {
         }
     }
 
-    /// Performs a line, and keeps its answer. Without memory the last answer stays, and the line may have been performed.
+    /// Performs a line, and keeps its answer. Out of memory, the last answer stays, and the line may have been performed.
     pub fn send(&mut self, alloc: Global, line: &[u8]) -> Status
         ensures { LineDone alloc line.now result self.old self.new }
     {
@@ -95,14 +95,14 @@ impl Session {
         }
     }
 
-    /// Writes the last answer to the front of `out`, where there is room for it; and how long it is.
+    /// Writes the last answer to the front of `out`, if it has room for it. Returns the answer's length either way.
     pub fn read_answer(&self, out: &mut [u8]) -> (Status, usize)
         ensures { AnswerRead result.0 result.1 out.old out.new (Some self.now) }
     {
         write(self.answer.as_str().as_bytes(), out)
     }
 
-    /// Makes a call of the VM, keeps what it is answered, and tells of it. Where it isn't made the last reply stays.
+    /// Makes a call of the VM, keeps its reply, and returns the reply's summary. If the call isn't made, the last reply stays.
     #[tactic(auto, using(crate::proofs::Made::is_called, crate::proofs::Made::is_kept))]
     pub fn call<C: VmCall>(&mut self, alloc: Global, call: C) -> Replied
         ensures answer { self.new.answer ≡ self.old.answer }
@@ -118,7 +118,7 @@ impl Session {
         }
     }
 
-    /// Puts a new VM in the place of the last, and tells which, or why there is none.
+    /// Puts a new VM in the place of the last. Returns its version, or why there is none.
     pub fn make(&mut self, alloc: Global, content_type: ContentType, options: VMOptions) -> Replied
         ensures answer { self.new.answer ≡ self.old.answer }
         ensures made { VmIsMade alloc options
@@ -130,7 +130,7 @@ impl Session {
         keep(&mut self.reply, reply)
     }
 
-    /// Writes a part of the last reply to the front of `out`, where there is room for it; and how long it is.
+    /// Writes a part of the last reply to the front of `out`, if it has room for it. Returns the part's length either way.
     pub fn read_part(&self, at: usize, out: &mut [u8]) -> (Status, usize)
         ensures { part_read (part_of self.now.reply at) result.0 result.1 out.old out.new }
     {
@@ -152,7 +152,7 @@ impl Session {
         }
     }
 
-    /// Moves all of the VM's output to the front of `out`, where there is room for it; and how long it is.
+    /// Moves all of the VM's output to the front of `out`, if it has room for it. Returns the output's length either way.
     pub fn take_output(&mut self, out: &mut [u8]) -> (Status, usize)
         ensures answer { self.new.answer ≡ self.old.answer }
         ensures reply { self.new.reply ≡ self.old.reply }

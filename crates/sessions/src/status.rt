@@ -1,6 +1,6 @@
 //! How a call from C ends.
 ghost use Rattle.std.specs.Prelude.{◌≡◌, ◌≤◌};
-ghost use Rattle.sessions.specs.Statuses.{code_of, status_named};
+ghost use Rattle.sessions.specs.Statuses.{status_code, status_named};
 
 /// How a call from C ended.
 #[derive(Clone, Copy, Debug, PartialEq, Eq)]
@@ -9,7 +9,7 @@ pub enum Status {
     Done,
     /// No memory was found.
     NoMemory,
-    /// There is no session: it was never made, or it was let go.
+    /// There is no session: it was never made, or it was dropped.
     NoSession,
     /// The session has no VM.
     NoVm,
@@ -30,7 +30,7 @@ pub enum Status {
 impl Status {
     /// The number that C sees.
     pub fn code(self) -> u32
-        ensures code { result ≡ code_of self }
+        ensures code { result ≡ status_code self }
         ensures status { status_named result ≡ self }
         ensures known { result ≤ 9 }
     {

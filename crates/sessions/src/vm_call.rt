@@ -24,15 +24,15 @@ pub trait VmCall: Drop {
     ghost use Rattle.sessions.specs.Calls.{IsMadeOf};
     ghost use Rattle.sessions.specs.declared.status.Status.{Status};
 
-    /// What it does to a VM: what it is answered, or why it isn't made; and the VM before and after.
+    /// What the call does to a VM: its reply, or why it isn't made; and the VM before and after.
     ghost does: { Self → Result Reply Status → View → View → Type 0 };
 
-    /// Makes the call, keeps what it is answered in the place of the last reply, and tells of it; unless what C gave doesn't serve.
+    /// Makes the call, keeps its reply in the place of the last, and returns the reply's summary. An `Err` if what C gave can't be used.
     fn make(self, alloc: Global, vm: &mut CoreVM, kept: &mut Reply) -> Result<Replied, Status>
         ensures { IsMadeOf (does self) result (seen vm.old) (seen vm.new) kept.old kept.new };
 }
 
-/// Makes a call of the session's VM, keeps what it is answered, and tells of it.
+/// Makes a call of the session's VM, keeps its reply, and returns the reply's summary.
 pub fn call<C: VmCall>(alloc: Global, vm: &mut Vm, call: C) -> Replied
     ensures { CalledFromC (C.does call) result vm.old.value vm.new.value }
 {
@@ -46,7 +46,7 @@ pub fn call<C: VmCall>(alloc: Global, vm: &mut Vm, call: C) -> Replied
     }
 }
 
-/// Puts a new VM into the session in the place of the last, and tells which, or why there is none.
+/// Puts a new VM into the session in the place of the last. Returns its version, or why there is none.
 pub fn make(alloc: Global, vm: &mut Vm, content_type: ContentType, options: VMOptions) -> Replied
     ensures { MadeFromC alloc options
         (version_in (header_under content_type (codes "content-type")))
@@ -62,11 +62,12 @@ pub fn make(alloc: Global, vm: &mut Vm, content_type: ContentType, options: VMOp
     }
 }
 
-/// Writes a part of the last reply to the front of `out`, where there is room for it, and tells how long it is.
+/// Writes a part of the last reply to the front of `out`, if it has room for it. Returns the part's length either way.
 pub fn read_part(alloc: Global, vm: &mut Vm, at: usize, out: &mut [u8]) -> Told
     ensures kept { vm.new.value ≡ vm.old.value }
     ensures known { result.status ≤ 9 }
-    ensures read { PartRead at (status_named result.status) result.len out.old out.new vm.old.value }
+    ensures read { PartRead at (status_named result.status) result.len out.old out.new
+        vm.old.value }
 {
     match take(alloc, vm) {
         Some(session) => {

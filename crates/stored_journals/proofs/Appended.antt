@@ -11,7 +11,7 @@ use Rattle.journal_protocol.specs.NotificationId.{NotificationId}
 use Rattle.journal_protocol.specs.NotificationId.TheVariants.{CompletionId, SignalId, SignalName}
 use Rattle.journal_protocol.specs.NotificationResult.{NotificationResult}
 use Rattle.vm_model.specs.Journal.{read_before}
-use Rattle.vm_attempt.specs.Journals.{is_notification, notified_by}
+use Rattle.vm_model.specs.JournalFrames.{is_notification, notified_by}
 use Rattle.vm_store.specs.declared.completions.Completes.{Completes}
 use Rattle.vm_store.specs.declared.completions.Completes.TheVariants as completes
 use Rattle.vm_store.specs.declared.types.RoundFault.{RoundFault}

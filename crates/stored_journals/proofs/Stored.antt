@@ -13,7 +13,7 @@ use Rattle.journal_protocol.specs.Notification.{Notification}
 use Rattle.vm_parts.specs.declared.run_state.KeptProposal.{KeptProposal}
 use Rattle.vm_machine.specs.Inputs.{acknowledged_completion}
 use Rattle.vm_model.specs.Journal.{stored_form}
-use Rattle.vm_attempt.specs.Journals.{is_command_frame}
+use Rattle.vm_model.specs.JournalFrames.{is_command_frame}
 use Rattle.vm_store.specs.declared.storing.Written.{Written}
 use Rattle.vm_store.specs.declared.storing.Written.TheVariants.{Command, Proposal}
 use Rattle.vm_store.specs.declared.types.RoundFault.{RoundFault}
@@ -99,7 +99,8 @@ module _ (version : Version) (before : List (List ℕ)) (old : JournalView) (ent
 
 -- ---- one after another
 
--- for each journal that is known so far, so many items are left to be stored, and the journal that they make is known
+-- for each journal that is known so far, `left` items are left to be stored, and the journal that
+-- they make is known
 pub record Going (version : Version) (n : ℕ) (u : List ℕ) (first : JournalView) (es : List (List ℕ)) (fed : List ℕ) (left : ℕ) (now : JournalView) (entries : List (List ℕ)) (feed : List ℕ) (rest : List ℕ) : Type 0 where
   pub stands : (before : List (List ℕ)) → Holds first (before ++ es) → Stands version n u (before ++ es) fed left (before ++ entries) feed rest
   pub holds : (before : List (List ℕ)) → Holds first (before ++ es) → Holds now (before ++ entries)

@@ -55,27 +55,28 @@ done_read id (Some note) done = done || is_of id note.id
 
 -- an entry is appended that says this, if it is a command, or that is this notification, if it is
 -- one
-pub record Appends (said : Option Message) (note : Option Notification) (old : JournalView) (new : JournalView) : Type 0 where
+pub record Appends (said : Option Message) (note : Option Notification) (old : JournalView)
+    (new : JournalView) : Type 0 where
   pub ids : SaysWith (λ id before. completes_read id said before)
       (λ id done. done_read id note done) old.ids new.ids
   pub count : new.entries ≡ old.entries + 1
 
 -- ---- what comes of an entry
 
--- behind each journal that is known the entry has no fault, and with it the journal is known
+-- after each journal that is known the entry has no fault, and with it the journal is known
 abbrev pub Enters : (List (List ℕ) → Option RoundFault) → List ℕ → JournalView → JournalView
     → Type 0
 Enters fault entry old new =
     (journal : List (List ℕ)) → Holds old journal → (fault journal ≡ None)
     × Holds new (journal ++ entry ∷ [])
 
--- it is out of memory, or the fault behind each journal that is known
+-- it is out of memory, or the fault after each journal that is known
 abbrev pub IsFault : (List (List ℕ) → Option RoundFault) → JournalView → RoundFault → Type 0
 IsFault fault view f =
     (f ≡ round_fault.Memory)
     ⊎ ((journal : List (List ℕ)) → Holds view journal → fault journal ≡ Some f)
 
--- behind each journal that is known the frame has no fault, and it is appended
+-- after each journal that is known the frame has no fault, and it is appended
 abbrev pub Loads : RawMessage → JournalView → JournalView → Type 0
 Loads raw old new =
     (journal : List (List ℕ)) → Holds old journal

@@ -23,7 +23,8 @@ storing_by (Command raw) view = room_at view.entries
 storing_by (Proposal p) view = proposing_fault p.completion_id view
 
 -- it is the next entry, and what answers it is fed
-pub record StoresBy (version : Version) (w : Written) (old : JournalView) (entries : List (List ℕ)) (feed : List ℕ) (new : JournalView) (entries' : List (List ℕ)) (feed' : List ℕ) : Type 0 where
+pub record StoresBy (version : Version) (w : Written) (old : JournalView) (entries : List (List ℕ))
+    (feed : List ℕ) (new : JournalView) (entries' : List (List ℕ)) (feed' : List ℕ) : Type 0 where
   pub faultless : storing_by w old ≡ None
   pub stored : entries' ≡ entries ++ stored_as w ∷ []
   pub waits : feed' ≡ feed ++ waits_behind version w
@@ -39,8 +40,7 @@ StoresRawBy version raw false old entries feed new entries' feed' =
 StoresRawBy version raw true old entries feed new entries' feed' = (w : Written)
     × (written_as raw ≡ Some w) × StoresBy version w old entries feed new entries' feed'
 
--- the next frame was looked at, and stored where there is something to be stored of it; or none is
--- whole
+-- the next frame was looked at, and stored if it has anything to be stored; or no frame is whole
 abbrev pub StoresOneBy : Version → List ℕ → Option Bool → List ℕ → JournalView → List (List ℕ)
     → List ℕ
     → JournalView → List (List ℕ) → List ℕ → Type 0
@@ -74,8 +74,8 @@ StoresNext version n unstored unstored' old entries feed new entries' feed' =
     → Stores version n unstored (before ++ entries) feed (before ++ entries') feed' unstored'
     × Holds new (before ++ entries')
 
--- it is out of memory, or the fault of the first that has one, behind each journal that is known
--- and ends with these entries
+-- it is out of memory, or the fault of the first that has one, after each journal that is known and
+-- ends with these entries
 abbrev pub IsStoringFault : Version → ℕ → List ℕ → JournalView → List (List ℕ) → RoundFault → Type 0
 IsStoringFault version n unstored old entries f =
     (f ≡ round_fault.Memory)

@@ -1,6 +1,6 @@
 //! Frames, as a journal reads them.
 ghost use Rattle.std.specs.Prelude.{◌≡◌, IfOk, None, true};
-ghost use Rattle.vm_attempt.specs.Journals.{is_command_frame, is_notification};
+ghost use Rattle.vm_model.specs.JournalFrames.{is_command_frame, is_notification};
 ghost use Rattle.vm_store.specs.Entries.{note_of as note_by, said_by};
 ghost use Rattle.stored_journals.specs.Journals.{note_of_part, command_of_part};
 
@@ -19,7 +19,7 @@ pub(crate) enum Part {
     Other,
 }
 
-/// Written out, so that who lets a part go calls this.
+/// Written out, so that a caller who drops a part calls this.
 impl Drop for Part {
     fn drop(self) {
         match self {

@@ -55,7 +55,8 @@ fn append_frame(
     requires fits { length raw.now.body < 2 ^ 64 }
     ensures stored { OnOk result (entries.new.items ≡ entries.old.items ++ frame_of raw.now ∷ []) }
     ensures appended { OnOk result
-        (Appends (said_at (frame_of raw.now)) (note_in (frame_of raw.now)) journal.old journal.new) }
+        (Appends (said_at (frame_of raw.now)) (note_in (frame_of raw.now)) journal.old
+        journal.new) }
     ensures kept { IsSameKept journal.old journal.new }
 {
     let frame = frame_bytes(alloc, raw)?;
@@ -188,7 +189,7 @@ fn store_item(
     }
 }
 
-/// The frame is stored where it is one of a command or of a proposal.
+/// The frame is stored if it is one of a command or of a proposal.
 #[tactic(auto, using(crate::proofs::Stored::item_fits))]
 fn store_raw(
     alloc: Global,
@@ -214,7 +215,7 @@ fn store_raw(
     }
 }
 
-/// The next frame is looked at, and stored where it is one of a command or of a proposal; `None` where none is whole.
+/// The next frame is looked at, and stored if it is one of a command or of a proposal; `None` if no frame is whole.
 fn store_one(
     alloc: Global,
     version: Version,
@@ -239,9 +240,9 @@ fn store_one(
     }
 }
 
-/// The next commands and proposals among what an attempt wrote are stored, or all where there are fewer: `entries` gets those that are to be
-/// appended, in order, and `feed` the frames that answer proposals, which the attempt is fed after the commit. After an error `undo` leads
-/// back to the last commit.
+/// The next `n` commands and proposals among what an attempt wrote are stored, or all if there are fewer: `entries` gets those that are to
+/// be appended, in order, and `feed` the frames that answer proposals, which the attempt is fed after the commit. After an error `undo`
+/// leads back to the last commit.
 pub fn store_from(
     alloc: Global,
     version: Version,

@@ -11,7 +11,7 @@ pub none_taken : (held : Option (List ℕ)) (bs : List ℕ) → Appends held hel
 none_taken None bs = tt
 none_taken (Some xs) bs = sym (append-nil xs)
 
--- so many more of them
+-- n more of them
 pub some_more : (held now then : Option (List ℕ)) (bs : List ℕ) (at n : ℕ) → Appends held now (take at bs) → Appends now then (take n (drop at bs)) → Appends held then (take (at + n) bs)
 some_more None now then bs at n h k = tt
 some_more (Some xs) None then bs at n h k = absurd h

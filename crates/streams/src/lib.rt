@@ -12,10 +12,10 @@ use std::io::{self, Read, Write};
 
 /// A reader whose errors a contract names.
 pub trait Source {
-    /// The bytes that are left to be read, where they are known.
+    /// The bytes that are left to be read, if they are known.
     ghost remaining: { Self → Option (List ℕ) };
 
-    /// What is so where reading to the end gives this error.
+    /// What is so if reading to the end gives this error.
     ghost fails: { Self → IoError → Type 0 };
 
     /// Reads to the end.
@@ -28,16 +28,17 @@ pub trait Source {
 
 /// A writer whose errors a contract names.
 pub trait Sink {
-    /// The bytes that the writer holds, where they are known.
+    /// The bytes that the writer holds, if they are known.
     ghost contents: { Self → Option (List ℕ) };
 
-    /// What is so where writing gives this error, now or behind what is written first.
+    /// What is so if writing gives this error, now or after what is written first.
     ghost fails: { Self → IoError → Type 0 };
 
     /// Writes all these bytes and flushes, or after an error a beginning of them.
     fn write_whole(&mut self, bytes: &[u8]) -> io::Result<()>
         ensures ok { OnOk result (Appends (contents self.old) (contents self.new) bytes.now) }
-        ensures part { OnErr result (AppendsSome (contents self.old) (contents self.new) bytes.now) }
+        ensures part { OnErr result
+            (AppendsSome (contents self.old) (contents self.new) bytes.now) }
         ensures err { IfErr result (λ e. fails self.old e) }
         ensures later { OnOk result ((e : IoError) → fails self.new e → fails self.old e) };
 }
@@ -57,7 +58,7 @@ impl<R: Read> Source for Plain<R> {
     }
 }
 
-/// Writes once, and tells how many bytes were taken: none where a signal interrupts the write.
+/// Writes once. Returns how many bytes were taken: none if a signal interrupts the write.
 #[tactic(auto, using(crate::proofs::Writing::kept_none, crate::proofs::Writing::none_kept))]
 fn write_some<W: Write>(writer: &mut W, bytes: &[u8]) -> io::Result<usize>
     ensures bound { IfOk result (λ n. n ≤ length bytes.now) }

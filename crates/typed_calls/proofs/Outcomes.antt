@@ -16,11 +16,11 @@ use Rattle.typed_calls.specs.declared.making.GivenOptions.{GivenOptions}
 use Rattle.typed_calls.specs.Given.{Misfits, optional_of, lent_texts}
 use Rattle.typed_calls.specs.Making.{AreOptionsOf, IsFoundOf, MakesAsGiven, NamesNoOption}
 
--- what was given serves for no VM
+-- no VM can be made of what was given
 pub is_kept : (alloc : Global) (given : MayLend) (by : GivenOptions) (told : Replied) (vm : Option Session) (why : Status) → Misfits (lent_texts given) (NamesNoOption by) why → told ≡ kept_told why → MakesAsGiven alloc given by told vm vm
 is_kept alloc given by told vm why misfits is = inl (record { why = why; misfits = misfits; told_why = is; kept = refl })
 
--- a VM is made, or C is told why not
+-- a VM is made, or C gets the reason why not
 pub is_made : (alloc : Global) (given : MayLend) (by : GivenOptions) (told : Replied) (old new : Option Session) (options : VMOptions) (content_type : ContentType) → AreOptionsOf by options → IsFoundOf given content_type → MadeFromC alloc options (version_in (header_under content_type (codes "content-type"))) told old new → MakesAsGiven alloc given by told old new
 is_made alloc given by told old new options content_type are is made =
     inr (record { options = options; are = are; made = subst (λ it. MadeFromC alloc options (version_in it) told old new) is made })

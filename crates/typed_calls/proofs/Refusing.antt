@@ -60,7 +60,7 @@ last_refused xs ys s refuses = record { why = why_of ys (xs ++ ys) (some_last xs
 pub front_refused : (text : List ℕ) (texts : List (List ℕ)) (s : Status) → CannotCopy (text ∷ []) s → CannotCopy (text ∷ texts) s
 front_refused text texts s refuses = first_refused (text ∷ []) texts s refuses
 
--- the texts behind it can't be copied
+-- the texts after it can't be copied
 pub behind_refused : (text : List ℕ) (texts : List (List ℕ)) (s : Status) → CannotCopy texts s → CannotCopy (text ∷ texts) s
 behind_refused text texts s refuses = last_refused (text ∷ []) texts s refuses
 

@@ -49,7 +49,7 @@ over kind us at n same fits =
     ∙ sym (append_assoc (row_of (take at us)) (row_of (drop at us)) (n ∷ []))
     ∙ ap (λ row. row ++ n ∷ []) (sym (written_both (take at us) (drop at us)) ∙ ap row_of (take-append-drop at us))
 
--- a tree is put behind others
+-- a tree is put after others
 pub put : (us : List UnresolvedFuture) (u : UnresolvedFuture) (nodes : List Node) → row_of us ++ nodes_of (tree_of u) ≡ nodes → row_of (us ++ u ∷ []) ≡ nodes
 put us u nodes same =
     written_both us (u ∷ [])
@@ -81,7 +81,7 @@ stopped nodes us k d s below same cant = record {
   cant = cant;
 }
 
--- nodes stop being trees at the first that can't stand behind those in front of it
+-- nodes stop being trees at the first that can't stand after those in front of it
 pub stops : (nodes : List Node) (us : List UnresolvedFuture) (k : ℕ) (d : Node) (s : Status) → k < length nodes → row_of us ≡ take k nodes → CantStand (get_or nodes k d) (length us) s → FailsAsTree nodes s
 stops nodes us k d status.NoMemory below same cant = tt
 stops nodes us k d status.BadNumber below same cant = stopped nodes us k d status.BadNumber below same cant

@@ -172,7 +172,9 @@ AsksReady = MakesCall (λ told old new. TellsReady old.machine told × (new ≡ 
 -- whether a handle has a result
 abbrev pub AsksCompleted : ℕ → Call
 AsksCompleted of =
-    MakesCall (λ told old new. (told ≡ reply.Answer (answer.Completed (is_completed of old.machine))) × (new ≡ old))
+    MakesCall (λ told old new.
+    (told ≡ reply.Answer (answer.Completed (is_completed of old.machine)))
+    × (new ≡ old))
 
 -- the state
 abbrev pub AsksState : Call
@@ -197,16 +199,18 @@ abbrev pub ProposesResult : ℕ → GivenValue → GivenPolicy → Call
 ProposesResult of value given =
     MadeUnless (Misfits (texts_of_value value) (IsNoPolicy given)) (λ told old new.
     (policy : RetryPolicy) × IsPolicyOf given policy
-    × RepliesWith unit_told (CallsProposal (record { 0 = of }) (exit_of_value (given_value value)) policy) told old new)
+    × RepliesWith unit_told (CallsProposal (record { 0 = of })
+    (exit_of_value (given_value value)) policy) told old new)
 
--- a run's error after so many milliseconds, of which its policy says what comes
+-- a run's error after `millis` milliseconds, of which its policy says what follows
 abbrev pub ProposesRetryable : ℕ → ℕ → GivenError → GivenPolicy → Call
 ProposesRetryable of millis given by =
     MadeUnless (Misfits (texts_of_error given) ((behavior_at given.behavior ≡ None)
     ⊎ IsNoPolicy by)) (λ told old new.
     (span : Duration) × (e : Error) × (policy : RetryPolicy)
     × IsSpan millis span × IsErrorOf given e × IsPolicyOf by policy
-    × RepliesWith unit_told (CallsProposal (record { 0 = of }) (exit.RetryableFailure span e) policy) told old new)
+    × RepliesWith unit_told (CallsProposal (record { 0 = of })
+    (exit.RetryableFailure span e) policy) told old new)
 
 -- the handler failed by an error of its own, which relates to a command or to none
 abbrev pub ReportsError : GivenError → GivenCommand → Call
@@ -254,8 +258,8 @@ CallsWithDeadline target bytes millis name unstable outcome old new =
     (record { unstable_serialization = unstable }) old.machine.version)
     (sleep_command millis [] ∷ []))) outcome old new
 
--- another handler is called, at a time in milliseconds, or at once where it is 0, and nobody waits
--- for it
+-- another handler is called, at a time in milliseconds, or at once if it is 0, and nobody waits for
+-- it
 abbrev pub SendsTo : GivenTarget → List ℕ → ℕ → List ℕ → Bool → Call
 SendsTo target bytes millis name unstable outcome old new =
     MadeWith (texts_of_call target name)

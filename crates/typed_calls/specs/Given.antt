@@ -24,7 +24,7 @@ IsWhy texts other = ⊥
 pub record CannotCopy (texts : List (List ℕ)) (given : Status) : Type 0 where
   pub why : IsWhy texts given
 
--- why what C gave serves for no call: no memory is found, one of these texts isn't UTF-8, or a
+-- why no call can be made of what C gave: no memory is found, one of these texts isn't UTF-8, or a
 -- number names no case
 abbrev pub Misfits : List (List ℕ) → Type 0 → Status → Type 0
 Misfits texts NamesNone status.NoMemory = Unit {0}
@@ -36,7 +36,7 @@ Misfits texts NamesNone other = ⊥
 abbrev pub optional_of : MayLend → Option (List ℕ)
 optional_of may = if may.is_given then Some may.lent.bytes.now else None
 
--- the text that has to be UTF-8 where it is given
+-- the text that has to be UTF-8 if it is given
 abbrev pub lent_texts : MayLend → List (List ℕ)
 lent_texts may = if may.is_given then may.lent.bytes.now ∷ [] else []
 
@@ -50,11 +50,11 @@ header_of pair = record { key = pair.key.bytes.now; value = pair.value.bytes.now
 abbrev pub texts_of_pair : Pair → List (List ℕ)
 texts_of_pair pair = pair.key.bytes.now ∷ pair.value.bytes.now ∷ []
 
--- a span of so many milliseconds
+-- a span of this number of milliseconds
 abbrev pub IsSpan : ℕ → Duration → Type 0
 IsSpan millis span = as_nanos span ≡ millis * 1_000_000
 
--- a span of so many milliseconds, if it is given
+-- a span of this number of milliseconds, if it is given
 abbrev pub IsSpanIf : Bool → ℕ → Option Duration → Type 0
 IsSpanIf true millis (Some span) = IsSpan millis span
 IsSpanIf false millis None = Unit {0}

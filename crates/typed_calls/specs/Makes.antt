@@ -27,7 +27,7 @@ abbrev pub MadeWith : List (List ℕ) → (Reply → View → View → Type 0) �
     → View → Type 0
 MadeWith texts makes outcome old new = MadeUnless (CannotCopy texts) makes outcome old new
 
--- A call is made, whatever C gave for it.
+-- A call is always made: no value that C can give for it is refused.
 abbrev pub MakesCall : (Reply → View → View → Type 0) → Result Reply Status → View → View → Type 0
 MakesCall makes (Ok reply) old new = makes reply old new
 MakesCall makes (Err status) old new = ⊥

@@ -91,16 +91,18 @@ abbrev pub IsFoundOf : MayLend → ContentType → Type 0
 IsFoundOf given content_type =
     header_under content_type (codes "content-type") ≡ Some (optional_of given)
 
--- what was given serves for no VM, and nothing is done
-pub record IsKeptAsMisfit (given : MayLend) (by : GivenOptions) (told : Replied) (old new : Option Session) : Type 0 where
+-- no VM can be made of what was given, and nothing is done
+pub record IsKeptAsMisfit (given : MayLend) (by : GivenOptions) (told : Replied)
+    (old new : Option Session) : Type 0 where
   pub why : Status
   pub misfits : Misfits (lent_texts given) (NamesNoOption by) why
   pub told_why : told ≡ kept_told why
   pub kept : new ≡ old
 
 -- a VM is made with the options that are given, for the version that the content type names, or C
--- is told why not
-pub record IsMadeAsGiven (alloc : Global) (given : MayLend) (by : GivenOptions) (told : Replied) (old new : Option Session) : Type 0 where
+-- gets the reason why not
+pub record IsMadeAsGiven (alloc : Global) (given : MayLend) (by : GivenOptions) (told : Replied)
+    (old new : Option Session) : Type 0 where
   pub options : VMOptions
   pub are : AreOptionsOf by options
   pub made : MadeFromC alloc options (version_in (Some (optional_of given))) told old new

@@ -37,8 +37,8 @@ abbrev pub trees_in : Forest → ℕ
 trees_in none = 0
 trees_in (more t others) = 1 + trees_in others
 
--- A handle is one node. A node over children stands behind all of theirs, and says how many
--- children there are.
+-- A handle is one node. A node over children stands after all of theirs, and says how many children
+-- there are.
 abbrev mutual
   pub nodes_of : Tree → List Node
   nodes_of (leaf handle) = record { kind = 0; number = handle } ∷ []
@@ -58,8 +58,8 @@ abbrev pub AwaitsTree : List Node → Reply → View → View → Type 0
 AwaitsTree nodes told old new = (future : UnresolvedFuture) × (nodes_of (tree_of future) ≡ nodes)
     × RepliesWith reply.Awaited (CallsFlatAwait future) told old new
 
--- A node can't stand behind so many trees: no memory is found for it, its kind is none, or it is
--- over more trees than there are.
+-- A node can't stand after `many` trees: no memory is found for it, its kind is none, or it is over
+-- more trees than there are.
 abbrev pub CantStand : Node → ℕ → Status → Type 0
 CantStand n many status.NoMemory = Unit {0}
 CantStand n many status.BadNumber = (n.kind ≢ 0) × (kind_at n.kind ≡ None)
@@ -67,7 +67,7 @@ CantStand n many status.BadTree =
     (kind : FutureKind) × (node_code kind ≡ n.kind) × (many < n.number)
 CantStand n many other = ⊥
 
--- the first node that can't stand behind the trees that those in front of it are
+-- the first node that can't stand after the trees that those in front of it are
 pub record StopsAtNode (nodes : List Node) (given : Status) : Type 0 where
   pub front : List UnresolvedFuture
   pub at : Node

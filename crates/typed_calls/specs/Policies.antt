@@ -12,8 +12,8 @@ use Rattle.typed_calls.specs.Given.{IsSpan, IsSpanIf}
 abbrev pub given_attempts : GivenPolicy → Option ℕ
 given_attempts given = if given.has_attempts then Some given.attempts else None
 
--- the delay, or the longest one; the most attempts; the longest time for them; and what comes of it
--- there
+-- the delay, or the longest one; the most attempts; the longest time for them; and whether the
+-- invocation pauses after them
 abbrev pub AreBoundsOf : GivenPolicy → Option Duration → Option ℕ → Option Duration → OnMaxAttempts
     → Type 0
 AreBoundsOf given interval attempts longest on =

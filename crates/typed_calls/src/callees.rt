@@ -168,8 +168,8 @@ impl<'a> VmCall for DeadlineCall<'a> {
     }
 }
 
-/// Another handler is called, at a time in milliseconds since the Unix epoch or at once where it is 0, and nobody waits for it. An empty name is
-/// none.
+/// Another handler is called, at a time in milliseconds since the Unix epoch or at once if it is 0, and nobody waits for it. An empty name
+/// is none.
 #[derive(Clone, Copy)]
 pub struct SendCall<'a> {
     pub target: GivenTarget<'a>,

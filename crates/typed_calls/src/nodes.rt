@@ -53,7 +53,7 @@ fn tree_over(trees: &mut Vec<UnresolvedFuture>, node: Node) -> Result<Unresolved
     }
 }
 
-/// Puts a node behind the trees in front of it, over the last of them.
+/// Puts a node after the trees in front of it, over the last of them.
 fn put_node(trees: &mut Vec<UnresolvedFuture>, node: Node) -> Result<(), Status>
     ensures ok { IfOk result (λ _. row_of trees.new.items ≡ row_of trees.old.items ++ node ∷ []) }
     ensures err { IfErr result (CantStand node (length trees.old.items)) }

@@ -72,7 +72,7 @@ impl<'a> VmCall for ProposeCall<'a> {
     }
 }
 
-/// A run that was executed failed after so many milliseconds, and may be tried again by a policy.
+/// A run that was executed failed after this number of milliseconds, and may be tried again by a policy.
 #[derive(Clone, Copy)]
 pub struct ProposeRetryableCall<'a> {
     pub handle: u32,

@@ -4,8 +4,7 @@ use Rattle.std.specs.Cmp.Lexicographic.{pointwise}
 use Rattle.vectors.specs.declared.headers.Headers.{Headers}
 use Rattle.vectors.specs.declared.headers.Headers.TheVariants.{ContentType, Empty, Unreadable}
 
--- the text under `content-type`, where there is one, and no other header; None where they can't be
--- read
+-- the text under `content-type`, if there is one, and no other header; None if they can't be read
 abbrev pub test_header : Headers → List ℕ → Option (Option (List ℕ))
 test_header (ContentType text) name = if pointwise nat_eq name (codes "content-type")
     then Some (Some text.now) else Some None

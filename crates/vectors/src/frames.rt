@@ -226,7 +226,7 @@ pub const UNCOMPLETED: &[u8] = b"\0\x03\0\0\0\0\0\0\0\x3a\
     \0\
     \0";
 
-/// The refusal of a sleep where the first command after the input is another.
+/// The refusal of a sleep if the first command after the input is another.
 pub const TYPE_MISMATCH: &[u8] = b"\0\x03\0\0\0\0\0\0\0\x39\
     \0\0\x02\x3a\
     \0\0\0\0\0\0\0\x18CommandTypeMismatchError\
@@ -427,7 +427,7 @@ pub const CANCEL_INV1: &[u8] = b"\0\x16\0\0\0\0\0\0\0\x12\
     \0\0\0\0\x01\
     \0";
 
-/// The refusal of a clearing of all keys where the first command after the input is another.
+/// The refusal of a clearing of all keys if the first command after the input is another.
 pub const CLEAR_MISMATCH: &[u8] = b"\0\x03\0\0\0\0\0\0\0\x39\
     \0\0\x02\x3a\
     \0\0\0\0\0\0\0\x18CommandTypeMismatchError\

@@ -3,7 +3,7 @@
 use std::alloc::Global;
 use std::io::{self, Cursor, ErrorKind, Read, Write};
 
-/// Gives its first bytes, and is reset behind them.
+/// Gives its first bytes, and is reset after them.
 #[derive(Drop)]
 pub struct Breaking<'a> {
     pub front: Cursor<&'a [u8]>,

@@ -266,7 +266,7 @@ send_command target input millis name options version = record {
   is_command = refl;
 }
 
--- a time in whole milliseconds, 0 where there is none
+-- a time in whole milliseconds, 0 if there is none
 abbrev pub millis_of : Option Duration → ℕ
 millis_of None = 0
 millis_of (Some time) = as_nanos time / 1000000
@@ -363,22 +363,22 @@ HandlesFit other handle = Unit {0}
 
 -- ---- several commands
 
--- how many completion ids a command takes and those behind it, with a handle for each
+-- how many completion ids a command and those after it take, with a handle for each
 abbrev pub all_ids : Command → List Command → ℕ
 all_ids c [] = ids_of c.message
 all_ids c (b ∷ bs) = ids_of c.message + all_ids b bs
 
--- why arguments refuse a command or one of those behind it: the first reason
+-- why arguments refuse a command or one of those after it: the first reason
 abbrev pub any_refusal : Command → List Command → Option NamedFault
 any_refusal c [] = c.refusal
 any_refusal c (b ∷ bs) = option_or c.refusal (any_refusal b bs)
 
--- it is so of a command and of each of those behind it
+-- it is so of a command and of each of those after it
 abbrev pub EachIs : (Command → Type 0) → Command → List Command → Type 0
 EachIs P c [] = P c
 EachIs P c (b ∷ bs) = P c × EachIs P b bs
 
--- an answer of this kind has no more handles than so many
+-- an answer of this kind has at most this number of handles
 abbrev pub AnswerTakes : AnswerKind → ℕ → Type 0
 AnswerTakes kind.Call handles = 2 ≤ handles
 AnswerTakes kind.CallWithDeadline handles = 3 ≤ handles

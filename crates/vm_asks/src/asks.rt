@@ -28,7 +28,7 @@ use vm_types::values::write_value;
 #[derive(Drop)]
 pub enum Ask {
     Command(Command),
-    /// Two commands, the second behind the first, and how the call is answered, by the first one's handle.
+    /// Two commands, the second after the first, and how the call is answered, by the first one's handle.
     Commands(AnswerKind, Command, Command),
     /// A read of the state.
     Read(StateRead),

@@ -14,7 +14,7 @@ pub struct Command {
     pub ghost is_command: { IsCommand message },
 }
 
-/// Written out, so that who lets a command go calls this: a derived drop is proved once more in each crate above.
+/// Written out, so that dropping a command calls this: a derived drop is proved once more in each crate above.
 impl Drop for Command {
     fn drop(self) {
         let Self {

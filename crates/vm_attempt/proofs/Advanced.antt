@@ -33,7 +33,7 @@ use Rattle.vm_types.specs.declared.options.JournalReplay.TheVariants.{Enabled}
 use Rattle.vm_types.specs.declared.options.SignalDelivery.TheVariants.{Queued}
 use Rattle.vm_model.specs.Deliveries.{HasNoTwo}
 use Rattle.vm_machine.specs.Making.{fresh}
-use Rattle.vm_machine.specs.Outcomes.{IsStarved, Outcome, Done, Failed, ◌>>=◌, about_last, called, called_at, settled, ruled, failed}
+use Rattle.vm_machine.specs.Outcomes.{IsStarved, Outcome, Done, Failed, ◌>>>◌, about_last, called, called_at, settled, ruled, failed}
 use Rattle.vm_machine.specs.Phases.{is_closed, is_running}
 use Rattle.invocation_vm.specs.Frames.{Rest, frames_of}
 use Rattle.invocation_vm.specs.Making.{Makes, made}
@@ -54,7 +54,8 @@ use Rattle.vm_steps.specs.Heard.{Heard}
 use Rattle.vm_steps.specs.declared.progress.Progress.{Progress}
 use Rattle.vm_steps.specs.declared.progress.Progress.TheVariants as progress
 use Rattle.vm_attempt.specs.Agreement.{Agrees, Aside}
-use Rattle.vm_attempt.specs.Journals.{BeginsOrFails, HasAll, StillWaits, commands_among, machine_fed, with_missing, notifications_among, setup_for, AcknowledgesNothing}
+use Rattle.vm_model.specs.JournalFrames.{commands_among, notifications_among, AcknowledgesNothing}
+use Rattle.vm_attempt.specs.Journals.{BeginsOrFails, HasAll, StillWaits, machine_fed, with_missing, setup_for}
 use Rattle.vm_steps.specs.Record.{Record, heard}
 use Rattle.vm_steps.specs.Stepping.{Advances, MakesStep, IfWaits, IsReplaying, LacksMemory, InputIsRead, StepAt, StepDoes, StepFrom, StepUnless, fresh_record}
 use Rattle.vm_parts.specs.Outboxes.{WholeFrames}
@@ -66,7 +67,7 @@ use Rattle.vm_attempt.proofs.Pieces.{agrees_running}
 use Rattle.vm_attempt.proofs.Quiet.{Silent, error_quiet, quiet_same, wrote_quiet}
 use Rattle.vm_attempt.proofs.Written.{written_is}
 use Rattle.vm_attempt.proofs.Stepped.{asks_keep, asks_replay, asks_wait}
-use Rattle.vm_attempt.specs.Fixed.{Fixed, fixed_by}
+use Rattle.vm_model.specs.Fixed.{Fixed, fixed_by}
 
 -- ---- an event that failed
 
@@ -90,14 +91,14 @@ read_silent : (o : Option InputCommand) (v w : Machine) → w.output ≡ v.outpu
 read_silent None v w is = is
 read_silent (Some c) v w is = is
 
-popped_silent : (commands : List RawMessage) (v w : Machine) → w.output ≡ v.output → Silent v (popped_from commands type.InputCommand w >>= λ raw u. input_read (input_in raw.body) u)
+popped_silent : (commands : List RawMessage) (v w : Machine) → w.output ≡ v.output → Silent v (popped_from commands type.InputCommand w >>> λ raw u. input_read (input_in raw.body) u)
 popped_silent [] v w is = is
 popped_silent (raw ∷ rest) v w is = by_test (type_number raw.ty == type_number type.InputCommand)
   where
     u : Machine
     u = record w { commands = rest; phase = phase_after rest }
 
-    by_test : (b : Bool) → Silent v ((if b then Done raw u else Failed (about_last fault.CommandTypeMismatch u) u) >>= λ raw u. input_read (input_in raw.body) u)
+    by_test : (b : Bool) → Silent v ((if b then Done raw u else Failed (about_last fault.CommandTypeMismatch u) u) >>> λ raw u. input_read (input_in raw.body) u)
     by_test true = read_silent (input_in raw.body) v u is
     by_test false = is
 
@@ -106,7 +107,7 @@ unfolding popped
 counted_silent (Some name) v = refl
 counted_silent None v = popped_silent v.commands v (entered type.InputCommand [] v) refl
 
-skipped_silent : (counters : Counters) (v : Machine) (o : Outcome Input) → Silent v o → Silent v (o >>= λ input w. Done input (skipped counters w))
+skipped_silent : (counters : Counters) (v : Machine) (o : Outcome Input) → Silent v o → Silent v (o >>> λ input w. Done input (skipped counters w))
 skipped_silent counters v (Done input w) is = is
 skipped_silent counters v (Failed e w) is = is
 
@@ -242,8 +243,9 @@ runs_answered fixed fed answers before taken v k none =
     let z : [] ≡ answer.Input (told_input s.identity k.journal.input) ∷ a.0 = sym none ∙ sym k.answers ∙ a.1 in
     cc
 
--- What is told of a handler that runs is kept by each step, where reading the input gives it, and each call keeps it, by what is asked of
--- what was fed.
+-- For a statement R of an attempt whose handler has read the input: each step and each call keeps
+-- it, if reading the input establishes it and a step with an answer keeps it, while P holds of what
+-- was fed.
 module _ (R : Reading) (P : Heard → Type 0) (l : Lasts R) (fixed : Fixed) (reads : (fed : Heard) (waiting : Option UnresolvedFuture) (taken : List (List ℕ)) (v w : View) (i : Input) → P fed → fed.proposed ≡ [] → Comes fixed fed v.machine → input_step v.machine ≡ Done i w.machine → waiting ≡ None → Wrote taken v.machine.output [] → (frames_of (bytes_fed fed)).1 ≡ Rest w.undecoded → R fed (answer.Input i ∷ []) waiting taken w)
     (answered : (fed : Heard) (answers : List Answer) (waiting : Option UnresolvedFuture) (taken : List (List ℕ)) (v : View) → R fed answers waiting taken v → answers ≢ [])
     (asks : (old : Record) (result : Result Progress Error) (new : Record) → P (heard fixed.version old) → R (heard fixed.version old) old.answers old.waiting old.taken old.vm → IsLive old.vm.machine → MakesStep fixed.handler old result new → KeptBy R fixed new) where
@@ -344,7 +346,7 @@ wait_unless : (fixed : Fixed) (old : Record) (result : Result Progress Error) (n
 wait_unless fixed old result new under k (Some e) is d = ⊎_elim (λ (x : result ≡ Err e). error_waits _ result e x) (λ (x : result ≡ Err no_memory). error_waits _ result no_memory x) d.0
 wait_unless fixed old result new under k None is d = wait_at fixed old result new under k is old.vm.machine.phase refl d
 
--- a step waits only where nothing wakes
+-- if a step waits, nothing that came wakes its future
 pub step_waits : (fixed : Fixed) (old : Record) (result : Result Progress Error) (new : Record) → Premises fixed (heard fixed.version old) → IsKept fixed old → old.over ≡ None → StepDoes fixed.handler old result new → IfWaits result (AwaitWaits fixed (heard fixed.version new) new.answers new.taken new.vm)
 step_waits fixed old result new under k going does = by_test old.starved does
   where
@@ -375,7 +377,7 @@ step_replays fixed old result new queues k two is does =
     o)
     (replays_advance fixed.handler old result new is does)
 
--- ---- a new attempt, and what is told
+-- ---- a new attempt, and what its output says
 
 -- nothing was answered or written yet
 abbrev pub IsNew : Fixed → Record → Type 0
@@ -415,7 +417,7 @@ pub new_whole : {S : Type 0} (alloc : Global) (options : VMOptions) (wanted : Re
 new_whole alloc options (Ok version) view vm is = subst (λ (x : View). WholeFrames x.machine.output) (sym is) (record { messages = []; are = refl; each = tt })
 new_whole alloc options (Err refusal) view vm is = absurd is
 
--- the answers of an attempt are told by what is read from its output
+-- the answers of an attempt follow from what is read of its output
 pub kept_told : (fixed : Fixed) (r : Record) → WholeFrames r.vm.machine.output → IsKept fixed r → (r.answers ≡ []) ⊎ AnswersAreTold fixed r
 kept_told fixed r f =
     ⊎_elim

@@ -140,7 +140,7 @@ executed_fewer any v handle = omega (arith, starts_fewer handle any v.runs)
 pub executed_once : (any : List ℕ) (v : Machine) (run : PendingRun) → find (may_execute any) v.runs ≡ Some run → HandsOut (handle_of run) v (executed any v)
 executed_once any v run found = omega (arith, starts_one any v.runs run found)
 
--- ---- a run's result is told
+-- ---- a run's result is reported
 
 without_fewer : (handle told : NotificationHandle) (runs : List PendingRun) → waiting_of handle (without_first (has_handle told) runs) ≤ waiting_of handle runs
 without_fewer handle told [] = omega arith

@@ -29,7 +29,7 @@ use Rattle.vm_model.specs.Calls.{Setup, identity_of}
 use Rattle.vm_model.specs.Moves.{Point, later}
 use Rattle.vm_attempt.specs.Agreement.{Agrees, Aside, machine_at}
 use Rattle.vm_attempt.specs.Arrivals.{arriving, arrival_of, kept_after, kept_behind, acknowledged_as, unacknowledged}
-use Rattle.vm_attempt.specs.Journals.{is_acknowledgement, is_ephemeral, is_notification, notifications_among, notified_by}
+use Rattle.vm_model.specs.JournalFrames.{is_acknowledgement, is_ephemeral, is_notification, notifications_among, notified_by}
 use Rattle.vm_attempt.proofs.Requesting.{runs_at}
 
 -- a machine that has failed stays as it is
@@ -200,7 +200,7 @@ frames_come s given written v p (raw ∷ raws) a =
     inr (ap (λ w. is_some w.failure) (failed_stays e.0 (received raw v) raws e.1) ∙ f))
     one
 
--- ---- where nothing was proposed
+-- ---- if no result was proposed
 
 brings_none : (raw : RawMessage) (ns : List Notification) → notified_by (arrival_of [] raw) ns ≡ cond (is_notification raw) (notified_by (notification_in raw.body) ns) ns
 brings_none raw ns = by_kind (is_notification raw) (is_acknowledgement raw) (acknowledgement_in raw.body)

@@ -108,7 +108,7 @@ module _ (s : Setup) (m : Meaning) (given : StateMap) (written : List RawMessage
   abbrev v : Point → Machine
   v p = machine_at s given written aside p
 
-  -- the await has come to there, where nothing was made and no recorded command used
+  -- the await has got from p to q: nothing was made and no recorded command was used
   pub record Reached (p q : Point) : Type 0 where
     pub moves : MovesOn s m given p [] [] q
     pub left : q.left ≡ p.left
@@ -124,7 +124,7 @@ module _ (s : Setup) (m : Meaning) (given : StateMap) (written : List RawMessage
     pub is_cancelled : is_cancelled_in s at.derived ≡ true
     pub known : unresolved_handles at.derived.tracked ≡ []
 
-  -- what the first part comes to
+  -- the outcome of the first part
   abbrev pub PartTo : Point → Outcome (Result AwaitResponse Error) → Type 0
   PartTo p (Done (Ok AnyCompleted) w) = Answered s m given written p (v p) answer.Awake w
   PartTo p (Done (Ok CancelSignalReceived) w) = IsGathered p w
@@ -230,7 +230,7 @@ module _ (s : Setup) (m : Meaning) (given : StateMap) (written : List RawMessage
     pub is_cancelled : is_cancelled_in s at.derived ≡ true
     pub rest : unresolved_handles at.derived.tracked ≡ handles
 
-  -- what reading an id comes to
+  -- the outcome of reading an id
   abbrev ReadTo : List ℕ → Point → Outcome (Result AwaitResponse Error) → Type 0
   ReadTo handles p (Done (Ok AnyCompleted) w) = HasRead handles p w
   ReadTo handles p (Done (Ok CancelSignalReceived) w) = ⊥
@@ -408,7 +408,7 @@ module _ (s : Setup) (m : Meaning) (given : StateMap) (written : List RawMessage
     cancels_by (Done (Err e) w) x o on = subst (PartTo p) (sym on) x
     cancels_by (Failed e w) x o on = subst (PartTo p) (sym on) x
 
-  -- ---- what the first part comes to
+  -- ---- the outcome of the first part
 
   pub part_to : (p : Point) → m p.answers ≡ step.Await future → HasNoTwo p → (b : Bool) → ends_awaits s.options.implicit_cancellation ≡ b → (o : Outcome (Result AwaitResponse Error)) → AwaitsBy b (tree_of future) (v p) o → PartTo p o
   part_to p is two true ends o (first, tries, on) = cancels_by p is two ends first (tries_to s m given written aside p future identity is queued two (or_cancelled (tree_of future)) (asks_more p is two ends) first tries) o on

@@ -15,7 +15,7 @@ use Rattle.vm_machine.specs.declared.phase.Phase.TheVariants.{Replaying}
 use Rattle.vm_machine.specs.Commands.{entered, phase_after, popped}
 use Rattle.vm_machine.specs.Inputs.{input_by, input_read, input_step}
 use Rattle.vm_machine.specs.Skips.{skips_replay}
-use Rattle.vm_machine.specs.Outcomes.{Done, Failed, ◌>>=◌, about_last}
+use Rattle.vm_machine.specs.Outcomes.{Done, Failed, ◌>>>◌, about_last}
 use Rattle.vm_model.specs.Calls.{Setup, identity_of}
 use Rattle.vm_model.specs.Journal.{input_read_from}
 use Rattle.vm_model.specs.Moves.{told_input}
@@ -39,6 +39,6 @@ input_begins s given aside first rest ns replays identity =
     w : Machine
     w = popped_first s given aside rest ns
 
-    by_test : (b : Bool) → BeginsOrFails s given aside rest ns (if b then input_in first.body else None) ((if b then Done first w else Failed (about_last fault.CommandTypeMismatch w) w) >>= λ raw u. input_read (input_in raw.body) u)
+    by_test : (b : Bool) → BeginsOrFails s given aside rest ns (if b then input_in first.body else None) ((if b then Done first w else Failed (about_last fault.CommandTypeMismatch w) w) >>> λ raw u. input_read (input_in raw.body) u)
     by_test true = reads_input s given aside rest ns identity (input_in first.body)
     by_test false = tt

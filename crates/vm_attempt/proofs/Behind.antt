@@ -1,4 +1,4 @@
--- What comes behind some commands that a call has made.
+-- What follows after some commands that a call has made.
 use Rattle.std.proofs.Common.{◌≡◌, ◌⊎◌, ◌+◌, List, [], ◌∷◌, ◌++◌, refl, sym, ap, ◌∙◌, inl, inr, ⊎_elim, append_assoc, append-nil}
 use Rattle.journal_protocol.specs.Error.{Error}
 use Rattle.journal_protocol.specs.Errors.{error_message, named_error}
@@ -34,10 +34,10 @@ pub frames_both : (made more : List RawMessage) → command_frames (made ++ more
 frames_both [] more = refl
 frames_both (c ∷ made) more = ap (λ l. command_frames (c ∷ []) ++ l) (frames_both made more)
 
--- ---- behind
+-- ---- one after another
 
 module _ (s : Setup) (m : Meaning) (given : StateMap) where
-  -- some commands, and what comes behind them
+  -- some commands, and moves after them
   abbrev pub moves_on : (p q r : Point) (gives : List Answer) (made more : List RawMessage) → MovesOn s m given p [] made q → MovesOn s m given q gives more r → MovesOn s m given p gives (made ++ more) r
   moves_on p q r gives made more a b = record {
     moves = a.moves + b.moves;

@@ -31,9 +31,9 @@ use Rattle.vm_attempt.specs.Blames.Blame.{Memory, Frame, NoFrame, ClosedEarly, N
 use Rattle.vm_attempt.proofs.Blaming.{frames_fit}
 use Rattle.vm_attempt.proofs.Pieces.{fed_frames}
 use Rattle.vm_attempt.proofs.Placing.{bad_frame, come_keeps, come_stands, place_all}
-use Rattle.vm_attempt.specs.Fixed.{Fixed, fixed_by}
+use Rattle.vm_model.specs.Fixed.{Fixed, fixed_by}
 
--- ---- want of memory, and a VM that stays as it is
+-- ---- out of memory, and a VM that stays as it is
 
 pub none_some : {A : Type 0} (e : Error) → None ≡ Some e → A
 none_some e h = absurd (cc)
@@ -69,7 +69,7 @@ placed_open Closed k F p = absurd p
 
 -- ---- a piece
 
--- what stands behind the last frame
+-- the bytes after the last frame
 come_tail : (fixed : Fixed) (r : Record) → HasCome fixed r → (live : r.vm.machine.failure ≡ None) → r.vm.machine.phase ≢ Closed → (frames_of (bytes_fed (heard fixed.version r))).1 ≡ Rest r.vm.undecoded
 come_tail fixed r k live open_yet =
     ⊎_elim
@@ -153,7 +153,7 @@ feed_blames fixed piece old result new k b does = by_test old.starved does
 
 -- ---- closing
 
--- it is told that the input is closed
+-- the caller said that the input is closed
 abbrev pub closed_now : Said → Said
 closed_now said = record said { closed = true }
 

@@ -24,7 +24,7 @@ use Rattle.vm_machine.specs.declared.phase.Phase.TheVariants.{WaitingStart, Wait
 use Rattle.vm_machine.specs.Inputs.{counted_entry, coverage_of, entries_in, start_info_of, queued, start_received, started_with, acknowledged, acknowledged_by, acknowledgement_step}
 use Rattle.vm_machine.specs.Outcomes.{Outcome, Done, refused, ruled, ruled_by, settled}
 use Rattle.invocation_vm.specs.Views.{all_received, left_by, received}
-use Rattle.vm_attempt.specs.Journals.{is_command_frame, is_ephemeral, is_notification, is_acknowledgement}
+use Rattle.vm_model.specs.JournalFrames.{is_command_frame, is_ephemeral, is_notification, is_acknowledgement}
 use Rattle.vm_attempt.specs.Blames.{FailsAt, acknowledgement_fault, ephemeral_body_fault, ephemeral_fault, found_fault, unknown_fault, fault_among, fault_by, kept_fault, notification_fault, other_fault, acknowledgement_body_fault, refused_start, start_fault, phase_fault}
 use Rattle.vm_parts.specs.declared.context.StateMap.{StateMap}
 use Rattle.vm_model.specs.Calls.{Setup}
@@ -122,7 +122,7 @@ message_fits raw Replaying v false false false d = other_fits raw Replaying v d
 message_fits raw Processing v false false false d = other_fits raw Processing v d
 message_fits raw Closed v false false false d = other_fits raw Closed v d
 
--- a frame that is refused though proposals are kept is refused where none is, for the same reason
+-- a frame that is refused while proposals are kept is refused for the same reason if none is kept
 kept_by : (kept : List KeptProposal) (ack : Option ProposeRunCompletionAck) (why : NamedFault) → acknowledgement_body_fault kept ack ≡ Some why → acknowledgement_body_fault [] ack ≡ Some why
 kept_by kept None why is = is
 kept_by kept (Some ack) why is = by_kept (find (is_for ack.id) kept) is

@@ -1,4 +1,5 @@
--- An await, in a machine that agrees with a point: what its whole call comes to, with the cancel signals that a cancelled one sends.
+-- A whole await, in a machine that agrees with a point: its outcome, and the cancel signals that a
+-- cancelled one sends.
 use Rattle.std.proofs.Common.{◌≡◌, ◌⊎◌, ℕ, ◌+◌, Bool, true, false, List, [], ◌∷◌, ◌++◌, Option, Some, None, refl, sym, ap, ◌∙◌, subst, inl, inr, ⊎_elim, append-nil, Ok, Err, Result}
 use Rattle.std.specs.Prelude.{◌&&◌, is_some}
 use Rattle.await_trees.specs.declared.handle.NotificationHandle.{NotificationHandle}
@@ -67,7 +68,7 @@ err_in d (Err e) = e
 
 -- ---- one cancel command
 
--- behind the first of some calls whose ids are known
+-- the calls after the first, if all their ids are known
 others_known : (ts : List TrackedCall) (id : List ℕ) (ids : List (List ℕ)) → unresolved_handles ts ≡ [] → invocation_ids ts ≡ id ∷ ids → (unresolved_handles (without_first_call ts) ≡ []) × (invocation_ids (without_first_call ts) ≡ ids)
 others_known [] id ids e f = absurd (cc)
 others_known (t ∷ ts) id ids e f = by_id t.invocation_id e f
@@ -90,7 +91,7 @@ module _ (s : Setup) (p : Point) (id : List ℕ) where
   abbrev within : Option NamedFault → Move
   within o = cancel_sent s id o p.derived
 
-  -- the point behind it, in the await
+  -- the point after it, in the await
   abbrev back : Point → Point
   back q = record q { answers = p.answers ++ []; derived = record q.derived { tracked = without_first_call p.derived.tracked } }
 
@@ -136,7 +137,7 @@ module _ (s : Setup) (m : Meaning) (given : StateMap) (future : UnresolvedFuture
   many_there : (p : Point) → m p.answers ≡ step.Await future → MakesMany (ask_of s.version (m p.answers))
   many_there p is = subst (λ st. MakesMany (ask_of s.version st)) (sym is) tt
 
-  -- the machine at a point, where no call is tracked any more
+  -- the machine at a point, with no tracked call left
   abbrev cleared : List RawMessage → Aside → Point → Machine
   cleared written aside p = record (machine_at s given written aside p) { tracked = [] }
 
@@ -261,7 +262,7 @@ module _ (s : Setup) (m : Meaning) (given : StateMap) (future : UnresolvedFuture
 
   -- ---- all of them
 
-  -- what a cancelled await comes to, from where it sends its first cancel signal
+  -- the outcome of a cancelled await, from its first cancel signal on
   abbrev CancelsTo : List RawMessage → Aside → Point → Result (Result AwaitResponse Error) Error → Machine → Type 0
   CancelsTo written aside p (Ok (Ok CancelSignalReceived)) w = Answered s m given written p (cleared written aside p) answer.Cancelled w
   CancelsTo written aside p (Ok (Ok AnyCompleted)) w = ⊥

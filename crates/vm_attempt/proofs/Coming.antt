@@ -1,4 +1,5 @@
--- What came and what was written, over each call of an attempt: whatever the options are and whatever comes.
+-- What came and what was written, over each call of an attempt: under all options, and for any
+-- input.
 use Rattle.std.proofs.Common.{◌≡◌, ◌≢◌, ◌⊎◌, ℕ, true, false, List, [], ◌∷◌, ◌++◌, Option, Some, None, Result, Ok, Err, sym, ap, ◌∙◌, subst, inl, inr, ⊎_elim, Global}
 use Rattle.std.specs.declared.alloc.AllocError.{AllocError}
 use Rattle.journal_protocol.specs.Error.{Error}
@@ -26,7 +27,8 @@ use Rattle.vm_types.specs.declared.steps.Answer.TheVariants as answer
 use Rattle.vm_types.specs.declared.values.Input.{Input}
 use Rattle.journal_protocol.specs.Bodies.{input_in}
 use Rattle.vm_attempt.specs.Arrivals.{kept_after}
-use Rattle.vm_attempt.specs.Journals.{AcknowledgesNothing, HasAll, StillWaits, setup_for}
+use Rattle.vm_model.specs.JournalFrames.{AcknowledgesNothing}
+use Rattle.vm_attempt.specs.Journals.{HasAll, StillWaits, setup_for}
 use Rattle.vm_attempt.specs.Told.{Begun, JournalCame, Comes, HasCome, IsLive, Journal, Wrote, bytes_fed, commands_of, frames_fed}
 use Rattle.invocation_vm.specs.Frames.{frames_of}
 use Rattle.std.specs.Prelude.{if◌then◌else◌}
@@ -40,7 +42,7 @@ use Rattle.vm_attempt.proofs.Kept.{KeptBy, close_keeps, feed_keeps, take_keeps}
 use Rattle.vm_attempt.proofs.Lasting.{CameBy, came_last}
 use Rattle.vm_attempt.proofs.Quiet.{quiet_same, wrote_more, wrote_quiet}
 use Rattle.vm_attempt.proofs.Sending.{IsLeft, Sends, step_leaves}
-use Rattle.vm_attempt.specs.Fixed.{Fixed}
+use Rattle.vm_model.specs.Fixed.{Fixed}
 
 -- ---- the input is read
 
@@ -88,7 +90,7 @@ module _ (fixed : Fixed) (fed : Heard) (none_proposed : fed.proposed ≡ []) (ta
         tail = λ _. tail;
       }
 
--- the input is read, whatever the options are
+-- the input is read, under all options
 pub reads_come : (fixed : Fixed) (fed : Heard) → fed.proposed ≡ [] → (taken : List (List ℕ)) (v w : View) (i : Input) → Comes fixed fed v.machine → input_step v.machine ≡ Done i w.machine → Wrote taken v.machine.output [] → (frames_of (bytes_fed fed)).1 ≡ Rest w.undecoded → JournalCame fixed fed (answer.Input i ∷ []) taken w
 reads_come fixed fed none taken v w i comes is wrote tail =
     let r = input_is v.machine i w.machine is in
@@ -109,7 +111,7 @@ never_empty [] a = λ h. absurd (cc)
 never_empty (b ∷ answers) a = λ h. absurd (cc)
 
 module _ (fixed : Fixed) (fed : Heard) (before : List Answer) (waiting : Option UnresolvedFuture) (taken : List (List ℕ)) (v w : View) (k : CameBy fixed fed before waiting taken v) (live : IsLive v.machine) (und : w.undecoded ≡ v.undecoded) where
-  -- what was sent is written behind what was
+  -- what is sent is written after what was written before
   came_on : (answers : List Answer) (waits : Option UnresolvedFuture) → answers ≢ [] → Numbers v.machine w.machine → Sends v.machine w.machine → (w.machine.failure ≡ None → w.machine.proposals ≡ v.machine.proposals) → (w.machine.failure ≡ None → v.machine.phase ≡ Processing → is_running w.machine.phase ≡ true → w.machine.phase ≡ Processing) → (w.machine.failure ≡ None → (is_running w.machine.phase ≡ true) ⊎ (w.machine.phase ≡ Closed)) → CameBy fixed fed answers waits taken w
   came_on answers waits answered n s kept goes phase = record {
     journal = k.journal;

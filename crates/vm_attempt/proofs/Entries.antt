@@ -24,7 +24,8 @@ use Rattle.vm_machine.specs.Outcomes.{Outcome, Done, refused, settled}
 use Rattle.invocation_vm.specs.Views.{all_received, left_by, received}
 use Rattle.vm_model.specs.Calls.{Setup}
 use Rattle.vm_attempt.specs.Agreement.{Aside}
-use Rattle.vm_attempt.specs.Journals.{AcknowledgesNothing, HasAll, HasStarted, StartCame, Started, StillWaits, TakenIn, aside_for, commands_among, is_acknowledgement, is_command_frame, is_ephemeral, is_notification, machine_fed, with_missing, notifications_among, notified_by, phase_missing, setup_with, waiting_machine}
+use Rattle.vm_model.specs.JournalFrames.{AcknowledgesNothing, commands_among, is_acknowledgement, is_command_frame, is_ephemeral, is_notification, notifications_among, notified_by, setup_with}
+use Rattle.vm_attempt.specs.Journals.{HasAll, HasStarted, StartCame, Started, StillWaits, TakenIn, aside_for, machine_fed, with_missing, phase_missing, waiting_machine}
 use Rattle.vm_attempt.proofs.Arriving.{behind_one, failed_stays, live_receives, some_failure, unknown_fails, unknown_step}
 
 -- one entry less is missing
@@ -136,7 +137,7 @@ notifications_behind raw raws = behind_one (is_notification raw) (notification_i
 fails_on : (v : Machine) (raws : List RawMessage) → IsSome v.failure → IsSome (all_received raws v).failure
 fails_on v raws f = let e = some_failure v f in ap (λ w. is_some w.failure) (failed_stays e.0 v raws e.1) ∙ f
 
--- behind the known entries all frames are later arrivals
+-- all frames after the known entries are later arrivals
 pub more_come : (s : Setup) (given : StateMap) (aside : Aside) (cs : List RawMessage) (ns : List Notification) (raws : List RawMessage) → Counts s given aside 0 cs (ns ++ notifications_among raws) (AllByRecursion AcknowledgesNothing raws) (all_received raws (waiting_machine s given aside 0 cs ns))
 more_come s given aside cs ns [] = inr ((λ i. waiting_machine s given aside 0 cs (sym (append-nil ns) i)), tt)
 more_come s given aside cs ns (raw ∷ raws) =

@@ -30,7 +30,7 @@ use Rattle.vm_types.specs.declared.options.JournalReplay.{JournalReplay}
 use Rattle.vm_types.specs.declared.options.JournalReplay.TheVariants.{Enabled, Disabled}
 use Rattle.vm_types.specs.declared.values.Input.{Input}
 use Rattle.vm_machine.specs.Making.{fresh}
-use Rattle.vm_machine.specs.Outcomes.{DoesBy, IsStarved, Outcome, Done, Failed, ◌>>=◌, about_last, called, called_at, failed, ruled, ruled_by, settled}
+use Rattle.vm_machine.specs.Outcomes.{DoesBy, IsStarved, Outcome, Done, Failed, ◌>>>◌, about_last, called, called_at, failed, ruled, ruled_by, settled}
 use Rattle.vm_machine.specs.Phases.{is_closed, is_running}
 use Rattle.invocation_vm.specs.Views.{View}
 use Rattle.vm_model.specs.Calls.{Setup, Meaning}
@@ -43,7 +43,8 @@ use Rattle.vm_steps.specs.declared.progress.Reply.TheVariants as reply
 use Rattle.vm_attempt.specs.Agreement.{IsCutShort, CallRefused}
 use Rattle.vm_attempt.specs.Blames.{Blame, BlamedAt, CannotSkip, IfError, IsBlamed, LacksInput, RefusedCall, first_input, no_input_fault, skip_fault, the_input}
 use Rattle.vm_attempt.specs.Blames.Blame.{Memory, NoInput, NoSkip, Call}
-use Rattle.vm_attempt.specs.Journals.{HasAll, StillWaits, commands_among, machine_fed, with_missing, notifications_among, setup_for}
+use Rattle.vm_model.specs.JournalFrames.{commands_among, notifications_among}
+use Rattle.vm_attempt.specs.Journals.{HasAll, StillWaits, machine_fed, with_missing, setup_for}
 use Rattle.vm_steps.specs.Record.{Record, Said, all_said, heard}
 use Rattle.vm_steps.specs.Stepping.{Advances, MakesStep, LacksMemory, InputIsRead, StepAt, StepDoes, StepFrom, StepUnless, step_asked, future_in, progress_of}
 use Rattle.vm_steps.specs.Stepping as stepping
@@ -55,7 +56,7 @@ use Rattle.vm_attempt.proofs.Blamed.{alive_blamed, over_blamed}
 use Rattle.vm_attempt.proofs.Following.{agreeing_follows}
 use Rattle.vm_attempt.proofs.Sending.{IsLeft, step_leaves}
 use Rattle.vm_attempt.proofs.Stepped.{asks_next}
-use Rattle.vm_attempt.specs.Fixed.{Fixed}
+use Rattle.vm_model.specs.Fixed.{Fixed}
 
 none_some : {A : Type 0} (e : Error) → None ≡ Some e → A
 none_some e h = absurd (cc)
@@ -102,14 +103,14 @@ read_opens : (o : Option InputCommand) (v w : Machine) → w.failure ≡ v.failu
 read_opens None v w f p n = tt
 read_opens (Some c) v w f p n = (f, p, n)
 
-popped_opens : (commands : List RawMessage) (v w : Machine) → w.failure ≡ v.failure → Fewer v w → Opens v (popped_from commands type.InputCommand w >>= λ raw u. input_read (input_in raw.body) u)
+popped_opens : (commands : List RawMessage) (v w : Machine) → w.failure ≡ v.failure → Fewer v w → Opens v (popped_from commands type.InputCommand w >>> λ raw u. input_read (input_in raw.body) u)
 popped_opens [] v w f n = tt
 popped_opens (raw ∷ rest) v w f n = by_test (type_number raw.ty == type_number type.InputCommand)
   where
     u : Machine
     u = record w { commands = rest; phase = phase_after rest }
 
-    by_test : (b : Bool) → Opens v ((if b then Done raw u else Failed (about_last fault.CommandTypeMismatch u) u) >>= λ raw u. input_read (input_in raw.body) u)
+    by_test : (b : Bool) → Opens v ((if b then Done raw u else Failed (about_last fault.CommandTypeMismatch u) u) >>> λ raw u. input_read (input_in raw.body) u)
     by_test true = read_opens (input_in raw.body) v u f (open_phase rest) n
     by_test false = tt
 
@@ -118,8 +119,8 @@ unfolding popped
 counted_opens (Some name) v = tt
 counted_opens None v = popped_opens v.commands v (entered type.InputCommand [] v) refl (fewer_same v)
 
--- no handle is given, and no run is called, where the commands behind the input are skipped
-skipped_opens : (counters : Counters) (v : Machine) → counters.handle ≡ v.counters.handle → (o : Outcome Input) → input_counted None v ≡ o → Opens v (o >>= λ input w. Done input (skipped counters w))
+-- if the commands after the input are dropped, no handle is given and no run is called
+skipped_opens : (counters : Counters) (v : Machine) → counters.handle ≡ v.counters.handle → (o : Outcome Input) → input_counted None v ≡ o → Opens v (o >>> λ input w. Done input (skipped counters w))
 skipped_opens counters v handles (Failed e w) is = tt
 skipped_opens counters v handles (Done input w) is =
     let p = counted_is None v input w is in (
@@ -154,9 +155,9 @@ input_opens v = by_phase v.phase
 -- an input that isn't read: the first command is none
 counted_lacks : (cs : List RawMessage) (v : Machine) → v.commands ≡ cs → (d : Error) (u : Machine) → input_counted None v ≡ Failed d u → first_input cs ≡ None
 unfolding popped
-counted_lacks cs v at d u h = from cs (subst (λ l. (popped_from l type.InputCommand (entered type.InputCommand [] v) >>= λ raw w. input_read (input_in raw.body) w) ≡ Failed d u) at h)
+counted_lacks cs v at d u h = from cs (subst (λ l. (popped_from l type.InputCommand (entered type.InputCommand [] v) >>> λ raw w. input_read (input_in raw.body) w) ≡ Failed d u) at h)
   where
-    from : (cs : List RawMessage) → (popped_from cs type.InputCommand (entered type.InputCommand [] v) >>= λ raw w. input_read (input_in raw.body) w) ≡ Failed d u → first_input cs ≡ None
+    from : (cs : List RawMessage) → (popped_from cs type.InputCommand (entered type.InputCommand [] v) >>> λ raw w. input_read (input_in raw.body) w) ≡ Failed d u → first_input cs ≡ None
     from [] h = refl
     from (raw ∷ rest) h = by_type (type_number raw.ty == type_number type.InputCommand) h
       where
@@ -167,7 +168,7 @@ counted_lacks cs v at d u h = from cs (subst (λ l. (popped_from l type.InputCom
         by_input None h = refl
         by_input (Some c) h = absurd (cc)
 
-        by_type : (b : Bool) → ((if b then Done raw w else Failed (about_last fault.CommandTypeMismatch w) w) >>= λ raw x. input_read (input_in raw.body) x) ≡ Failed d u → (if b then input_in raw.body else None) ≡ None
+        by_type : (b : Bool) → ((if b then Done raw w else Failed (about_last fault.CommandTypeMismatch w) w) >>> λ raw x. input_read (input_in raw.body) x) ≡ Failed d u → (if b then input_in raw.body else None) ≡ None
         by_type true h = by_input (input_in raw.body) h
         by_type false h = refl
 
@@ -182,9 +183,9 @@ same_failed a d w u o is at =
 counted_says : (cs : List RawMessage) (v : Machine) → v.commands ≡ cs → (d : Error) (u : Machine) → input_counted None v ≡ Failed d u
     → (d ≡ about_last (no_input_fault cs) (entered type.InputCommand [] v)) × (u.version ≡ v.version) × (u.options ≡ v.options)
 unfolding popped
-counted_says cs v at d u h = from cs (subst (λ l. (popped_from l type.InputCommand (entered type.InputCommand [] v) >>= λ raw w. input_read (input_in raw.body) w) ≡ Failed d u) at h)
+counted_says cs v at d u h = from cs (subst (λ l. (popped_from l type.InputCommand (entered type.InputCommand [] v) >>> λ raw w. input_read (input_in raw.body) w) ≡ Failed d u) at h)
   where
-    from : (cs : List RawMessage) → (popped_from cs type.InputCommand (entered type.InputCommand [] v) >>= λ raw w. input_read (input_in raw.body) w) ≡ Failed d u → (d ≡ about_last (no_input_fault cs) (entered type.InputCommand [] v)) × (u.version ≡ v.version) × (u.options ≡ v.options)
+    from : (cs : List RawMessage) → (popped_from cs type.InputCommand (entered type.InputCommand [] v) >>> λ raw w. input_read (input_in raw.body) w) ≡ Failed d u → (d ≡ about_last (no_input_fault cs) (entered type.InputCommand [] v)) × (u.version ≡ v.version) × (u.options ≡ v.options)
     from [] h = same_failed (about_last fault.UnavailableEntry (entered type.InputCommand [] v)) d (entered type.InputCommand [] v) u (Failed d u) (sym h) refl
     from (raw ∷ rest) h = by_type (type_number raw.ty == type_number type.InputCommand) h
       where
@@ -192,7 +193,7 @@ counted_says cs v at d u h = from cs (subst (λ l. (popped_from l type.InputComm
         by_input None h = same_failed (about_last fault.BadMessage (entered type.InputCommand [] v)) d (popped_input rest v) u (Failed d u) (sym h) refl
         by_input (Some c) h = absurd (cc)
 
-        by_type : (b : Bool) → ((if b then Done raw (popped_input rest v) else Failed (about_last fault.CommandTypeMismatch (popped_input rest v)) (popped_input rest v)) >>= λ raw x. input_read (input_in raw.body) x) ≡ Failed d u
+        by_type : (b : Bool) → ((if b then Done raw (popped_input rest v) else Failed (about_last fault.CommandTypeMismatch (popped_input rest v)) (popped_input rest v)) >>> λ raw x. input_read (input_in raw.body) x) ≡ Failed d u
             → (d ≡ about_last (if b then fault.BadMessage else fault.CommandTypeMismatch) (entered type.InputCommand [] v)) × (u.version ≡ v.version) × (u.options ≡ v.options)
         by_type true h = by_input (input_in raw.body) h
         by_type false h = same_failed (about_last fault.CommandTypeMismatch (entered type.InputCommand [] v)) d (popped_input rest v) u (Failed d u) (sym h) refl
@@ -237,7 +238,7 @@ read_lacks fixed fed v b h d u is err ruling = fails (sym (ap input_step h.machi
     cannot : skips_replay fixed.options.journal_replay ≡ true → (why : NamedFault) → skip_fault (length (drop 1 cs)) (past_all 1 (drop 1 cs)) ≡ Some why → (d ≡ named_error why (Some the_input)) × (u.version ≡ fixed.version) × (u.options ≡ fixed.options) → Lacks fixed fed err
     cannot skips why reason p = inr (record { skips = skips_disabled fixed.options.journal_replay skips; first = b.first_frame; entries = h.entries; others = h.others; is = frames; start = b.start; reads = b.reads_start; count = h.count; why = why; reason = reason; error = says (named_error why (Some the_input)) p })
 
-    behind_input : (counters : Counters) (o : Outcome Input) → input_counted None x ≡ o → (o >>= λ input w. Done input (skipped counters w)) ≡ Failed d u → input_counted None x ≡ Failed d u
+    behind_input : (counters : Counters) (o : Outcome Input) → input_counted None x ≡ o → (o >>> λ input w. Done input (skipped counters w)) ≡ Failed d u → input_counted None x ≡ Failed d u
     behind_input counters (Done input w) at e = absurd (cc)
     behind_input counters (Failed f w) at e = at ∙ e
 
@@ -305,7 +306,7 @@ module _ (fixed : Fixed) (r : Record) (under : Premises fixed (heard fixed.versi
         error = g.error ∙ ap (λ (z : Machine). ruled z (named_error g.why g.related)) a.machine;
       }
 
-  -- the handler's call was refused, or memory was lacking
+  -- the handler's call was refused, or memory ran out
   call_refused : (e : Error) → Performs (step_asked fixed.handler r) r.vm.machine (Failed e w.machine) → (e ≡ no_memory) ⊎ RefusedCall fixed (heard fixed.version r) r.answers e
   call_refused e does =
       let same : step_asked fixed.handler r ≡ fixed.handler k.at.answers = asks_next fixed.handler k.at r.answers r.waiting k.answers k.awaits in
@@ -371,7 +372,7 @@ step_blames fixed old result new k u b does = by_test old.starved does
 
 -- ---- the error of a step
 
--- an error of a step is want of memory, or the failure of its VM
+-- an error of a step is out of memory, or the failure of its VM
 abbrev pub Errs : Record → Result Progress Error → Record → Type 0
 Errs old result new = IfError result (λ e. (e ≡ no_memory) ⊎ ((new.vm.machine.failure ≡ Some e) × (new.over ≡ old.over)))
 

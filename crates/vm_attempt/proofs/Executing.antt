@@ -22,10 +22,10 @@ use Rattle.invocation_vm.specs.Making.{made}
 use Rattle.invocation_vm.specs.Views.{StarvesAmong, View, after_closing, after_input, all_received, messages_in_bytes, consumed, has_failed, left_by, left_over, received, spoiled}
 use Rattle.vm_model.specs.Calls.{Meaning}
 use Rattle.vm_attempt.specs.Blames.{fault_among}
-use Rattle.vm_attempt.specs.Fixed.{Fixed}
+use Rattle.vm_model.specs.Fixed.{Fixed}
 use Rattle.vm_attempt.specs.Courses.{OneCall, Leads}
 use Rattle.vm_attempt.specs.Courses.OneCall.{Closing, Feeding, Stepping, Taking, Telling}
-use Rattle.vm_attempt.specs.Journals.{is_acknowledgement, is_command_frame, is_notification}
+use Rattle.vm_model.specs.JournalFrames.{is_acknowledgement, is_command_frame, is_notification}
 use Rattle.vm_steps.specs.declared.progress.Progress.{Progress}
 use Rattle.vm_steps.specs.declared.progress.Progress.TheVariants as progress
 use Rattle.vm_steps.specs.declared.progress.Reply.{Reply}

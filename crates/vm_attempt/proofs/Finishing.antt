@@ -1,4 +1,5 @@
--- What executing a run came to is told: it is ignored, a result is proposed, or the VM fails.
+-- The outcome of an executed run is reported: it is ignored, or a result is proposed, or the VM
+-- fails.
 use Rattle.std.proofs.Common.{◌≡◌, ◌⊎◌, ℕ, Bool, true, false, List, [], ◌∷◌, ◌++◌, map, Option, Some, None, Result, Ok, Err, refl, sym, ap, ◌∙◌, subst, inl, inr, ⊎_elim, append-nil, Global}
 use Rattle.std.specs.Prelude.{IfErr, drop, if◌then◌else◌, is_some, length, unwrap_or}
 use Rattle.std.specs.List.{concat}
@@ -65,7 +66,7 @@ use Rattle.vm_attempt.proofs.Replayed.{honest_fails}
 use Rattle.vm_attempt.proofs.Sleeping.{still_quiet}
 use Rattle.vm_attempt.proofs.Steady.{all_proposed, with_proposed, wrote_of}
 use Rattle.vm_attempt.proofs.Written.{frames_propose, proposes_more, proposes_one}
-use Rattle.vm_attempt.specs.Fixed.{Fixed}
+use Rattle.vm_model.specs.Fixed.{Fixed}
 
 -- ---- the event
 
@@ -290,7 +291,7 @@ module _ (handle : NotificationHandle) (exit : RunExitResult) (policy : RetryPol
       by_test true d = inl d.1
       by_test false d = by_failure old.vm.machine.failure refl result new d
 
-  -- what each of them comes to
+  -- a statement of the record holds after the call, if it holds in each of these cases
   in_case : (result : Result Unit Error) (new : Record) → FinishDoes old.starved handle exit policy old result new → (K : Record → Type 0) → K old → (ProposesOne handle old new → K new) → (FailsBy handle exit policy old new → K new) → K new
   in_case result new does K same proposes fails =
       ⊎_elim
@@ -300,7 +301,7 @@ module _ (handle : NotificationHandle) (exit : RunExitResult) (policy : RetryPol
 
 -- ---- one proposal more
 
--- what was heard, and these proposals
+-- what was received, with these proposals added
 abbrev and_proposed : Heard → List KeptProposal → Heard
 and_proposed fed more = record { pieces = fed.pieces; proposed = fed.proposed ++ more }
 
@@ -451,7 +452,8 @@ module _ (fixed : Fixed) (handle : NotificationHandle) (exit : RunExitResult) (p
   heard_is : (p : ProposesOne handle old new) → heard fixed.version (proposed_to handle p.id p.result old) ≡ and_proposed (heard fixed.version old) (further p)
   heard_is p = ap (λ ps. record { pieces = old.fed; proposed = ps }) (acknowledged_more fixed.version old.proposed (kept_as p.id p.result ∷ []))
 
-  -- what is told of the VM of which this is so, and of what was heard
+  -- what holds of the VM in this form, and of what was received, holds of them as the record has
+  -- them
   told_of : (T : Heard → View → Type 0) (p : ProposesOne handle old new) → T (and_proposed (heard fixed.version old) (further p)) (record old.vm { machine = proposed_in handle (further p) (proposal p.id p.result) old.vm.machine }) → T (heard fixed.version (proposed_to handle p.id p.result old)) (proposed_to handle p.id p.result old).vm
   told_of T p t = subst (λ (x : Heard × Machine). T x.0 (record old.vm { machine = x.1 })) (λ i. (sym (heard_is p) i, sym (machine_is p) i)) t
 
@@ -493,7 +495,7 @@ module _ (fixed : Fixed) (handle : NotificationHandle) (exit : RunExitResult) (p
 
   -- ---- replay
 
-  -- a result is proposed only where no recorded command is left
+  -- a result is proposed only if no recorded command is left
   proposes_in_replay : ProposesOne handle old new → IsKeptInReplay fixed new
   proposes_in_replay p q =
       ⊎_elim
@@ -512,7 +514,7 @@ module _ (fixed : Fixed) (handle : NotificationHandle) (exit : RunExitResult) (p
 
   -- ---- why it failed
 
-  -- a result was refused, or memory was lacking
+  -- a result was refused, or memory ran out
   refuses_for : (fed : Heard) (said : Said) (answers : List Answer) → said.failed_by ≡ Some handle → (f : FailsBy handle exit policy old new) → (old.vm.machine.version ≡ fixed.version) → (old.vm.machine.options ≡ fixed.options) → Blame fixed fed said answers f.error
   refuses_for fed said answers told f ver opt =
       ⊎_elim
@@ -537,7 +539,7 @@ module _ (fixed : Fixed) (handle : NotificationHandle) (exit : RunExitResult) (p
           let stands = come_stands fixed old came f.live (b.open_yet is f.live) in
           error_blamed fixed old.over (heard fixed.version old) (all_said (noting handle old)) old.answers f.vm.machine f.error f.fails.failure (refuses_for (heard fixed.version old) (all_said (noting handle old)) old.answers refl f stands.1.0 stands.1.1)
 
-  -- ---- behind the end
+  -- ---- after the end
 
   proposes_late : IsLate fixed old → ProposesOne handle old new → IsLate fixed new
   proposes_late l p = subst (IsLate fixed) (sym p.is) (by_over old.over l)
@@ -582,7 +584,7 @@ module _ (fixed : Fixed) (handle : NotificationHandle) (exit : RunExitResult) (p
   pub finish_comes : HasCome fixed new
   finish_comes = by_case (HasCome fixed) came (proposes_comes fixed handle exit policy old new came) (fails_comes fixed handle exit policy old new came)
 
-  -- the handler's run goes on, whatever the premises are
+  -- the handler's run goes on, under any premises
   pub finish_keeps : IsKept fixed old → IsKept fixed new
   finish_keeps kept = by_case (IsKept fixed) kept (proposes_keeps fixed handle exit policy old new came kept) (fails_keeps fixed handle exit policy old new came kept)
 
@@ -603,7 +605,7 @@ module _ (fixed : Fixed) (handle : NotificationHandle) (exit : RunExitResult) (p
 
 -- ---- runs
 
--- a run whose result is told can't be handed out more often, nor can another
+-- once a run's result is reported, neither this run nor another can be handed out more often
 pub finish_lives : (handle : NotificationHandle) (exit : RunExitResult) (policy : RetryPolicy) (old : Record) (result : Result Unit Error) (new : Record) → FinishDoes old.starved handle exit policy old result new → LivesOn old.vm.machine new.vm.machine × (new.over ≡ old.over)
 finish_lives handle exit policy old result new does =
     in_case handle exit policy old result new does K ((λ none. (none, fewer_same old.vm.machine)), refl)
@@ -666,7 +668,7 @@ an_error e = Err e
 same_error : (d e : Error) → an_error d ≡ an_error e → d ≡ e
 same_error d e h = cc
 
--- the error that is answered is want of memory, or the VM's
+-- the error that is answered is out of memory, or the VM's
 error_is : (handle : NotificationHandle) (exit : RunExitResult) (policy : RetryPolicy) (old : Record) (e : Error) (new : Record) → FinishDoes old.starved handle exit policy old (Err e) new → (e ≡ no_memory) ⊎ (new.vm.machine.failure ≡ Some e)
 error_is handle exit policy old e new does = by_test old.starved does
   where

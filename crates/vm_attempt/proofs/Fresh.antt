@@ -23,7 +23,7 @@ use Rattle.vm_machine.specs.declared.phase.Phase.TheVariants.{WaitingStart, Wait
 use Rattle.vm_machine.specs.Inputs.{acknowledged, acknowledged_by, coverage_of, counted_entry, entries_in, start_info_of, queued, start_received, started_with}
 use Rattle.vm_machine.specs.Outcomes.{Done, Failed, Outcome, refused, settled}
 use Rattle.invocation_vm.specs.Views.{all_received, left_by, received}
-use Rattle.vm_attempt.specs.Journals.{is_acknowledgement, is_command_frame, is_ephemeral, is_notification}
+use Rattle.vm_model.specs.JournalFrames.{is_acknowledgement, is_command_frame, is_ephemeral, is_notification}
 use Rattle.vm_attempt.specs.Told.{IsLive, NumbersOn, commands_of}
 use Rattle.vm_attempt.proofs.Arriving.{failed_receives, unknown_step}
 use Rattle.vm_attempt.proofs.Entries.{message_by, receives_by}
@@ -123,7 +123,7 @@ all_same (raw ∷ raws) v = all_same raws (received raw v) ∙ received_same raw
 pub on_still : (recorded written : List RawMessage) (v w : Machine) → NumbersOn recorded written v → (IsLive w → w.counters ≡ v.counters) → (IsLive w → IsLive v) → NumbersOn recorded written w
 on_still recorded written v w n same lives = record { next = n.next; past = n.past; from = n.from; further = λ live. subst (λ c. n.next ≤ c) (sym (ap (λ (c : Counters). c.completion) (same live))) (n.further (lives live)) }
 
--- nothing is written behind a machine that is dead or closed
+-- a machine that has failed or is closed writes nothing more
 pub on_over : (recorded written : List RawMessage) (v w : Machine) → NumbersOn recorded written v → (IsLive w → ⊥) → NumbersOn recorded written w
 on_over recorded written v w n over = record { next = n.next; past = n.past; from = n.from; further = λ live. absurd (over live) }
 

@@ -6,7 +6,7 @@ use Rattle.vm_steps.specs.Record.{Record, heard}
 use Rattle.vm_attempt.specs.Told.{BeforeInput, JournalCame, HasCome, NumbersFreshly}
 use Rattle.vm_attempt.proofs.Fresh.{on_greater}
 use Rattle.vm_attempt.proofs.Written.{written_is}
-use Rattle.vm_attempt.specs.Fixed.{Fixed}
+use Rattle.vm_model.specs.Fixed.{Fixed}
 
 -- they are greater than those of the recorded commands
 pub come_fresh : (fixed : Fixed) (r : Record) → HasCome fixed r → WholeFrames r.vm.machine.output → NumbersFreshly fixed r

@@ -29,7 +29,8 @@ use Rattle.vm_model.specs.Journal.{Entry, Recorded, Notified, commands_in, input
 use Rattle.vm_steps.specs.Heard.{Heard}
 use Rattle.vm_attempt.specs.Blames.{Began, IsHonest, Place, fault_by, phase_fault, notification_fault, refused_start, start_fault}
 use Rattle.vm_attempt.specs.Honest.{FeedsHonestly, CanBeFed, entry_frame, frame_bytes, notification_frame}
-use Rattle.vm_attempt.specs.Journals.{AcknowledgesNothing, is_acknowledgement, as_entries, is_notification, recorded_by, setup_for, told_by}
+use Rattle.vm_model.specs.JournalFrames.{AcknowledgesNothing, is_acknowledgement, as_entries, is_notification, recorded_by, told_by}
+use Rattle.vm_attempt.specs.Journals.{setup_for}
 use Rattle.vm_attempt.specs.Told.{AreRightlyKinded, Journal, NoneHasTwo, arrivals, begun, bytes_fed, frames_fed, start_state}
 use Rattle.std.specs.Prelude.{IsSome}
 use Rattle.std.specs.List.{find}
@@ -46,7 +47,7 @@ use Rattle.vm_attempt.proofs.Proposed.{arriving_append, arriving_notified, found
 use Rattle.vm_attempt.proofs.Replayed.{commands_same, head_same, notes_same, tail_same}
 use Rattle.vm_attempt.proofs.Under.{fewer_waiting}
 use Rattle.vm_attempt.proofs.Written.{Fits, frames_spelled}
-use Rattle.vm_attempt.specs.Fixed.{Fixed}
+use Rattle.vm_model.specs.Fixed.{Fixed}
 
 -- ---- frames of bytes
 
@@ -116,7 +117,7 @@ entries_acknowledge (Notified n ∷ journal) all = (refl, entries_acknowledge jo
 
 -- ---- each frame has its place
 
--- a frame that is taken while known entries are missing, and one that is taken behind them
+-- a frame that is taken while known entries are missing, and one that is taken after them
 abbrev TakenAsEntry : RawMessage → Type 0
 TakenAsEntry raw = phase_fault WaitingReplayEntries raw ≡ None
 
@@ -237,7 +238,7 @@ module _ (fixed : Fixed) (fed : Heard) (h : FeedsHonestly fixed fed) where
       no_more : (n l j e known : ℕ) → n ≡ l → j ≡ e → known ≡ e → known ≤ n → j ≤ l
       no_more n l j e known a b c d = omega (arith, a, b, c, d)
 
-  -- the frame behind these, where Start is the first
+  -- a frame after these, of which Start is the first
   behind_start : (others : List RawMessage) (raw : RawMessage) (rest : List RawMessage) → J ++ N ≡ others ++ raw ∷ rest → (phase : Phase) (k : ℕ) → Place phase k (S ∷ others) → is_acknowledgement raw ≡ false → phase_fault phase raw ≡ None
   behind_start others raw rest is WaitingStart k p other = absurd (cc)
   behind_start others raw rest is WaitingReplayEntries k p other =
@@ -295,8 +296,8 @@ module _ (fixed : Fixed) (fed : Heard) (h : FeedsHonestly fixed fed) where
   abbrev all_notes : List Notification
   all_notes = notifications_in h.journal ++ arriving fed.proposed N
 
-  -- What was fed is a beginning of the history and of all notifications: so many arrivals more, and the handler's run over it is a beginning
-  -- of the run over all.
+  -- What was fed is a beginning of the history and of all notifications: some arrivals are still to
+  -- come, and the handler's run over what was fed is a beginning of the run over all.
   abbrev Along : Journal fed → Type 0
   Along j = (more : List Notification) × (arrivals j ++ more ≡ all_notes) × (j.rest ≡ h.history.rest)
       × ((n : ℕ) (made : List RawMessage) (p : Point) → Made (setup_for fixed j.start) fixed.handler (Handed (start_state j)) n (begun fixed j) made p → Made (setup_for fixed h.start) fixed.handler (Handed given) n (first_point (setup_for fixed h.start) h.history.input all_notes h.history.rest) made (later more p))

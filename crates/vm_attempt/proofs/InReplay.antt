@@ -1,4 +1,5 @@
--- What an attempt keeps as long as recorded commands are left, where no completion has two results up to there.
+-- What an attempt keeps as long as recorded commands are left, if no completion has two results
+-- until then.
 use Rattle.std.proofs.Common.{◌≡◌, ◌≢◌, ◌⊎◌, ℕ, Bool, true, false, List, [], ◌∷◌, ◌++◌, Option, Some, None, Result, Ok, Err, refl, sym, ap, ◌∙◌, subst, inl, inr, ⊎_elim}
 use Rattle.std.specs.declared.alloc.AllocError.{AllocError}
 use Rattle.journal_protocol.specs.Error.{Error}
@@ -34,7 +35,7 @@ use Rattle.vm_attempt.proofs.Sending.{IsLeft, step_leaves}
 use Rattle.vm_attempt.proofs.Staying.{all_stay}
 use Rattle.vm_attempt.proofs.Stepped.{asks_keep}
 use Rattle.vm_attempt.proofs.Under.{Grows, close_fed, feed_grows, fewer_waiting, step_fed, take_fed}
-use Rattle.vm_attempt.specs.Fixed.{Fixed}
+use Rattle.vm_model.specs.Fixed.{Fixed}
 
 -- ---- it lasts
 

@@ -24,7 +24,8 @@ use Rattle.invocation_vm.proofs.Cuts.{frames_of-append}
 use Rattle.vm_steps.specs.Heard.{Heard, and_piece, with_pieces}
 use Rattle.vm_steps.specs.declared.progress.Fed.{Fed}
 use Rattle.vm_attempt.specs.Agreement.{Aside}
-use Rattle.vm_attempt.specs.Journals.{HasAll, StillWaits, is_command_frame, is_ephemeral, is_notification, setup_for, is_acknowledgement}
+use Rattle.vm_model.specs.JournalFrames.{is_command_frame, is_ephemeral, is_notification, is_acknowledgement}
+use Rattle.vm_attempt.specs.Journals.{HasAll, StillWaits, setup_for}
 use Rattle.vm_steps.specs.Record.{Record, heard}
 use Rattle.vm_steps.specs.Stepping.{CloseDoes, InputIsClosed, FeedDoes, FeedsPiece, Takes, emptied, with_piece_kept, kept_at, with_vm}
 use Rattle.vm_parts.specs.Outboxes.{WholeFrames}
@@ -34,7 +35,7 @@ use Rattle.vm_attempt.proofs.Entries.{message_by, receives_by}
 use Rattle.vm_attempt.proofs.Pieces.{before_fed, bytes_behind, more_frames, not_failed}
 use Rattle.vm_attempt.proofs.Written.{takes_wrote}
 use Rattle.vm_attempt.proofs.Quiet.{closing_quiet, input_quiet, quiet_same, wrote_quiet}
-use Rattle.vm_attempt.specs.Fixed.{Fixed}
+use Rattle.vm_model.specs.Fixed.{Fixed}
 
 -- ---- a VM that has failed
 
@@ -188,7 +189,8 @@ closing_notes v live ph at = λ i. left_by (called_at (sym live i) (closed_at (s
 
 -- ---- what each call keeps
 
--- what is told of an attempt once its handler has read the input, by what was fed, answered, awaited and taken, and the VM
+-- a statement of an attempt whose handler has read the input: of what was fed, answered, awaited
+-- and taken, and of the VM
 abbrev pub Reading : Type 1
 Reading = Heard → List Answer → Option UnresolvedFuture → List (List ℕ) → View → Type 0
 

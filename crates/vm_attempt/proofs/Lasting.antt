@@ -1,4 +1,4 @@
--- What lasts of a handler that runs: its run is told, and so is what came and was written.
+-- What lasts of a handler that runs: the moves of its run, and what came and was written.
 use Rattle.vm_model.specs.Histories.{Handed}
 use Rattle.std.proofs.Common.{◌≡◌, ℕ, true, List, [], ◌∷◌, ◌++◌, Option, None, refl, sym, ap, ◌∙◌, inl, inr, ⊎_elim}
 use Rattle.std.specs.Prelude.{IsSome}
@@ -29,9 +29,9 @@ use Rattle.vm_attempt.proofs.Staying.{all_stay, no_failure}
 use Rattle.vm_attempt.proofs.Fresh.{all_same, on_over, on_still}
 use Rattle.vm_attempt.proofs.Kept.{Lasts, Reading, not_live}
 use Rattle.vm_attempt.proofs.Written.{takes_wrote}
-use Rattle.vm_attempt.specs.Fixed.{Fixed}
+use Rattle.vm_model.specs.Fixed.{Fixed}
 
--- ---- its run is told
+-- ---- the moves of its run
 
 runs_dead : (fixed : Fixed) (fed : Heard) (to : List Fed) (G : List RawMessage) → frames_fed (with_pieces to fed) ≡ frames_fed fed ++ G → (answers : List Answer) (waiting : Option UnresolvedFuture) (taken : List (List ℕ)) (v w : View) → HandlerRuns fixed fed answers waiting taken v → Quiet v.machine w.machine → IsSome w.machine.failure → HandlerRuns fixed (with_pieces to fed) answers waiting taken w
 runs_dead fixed fed to G frames answers waiting taken v w k q dead = record {

@@ -26,7 +26,7 @@ use Rattle.vm_steps.specs.declared.progress.Reply.{Reply}
 use Rattle.vm_steps.specs.declared.progress.Reply.TheVariants as reply
 use Rattle.vm_attempt.specs.Blames.{BadFrame, Began, BehindEnd, Blame, FailsAt, IfError, IsBlamed, IsLate, LateBy, fault_by, fault_among, unknown_fault}
 use Rattle.vm_attempt.specs.Blames.Blame.{Memory, Frame, NoFrame}
-use Rattle.vm_attempt.specs.Journals.{is_command_frame, is_ephemeral, is_notification, is_acknowledgement}
+use Rattle.vm_model.specs.JournalFrames.{is_command_frame, is_ephemeral, is_notification, is_acknowledgement}
 use Rattle.vm_steps.specs.Record.{Record, Said, heard, all_heard, all_said}
 use Rattle.vm_steps.specs.Stepping.{Advances, MakesStep, CloseDoes, InputIsClosed, FeedDoes, FeedsPiece, LacksMemory, InputIsRead, StepAt, StepDoes, StepFrom, StepUnless, Takes, fed_now, future_in, with_piece_kept, kept_at, replied, step_asked, output_taken, with_vm}
 use Rattle.vm_attempt.specs.Told.{BeforeInput, JournalCame, HasCome, IsKeptUnder, IsLive, bytes_fed, frames_fed}
@@ -36,9 +36,9 @@ use Rattle.vm_attempt.proofs.Erring.{Errs, step_blames, step_errs}
 use Rattle.vm_attempt.proofs.Kept.{closed_all, piece_dropped}
 use Rattle.vm_attempt.proofs.Pieces.{fed_frames}
 use Rattle.vm_attempt.proofs.Sending.{IsLeft, step_leaves}
-use Rattle.vm_attempt.specs.Fixed.{Fixed}
+use Rattle.vm_model.specs.Fixed.{Fixed}
 
--- ---- a frame that comes behind the end
+-- ---- a frame that comes after the end
 
 -- what a closed VM refuses is refused in Processing too
 closed_fault : (kept others : List KeptProposal) (raw : RawMessage) (a b c d : Bool) (why : NamedFault) → fault_by kept Closed raw a b c d ≡ Some why → fault_by others Processing raw a b c d ≡ Some why
@@ -73,7 +73,7 @@ late_frame fixed fed to G frames v m e made closed b f is = record {
   error = same_Some e _ (sym is ∙ f.failure) ∙ λ i. ruled_by (made.0 i) (made.1 i) (named_error f.why None);
 }
 
--- ---- a piece that comes behind the end
+-- ---- a piece that comes after the end
 
 module _ (fixed : Fixed) (all : Heard) (said : Said) (answers : List Answer) (vm : View) (f : Fed) (k : BehindEnd fixed all said answers vm) (live : vm.machine.failure ≡ None) where
   abbrev came : List RawMessage × Tail
@@ -160,7 +160,7 @@ kept_late None Replaying piece r open_yet none = none
 kept_late None Processing piece r open_yet none = none
 kept_late None Closed piece r open_yet none = absurd (open_yet refl refl)
 
--- a VM that hasn't failed is fed, behind the end
+-- a piece is fed after the end, to a VM that hasn't failed
 late_at : (fixed : Fixed) (r : Record) (piece : List ℕ) → BehindEnd fixed (all_heard fixed.version r) (all_said r) r.answers r.vm → (o : Option Error) → r.vm.machine.failure ≡ o → (ph : Phase) → r.vm.machine.phase ≡ ph → (let k = kept_at o ph piece r in BehindEnd fixed (all_heard fixed.version k) (all_said k) k.answers (after_input r.vm piece))
 late_at fixed r piece k (Some e) is ph at = subst (BehindEnd fixed (all_heard fixed.version r) (all_said r) r.answers) (sym (piece_dropped r.vm piece e is)) k
 late_at fixed r piece k None is WaitingStart at = absurd (let z : WaitingStart ≡ Closed = sym at ∙ k.phase is in cc)
@@ -170,7 +170,7 @@ late_at fixed r piece k None is Processing at = absurd (let z : Processing ≡ C
 late_at fixed r piece k None is Closed at =
     subst (λ l. BehindEnd fixed (with_pieces l (heard fixed.version r)) (all_said r) r.answers (after_input r.vm piece)) (append_assoc r.fed r.late (fed_now piece r ∷ [])) (late_piece fixed (all_heard fixed.version r) (all_said r) r.answers r.vm (fed_now piece r) k is)
 
--- the same where no memory was found
+-- the same if memory ran out
 late_starved : (fixed : Fixed) (r : Record) (piece : List ℕ) (w : View) → StarvesAmong (messages_in_bytes r.vm piece) r.vm.machine w.machine → (let k = with_piece_kept piece r in BehindEnd fixed (all_heard fixed.version k) (all_said k) k.answers w)
 late_starved fixed r piece w s = starved_behind fixed _ _ _ s.reached w s.live s.starved
 

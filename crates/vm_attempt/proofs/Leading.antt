@@ -49,7 +49,8 @@ pub record Refusing (s : Setup) (before : List (List ℕ)) (queue : List Notific
   pub version : w.version ≡ s.version
   pub options : w.options ≡ s.options
 
--- An outcome is what a move leads to: the machine at the next point, or a refusal where there is none.
+-- The outcome of an event is that of a move: the machine at the next point, or a refusal if there
+-- is no next point.
 abbrev pub Leads : {A : Type 0} → Setup → StateMap → List RawMessage → Aside → Point → Move → List RawMessage → List RawMessage → (A → List Answer) → Option Point → Outcome A → Type 0
 Leads s given written aside p mv left made gives (Some q) (Done a w) =
     (q.answers ≡ p.answers ++ gives a) × ((beside : Beside) × (w ≡ machine_at s given (written ++ made) (with_beside beside (with_frames made aside)) q))
@@ -77,7 +78,7 @@ one_move s m given p q h = (state_at given p, q, [], refl, sym (append-nil (supp
 pub no_move : (s : Setup) (m : Meaning) (given : StateMap) (p : Point) → MovesOn s m given p [] [] p
 no_move s m given p = record { moves = 0; run = (refl, refl); answers = sym (append-nil p.answers) }
 
--- a call brings its own command only where no recorded one is left
+-- a call brings its own command only if no recorded one is left
 supplies_behind : (state : StateMap) (mv : Move) (left : List RawMessage) → (supply state mv left ≡ []) ⊎ (left ≡ [])
 supplies_behind state mv [] = inr refl
 supplies_behind state (Needs demand gives d) (c ∷ left) = inl refl
@@ -86,7 +87,7 @@ supplies_behind state Awaits (c ∷ left) = inl refl
 supplies_behind state Ends (c ∷ left) = inl refl
 supplies_behind state (Refuses name) (c ∷ left) = inl refl
 
--- commands are made only where no recorded one is left
+-- commands are made only if no recorded one is left
 pub none_or_spent : (s : Setup) (m : Meaning) (state : StateMap) (p q : Point) → next s m (longer (supplied s m state p) p) ≡ Some q → (supplied s m state p ≡ []) ⊎ (q.left ≡ [])
 none_or_spent s m state p q h = ⊎_elim (λ (none : supplied s m state p ≡ []). inl none) (λ (spent : p.left ≡ []). inr (next_spent s m state p q spent h)) (supplies_behind state (move_at s m p) p.left)
 

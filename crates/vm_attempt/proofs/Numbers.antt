@@ -59,7 +59,7 @@ use Rattle.vm_machine.specs.declared.phase.Phase.{Phase}
 use Rattle.vm_machine.specs.declared.phase.Phase.TheVariants.{WaitingStart, WaitingReplayEntries, Replaying, Processing, Closed}
 use Rattle.vm_machine.specs.Commands.{CanBeRead, about_next, carried_out, commanded, commanded_unless, compared, command_if_counted, entered, handed_out, ignores_payloads, issued, phase_after, popped, popped_from, prepared, replayed, written}
 use Rattle.vm_machine.specs.Inputs.{end_at, end_step}
-use Rattle.vm_machine.specs.Outcomes.{CalledBy, Does, DoesBy, IsStarved, Outcome, Done, Failed, ◌>>=◌, about_last, called, called_at, failed, refused, ruled, settled}
+use Rattle.vm_machine.specs.Outcomes.{CalledBy, Does, DoesBy, IsStarved, Outcome, Done, Failed, ◌>>>◌, about_last, called, called_at, failed, refused, ruled, settled}
 use Rattle.vm_machine.specs.Phases.{is_closed, is_processing, is_replaying, is_running, state_fault}
 use Rattle.vm_machine.specs.Reads.{own_result, read_back as read_again, read_counted, read_numbered, read_popped, read_step, read_written, with_read_ready}
 use Rattle.vm_machine.specs.Signals.{awakeable_counted, awakeable_step, name_handed_out, signal_counted, signal_handed_out, signal_step}
@@ -75,7 +75,7 @@ use Rattle.vm_model.specs.Journal.{stored_form}
 use Rattle.vm_steps.specs.declared.progress.Reply.{Reply}
 use Rattle.vm_steps.specs.Steps.{AllCarried, Awaited, IsReadable, Performs, PerformsBy, ReadsBack, mapped}
 use Rattle.std.specs.Prelude.{OnOk}
-use Rattle.vm_attempt.specs.Journals.{is_command_frame}
+use Rattle.vm_model.specs.JournalFrames.{is_command_frame}
 use Rattle.vm_attempt.specs.Told.{commands_of}
 use Rattle.vm_attempt.proofs.Quiet.{commands_append, map_append}
 
@@ -187,7 +187,7 @@ stored_from next m whole h = by_test (is_command_frame (stored_form m))
 
 module _ (W : Type 0) (v : Machine) (handle : NotificationHandle) (m : Message) (ignore : Bool) (u : Machine) (same : Stays v u) (from : W → is_processing u.phase ≡ true → AreFrom v.counters.completion (all_carried (commands_of (m ∷ [])))) where
   abbrev Answer : Outcome Unit → Type 0
-  Answer o = Happens W v (o >>= λ _ w. Done handle w)
+  Answer o = Happens W v (o >>> λ _ w. Done handle w)
 
   compares : (o : Option Message) (w : Machine) → Stays v w → Answer (compared m ignore o w)
   compares None w s = s
@@ -197,14 +197,14 @@ module _ (W : Type 0) (v : Machine) (handle : NotificationHandle) (m : Message) 
       by_test true = λ _. stays_numbers v w s
       by_test false = s
 
-  pops : (left : List RawMessage) → Answer (popped_from left (type_of m) u >>= λ raw w. compared m ignore (message_in raw.ty raw.body) w)
+  pops : (left : List RawMessage) → Answer (popped_from left (type_of m) u >>> λ raw w. compared m ignore (message_in raw.ty raw.body) w)
   pops [] = same
   pops (raw ∷ rest) = by_test (type_number raw.ty == type_number (type_of m))
     where
       w : Machine
       w = record u { commands = rest; phase = phase_after rest }
 
-      by_test : (b : Bool) → Answer ((if b then Done raw w else Failed (about_last fault.CommandTypeMismatch w) w) >>= λ raw w. compared m ignore (message_in raw.ty raw.body) w)
+      by_test : (b : Bool) → Answer ((if b then Done raw w else Failed (about_last fault.CommandTypeMismatch w) w) >>> λ raw w. compared m ignore (message_in raw.ty raw.body) w)
       by_test true = compares (message_in raw.ty raw.body) w same
       by_test false = same
 
@@ -408,7 +408,7 @@ woken_stays t v w tries = let is = (woken_used t v w tries).1 in subst (Stays v)
 read_stays : (handle : ℕ) (v w : Machine) → ReadsId handle v (Done (Ok AnyCompleted) w) → Stays v w
 read_stays handle v w reads = let is = (read_known handle v w reads).2 in subst (Stays v) (sym is) (alike v)
 
--- what it comes to next
+-- what happens next
 happens_behind : (v w : Machine) (o : Outcome (Result AwaitResponse Error)) → Stays v w → Happens Plain w o → Happens Plain v o
 happens_behind v w (Done a x) k h = λ t. numbers_then v w x (stays_numbers v w k) (h t)
 happens_behind v w (Failed e x) k h = (h.0 ∙ k.0, more_than v.counters.completion w.counters.completion x.counters.completion k.1 h.1)
@@ -522,22 +522,22 @@ await_numbers future v (Failed e w) whole = await_whole (tree_of future) v (Err 
 -- ---- several commands
 
 -- one, where all that is needed is looked for before
-foreseen_numbers : (c : Command) (cs : List Command) (v : Machine) → Happens (CanBeRead c.message v) v (foreseen c cs v >>= λ _ w. commanded c w)
+foreseen_numbers : (c : Command) (cs : List Command) (v : Machine) → Happens (CanBeRead c.message v) v (foreseen c cs v >>> λ _ w. commanded c w)
 unfolding foreseen
 foreseen_numbers c cs v = by_refusal (any_refusal c cs)
   where
     made : Happens (CanBeRead c.message v) v (commanded c v)
     made = commands (CanBeRead c.message v) c.refusal c.message c.unstable v (λ readable e. stored_from v.counters.completion (with_ids v.counters.completion c.message) (readable e) (ids_from v.counters.completion c.message))
 
-    by_numbers : (o : Option NamedFault) → Happens (CanBeRead c.message v) v (numbers_left o c v >>= λ _ w. commanded c w)
+    by_numbers : (o : Option NamedFault) → Happens (CanBeRead c.message v) v (numbers_left o c v >>> λ _ w. commanded c w)
     by_numbers (Some name) = alike v
     by_numbers None = made
 
-    by_running : (b : Bool) → Happens (CanBeRead c.message v) v ((if b then numbers_left (missing_for c cs v.counters) c v else (let w = entered (shown_type c.message) (name_of c.message) v in Failed (about_last (state_fault v.phase) w) w)) >>= λ _ w. commanded c w)
+    by_running : (b : Bool) → Happens (CanBeRead c.message v) v ((if b then numbers_left (missing_for c cs v.counters) c v else (let w = entered (shown_type c.message) (name_of c.message) v in Failed (about_last (state_fault v.phase) w) w)) >>> λ _ w. commanded c w)
     by_running true = by_numbers (missing_for c cs v.counters)
     by_running false = alike v
 
-    by_refusal : (o : Option NamedFault) → Happens (CanBeRead c.message v) v (foreseen_unless o c cs v >>= λ _ w. commanded c w)
+    by_refusal : (o : Option NamedFault) → Happens (CanBeRead c.message v) v (foreseen_unless o c cs v >>> λ _ w. commanded c w)
     by_refusal (Some name) = alike v
     by_refusal None = by_running (is_running v.phase)
 

@@ -25,14 +25,15 @@ use Rattle.std.specs.List.{AllByRecursion}
 use Rattle.vm_steps.specs.declared.progress.Fed.{Fed}
 use Rattle.vm_attempt.specs.Agreement.{Agrees, Aside}
 use Rattle.vm_attempt.specs.Arrivals.{AllFound, arriving, kept_after}
-use Rattle.vm_attempt.specs.Journals.{AcknowledgesNothing, HasAll, StartedWith, StillWaits, aside_for, commands_among, notifications_among, setup_for, waiting_machine}
+use Rattle.vm_model.specs.JournalFrames.{AcknowledgesNothing, commands_among, notifications_among}
+use Rattle.vm_attempt.specs.Journals.{HasAll, StartedWith, StillWaits, aside_for, setup_for, waiting_machine}
 use Rattle.vm_attempt.specs.Told.{BeforeInput, Begun, Comes, IsLive, Journal, KeepsProposals, HandlerRuns, StillAwaits, arrivals, bytes_fed, bytes_in, frames_fed, start_state}
 use Rattle.vm_attempt.proofs.Arriving.{frames_come}
 use Rattle.vm_attempt.proofs.Proposed.{all_keep, arriving_append, found_append, kept_append}
 use Rattle.vm_attempt.proofs.Entries.{commands_behind, entries_come, journals_come, more_come, notifications_behind}
 use Rattle.vm_attempt.proofs.Quiet.{input_quiet, wrote_quiet}
 use Rattle.vm_attempt.proofs.Requesting.{runs_at}
-use Rattle.vm_attempt.specs.Fixed.{Fixed}
+use Rattle.vm_model.specs.Fixed.{Fixed}
 
 -- ---- frames
 
@@ -228,7 +229,7 @@ before_fed fixed fed answers waiting_machine taken v f b live =
       tail = λ alive. (took_in fed f v live (b.tail live) alive).1;
     }
 
--- ---- behind the input
+-- ---- after the input
 
 -- the journal with further frames
 abbrev pub journal_to : (fed : Heard) (to : List Fed) (G : List RawMessage) → frames_fed (with_pieces to fed) ≡ frames_fed fed ++ G → Journal fed → Journal (with_pieces to fed)

@@ -29,7 +29,8 @@ use Rattle.vm_machine.specs.Outcomes.{Done, refused, ruled, ruled_by, settled}
 use Rattle.vm_machine.specs.Phases.{is_running}
 use Rattle.invocation_vm.specs.Views.{all_received, left_by, received}
 use Rattle.vm_steps.specs.Heard.{Heard, with_pieces}
-use Rattle.vm_attempt.specs.Journals.{HasAll, StillWaits, is_command_frame, is_ephemeral, is_notification, setup_for, is_acknowledgement}
+use Rattle.vm_model.specs.JournalFrames.{is_command_frame, is_ephemeral, is_notification, is_acknowledgement}
+use Rattle.vm_attempt.specs.Journals.{HasAll, StillWaits, setup_for}
 use Rattle.vm_steps.specs.Record.{Record, heard}
 use Rattle.vm_steps.specs.declared.progress.Fed.{Fed}
 use Rattle.vm_model.specs.Histories.{after_head}
@@ -41,12 +42,12 @@ use Rattle.vm_attempt.proofs.Blaming.{one_comes}
 use Rattle.vm_attempt.proofs.Entries.{message_by, receives_by}
 use Rattle.vm_attempt.proofs.Proposed.{all_keep, all_none, kept_append}
 use Rattle.vm_attempt.proofs.Staying.{all_stay}
-use Rattle.vm_attempt.specs.Fixed.{Fixed}
+use Rattle.vm_model.specs.Fixed.{Fixed}
 
 one_longer : (others : List RawMessage) (raw : RawMessage) → length (others ++ raw ∷ []) ≡ length others + 1
 one_longer others raw = length-append others (raw ∷ [])
 
--- behind the known entries one frame more
+-- one frame more, after the known entries
 still_behind : (F : List RawMessage) (raw : RawMessage) → Began F (λ n known. known ≤ n) → Began (F ++ raw ∷ []) (λ n known. known ≤ n)
 still_behind F raw b = record { first = b.first; others = b.others ++ raw ∷ []; is = ap (λ l. l ++ raw ∷ []) b.is; start = b.start; reads = b.reads; counts = more (length b.others) (length (b.others ++ raw ∷ [])) b.start.known_entries (one_longer b.others raw) b.counts }
   where
@@ -67,7 +68,7 @@ counted_place F raw k b = by_test (nat_le k 1) refl
     by_test true t = record { first = b.first; others = b.others ++ raw ∷ []; is = ap (λ l. l ++ raw ∷ []) b.is; start = b.start; reads = b.reads; counts = last (length b.others) (length (b.others ++ raw ∷ [])) b.start.known_entries (one_longer b.others raw) b.counts.0 t }
     by_test false t = record { first = b.first; others = b.others ++ raw ∷ []; is = ap (λ l. l ++ raw ∷ []) b.is; start = b.start; reads = b.reads; counts = less (length b.others) (length (b.others ++ raw ∷ [])) b.start.known_entries (one_longer b.others raw) b.counts.0 t }
 
--- where a machine that is alive stands behind these frames
+-- the phase of a machine that is alive, after these frames
 abbrev Stands : List RawMessage → Machine → Type 0
 Stands F w = w.failure ≡ None → Place w.phase w.entries_missing F
 
@@ -183,7 +184,7 @@ bad_frame fixed fed to G frames v m e made live p keeps f is =
 
 -- ---- where the VM of an attempt stands
 
--- where it stands behind what was fed, and that it was made for this version and these options
+-- the phase of the VM after what was fed; it was made for this version and these options
 abbrev pub StandsIn : Version → VMOptions → List RawMessage → Machine → Type 0
 StandsIn version options F v = Place v.phase v.entries_missing F × ((v.version ≡ version) × (v.options ≡ options))
 

@@ -29,13 +29,13 @@ use Rattle.vm_machine.specs.Phases.{is_running}
 use Rattle.invocation_vm.specs.Views.{all_received, left_by, received}
 use Rattle.vm_attempt.specs.Arrivals.{AllFound, FindsProposal, IsOfKept, arriving, arrival_of, kept_after, kept_behind, acknowledged_as, unacknowledged}
 use Rattle.vm_attempt.specs.Blames.{fault_among}
-use Rattle.vm_attempt.specs.Journals.{AcknowledgesNothing, is_acknowledgement, is_command_frame, is_ephemeral, is_notification, notifications_among, notified_by}
+use Rattle.vm_model.specs.JournalFrames.{AcknowledgesNothing, is_acknowledgement, is_command_frame, is_ephemeral, is_notification, notifications_among, notified_by}
 use Rattle.vm_attempt.proofs.Arriving.{failed_receives, failed_stays, live_receives, unknown_dead, unknown_step}
 use Rattle.vm_attempt.proofs.Blaming.{one_comes as one_fits}
 use Rattle.vm_attempt.proofs.Entries.{message_by, receives_by}
 use Rattle.vm_attempt.proofs.Staying.{no_failure, one_stays}
 
--- ---- frames behind frames
+-- ---- frames after frames
 
 notified_append : (o : Option Notification) (ms ns : List Notification) → notified_by o (ms ++ ns) ≡ notified_by o ms ++ ns
 notified_append None ms ns = refl
@@ -55,7 +55,7 @@ pub found_append : (kept : List KeptProposal) (raws more : List RawMessage) → 
 found_append kept [] more a b = b
 found_append kept (raw ∷ raws) more a b = (a.0, found_append (kept_behind kept raw) raws more a.1 b)
 
--- where nothing is acknowledged
+-- if nothing is acknowledged
 pub none_found : (kept : List KeptProposal) (raws : List RawMessage) → AllByRecursion AcknowledgesNothing raws → AllFound kept raws
 none_found kept [] all = tt
 none_found kept (raw ∷ raws) all = ((λ is. absurd (let z : false ≡ true = sym all.0 ∙ is in cc)), none_found (kept_behind kept raw) raws all.1)
@@ -134,7 +134,8 @@ module _ (kept more : List KeptProposal) where
       by_test true f = unacknowledged_more (acknowledgement_in raw.body) (f refl)
       by_test false f = refl
 
--- Where each acknowledgement found its proposal, a further one changes no arrival and is kept behind the others.
+-- If each acknowledgement found its proposal, one proposal more changes no arrival and is kept
+-- after the others.
 pub arriving_more : (kept more : List KeptProposal) (raws : List RawMessage) → AllFound kept raws → arriving (kept ++ more) raws ≡ arriving kept raws
 arriving_more kept more [] found = refl
 arriving_more kept more (raw ∷ raws) found =
@@ -152,7 +153,7 @@ found_more kept more (raw ∷ raws) found =
 
 -- ---- what a machine keeps
 
--- what a machine that is alive keeps behind a frame
+-- what a machine that is alive keeps after a frame
 abbrev Keeps : RawMessage → Machine → Machine → Type 0
 Keeps raw v w = w.failure ≡ None → (w.proposals ≡ kept_behind v.proposals raw) × FindsProposal v.proposals raw
 
@@ -244,7 +245,7 @@ all_keep (raw ∷ raws) v live runs h =
     no_failure (ruled v (named_error x.0 None)) (sym x.2 ∙ ap (λ (u : Machine). u.failure) (sym (failed_stays (ruled v (named_error x.0 None)) w raws x.2)) ∙ h))
     (one_fits raw v live)
 
--- ---- where nothing was proposed
+-- ---- if no result was proposed
 
 -- an event leaves no proposal
 abbrev NoneKept : Outcome Unit → Type 0
@@ -328,7 +329,7 @@ received_none raw v none = by_failure v.failure refl
         ap (λ (w : Machine). w.proposals) (receives_by v raw live)
         ∙ settled_none (message_by raw v.phase v (type_number raw.ty == 1) (is_command_frame raw) (is_notification raw) (is_acknowledgement raw)) (message_none raw v.phase v none (type_number raw.ty == 1) (is_command_frame raw) (is_notification raw) (is_acknowledgement raw))
 
--- a machine that keeps no proposal keeps none, whatever comes
+-- a machine that keeps no proposal keeps none after any frames
 pub all_none : (raws : List RawMessage) (v : Machine) → v.proposals ≡ [] → (all_received raws v).proposals ≡ []
 all_none [] v none = none
 all_none (raw ∷ raws) v none = all_none raws (received raw v) (received_none raw v none)

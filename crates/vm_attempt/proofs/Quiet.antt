@@ -31,7 +31,7 @@ use Rattle.std.proofs.lemmas.Bool.{eqb-true}
 use Rattle.journal_protocol.specs.ProposeRunCompletion.{ProposeRunCompletion}
 use Rattle.vm_model.specs.Journal.{stored_form}
 use Rattle.vm_steps.specs.Heard.{is_proposal, proposals_among, proposed_by}
-use Rattle.vm_attempt.specs.Journals.{is_command_frame}
+use Rattle.vm_model.specs.JournalFrames.{is_command_frame}
 use Rattle.vm_attempt.specs.Told.{Quiet, Wrote, commands_of}
 
 pub quiet_same : (old new : Machine) → new.output ≡ old.output → Quiet old new
@@ -222,7 +222,7 @@ closing_quiet v = called_quiet v.machine (close_step v.machine) (close_silent v.
 
 -- ---- all output
 
--- more messages are written behind the output
+-- more messages are written after the output
 pub wrote_more : (taken output new : List (List ℕ)) (ms : List Message) (written : List RawMessage) → new ≡ output ++ map encoding ms → Wrote taken output written → Wrote taken new (written ++ commands_of ms)
 wrote_more taken output new ms written is w = record {
   sent = w.sent;

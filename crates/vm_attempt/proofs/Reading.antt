@@ -56,7 +56,7 @@ unchanged (reads.Keys name) id state = refl
 same_state : (given : StateMap) (r : StateRead) (p : Point) → changed_by (p.said ++ lazy_form r p.derived.counters.completion ∷ []) given ≡ changed_by p.said given
 same_state given r p = changed_behind p.said (lazy_form r p.derived.counters.completion) given ∙ unchanged r p.derived.counters.completion (changed_by p.said given)
 
--- the point behind a read
+-- the point after a read
 abbrev past : StateRead → Option NotificationResult → List RawMessage → Point → Point
 past r o left p = record { answers = p.answers ++ gives (handle_at p); derived = with_read_result p.derived.counters.completion o (counted 1 p.derived); said = p.said ++ lazy_form r p.derived.counters.completion ∷ []; queue = p.queue; left = left }
 

@@ -26,7 +26,8 @@ use Rattle.vm_steps.specs.Record.{Said}
 use Rattle.vm_steps.specs.declared.progress.Progress.{Progress}
 use Rattle.vm_attempt.specs.Blames.{RefusedCall, Blame, IfError, IsHonest, IsOwnError, first_input}
 use Rattle.vm_attempt.specs.Blames.Blame.{Memory, Frame, NoFrame, ClosedEarly, NoInput, NoSkip, Call, RunResult}
-use Rattle.vm_attempt.specs.Journals.{as_entries, commands_among, is_command_frame, is_notification, notifications_among, notified_by, recorded_by, setup_for, told_by}
+use Rattle.vm_model.specs.JournalFrames.{as_entries, commands_among, is_command_frame, is_notification, notifications_among, notified_by, recorded_by, told_by}
+use Rattle.vm_attempt.specs.Journals.{setup_for}
 use Rattle.vm_attempt.specs.Told.{Journal, RefusesReplay, arrivals, start_state}
 use Rattle.vm_attempt.specs.Arrivals.{arriving}
 use Rattle.std.specs.Prelude.{◌==◌, ◌&&◌, nat_le, nat_lt}
@@ -39,11 +40,11 @@ use Rattle.vm_model.specs.Histories.{after_head}
 use Rattle.vm_parts.specs.declared.run_state.KeptProposal.{KeptProposal}
 use Rattle.vm_attempt.specs.Arrivals.{kept_after}
 use Rattle.vm_attempt.specs.Blames.{BadFrame, fault_among, fault_by, acknowledgement_body_fault}
-use Rattle.vm_attempt.specs.Journals.{is_acknowledgement}
+use Rattle.vm_model.specs.JournalFrames.{is_acknowledgement}
 use Rattle.vm_attempt.proofs.Arriving.{kept_none}
 use Rattle.vm_attempt.proofs.Blaming.{none_kept}
 use Rattle.vm_attempt.proofs.Proposed.{arriving_append, arriving_notified, kept_all}
-use Rattle.vm_attempt.specs.Fixed.{Fixed}
+use Rattle.vm_model.specs.Fixed.{Fixed}
 
 recorded_commands : (b : Bool) (raw : RawMessage) (es : List Entry) (cs : List RawMessage) → commands_in es ≡ cs → commands_in (recorded_by b raw es) ≡ cond b (raw ∷ cs) cs
 recorded_commands true raw es cs is = ap (λ l. raw ∷ l) is
@@ -114,7 +115,7 @@ no_input s m base entries h none =
     let z : Some h.input ≡ None = sym h.reads ∙ ap first_input (sym h.begins ∙ commands_same entries) ∙ none in
     absurd (cc)
 
--- where no recorded command is left a call is refused for a reason of its own
+-- if no recorded command is left, a call is refused for a reason of its own
 own_refusal : (fixed : Fixed) (fed : Heard) (answers : List Answer) (e : Error) (x : RefusedCall fixed fed answers e) → x.at.left ≡ [] → move_at (setup_for fixed x.journal.start) fixed.handler x.at ≡ Refuses x.why
 own_refusal fixed fed answers e x is =
     let move = move_at (setup_for fixed x.journal.start) fixed.handler x.at in
@@ -144,7 +145,7 @@ honest_refused fixed fed said answers e honest x (c ∷ further) is = absurd (le
 acknowledged_by_kept : (kept : List KeptProposal) (raw : RawMessage) → is_acknowledgement raw ≡ true → fault_among kept Processing raw ≡ acknowledgement_body_fault kept (acknowledgement_in raw.body)
 acknowledged_by_kept kept raw is = ap (λ n. fault_by kept Processing raw (n == 1) (nat_le 10 n && nat_lt n 30) (n == 30) (n == 6)) (eqb-true (type_number raw.ty) 6 is)
 
--- where none is kept, it is refused
+-- if no proposal is kept, an acknowledgement is refused
 none_kept_fault : (ack : Option ProposeRunCompletionAck) → acknowledgement_body_fault [] ack ≡ None → ⊥
 none_kept_fault None h = let z : Some fault.BadMessage ≡ None = h in cc
 none_kept_fault (Some ack) h = let z : Some fault.BadProposeRunCompletionAck ≡ None = h in cc

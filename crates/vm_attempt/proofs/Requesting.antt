@@ -21,7 +21,7 @@ use Rattle.vm_asks.specs.declared.command.Command.{Command}
 use Rattle.vm_machine.specs.declared.phase.Phase.TheVariants.{Replaying, Processing}
 use Rattle.vm_machine.specs.Commands.{carried_out, compared, command_if_counted as counted_event, entered, ignores_payloads, issued, phase_after, popped, popped_from, prepared, replayed, runs_after, of_type, written as wrote}
 use Rattle.vm_machine.specs.Phases.{is_processing, is_running, state_fault}
-use Rattle.vm_machine.specs.Outcomes.{Outcome, Done, Failed, ◌>>=◌, about_last, last_related}
+use Rattle.vm_machine.specs.Outcomes.{Outcome, Done, Failed, ◌>>>◌, about_last, last_related}
 use Rattle.vm_asks.specs.Requests.{changed, ids_of, name_of, shown_type, tracked_after, with_ids}
 use Rattle.vm_model.specs.Calls.{Setup, Demand, Derived, Move, answer_of, counted, demand_of, numbered, requested, ready_in}
 use Rattle.vm_model.specs.Calls.Demand.{Exactly}
@@ -43,9 +43,9 @@ carries_recorded : (m : Message) (ignore : Bool) (w : Machine) → w.phase ≡ R
 unfolding carried_out
 carries_recorded m ignore w e = ap (λ phase. if is_processing phase then Done tt (wrote m w) else replayed m ignore w) e
 
-replays_next : (m : Message) (ignore : Bool) (c : RawMessage) (left : List RawMessage) (w : Machine) → w.commands ≡ c ∷ left → replayed m ignore w ≡ (of_type c (type_of m) (record w { commands = left; phase = phase_after left }) >>= λ raw z. compared m ignore (message_in raw.ty raw.body) z)
+replays_next : (m : Message) (ignore : Bool) (c : RawMessage) (left : List RawMessage) (w : Machine) → w.commands ≡ c ∷ left → replayed m ignore w ≡ (of_type c (type_of m) (record w { commands = left; phase = phase_after left }) >>> λ raw z. compared m ignore (message_in raw.ty raw.body) z)
 unfolding replayed popped
-replays_next m ignore c left w e = ap (λ l. popped_from l (type_of m) w >>= λ raw z. compared m ignore (message_in raw.ty raw.body) z) e
+replays_next m ignore c left w e = ap (λ l. popped_from l (type_of m) w >>> λ raw z. compared m ignore (message_in raw.ty raw.body) z) e
 
 pub changed_behind : (cs : List Message) (c : Message) (state : StateMap) → changed_by (cs ++ c ∷ []) state ≡ changed c (changed_by cs state)
 changed_behind [] c state = refl
@@ -59,7 +59,7 @@ some_behind (x ∷ cs) c = refl
 abbrev knows_at : Setup → Point → Bool
 knows_at s p = is_known (CompletionId p.derived.counters.completion) (record { queued = p.queue; ready = ready_in s p.derived; handles = p.derived.handles })
 
--- how errors show a call's command, and the runs that are pending behind it
+-- how errors show a call's command, and the runs that are pending after it
 abbrev shown : Setup → Aside → Command → Point → Beside
 shown s aside r p = record {
   last = record { ty = shown_type r.message; name = name_of r.message };
@@ -70,7 +70,8 @@ shown s aside r p = record {
 abbrev noted : Setup → Command → Point → Aside → Aside
 noted s r p aside = with_beside (shown s aside r p) aside
 
--- what follows behind a command: it is counted, and tracked where its invocation is cancelled with the handler's
+-- what follows after a command: it is counted, and tracked if its invocation is cancelled with the
+-- handler's
 abbrev after : Setup → Command → Point → Derived
 after s r p = record (counted (ids_of r.message) p.derived) { tracked = tracked_after s.options.implicit_cancellation r.message p.derived.counters.handle p.derived.tracked }
 
@@ -78,7 +79,7 @@ after s r p = record (counted (ids_of r.message) p.derived) { tracked = tracked_
 abbrev said_by : Setup → Command → Point → Point
 said_by s r p = record p { derived = after s r p; said = p.said ++ with_ids p.derived.counters.completion r.message ∷ [] }
 
--- and the point behind it
+-- and the point after it
 abbrev past : Setup → Command → List Answer → List RawMessage → Point → Point
 past s r gives left p = record { answers = p.answers ++ gives; derived = after s r p; said = p.said ++ with_ids p.derived.counters.completion r.message ∷ []; queue = p.queue; left = left }
 
@@ -91,7 +92,7 @@ prepares s given written aside r p = ap (state_said s given written aside r p) (
 
 -- the outcome of a call whose command was carried out
 abbrev handed : Point → Outcome Unit → Outcome NotificationHandle
-handed p o = o >>= λ _ w. Done (record { 0 = p.derived.counters.handle }) w
+handed p o = o >>> λ _ w. Done (record { 0 = p.derived.counters.handle }) w
 
 -- the move of a call with a command
 abbrev needing : Setup → Command → Point → Move
@@ -151,7 +152,7 @@ reads s given written aside r p c left gives answer same (Some recorded) is = by
 
 replays : (s : Setup) (given : StateMap) (written : List RawMessage) (aside : Aside) (r : Command) (p : Point) (c : RawMessage) (left : List RawMessage) (gives : NotificationHandle → List Answer) → gives (record { 0 = p.derived.counters.handle }) ≡ answer_of r p.derived ∷ []
     → Leads s given written aside p (needing s r p) (c ∷ left) [] gives (command_used (found (demand_of s r p.derived) c) (demand_of s r p.derived) (answer_of r p.derived ∷ []) (after s r p) left p)
-    (handed p (of_type c (type_of (with_ids p.derived.counters.completion r.message)) (popped_to s given written aside r left p) >>= λ raw z. compared (with_ids p.derived.counters.completion r.message) (ignores s r) (message_in raw.ty raw.body) z))
+    (handed p (of_type c (type_of (with_ids p.derived.counters.completion r.message)) (popped_to s given written aside r left p) >>> λ raw z. compared (with_ids p.derived.counters.completion r.message) (ignores s r) (message_in raw.ty raw.body) z))
 replays s given written aside r p c left gives answer = by_test (type_number c.ty == type_number (type_of m)) refl
   where
     m : Message
@@ -163,7 +164,7 @@ replays s given written aside r p c left gives answer = by_test (type_number c.t
     w : Machine
     w = popped_to s given written aside r left p
 
-    by_test : (b : Bool) → (type_number c.ty == type_number (type_of m)) ≡ b → Leads s given written aside p (needing s r p) (c ∷ left) [] gives (command_used (if b then reads_as (ignores s r) m (message_in c.ty c.body) else Err fault.CommandTypeMismatch) e (answer_of r p.derived ∷ []) (after s r p) left p) (handed p ((if b then Done c w else Failed (about_last fault.CommandTypeMismatch w) w) >>= λ raw z. compared m (ignores s r) (message_in raw.ty raw.body) z))
+    by_test : (b : Bool) → (type_number c.ty == type_number (type_of m)) ≡ b → Leads s given written aside p (needing s r p) (c ∷ left) [] gives (command_used (if b then reads_as (ignores s r) m (message_in c.ty c.body) else Err fault.CommandTypeMismatch) e (answer_of r p.derived ∷ []) (after s r p) left p) (handed p ((if b then Done c w else Failed (about_last fault.CommandTypeMismatch w) w) >>> λ raw z. compared m (ignores s r) (message_in raw.ty raw.body) z))
     by_test true same = reads s given written aside r p c left gives answer same (message_in c.ty c.body) refl
     by_test false other = unlike s given written aside r p c left fault.CommandTypeMismatch (ap (λ b. if b then reads_as (ignores s r) m (message_in c.ty c.body) else Err fault.CommandTypeMismatch) other)
 
@@ -174,7 +175,7 @@ pub used_anyhow : (o : Result (Option NotificationResult) NamedFault) (e : Deman
 used_anyhow (Err name) e gives d left rest p = refl
 used_anyhow (Ok result) e gives d left rest p = refl
 
--- a call's own command, where none is recorded
+-- a call's own command, if none is recorded
 pub uses_own : (e : Demand) (gives : List Answer) (d : Derived) (c : RawMessage) (p : Point) → p.left ≡ [] → moved (Needs e gives d) (longer (c ∷ []) p) ≡ command_used (found e c) e gives d [] p
 uses_own e gives d c p is = ap (λ l. uses_command e gives d (l ++ c ∷ []) (record p { left = l ++ c ∷ [] })) is ∙ used_anyhow (found e c) e gives d [] (c ∷ []) p
 

@@ -1,4 +1,5 @@
--- What a call of a step writes and leaves, whatever came before it: frames of messages, and a VM that runs, is closed or has failed.
+-- What a call of a step writes and leaves, after any calls before it: frames of messages, and a VM
+-- that runs, is closed or has failed.
 use Rattle.vm_parts.specs.declared.run_state.PendingRun.{PendingRun}
 use Rattle.runs.specs.Pending.{is_executing, is_executing_in, may_execute, handle_of}
 use Rattle.await_trees.specs.Handles.{handles_of}
@@ -60,7 +61,7 @@ use Rattle.vm_attempt.proofs.Quiet.{forms_append, map_append, proposals_append, 
 use Rattle.vm_machine.specs.Takes.{result_taken, take_step, taken_at, value_noted, value_taken}
 use Rattle.vm_machine.specs.Commands.{carried_out, commanded, commanded_unless, compared, command_if_counted, entered, ignores_payloads, issued, phase_after, popped, popped_from, prepared, replayed, written, about_next, handed_out}
 use Rattle.vm_machine.specs.Inputs.{end_at, end_step}
-use Rattle.vm_machine.specs.Outcomes.{CalledBy, Does, DoesBy, IsStarved, Outcome, Done, Failed, ◌>>=◌, about_last, called, called_at, failed, refused, ruled, settled}
+use Rattle.vm_machine.specs.Outcomes.{CalledBy, Does, DoesBy, IsStarved, Outcome, Done, Failed, ◌>>>◌, about_last, called, called_at, failed, refused, ruled, settled}
 use Rattle.vm_machine.specs.Several.{BehindFirst, MakesAll, MakesOne, answered_so, commanded_before, foreseen, foreseen_unless, missing_for, numbers_left}
 use Rattle.vm_machine.proofs.Calling.{called_from}
 use Rattle.vm_machine.specs.Phases.{is_closed, is_processing, is_replaying, is_running, state_fault}
@@ -84,8 +85,8 @@ pub record Sends (v w : Machine) : Type 0 where
   pub version : w.version ≡ v.version
   pub options : w.options ≡ v.options
 
--- an event that is done has written so, has failed nothing, lets no run be handed out more often, doesn't replay again, and leaves what is
--- told of its answer
+-- An event that is done has written frames of messages and hasn't failed the VM. After it no run
+-- can be handed out more often, replay doesn't begin again, and what is said of its answer holds.
 pub record Leaves {A : Type 0} (Left : Machine → A → Machine → Type 0) (v : Machine) (a : A) (w : Machine) : Type 0 where
   pub sends : Sends v w
   pub failure : w.failure ≡ v.failure
@@ -105,7 +106,7 @@ alike v = (refl, refl, refl, refl, fewer_same v)
 none_append : (ms ns : List Message) → proposals_among (map stored_form ms) ≡ [] → proposals_among (map stored_form ns) ≡ [] → proposals_among (map stored_form (ms ++ ns)) ≡ []
 none_append ms ns a b = ap proposals_among (forms_append ms ns) ∙ proposals_append (map stored_form ms) (map stored_form ns) ∙ (λ i. a i ++ b i)
 
--- messages, and more behind them
+-- messages, and more after them
 sends_then : (u v w : Machine) → Sends u v → Sends v w → Sends u w
 sends_then u v w a b = record {
   messages = a.messages ++ b.messages;
@@ -178,7 +179,7 @@ after_runs (c ∷ left) = refl
 
 module _ (v : Machine) (handle : NotificationHandle) (m : Message) (ignore : Bool) (u : Machine) (command : IsCommand m) (same : Stays v u) (failure : u.failure ≡ v.failure) (phase : u.phase ≡ v.phase) where
   abbrev Answer : Outcome Unit → Type 0
-  Answer o = Happens RunsOn v (o >>= λ _ w. Done handle w)
+  Answer o = Happens RunsOn v (o >>> λ _ w. Done handle w)
 
   compares : (o : Option Message) (w : Machine) → (v.phase ≡ Processing → ⊥) → Stays v w → w.failure ≡ v.failure → is_running w.phase ≡ true → Answer (compared m ignore o w)
   compares None w late s f runs = s
@@ -188,14 +189,14 @@ module _ (v : Machine) (handle : NotificationHandle) (m : Message) (ignore : Boo
       by_test true = record { sends = stays_sends v w s; failure = f; kept = s.3; fewer = s.4; goes = λ at _. absurd (late at); left = runs }
       by_test false = s
 
-  pops : (left : List RawMessage) → (v.phase ≡ Processing → ⊥) → Answer (popped_from left (type_of m) u >>= λ raw w. compared m ignore (message_in raw.ty raw.body) w)
+  pops : (left : List RawMessage) → (v.phase ≡ Processing → ⊥) → Answer (popped_from left (type_of m) u >>> λ raw w. compared m ignore (message_in raw.ty raw.body) w)
   pops [] late = same
   pops (raw ∷ rest) late = by_test (type_number raw.ty == type_number (type_of m))
     where
       w : Machine
       w = record u { commands = rest; phase = phase_after rest }
 
-      by_test : (b : Bool) → Answer ((if b then Done raw w else Failed (about_last fault.CommandTypeMismatch w) w) >>= λ raw w. compared m ignore (message_in raw.ty raw.body) w)
+      by_test : (b : Bool) → Answer ((if b then Done raw w else Failed (about_last fault.CommandTypeMismatch w) w) >>> λ raw w. compared m ignore (message_in raw.ty raw.body) w)
       by_test true = compares (message_in raw.ty raw.body) w late same failure (after_runs rest)
       by_test false = same
 
@@ -237,19 +238,19 @@ commands None m unstable v is = issues m unstable v is
 -- ---- several commands
 
 -- one, where all that is needed is looked for before
-foreseen_happens : (c : Command) (cs : List Command) (v : Machine) → IsCommand c.message → Happens RunsOn v (foreseen c cs v >>= λ _ w. commanded c w)
+foreseen_happens : (c : Command) (cs : List Command) (v : Machine) → IsCommand c.message → Happens RunsOn v (foreseen c cs v >>> λ _ w. commanded c w)
 unfolding foreseen
 foreseen_happens c cs v is = by_refusal (any_refusal c cs)
   where
-    by_numbers : (o : Option NamedFault) → Happens RunsOn v (numbers_left o c v >>= λ _ w. commanded c w)
+    by_numbers : (o : Option NamedFault) → Happens RunsOn v (numbers_left o c v >>> λ _ w. commanded c w)
     by_numbers (Some name) = alike v
     by_numbers None = commands c.refusal c.message c.unstable v is
 
-    by_running : (b : Bool) → Happens RunsOn v ((if b then numbers_left (missing_for c cs v.counters) c v else (let w = entered (shown_type c.message) (name_of c.message) v in Failed (about_last (state_fault v.phase) w) w)) >>= λ _ w. commanded c w)
+    by_running : (b : Bool) → Happens RunsOn v ((if b then numbers_left (missing_for c cs v.counters) c v else (let w = entered (shown_type c.message) (name_of c.message) v in Failed (about_last (state_fault v.phase) w) w)) >>> λ _ w. commanded c w)
     by_running true = by_numbers (missing_for c cs v.counters)
     by_running false = alike v
 
-    by_refusal : (o : Option NamedFault) → Happens RunsOn v (foreseen_unless o c cs v >>= λ _ w. commanded c w)
+    by_refusal : (o : Option NamedFault) → Happens RunsOn v (foreseen_unless o c cs v >>> λ _ w. commanded c w)
     by_refusal (Some name) = alike v
     by_refusal None = by_running (is_running v.phase)
 
@@ -425,7 +426,7 @@ read_unmoved handle v w reads =
     let is = (read_known handle v w reads).2 in
     ((ap (λ (x : Machine). x.output) is, ap (λ (x : Machine). x.version) is, ap (λ (x : Machine). x.options) is, ap (λ (x : Machine). x.proposals) is, subst (Fewer v) (sym is) (fewer_same v)), ap (λ (x : Machine). x.failure) is, ap (λ (x : Machine). x.phase) is)
 
--- what it comes to next
+-- what happens next
 happens_behind : (v w : Machine) (o : Outcome (Result AwaitResponse Error)) → Unmoved v w → Happens AwaitLeaves w o → Happens AwaitLeaves v o
 happens_behind v w (Done a x) k h = record { sends = sends_then v w x (stays_sends v w k.0) h.sends; failure = h.failure ∙ k.1; kept = h.kept ∙ k.0.3; fewer = fewer_then v w x k.0.4 h.fewer; goes = λ at running. h.goes (k.2 ∙ at) running; left = await_since v w a x k.0.4 h.left }
 happens_behind v w (Failed e x) k h =
@@ -547,7 +548,7 @@ AwaitIs v (Err e) w = Sends v w × (w.failure ≡ Some e)
 starving : (v : Machine) (e : Error) (w : Machine) → v.failure ≡ None → IsStarved v e w → Sends v w × (w.failure ≡ Some e)
 starving v e w live s = (record { messages = []; output = s.output ∙ sym (append-nil v.output); proposals = refl; version = s.version; options = s.options }, s.failure ∙ ap (λ (f : Option Error). Some (unwrap_or f no_memory)) live ∙ ap (λ x. Some x) (sym s.error))
 
--- what comes behind commands of the await
+-- the rest of an await, after some of its commands
 await_behind : (v mid : Machine) (r : Result (Result AwaitResponse Error) Error) (w : Machine) → Sends v mid → mid.failure ≡ v.failure → mid.proposals ≡ v.proposals → Fewer v mid → (v.phase ≡ Processing → mid.phase ≡ Processing) → AwaitIs mid r w → AwaitIs v r w
 await_behind v mid (Ok a) w s f p n on h = record { sends = sends_then v mid w s h.sends; failure = h.failure ∙ f; kept = h.kept ∙ p; fewer = fewer_then v mid w n h.fewer; goes = λ at running. h.goes (on at) running; left = await_since v mid a w n h.left }
 await_behind v mid (Err e) w s f p n on h = (sends_then v mid w s h.0, h.1)
@@ -583,7 +584,7 @@ one_is c cs r v w is live (does, readable) = by_result r does
         (λ (x : IsStarved v e w). starving v e w live x)
         h
 
--- what comes behind the first
+-- the other commands, after the first
 sent_behind : (handle : NotificationHandle) (v mid : Machine) (r : Result NotificationHandle Error) (w : Machine) → Leaves RunsOn v handle mid → SentIs mid r w → SentIs v (answered_so handle r) w
 sent_behind handle v mid (Ok a) w s h = record { sends = sends_then v mid w s.sends h.sends; failure = h.failure ∙ s.failure; kept = h.kept ∙ s.kept; fewer = fewer_then v mid w s.fewer h.fewer; goes = λ at running. h.goes (s.goes at s.left) running; left = h.left }
 sent_behind handle v mid (Err e) w s h = (sends_then v mid w s.sends h.0, h.1)

@@ -1,4 +1,5 @@
--- A call with several commands, in a machine that agrees with a point: what the whole of it comes to.
+-- A call with several commands, in a machine that agrees with a point: the outcome of the whole
+-- call.
 use Rattle.std.proofs.Common.{◌≡◌, ◌⊎◌, suc, ◌+◌, Bool, true, false, List, [], ◌∷◌, ◌++◌, Option, Some, None, refl, sym, ap, ◌∙◌, subst, inl, inr, ⊎_elim, append-nil, Ok, Err, Result}
 use Rattle.std.specs.Prelude.{if◌then◌else◌}
 use Rattle.std.specs.Option.{option_or}
@@ -18,7 +19,7 @@ use Rattle.vm_asks.specs.Asks.{EachIs, answer_by, any_refusal, ask_of, command_a
 use Rattle.vm_asks.specs.Requests.{ids_of, name_of, shown_type, with_ids}
 use Rattle.vm_machine.specs.declared.machine.Machine.{Machine}
 use Rattle.vm_machine.specs.Commands.{CanBeRead, commanded, entered, ignores_payloads}
-use Rattle.vm_machine.specs.Outcomes.{Done, Failed, IsStarved, Outcome, ◌>>=◌, about_last, called, called_at, failed, ruled}
+use Rattle.vm_machine.specs.Outcomes.{Done, Failed, IsStarved, Outcome, ◌>>>◌, about_last, called, called_at, failed, ruled}
 use Rattle.vm_machine.specs.Phases.{is_running, state_fault}
 use Rattle.vm_machine.specs.Several.{BehindFirst, MakesAll, MakesOne, answered_so, commanded_before, foreseen, foreseen_unless, missing_for, numbers_left}
 use Rattle.vm_machine.proofs.Foreseeing.{before_first}
@@ -81,7 +82,7 @@ module _ (s : Setup) (kind : AnswerKind) (p : Point) (c : Command) (cs : List Co
   part_is [] = refl
   part_is (b ∷ bs) = refl
 
-  -- the point behind it
+  -- the point after it
   abbrev back : Point → Point
   back q = record q { answers = p.answers ++ given_by cs; derived = left_by cs }
 
@@ -224,21 +225,21 @@ module _ (s : Setup) (m : Meaning) (given : StateMap) (kind : AnswerKind) (first
     itself : IfDone (commanded c v) Readable → PartLeads (option_or c.refusal lacks) (commanded c v)
     itself own = alone_leads (commanded c v) (subst (λ mv. LeadsOn s given written aside (there s kind p c cs before) (command_answer c.message) mv (commanded c v)) (alone_is s kind p c cs before c.refusal) (commands_follow s given written aside (there s kind p c cs before) c command c.refusal own))
 
-    -- and all that is needed is looked for first, where commands are behind it
+    -- if commands follow, all that is needed is looked for first
     foreseen_leads : (b : Command) (bs : List Command) → IfDone (commanded_before c (b ∷ bs) v) Readable → PartLeads (refused_before c (b ∷ bs) before.counters) (commanded_before c (b ∷ bs) v)
     unfolding foreseen
     foreseen_leads b bs = by_refusal (any_refusal c (b ∷ bs))
       where
-        by_numbers : (o : Option NamedFault) → IfDone (numbers_left o c v >>= λ _ w. commanded c w) Readable → PartLeads (option_or o own_fault) (numbers_left o c v >>= λ _ w. commanded c w)
+        by_numbers : (o : Option NamedFault) → IfDone (numbers_left o c v >>> λ _ w. commanded c w) Readable → PartLeads (option_or o own_fault) (numbers_left o c v >>> λ _ w. commanded c w)
         by_numbers (Some name) own = record { why = name; related = Some _; reason = refl; error = refl; output = refl; open_yet = open_after p.left; version = refl; options = refl }
         by_numbers None own = itself own
 
-        by_running : (r : Bool) → r ≡ true → (k : Option NamedFault) → IfDone ((if r then numbers_left k c v else (let w = entered (shown_type c.message) (name_of c.message) v in Failed (about_last (state_fault v.phase) w) w)) >>= λ _ w. commanded c w) Readable
-            → PartLeads (option_or k own_fault) ((if r then numbers_left k c v else (let w = entered (shown_type c.message) (name_of c.message) v in Failed (about_last (state_fault v.phase) w) w)) >>= λ _ w. commanded c w)
+        by_running : (r : Bool) → r ≡ true → (k : Option NamedFault) → IfDone ((if r then numbers_left k c v else (let w = entered (shown_type c.message) (name_of c.message) v in Failed (about_last (state_fault v.phase) w) w)) >>> λ _ w. commanded c w) Readable
+            → PartLeads (option_or k own_fault) ((if r then numbers_left k c v else (let w = entered (shown_type c.message) (name_of c.message) v in Failed (about_last (state_fault v.phase) w) w)) >>> λ _ w. commanded c w)
         by_running true e k own = by_numbers k own
         by_running false e k own = absurd cc
 
-        by_refusal : (o : Option NamedFault) → IfDone (foreseen_unless o c (b ∷ bs) v >>= λ _ w. commanded c w) Readable → PartLeads (option_or (option_or o (missing_for c (b ∷ bs) before.counters)) (option_or c.refusal lacks)) (foreseen_unless o c (b ∷ bs) v >>= λ _ w. commanded c w)
+        by_refusal : (o : Option NamedFault) → IfDone (foreseen_unless o c (b ∷ bs) v >>> λ _ w. commanded c w) Readable → PartLeads (option_or (option_or o (missing_for c (b ∷ bs) before.counters)) (option_or c.refusal lacks)) (foreseen_unless o c (b ∷ bs) v >>> λ _ w. commanded c w)
         by_refusal (Some name) own = record { why = name; related = None; reason = refl; error = refl; output = refl; open_yet = open_after p.left; version = refl; options = refl }
         by_refusal None own = by_running (is_running v.phase) (runs_at p.left) (missing_for c (b ∷ bs) before.counters) own
 
@@ -335,7 +336,7 @@ module _ (s : Setup) (m : Meaning) (given : StateMap) (kind : AnswerKind) (first
   }
   last_to written aside identity p c before (Err e) w x = x
 
-  -- behind one that was made the call stands before the next
+  -- after one that was made, the call is at the next
   stands_next : (written : List RawMessage) (aside : Aside) (p : Point) (c b : Command) (bs : List Command) (before : Derived) (mid : Machine) → StandsBefore p c (b ∷ bs) before → (x : HasMade written aside p c (b ∷ bs) before mid) → StandsBefore x.at b bs (behind_command s c before)
   stands_next written aside p c b bs before mid is x =
       let same : x.at.answers ≡ p.answers = x.moves.answers ∙ append-nil p.answers in
@@ -351,7 +352,7 @@ module _ (s : Setup) (m : Meaning) (given : StateMap) (kind : AnswerKind) (first
             ∙ (λ i. record { command = b; behind = bs; before = record (behind_command s c before) { parts = (sym x.derived i).parts } });
       }
 
-  -- what comes behind one that was made
+  -- the outcome of the rest, after one that was made
   behind_to : (written : List RawMessage) (aside : Aside) (p : Point) (c b : Command) (bs : List Command) (before : Derived) (mid : Machine) (x : HasMade written aside p c (b ∷ bs) before mid) (handle : NotificationHandle) (r : Result NotificationHandle Error) (w : Machine)
       → AllTo (written ++ x.made) x.beside x.at (behind_command s c before) r w → AllTo written aside p before (answered_so handle r) w
   unfolding answered_behind

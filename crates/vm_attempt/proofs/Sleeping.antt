@@ -1,4 +1,4 @@
--- An attempt whose await was rightly suspended stays so, whatever comes behind it.
+-- An attempt that was rightly suspended in an await stays so, with any input after it.
 use Rattle.std.proofs.Common.{◌≡◌, ◌≢◌, ℕ, Bool, true, false, List, [], Option, Some, None, Result, Ok, Err, refl, sym, ap, ◌∙◌, subst, inl, inr, ⊎_elim}
 use Rattle.std.specs.Prelude.{◌⊎◌}
 use Rattle.std.proofs.lemmas.Option.{same_Some}
@@ -25,7 +25,7 @@ use Rattle.invocation_vm.proofs.Feeds.{among_output}
 use Rattle.vm_attempt.proofs.Quiet.{closing_quiet, input_quiet, quiet_same, wrote_quiet}
 use Rattle.vm_attempt.proofs.Under.{step_fed}
 use Rattle.vm_attempt.proofs.Written.{takes_wrote}
-use Rattle.vm_attempt.specs.Fixed.{Fixed}
+use Rattle.vm_model.specs.Fixed.{Fixed}
 
 -- ---- what is said of a step that waits
 
@@ -206,6 +206,6 @@ step_sleeps fixed old result new u s does = by_over old.over refl
         (open_ends fixed.handler old result new going does)
     by_over (Some made) over = subst (StillSleeps fixed) (sym (over_repeats fixed.handler made old result new over does).0) s
 
--- a step waits only where nothing wakes
+-- if a step waits, nothing that came wakes its future
 pub waits_rightly : (fixed : Fixed) (old : Record) (result : Result Progress Error) (new : Record) → IsKeptUnder fixed old → StillSleeps fixed old → StepDoes fixed.handler old result new → WholeFrames new.vm.machine.output → Premises fixed (heard fixed.version old) → IfWaits result (NothingWakes fixed new)
 waits_rightly fixed old result new u s does f p = asleep_waits fixed new result f (step_asleep fixed old result new u s does p)

@@ -23,7 +23,7 @@ use Rattle.vm_machine.specs.Outcomes.{settled, ruled}
 use Rattle.vm_machine.specs.Phases.{is_running}
 use Rattle.invocation_vm.specs.Views.{all_received, left_by, received}
 use Rattle.vm_attempt.specs.Blames.{fault_among}
-use Rattle.vm_attempt.specs.Journals.{is_command_frame, is_ephemeral, is_notification, is_acknowledgement}
+use Rattle.vm_model.specs.JournalFrames.{is_command_frame, is_ephemeral, is_notification, is_acknowledgement}
 use Rattle.vm_attempt.proofs.Arriving.{failed_stays, unknown_dead, unknown_step}
 use Rattle.vm_attempt.proofs.Blaming.{one_comes}
 use Rattle.vm_attempt.proofs.Entries.{message_by, receives_by}

@@ -36,7 +36,7 @@ use Rattle.vm_attempt.proofs.Advanced.{done_of, failed_quiet, input_silent}
 use Rattle.vm_attempt.proofs.Quiet.{Silent, closing_quiet, input_quiet}
 use Rattle.vm_attempt.proofs.Sending.{IsLeft, Sends, step_leaves}
 use Rattle.vm_attempt.proofs.Written.{frames_propose, proposes_more}
-use Rattle.vm_attempt.specs.Fixed.{Fixed}
+use Rattle.vm_model.specs.Fixed.{Fixed}
 
 -- ---- what is written
 

@@ -59,7 +59,8 @@ use Rattle.vm_steps.specs.declared.progress.Progress.{Progress}
 use Rattle.vm_steps.specs.declared.progress.Reply.{Reply}
 use Rattle.vm_steps.specs.declared.progress.Reply.TheVariants as reply
 use Rattle.vm_attempt.specs.Agreement.{Agrees, Answered, CallFollows, HasEnded, IsCutShort, CallRefused, IsSuspended, MovesOn, StillAgrees, Waits, command_frames, suspended_on, waiting_on}
-use Rattle.vm_attempt.specs.Journals.{is_command_frame, setup_for}
+use Rattle.vm_model.specs.JournalFrames.{is_command_frame}
+use Rattle.vm_attempt.specs.Journals.{setup_for}
 use Rattle.vm_steps.specs.Record.{Record, heard}
 use Rattle.vm_steps.specs.Stepping.{MakesStep, IfWaits, step_asked, asked_from, future_in, progress_of, replied, with_vm}
 use Rattle.vm_steps.specs.Steps.{IfDone, Performs, ReadsBack, StepMade}
@@ -72,7 +73,7 @@ use Rattle.vm_attempt.proofs.Lasting.{runs_last}
 use Rattle.vm_attempt.proofs.Leading.{no_move}
 use Rattle.vm_attempt.proofs.Pieces.{agrees_running}
 use Rattle.vm_attempt.proofs.Quiet.{commands_append, map_append, quiet_same, wrote_more}
-use Rattle.vm_attempt.specs.Fixed.{Fixed}
+use Rattle.vm_model.specs.Fixed.{Fixed}
 
 -- ---- what a call needs is a command
 
@@ -225,11 +226,11 @@ runs_on fixed fed answers waiting to_wait taken v w k live und to gives made mo 
   tail = λ alive. k.tail live ∙ ap Rest (sym und);
 }
 
--- an await that asks for one more arrival stays, where there is none
+-- an await that asks for one more arrival stays at its point, if no arrival is left
 waits_still : (s : Setup) (m : Meaning) (q : Point) → move_at s m q ≡ Awaits → q.queue ≡ [] → next s m q ≡ None
 waits_still s m q asks none = ap (λ mv. moved mv q) asks ∙ ap (λ l. uses_arrival l q) none
 
--- behind a point from which no move leads on no answer comes
+-- after a point from which no move leads on, no answer comes
 stuck_last : (s : Setup) (m : Meaning) (n k : ℕ) (first p q : Point) → after s m n first ≡ Some p → after s m k first ≡ Some q → next s m q ≡ None → IsPrefix p.answers q.answers
 stuck_last s m zero k first p q h j stuck = subst (λ (x : Point). IsPrefix x.answers q.answers) (same_Some first p h) (after_answers s m k first q j)
 stuck_last s m (suc n) zero first p q h j stuck =
@@ -328,7 +329,7 @@ module _ (fixed : Fixed) (r : Record) (k : HandlerRuns fixed (heard fixed.versio
   abbrev Following : Outcome Reply → Type 0
   Following = CallFollows s fixed.handler (start_state k.journal) k.written k.at r.vm.machine
 
-  -- whatever the call comes to, it does what the moves lead to
+  -- every outcome of the call that this statement allows is that of the moves
   abbrev AllFollow : Type 0 → (Outcome Reply → Type 0) → Type 0
   AllFollow P R = (o : Outcome Reply) → R o → IfDone o P → Following o
 
@@ -408,7 +409,7 @@ module _ (fixed : Fixed) (r : Record) (k : HandlerRuns fixed (heard fixed.versio
       let first = start s k.journal.input (arrivals k.journal) k.journal.rest in
       subst (λ l. Made s fixed.handler (Handed (start_state k.journal)) (k.moves + mo.moves) first (l ++ made) at) (none_written c further some) (made_add s fixed.handler (Handed (start_state k.journal)) k.moves mo.moves first k.written k.at made at k.run mo.run)
 
-  -- a refusal, at the point that the run comes to
+  -- a refusal, at the point that the run reaches
   refuses_there : (e : Error) (c : RawMessage) (further : List RawMessage) → k.at.left ≡ c ∷ further → CallRefused s fixed.handler (start_state k.journal) k.at r.vm.machine e w.machine → RefusesReplay fixed (heard fixed.version r) r.answers e r.vm.machine w.machine
   refuses_there e c further some g = record {
     journal = k.journal;
@@ -426,7 +427,7 @@ module _ (fixed : Fixed) (r : Record) (k : HandlerRuns fixed (heard fixed.versio
     failure = g.failure;
   }
 
-  -- and want of memory
+  -- out of memory, at that point
   starves_there : (e : Error) (c : RawMessage) (further : List RawMessage) → k.at.left ≡ c ∷ further → IsCutShort s fixed.handler (start_state k.journal) k.at r.vm.machine e w.machine → StarvesReplay fixed (heard fixed.version r) r.answers e r.vm.machine w.machine
   starves_there e c further some g = record {
     journal = k.journal;
@@ -505,7 +506,7 @@ module _ (fixed : Fixed) (old : Record) (result : Result Progress Error) (new : 
   follows_here : (o : Outcome Reply) → Performs (fixed.handler k.at.answers) old.vm.machine o → IfDone o (ReadsBack (fixed.handler k.at.answers) old.vm.machine) → CallFollows made_here fixed.handler (start_state k.journal) k.written k.at old.vm.machine o
   follows_here o = agreeing_follows made_here fixed.handler (start_state k.journal) k.written old.vm.machine k.at o (λ future _. (queues, two)) (k.rests live) (k.agrees live)
 
-  -- a step waits only where nothing wakes
+  -- if a step waits, nothing that came wakes its future
   pub asks_wait : MakesStep fixed.handler old result new → IfWaits result (AwaitWaits fixed (heard fixed.version new) new.answers new.taken new.vm)
   asks_wait (x, w, does, is, progress) =
       let made : StepMade (fixed.handler k.at.answers) x old.vm w = subst (λ q. StepMade q x old.vm w) is_next does in

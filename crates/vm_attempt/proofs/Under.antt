@@ -31,11 +31,12 @@ use Rattle.vm_attempt.proofs.Advanced.{step_keeps}
 use Rattle.vm_attempt.proofs.Kept.{close_keeps, feed_keeps, take_keeps}
 use Rattle.vm_attempt.proofs.Lasting.{runs_last}
 use Rattle.vm_attempt.proofs.Pieces.{bytes_behind, journal_to, more_arrivals, more_frames, run_to}
-use Rattle.vm_attempt.specs.Fixed.{Fixed}
+use Rattle.vm_model.specs.Fixed.{Fixed}
 
 -- ---- a beginning of what was fed
 
--- no completion has two results at a point where none has with further arrivals
+-- if no completion has two results at a point with further arrivals, none has at the point without
+-- them
 pub fewer_waiting : (p : Point) (ns : List Notification) → HasNoTwo (later ns p) → HasNoTwo p
 fewer_waiting p ns two i =
     let long = length-append (results_of (CompletionId i) p.queue) (results_of (CompletionId i) ns) in

@@ -86,7 +86,7 @@ runs_to s m given (suc n) p (x ∷ xs) e below asks =
     let on = runs_to s m given n there xs refl (omega (arith, below)) (λ i l. asks (suc i) (omega (arith, l))) in
     (known, there, [], refl, sym (append-nil (supplied s m known p) ∙ none), quiet_next s m known p there none goes, on)
 
--- a refusal before the error rule, at a point where nothing was made
+-- a refusal before the error rule, at a point up to which nothing was made
 pub record RefusesAt (s : Setup) (m : Meaning) (given : StateMap) (p : Point) (v : Machine) (e : Error) (w : Machine) : Type 0 where
   pub at : Point
   pub moves : MovesOn s m given p [] [] at
@@ -118,7 +118,7 @@ module _ (s : Setup) (m : Meaning) (given : StateMap) (written : List RawMessage
     pub run : Made s m (Handed given) count p [] (at count)
     pub machine : w ≡ machine_at s given written aside (at count)
 
-  -- what a try comes to
+  -- the outcome of a try
   abbrev pub TriesTo : Outcome (Result AwaitResponse Error) → Type 0
   TriesTo (Done (Ok AnyCompleted) w) = Wakes w
   TriesTo (Done (Ok CancelSignalReceived) w) = ⊥
@@ -200,7 +200,7 @@ module _ (s : Setup) (m : Meaning) (given : StateMap) (written : List RawMessage
             record { at = last; waits = stands e; left = left; is_left = is_left; agrees = agrees_by (record aside { beside = record aside.beside { runs = runs } }) refl; kept = refl; output = sym (append-nil aside.output) }
         by_run None executing = by_closed aside.input_closed executing
 
-  -- ---- what it comes to
+  -- ---- its outcome
 
   pub tries_to : (event : Outcome (Result AwaitResponse Error)) → Tries t v event → TriesTo event
   tries_to event tries = ⊎_elim

@@ -13,14 +13,14 @@ use Rattle.invocation_vm.specs.Frames.{Rest, frames_from, frames_of}
 use Rattle.invocation_vm.proofs.Cuts.{frames_of-next}
 use Rattle.vm_model.specs.Journal.{stored_form}
 use Rattle.vm_attempt.specs.Honest.{frame_bytes}
-use Rattle.vm_attempt.specs.Journals.{commands_among, is_command_frame}
+use Rattle.vm_model.specs.JournalFrames.{commands_among, is_command_frame}
 use Rattle.vm_steps.specs.Record.{Record, bytes_written, heard}
 use Rattle.vm_attempt.specs.Told.{BeforeInput, JournalCame, HasCome, Wrote, commands_of, written_by}
 use Rattle.journal_protocol.specs.ProposeRunCompletion.{ProposeRunCompletion}
 use Rattle.journal_protocol.specs.Message.TheVariants as message
 use Rattle.vm_steps.specs.Heard.{proposals_among, proposals_in, proposed_by}
 use Rattle.vm_attempt.proofs.Quiet.{commands_append, forms_append, map_append, proposals_append}
-use Rattle.vm_attempt.specs.Fixed.{Fixed}
+use Rattle.vm_model.specs.Fixed.{Fixed}
 
 -- ---- frames of bytes
 

@@ -66,8 +66,8 @@ abbrev pub is_some_command : List RawMessage → Bool
 is_some_command [] = false
 is_some_command (c ∷ cs) = true
 
--- The machine at a point: what was handed out as state, what the attempt has written, and the point
--- tell all else of it.
+-- The machine at a point. The setup, what was handed out as state, what the attempt has written,
+-- and the point determine all of it but what no call of a run depends on.
 abbrev pub machine_at : Setup → StateMap → List RawMessage → Aside → Point → Machine
 machine_at s given written aside p = record {
   alloc = aside.alloc;
@@ -92,8 +92,10 @@ machine_at s given written aside p = record {
   output_ended = false;
 }
 
--- A machine agrees with a point: it is what the point tells, for an invocation of this identity.
-pub record Agrees (s : Setup) (given : StateMap) (written : List RawMessage) (v : Machine) (p : Point) : Type 0 where
+-- A machine agrees with a point: it is the machine at this point, for an invocation of this
+-- identity.
+pub record Agrees (s : Setup) (given : StateMap) (written : List RawMessage) (v : Machine)
+    (p : Point) : Type 0 where
   pub aside : Aside
   pub machine : v ≡ machine_at s given written aside p
   pub identity : s.identity ≡ identity_of aside.start
@@ -104,7 +106,8 @@ command_frames cs = map (λ c. frame c.ty c.body) cs
 
 -- the run moves on: to a point with these answers more, and these commands made, by what was handed
 -- out as state
-pub record MovesOn (s : Setup) (m : Meaning) (given : StateMap) (p : Point) (gives : List Answer) (made : List RawMessage) (q : Point) : Type 0 where
+pub record MovesOn (s : Setup) (m : Meaning) (given : StateMap) (p : Point) (gives : List Answer)
+    (made : List RawMessage) (q : Point) : Type 0 where
   pub moves : ℕ
   pub run : Made s m (Handed given) moves p made q
   pub answers : q.answers ≡ p.answers ++ gives
@@ -112,7 +115,8 @@ pub record MovesOn (s : Setup) (m : Meaning) (given : StateMap) (p : Point) (giv
 -- A call was answered: the run moves on by that answer, the machine agrees with where that leads
 -- and keeps its proposals, what was made is what was written, and nothing was made, or no recorded
 -- command is left there. No call has made a part there, if none had before.
-pub record Answered (s : Setup) (m : Meaning) (given : StateMap) (written : List RawMessage) (p : Point) (v : Machine) (a : Answer) (w : Machine) : Type 0 where
+pub record Answered (s : Setup) (m : Meaning) (given : StateMap) (written : List RawMessage)
+    (p : Point) (v : Machine) (a : Answer) (w : Machine) : Type 0 where
   pub at : Point
   pub made : List RawMessage
   pub none_before : (made ≡ []) ⊎ (at.left ≡ [])
@@ -161,7 +165,8 @@ waiting_on false s executing left d = []
 
 -- It waits, for input or for a run, in a machine that agrees with where that leads and keeps its
 -- proposals; all that is written is what it says of what is left of what it waits for.
-pub record StillAgrees (input : Bool) (s : Setup) (m : Meaning) (given : StateMap) (written : List RawMessage) (p : Point) (v w : Machine) : Type 0 where
+pub record StillAgrees (input : Bool) (s : Setup) (m : Meaning) (given : StateMap)
+    (written : List RawMessage) (p : Point) (v w : Machine) : Type 0 where
   pub at : Point
   pub waits : Waits s m given p at
   pub left : Tree
@@ -177,7 +182,8 @@ suspended_on left d = record { future = sent (λ handle. id_at handle d.handles)
 
 -- it waits, and the invocation is suspended: one Suspension is written, on what is left of what it
 -- waits for
-pub record IsSuspended (s : Setup) (m : Meaning) (given : StateMap) (p : Point) (v w : Machine) : Type 0 where
+pub record IsSuspended (s : Setup) (m : Meaning) (given : StateMap) (p : Point)
+    (v w : Machine) : Type 0 where
   pub at : Point
   pub waits : Waits s m given p at
   pub left : Tree
@@ -193,10 +199,11 @@ pub record HasEnded (m : Meaning) (p : Point) (v w : Machine) : Type 0 where
   pub output : w.output ≡ v.output ++ encoding message.End ∷ []
   pub closed : w.phase ≡ Closed
 
--- A call was refused: the run comes to a point from which no move leads on, and one Error is
+-- A call was refused: the run reaches a point from which no move leads on, and one Error is
 -- written, after the commands that were made up to there: none, or no recorded one is left. The
 -- error is that of the reason, by the error rule.
-pub record CallRefused (s : Setup) (m : Meaning) (given : StateMap) (p : Point) (v : Machine) (e : Error) (w : Machine) : Type 0 where
+pub record CallRefused (s : Setup) (m : Meaning) (given : StateMap) (p : Point) (v : Machine)
+    (e : Error) (w : Machine) : Type 0 where
   pub at : Point
   pub made : List RawMessage
   pub none_before : (made ≡ []) ⊎ (at.left ≡ [])
@@ -217,7 +224,8 @@ MakesMany a = ⊥
 
 -- A call that may make more than one command found no memory, once it had made these, each whole:
 -- none, or no recorded one is left.
-pub record IsCutShort (s : Setup) (m : Meaning) (given : StateMap) (p : Point) (v : Machine) (e : Error) (w : Machine) : Type 0 where
+pub record IsCutShort (s : Setup) (m : Meaning) (given : StateMap) (p : Point) (v : Machine)
+    (e : Error) (w : Machine) : Type 0 where
   pub at : Point
   pub made : List RawMessage
   pub none_before : (made ≡ []) ⊎ (at.left ≡ [])

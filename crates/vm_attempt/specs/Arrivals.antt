@@ -11,7 +11,7 @@ use Rattle.runs.specs.Firsts.{without_first}
 use Rattle.runs.specs.Kept.{is_for}
 use Rattle.vm_parts.specs.declared.run_state.KeptProposal.{KeptProposal}
 use Rattle.vm_machine.specs.Inputs.{acknowledged_completion}
-use Rattle.vm_attempt.specs.Journals.{is_acknowledgement, is_notification, notified_by}
+use Rattle.vm_model.specs.JournalFrames.{is_acknowledgement, is_notification, notified_by}
 
 -- the completion that an acknowledgement stands for, where a result was proposed under its id
 abbrev pub acknowledged_as : List KeptProposal → Option ProposeRunCompletionAck

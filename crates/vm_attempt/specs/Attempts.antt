@@ -3,7 +3,7 @@ use Rattle.std.specs.Prelude.{Result}
 use Rattle.journal_protocol.specs.Error.{Error}
 use Rattle.vm_steps.specs.declared.progress.Progress.{Progress}
 use Rattle.vm_steps.specs.Record.{Record, all_heard, all_said, heard}
-use Rattle.vm_attempt.specs.Fixed.{Fixed}
+use Rattle.vm_model.specs.Fixed.{Fixed}
 use Rattle.vm_attempt.specs.Blames.{Blame, IsHonest, IsOwnError}
 use Rattle.vm_attempt.specs.Told.{AnswersAreTold, NothingWakes, NumbersFreshly, Premises, ReplayPremises, AnswersInReplay}
 
@@ -24,7 +24,8 @@ IsHonestlyFed fixed r = IsHonest fixed (all_heard fixed.version r)
 
 -- ---- what is promised
 
--- The journal that it was fed, followed by the commands that it wrote, tells its answers.
+-- The answers are those of a point that is reached on the journal that was fed, followed by the
+-- commands that were written.
 abbrev pub AnswersAsTold : Fixed → Record → Type 0
 AnswersAsTold fixed r = AnswersAreTold fixed r
 
@@ -32,8 +33,8 @@ AnswersAsTold fixed r = AnswersAreTold fixed r
 abbrev pub WaitsRightly : Fixed → Record → Type 0
 WaitsRightly fixed r = NothingWakes fixed r
 
--- The handler's next call is answered from the journal, or it is refused where the journal tells no
--- more.
+-- The handler's next call is answered from the journal, or it is refused if no move over the
+-- journal leads on.
 abbrev pub StepReplays : Fixed → Record → Result Progress Error → Record → Type 0
 StepReplays fixed old result new = AnswersInReplay fixed old result new
 

@@ -44,10 +44,11 @@ use Rattle.vm_model.specs.Refusals.{IsRefusedFor}
 use Rattle.vm_attempt.specs.Arrivals.{kept_after}
 use Rattle.vm_steps.specs.Heard.{Heard}
 use Rattle.vm_steps.specs.declared.progress.Progress.{Progress}
-use Rattle.vm_attempt.specs.Journals.{as_entries, commands_among, is_acknowledgement, is_command_frame, is_ephemeral, is_notification, setup_for}
+use Rattle.vm_model.specs.JournalFrames.{as_entries, commands_among, is_acknowledgement, is_command_frame, is_ephemeral, is_notification}
+use Rattle.vm_attempt.specs.Journals.{setup_for}
 use Rattle.vm_steps.specs.Record.{Record, Said, all_heard, all_said, heard}
 use Rattle.vm_attempt.specs.Told.{AreRightlyKinded, ProposesLate, Journal, Premises, bytes_fed, frames_fed, MovesTo, next_move}
-use Rattle.vm_attempt.specs.Fixed.{Fixed}
+use Rattle.vm_model.specs.Fixed.{Fixed}
 
 -- an error as the error rule says it in a VM that was made for this
 abbrev pub ruled_for : Fixed → Error → Error
@@ -55,7 +56,7 @@ ruled_for fixed e = ruled_by fixed.version fixed.options e
 
 -- ---- frames
 
--- why a Start is refused: a state key is no text, or it tells of no entry
+-- why a Start is refused: a state key is no text, or it says that there is no entry
 abbrev pub refused_start : Start → Option (List (List ℕ × Option (List ℕ))) → Option NamedFault
 refused_start st None = Some fault.BadEagerStateKey
 refused_start st (Some entries) = if st.known_entries == 0 then Some fault.KnownEntriesIsZero
@@ -244,7 +245,8 @@ pub record CannotSkip (fixed : Fixed) (frames : List RawMessage) (e : Error) : T
 
 -- The handler's call was refused for this reason, at the point with these answers to which the
 -- attempt's own run leads: it made what was written.
-pub record RefusedCall (fixed : Fixed) (fed : Heard) (answers_so_far : List Answer) (e : Error) : Type 0 where
+pub record RefusedCall (fixed : Fixed) (fed : Heard) (answers_so_far : List Answer)
+    (e : Error) : Type 0 where
   pub journal : Journal fed
   pub written : List RawMessage
   pub at : Point
@@ -258,9 +260,10 @@ pub record RefusedCall (fixed : Fixed) (fed : Heard) (answers_so_far : List Answ
 
 -- ---- results of runs
 
--- What executing a run came to was refused, or fails the attempt, so that it is tried again or
+-- The outcome of an executed run was refused, or fails the attempt, so that it is tried again or
 -- paused. It is the run whose result failed the VM.
-pub record RefusedResult (fixed : Fixed) (failed_by : Option NotificationHandle) (e : Error) : Type 0 where
+pub record RefusedResult (fixed : Fixed) (failed_by : Option NotificationHandle)
+    (e : Error) : Type 0 where
   pub handle : NotificationHandle
   pub is_told : failed_by ≡ Some handle
   pub exit : RunExitResult
@@ -278,7 +281,8 @@ pub record RefusedResult (fixed : Fixed) (failed_by : Option NotificationHandle)
 -- entries were missing; the journal has no input, or its commands can't be skipped; the handler's
 -- call was refused, or an await found no memory for one of its commands; or a run's result failed
 -- the VM.
-pub data Blame (fixed : Fixed) (fed : Heard) (said : Said) (answers : List Answer) (e : Error) : Type 0 where
+pub data Blame (fixed : Fixed) (fed : Heard) (said : Said) (answers : List Answer)
+    (e : Error) : Type 0 where
   Memory : e ≡ no_memory → Blame fixed fed said answers e
   Frame : BadFrame fixed fed e → Blame fixed fed said answers e
   NoFrame : (frames_of (bytes_fed fed)).1 ≡ Garbage → e
@@ -293,7 +297,8 @@ pub data Blame (fixed : Fixed) (fed : Heard) (said : Said) (answers : List Answe
   RunResult : RefusedResult fixed said.failed_by e → Blame fixed fed said answers e
 
 -- As long as an attempt is not over, its VM isn't closed, and has failed only for such a reason.
-pub record BlamedAt (fixed : Fixed) (over : Option Progress) (fed : Heard) (said : Said) (answers : List Answer) (v : Machine) : Type 0 where
+pub record BlamedAt (fixed : Fixed) (over : Option Progress) (fed : Heard) (said : Said)
+    (answers : List Answer) (v : Machine) : Type 0 where
   pub open_yet : over ≡ None → v.failure ≡ None → v.phase ≢ Closed
   pub blame : over ≡ None → (e : Error) → v.failure ≡ Some e → Blame fixed fed said answers e
 
@@ -303,7 +308,8 @@ IsBlamed fixed r = BlamedAt fixed r.over (heard fixed.version r) (all_said r) r.
 
 -- Once the attempt is over its VM is closed, after the known entries, or has failed for such a
 -- reason.
-pub record BehindEnd (fixed : Fixed) (all : Heard) (said : Said) (answers : List Answer) (vm : View) : Type 0 where
+pub record BehindEnd (fixed : Fixed) (all : Heard) (said : Said) (answers : List Answer)
+    (vm : View) : Type 0 where
   pub phase : vm.machine.failure ≡ None → vm.machine.phase ≡ Closed
   pub place : vm.machine.failure ≡ None → Began (frames_fed all) (λ n known. known ≤ n)
   pub made_for : vm.machine.failure ≡ None → (vm.machine.version ≡ fixed.version)
@@ -350,7 +356,8 @@ pub record IsHonest (fixed : Fixed) (fed : Heard) : Type 0 where
 -- The call was refused for a reason of its own at the point to which the attempt's own run leads:
 -- an argument or version check, numbers that ran out, a state key that is no text. It isn't that
 -- the result of an invocation's id is none.
-pub record RefusedItself (fixed : Fixed) (fed : Heard) (answers_so_far : List Answer) (e : Error) : Type 0 where
+pub record RefusedItself (fixed : Fixed) (fed : Heard) (answers_so_far : List Answer)
+    (e : Error) : Type 0 where
   pub journal : Journal fed
   pub written : List RawMessage
   pub at : Point

@@ -1,19 +1,7 @@
--- What is fixed for an attempt from its beginning.
-use Rattle.journal_protocol.specs.Version.{Version}
-use Rattle.vm_types.specs.declared.options.VMOptions.{VMOptions}
+-- What is fixed for an attempt, read off the attempt.
 use Rattle.vm_model.specs.Calls.{Meaning}
+use Rattle.vm_model.specs.Fixed.{Fixed, fixed_by}
 use Rattle.vm_steps.specs.Record.{AttemptView}
-
--- what the handler calls next after the answers that it saw, and what the attempt was made for
-pub record Fixed : Type 0 where
-  pub handler : Meaning
-  pub version : Version
-  pub options : VMOptions
-
--- for an attempt of this handler, of this version and with these options
-abbrev pub fixed_by : Meaning → Version → VMOptions → Fixed
-fixed_by handler version options =
-    record { handler = handler; version = version; options = options }
 
 -- for an attempt, by what its handler calls
 abbrev pub fixed_of : {H : Type 0} → Meaning → AttemptView H → Fixed

@@ -19,9 +19,10 @@ use Rattle.journal_protocol.specs.ProposeRunCompletionAck.{ProposeRunCompletionA
 use Rattle.journal_protocol.specs.Message.{Message}
 use Rattle.vm_attempt.specs.Arrivals.{AllFound, arriving}
 use Rattle.vm_steps.specs.Heard.{Heard}
-use Rattle.vm_attempt.specs.Journals.{is_command_frame, setup_for}
+use Rattle.vm_model.specs.JournalFrames.{is_command_frame}
+use Rattle.vm_attempt.specs.Journals.{setup_for}
 use Rattle.vm_attempt.specs.Told.{bytes_fed}
-use Rattle.vm_attempt.specs.Fixed.{Fixed}
+use Rattle.vm_model.specs.Fixed.{Fixed}
 
 -- an entry that can be fed: the frame of a command, or a whole notification
 abbrev pub CanBeFed : Entry → Type 0
@@ -61,7 +62,7 @@ abbrev pub honest_frames : Start → List Entry → List Further → List RawMes
 honest_frames start journal more =
     stored_form (message.Start start) ∷ (map entry_frame journal ++ map further_frame more)
 
--- What was fed is a beginning of Start, which tells the length of the journal; of the whole
+-- What was fed is a beginning of Start, which has the length of the journal; of the whole
 -- journal, which is a history of the handler; and of notifications and acknowledgements that come
 -- after it, each of a result that the attempt has proposed, and once. Each of these can be fed.
 -- Recorded commands are replayed, signals queue, and with all these arrivals no completion has two

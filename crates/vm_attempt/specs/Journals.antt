@@ -1,5 +1,5 @@
 -- The journal that an attempt was fed, and the machine that it makes of it.
-use Rattle.std.specs.Prelude.{◌≡◌, ◌⊎◌, ℕ, zero, suc, ◌+◌, Bool, true, false, ◌&&◌, ◌==◌, nat_le, nat_lt, cond, length, List, [], ◌∷◌, ◌++◌, Option, Some, None, IsSome}
+use Rattle.std.specs.Prelude.{◌≡◌, ◌⊎◌, ℕ, zero, suc, ◌+◌, false, length, List, [], ◌++◌, Option, Some, None, IsSome}
 use Rattle.std.specs.List.{AllByRecursion}
 use Rattle.std.proofs.Common.{Global}
 use Rattle.journal_protocol.specs.InputCommand.{InputCommand}
@@ -8,8 +8,7 @@ use Rattle.journal_protocol.specs.Notification.{Notification}
 use Rattle.journal_protocol.specs.Start.{Start}
 use Rattle.journal_protocol.specs.MessageType.TheVariants as type
 use Rattle.journal_protocol.specs.Version.{Version}
-use Rattle.journal_protocol.specs.Bodies.{notification_in, start_in}
-use Rattle.journal_protocol.specs.Types.{type_number}
+use Rattle.journal_protocol.specs.Bodies.{start_in}
 use Rattle.vm_parts.specs.declared.context.StateMap.{StateMap}
 use Rattle.vm_types.specs.declared.options.VMOptions.{VMOptions}
 use Rattle.vm_types.specs.declared.values.Input.{Input}
@@ -21,66 +20,11 @@ use Rattle.vm_machine.specs.declared.phase.Phase.{Phase}
 use Rattle.vm_machine.specs.declared.phase.Phase.TheVariants.{WaitingReplayEntries, Replaying}
 use Rattle.vm_machine.specs.Inputs.{coverage_of, entries_in, start_info_of}
 use Rattle.vm_machine.specs.Outcomes.{Outcome, Done, Failed}
-use Rattle.vm_model.specs.Calls.{Setup, identity_of}
-use Rattle.vm_model.specs.Journal.{Entry, Recorded, Notified}
+use Rattle.vm_model.specs.Calls.{Setup}
+use Rattle.vm_model.specs.JournalFrames.{AcknowledgesNothing, commands_among, notifications_among, setup_with}
 use Rattle.vm_model.specs.Moves.{start, told_input}
 use Rattle.vm_attempt.specs.Agreement.{Agrees, Aside}
-use Rattle.vm_attempt.specs.Fixed.{Fixed}
-
--- the frame is one of a command
-abbrev pub is_command_frame : RawMessage → Bool
-is_command_frame raw = nat_le 10 (type_number raw.ty) && nat_lt (type_number raw.ty) 30
-
--- the frame is one of a notification
-abbrev pub is_notification : RawMessage → Bool
-is_notification raw = type_number raw.ty == 30
-
--- the frame is an acknowledgement of a proposal
-abbrev pub is_acknowledgement : RawMessage → Bool
-is_acknowledgement raw = type_number raw.ty == 6
-
--- the frame brings the result of an ephemeral read
-abbrev pub is_ephemeral : RawMessage → Bool
-is_ephemeral raw = type_number raw.ty == 9
-
--- the frame is no acknowledgement
-abbrev pub AcknowledgesNothing : RawMessage → Type 0
-AcknowledgesNothing raw = is_acknowledgement raw ≡ false
-
--- the commands among some frames
-abbrev pub commands_among : List RawMessage → List RawMessage
-commands_among [] = []
-commands_among (raw ∷ raws) = cond (is_command_frame raw) (raw
-    ∷ commands_among raws) (commands_among raws)
-
--- with the notification that was read, if there was one
-abbrev pub notified_by : Option Notification → List Notification → List Notification
-notified_by None ns = ns
-notified_by (Some n) ns = n ∷ ns
-
--- the notifications among some frames; a body that encodes none brings none
-abbrev pub notifications_among : List RawMessage → List Notification
-notifications_among [] = []
-notifications_among (raw
-    ∷ raws) = cond (is_notification raw)
-    (notified_by (notification_in raw.body) (notifications_among raws)) (notifications_among raws)
-
--- a command's frame as an entry, before others
-abbrev pub recorded_by : Bool → RawMessage → List Entry → List Entry
-recorded_by true raw es = Recorded raw ∷ es
-recorded_by false raw es = es
-
--- a notification as an entry, if there is one
-abbrev pub told_by : Option Notification → List Entry → List Entry
-told_by None es = es
-told_by (Some n) es = Notified n ∷ es
-
--- frames as the entries of a journal; a notification's body that encodes none is no entry
-abbrev pub as_entries : List RawMessage → List Entry
-as_entries [] = []
-as_entries (raw ∷ raws) = recorded_by (is_command_frame raw) raw
-    (cond (is_notification raw) (told_by (notification_in raw.body) (as_entries raws))
-    (as_entries raws))
+use Rattle.vm_model.specs.Fixed.{Fixed}
 
 -- Before the handler has read its input: the commands and notifications that came after Start, and
 -- nothing else.
@@ -139,7 +83,8 @@ waiting_machine s given aside k cs ns =
 -- What frames make of a machine that waits: it has failed; or it waits for those that are missing;
 -- or the journal is the first of them, as many as were missing, and all their notifications are
 -- arrivals. No frame among them is an acknowledgement.
-pub record StillWaits (s : Setup) (given : StateMap) (aside : Aside) (k : ℕ) (cs : List RawMessage) (ns : List Notification) (raws : List RawMessage) (m : Machine) : Type 0 where
+pub record StillWaits (s : Setup) (given : StateMap) (aside : Aside) (k : ℕ) (cs : List RawMessage)
+    (ns : List Notification) (raws : List RawMessage) (m : Machine) : Type 0 where
   pub left : ℕ
   pub count : k ≡ length raws + suc left
   pub none_acknowledge : AllByRecursion AcknowledgesNothing raws
@@ -147,7 +92,8 @@ pub record StillWaits (s : Setup) (given : StateMap) (aside : Aside) (k : ℕ) (
       ++ notifications_among raws)
 
 -- the known entries have all come
-pub record HasAll (s : Setup) (given : StateMap) (aside : Aside) (k : ℕ) (cs : List RawMessage) (ns : List Notification) (raws : List RawMessage) (m : Machine) : Type 0 where
+pub record HasAll (s : Setup) (given : StateMap) (aside : Aside) (k : ℕ) (cs : List RawMessage)
+    (ns : List Notification) (raws : List RawMessage) (m : Machine) : Type 0 where
   pub entries : List RawMessage
   pub others : List RawMessage
   pub split : raws ≡ entries ++ others
@@ -163,14 +109,6 @@ TakenIn s given aside k cs ns raws m = IsSome m.failure
     ⊎ (StillWaits s given aside k cs ns raws m ⊎ HasAll s given aside k cs ns raws m)
 
 -- ---- from Start on
-
--- the setup of an attempt of this version, with these options and this Start
-abbrev pub setup_with : Version → VMOptions → Start → Setup
-setup_with version options st = record {
-  version = version;
-  options = options;
-  identity = identity_of (start_info_of version options.fallback_random_seed st);
-}
 
 -- the setup of an attempt with this Start
 abbrev pub setup_for : Fixed → Start → Setup
@@ -189,8 +127,9 @@ aside_for alloc version options st = record {
 }
 
 -- the first frame was a Start: its state is kept, and the machine waits for as many entries as it
--- tells
-pub record HasStarted (alloc : Global) (version : Version) (options : VMOptions) (raw : RawMessage) (m : Machine) : Type 0 where
+-- says
+pub record HasStarted (alloc : Global) (version : Version) (options : VMOptions) (raw : RawMessage)
+    (m : Machine) : Type 0 where
   pub start : Start
   pub entries : List (List ℕ × Option (List ℕ))
   pub reads : start_in raw.body ≡ Some start
@@ -204,7 +143,8 @@ abbrev pub StartCame : Global → Version → VMOptions → RawMessage → Machi
 StartCame alloc version options raw m = IsSome m.failure ⊎ HasStarted alloc version options raw m
 
 -- the first frame was a Start, and the others were fed
-pub record StartedWith (alloc : Global) (version : Version) (options : VMOptions) (first : RawMessage) (raws : List RawMessage) (m : Machine) : Type 0 where
+pub record StartedWith (alloc : Global) (version : Version) (options : VMOptions)
+    (first : RawMessage) (raws : List RawMessage) (m : Machine) : Type 0 where
   pub start : Start
   pub entries : List (List ℕ × Option (List ℕ))
   pub reads : start_in first.body ≡ Some start

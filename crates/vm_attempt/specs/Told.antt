@@ -1,4 +1,4 @@
--- What the record of an attempt tells of its handler's run.
+-- What the record of an attempt says of its handler's run.
 use Rattle.std.specs.Prelude.{◌≡◌, ◌≢◌, ◌⊎◌, ◌≤◌, ℕ, true, cond, length, List, [], ◌∷◌, ◌++◌, map, Option, Some, None, Result, Ok, Err}
 use Rattle.std.specs.List.{AllByRecursion, concat, flat_map}
 use Rattle.journal_protocol.specs.InputCommand.{InputCommand}
@@ -41,14 +41,15 @@ use Rattle.vm_steps.specs.declared.progress.Progress.{Progress}
 use Rattle.vm_steps.specs.declared.progress.Progress.TheVariants as progress
 use Rattle.vm_asks.specs.Asks.{ask_of}
 use Rattle.vm_attempt.specs.Agreement.{Agrees, Aside, MakesMany, command_frames}
-use Rattle.vm_attempt.specs.Journals.{AcknowledgesNothing, HasAll, StillWaits, commands_among, is_command_frame, setup_for}
+use Rattle.vm_model.specs.JournalFrames.{AcknowledgesNothing, commands_among, is_command_frame}
+use Rattle.vm_attempt.specs.Journals.{HasAll, StillWaits, setup_for}
 use Rattle.vm_types.specs.declared.steps.Answer.{Answer}
 use Rattle.invocation_vm.specs.Views.{View}
 use Rattle.vm_attempt.specs.Arrivals.{AllFound, arriving, kept_after}
 use Rattle.vm_steps.specs.Heard.{Heard, proposals_among}
 use Rattle.vm_steps.specs.Record.{Record, bytes_written, heard}
 use Rattle.vm_steps.specs.Stepping.{IfWaits}
-use Rattle.vm_attempt.specs.Fixed.{Fixed}
+use Rattle.vm_model.specs.Fixed.{Fixed}
 
 -- ---- what is read from the record
 
@@ -200,7 +201,8 @@ IsToldPoint fixed j written p =
 -- The answers of an attempt are those of such a point; what it wrote are just the commands that the
 -- calls up to there define and that weren't recorded; and while recorded commands are left, it has
 -- written none.
-pub record ToldBy (fixed : Fixed) (fed : Heard) (answers_so_far : List Answer) (written : List RawMessage) : Type 0 where
+pub record ToldBy (fixed : Fixed) (fed : Heard) (answers_so_far : List Answer)
+    (written : List RawMessage) : Type 0 where
   pub journal : Journal fed
   pub at : Point
   pub told : IsToldPoint fixed journal written at
@@ -213,9 +215,10 @@ pub record ToldBy (fixed : Fixed) (fed : Heard) (answers_so_far : List Answer) (
 abbrev pub AnswersAreTold : Fixed → Record → Type 0
 AnswersAreTold fixed r = ToldBy fixed (heard fixed.version r) r.answers (written_by r)
 
--- An await waits rightly: with all arrivals that were fed the journal tells no point with more
--- answers; and where all its commands and all arrivals are used, the run needs one more arrival.
-pub record IsAsleep (fixed : Fixed) (fed : Heard) (answers_so_far : List Answer) (written : List RawMessage) : Type 0 where
+-- An await waits rightly: with all arrivals that were fed no point with more answers is reached on
+-- the journal; and once all its commands and all arrivals are used, the run needs one more arrival.
+pub record IsAsleep (fixed : Fixed) (fed : Heard) (answers_so_far : List Answer)
+    (written : List RawMessage) : Type 0 where
   pub journal : Journal fed
   pub future : UnresolvedFuture
   pub awaits : fixed.handler answers_so_far ≡ step.Await future
@@ -236,11 +239,12 @@ abbrev pub AwaitWaits : Fixed → Heard → List Answer → List (List ℕ) → 
 AwaitWaits fixed fed answers taken vm = (written : List RawMessage)
     × Wrote taken vm.machine.output written × IsAsleep fixed fed answers written
 
--- A call is refused that began while recorded commands were left: the run comes to a point with
+-- A call is refused that began while recorded commands were left: the run reaches a point with
 -- these answers from which no move leads on, for this reason; one Error is written, which says so
 -- by the error rule, and the VM fails by it. A cancelled await may have made commands before it,
 -- but none while recorded ones were left.
-pub record RefusesReplay (fixed : Fixed) (fed : Heard) (answers_so_far : List Answer) (e : Error) (old new : Machine) : Type 0 where
+pub record RefusesReplay (fixed : Fixed) (fed : Heard) (answers_so_far : List Answer) (e : Error)
+    (old new : Machine) : Type 0 where
   pub journal : Journal fed
   pub at : Point
   pub moves : ℕ
@@ -259,7 +263,8 @@ pub record RefusesReplay (fixed : Fixed) (fed : Heard) (answers_so_far : List An
 -- A call that may make more than one command, and began while recorded ones were left, found no
 -- memory for one of them. It may have made others before, each whole, but none while recorded ones
 -- were left.
-pub record StarvesReplay (fixed : Fixed) (fed : Heard) (answers_so_far : List Answer) (e : Error) (old new : Machine) : Type 0 where
+pub record StarvesReplay (fixed : Fixed) (fed : Heard) (answers_so_far : List Answer) (e : Error)
+    (old new : Machine) : Type 0 where
   pub journal : Journal fed
   pub at : Point
   pub moves : ℕ
@@ -312,7 +317,8 @@ StillAwaits m p (Some future) = m p.answers ≡ step.Await future
 -- The handler runs: a number of moves leads from the point after the input to one with the
 -- attempt's answers, and made what was written; and as long as the VM can make calls it agrees with
 -- that point.
-pub record HandlerRuns (fixed : Fixed) (fed : Heard) (answers_so_far : List Answer) (waiting : Option UnresolvedFuture) (taken : List (List ℕ)) (vm : View) : Type 0 where
+pub record HandlerRuns (fixed : Fixed) (fed : Heard) (answers_so_far : List Answer)
+    (waiting : Option UnresolvedFuture) (taken : List (List ℕ)) (vm : View) : Type 0 where
   pub journal : Journal fed
   pub written : List RawMessage
   pub wrote : Wrote taken vm.machine.output written
@@ -340,7 +346,8 @@ pub record NumbersOn (recorded written : List RawMessage) (v : Machine) : Type 0
 -- The handler has read its input, which the journal begins with. What was written are the frames of
 -- messages. The VM was made for this version and these options; it runs, or it is closed or has
 -- failed.
-pub record JournalCame (fixed : Fixed) (fed : Heard) (answers_so_far : List Answer) (taken : List (List ℕ)) (vm : View) : Type 0 where
+pub record JournalCame (fixed : Fixed) (fed : Heard) (answers_so_far : List Answer)
+    (taken : List (List ℕ)) (vm : View) : Type 0 where
   pub journal : Journal fed
   pub answered : answers_so_far ≢ []
   pub written : List RawMessage
@@ -381,7 +388,8 @@ Comes fixed fed machine = ((frames_fed fed ≡ [])
 
 -- The handler hasn't read its input: nothing was answered, and no command and no proposal was
 -- written.
-pub record BeforeInput (fixed : Fixed) (fed : Heard) (answers_so_far : List Answer) (waiting : Option UnresolvedFuture) (taken : List (List ℕ)) (vm : View) : Type 0 where
+pub record BeforeInput (fixed : Fixed) (fed : Heard) (answers_so_far : List Answer)
+    (waiting : Option UnresolvedFuture) (taken : List (List ℕ)) (vm : View) : Type 0 where
   pub answers : answers_so_far ≡ []
   pub none_proposed : fed.proposed ≡ []
   pub waits_not : waiting ≡ None
@@ -404,7 +412,8 @@ abbrev pub IsKeptUnder : Fixed → Record → Type 0
 IsKeptUnder fixed r = Premises fixed (heard fixed.version r) → IsKept fixed r
 
 -- The handler has read its input, and as long as recorded commands are left it runs.
-pub record InReplay (fixed : Fixed) (fed : Heard) (answers_so_far : List Answer) (waiting : Option UnresolvedFuture) (taken : List (List ℕ)) (vm : View) : Type 0 where
+pub record InReplay (fixed : Fixed) (fed : Heard) (answers_so_far : List Answer)
+    (waiting : Option UnresolvedFuture) (taken : List (List ℕ)) (vm : View) : Type 0 where
   pub came : JournalCame fixed fed answers_so_far taken vm
   pub run : vm.machine.failure ≡ None → vm.machine.phase ≡ Replaying
       → HandlerRuns fixed fed answers_so_far waiting taken vm

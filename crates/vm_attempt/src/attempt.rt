@@ -19,7 +19,7 @@ pub struct Attempt<H: Handler> {
     inner: Inner<H>,
 }
 
-/// Written out, so that who lets an attempt go calls this: a derived drop is proved once more in each crate above.
+/// Written out, so that dropping an attempt calls this: a derived drop is proved once more in each crate above.
 impl<H: Handler + Drop> Drop for Attempt<H> {
     fn drop(self) {
         let Self {
@@ -34,7 +34,7 @@ impl<H: Handler + Drop> Drop for Attempt<H> {
 impl<H: Handler> Model for Attempt<H> {
     ghost use Rattle.vm_steps.specs.Record.{AttemptView};
     ghost use Rattle.vm_steps.specs.Inside.{the_record};
-    ghost use Rattle.vm_attempt.specs.Fixed.{fixed_by};
+    ghost use Rattle.vm_model.specs.Fixed.{fixed_by};
     ghost use Rattle.vm_attempt.specs.Invariant.{AlwaysHolds};
     ghost use Rattle.await_trees.specs.contracts.tree.UnresolvedFuture as future;
     ghost use Rattle.std.specs.Coded.{codes};
@@ -119,8 +119,8 @@ impl<H: Handler> Attempt<H> {
             (fixed_of (H.meaning self.old.handler) self.old) self.old.record_of
             → IfWaits result (WaitsRightly
             (fixed_of (H.meaning self.old.handler) self.old) self.new.record_of) }
-        // While recorded commands are left, the handler's next call is answered, or it is refused where the journal tells no more. This asks
-        // nothing of what comes once none is left.
+        // While recorded commands are left, the handler's next call is answered, or it is refused if no move over the journal
+        // leads on. This asks nothing of what comes once none is left.
         ensures replays { IsReplaying self.old.record_of
             → IsWellFedInReplay (fixed_of (H.meaning self.old.handler) self.old) self.old.record_of
             → StepReplays (fixed_of (H.meaning self.old.handler) self.old)
@@ -190,15 +190,15 @@ impl<H: Handler> Attempt<H> {
         taken
     }
 
-    /// The answers so far; the first is the input. They are those of a point that the attempt's journal tells.
+    /// The answers so far; the first is the input. They are those of a point that is reached on the attempt's journal.
     pub fn answers(&self) -> &[Answer]
         ensures answers { result.now ≡ self.now.record_of.answers }
         // Before the input nothing is answered.
         ensures came { HasCome
             (fixed_of (H.meaning self.now.handler) self.now) self.now.record_of }
         ensures begins { self.now.record_of.answers ≡ [] → written_by self.now.record_of ≡ [] }
-        // Under the premises the journal, which is what was fed, followed by the commands that were written, tells them; no command is
-        // written while recorded ones are left.
+        // Under the premises they are those of a point that is reached on the journal, which is what was fed, followed by the
+        // commands that were written; no command is written while recorded ones are left.
         ensures told { IsWellFed
             (fixed_of (H.meaning self.now.handler) self.now) self.now.record_of
             → (self.now.record_of.answers ≡ []) ⊎ AnswersAsTold

@@ -23,11 +23,12 @@ ghost use Rattle.vm_parts.specs.declared.context.StateMap.{StateMap};
 ghost use Rattle.vm_parts.specs.Outboxes.{WholeFrames};
 ghost use Rattle.vm_attempt.specs.Agreement.{Agrees, Aside, CallFollows};
 ghost use Rattle.vm_attempt.specs.Courses.{Leads};
-ghost use Rattle.vm_attempt.specs.Fixed.{Fixed};
+ghost use Rattle.vm_model.specs.Fixed.{Fixed};
 ghost use Rattle.vm_attempt.specs.Blames.{Blame, FailsAt, IsHonest, IsOwnError};
 ghost use Rattle.vm_attempt.specs.Honest.{FeedsHonestly};
 ghost use Rattle.vm_attempt.specs.Arrivals.{arriving, kept_after};
-ghost use Rattle.vm_attempt.specs.Journals.{BeginsOrFails, Started, as_entries, machine_fed, setup_for};
+ghost use Rattle.vm_model.specs.JournalFrames.{as_entries};
+ghost use Rattle.vm_attempt.specs.Journals.{BeginsOrFails, Started, machine_fed, setup_for};
 ghost use Rattle.vm_steps.specs.Steps.{IfDone, Performs, ReadsBack};
 ghost use Rattle.vm_attempt.specs.Told.{AnswersAreTold, HasCome, IsKeptUnder, Premises, RefusesReplay};
 ghost use Rattle.vm_steps.specs.declared.progress.Progress.{Progress};
@@ -147,8 +148,8 @@ pub fn histories_are_replayed()
         (as_entries refusal.journal.entries) → ⊥ }
 {}
 
-/// Under the premises the answers of an attempt are those of a point that its journal tells, followed by what it wrote, with the arrivals that it
-/// was fed; while recorded commands are left, it has written none.
+/// Under the premises the answers of an attempt are those of a point that is reached on its journal, followed by what it wrote,
+/// with the arrivals that it was fed; while recorded commands are left, it has written none.
 pub fn answers_are_told()
     ensures { (fixed : Fixed) (r : Record) → IsKeptUnder fixed r → WholeFrames r.vm.machine.output
         → Premises fixed (heard fixed.version r) → (r.answers ≡ []) ⊎ AnswersAreTold fixed r }

@@ -1,4 +1,4 @@
--- An await that has woken, and what comes behind it.
+-- An await that has woken, and what follows it.
 use Rattle.std.proofs.Common.{◌≡◌, ◌<◌, ℕ, Bool, true, false, List, ◌∷◌, Option, Some, None, refl, sym, ap, ◌∙◌, subst, ⊎_elim, length, arith}
 use Rattle.std.specs.Prelude.{if◌then◌else◌, MatchBool, Result, Ok, Err}
 use Rattle.std.specs.Option.{option_and_then}
@@ -50,7 +50,7 @@ pending_sleeps : (replaying : Bool) (run : Option PendingRun) (executing : Bool)
 pending_sleeps true run executing left u w h = cc
 pending_sleeps false run executing left u w h = runs_sleep run executing left u w h
 
--- an await that has woken has used so many notifications, and changed nothing else
+-- an await that has woken has used some number of notifications, and changed nothing else
 pub woken_used : (t : Tree) (v w : Machine) → Tries t v (Done (Ok AnyCompleted) w) → (n : ℕ) × (w ≡ with_used n v)
 woken_used t v w tries = ⊎_elim
     (λ (x : AwaitCompletes t v (Done (Ok AnyCompleted) w)). (x.0, sym (done_so (Ok AnyCompleted) (Ok AnyCompleted) w (with_used x.0 v) x.2)))
@@ -97,10 +97,10 @@ read_keeps handle v w reads =
     let known = read_known handle v w reads in
     (ap lasting known.2, ap (λ (x : Machine). x.phase) known.2)
 
--- ---- what comes behind
+-- ---- what follows
 
 module _ (R : Outcome (Result AwaitResponse Error) → Type 0) (Next : Machine → Outcome (Result AwaitResponse Error) → Type 0) (v : Machine) where
-  -- an outcome of the first part, and what comes behind it
+  -- an outcome of the first part, and what follows it
   abbrev pub Both : Outcome (Result AwaitResponse Error) → Type 0
   Both o = (first : Outcome (Result AwaitResponse Error)) × R first × Behind Next first o
 
@@ -122,7 +122,8 @@ module _ (R : Outcome (Result AwaitResponse Error) → Type 0) (Next : Machine �
   gives_behind answer mid (Err (why.Refused e)) new g so kept h = (woken_both answer mid (Failed e new) g so h.0, h.1 ∙ kept)
   gives_behind answer mid (Err why.Memory) new g so kept h = h ∙ kept
 
--- Some ids were read: whatever comes of the others comes of all, and nothing else has changed.
+-- Some ids were read: an outcome of reading the others is one of reading all, and nothing else has
+-- changed.
 pub record Gathered (first now : Machine) : Type 0 where
   pub on : (o : Outcome (Result AwaitResponse Error)) → Gathers (unresolved_handles now.tracked) now o → Gathers (unresolved_handles first.tracked) first o
   pub keeps : lasting now ≡ lasting first
@@ -156,7 +157,7 @@ module _ (first now : Machine) (g : Gathered first now) (handle : ℕ) (one : Is
   stays : (answer : Result AwaitResponse Error) (new : Machine) → ReadsId handle now (Done answer new) → has_woken answer ≡ false → Gathers (unresolved_handles first.tracked) first (Done answer new)
   stays answer new h asleep = gives_on (Ok answer) new (gives_other (ReadsId handle now) (Gathers one.0) now answer new h asleep)
 
-  -- behind an id that was read the others are left
+  -- once an id was read, the others are left
   left : (mid : Machine) → ReadsId handle now (Done (Ok AnyCompleted) mid) → unresolved_handles mid.tracked ≡ one.0
   left mid reads =
       let known = read_known handle now mid reads in

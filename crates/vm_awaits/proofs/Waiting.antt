@@ -54,7 +54,7 @@ last_related_behind handles handle v = ap (option_map run_as_related) (last_run_
 
 -- ---- what an await waits for
 
--- where none of these runs waits to be executed, none is changed
+-- if none of these runs waits to be executed, none is changed
 pub none_executed : (handles : List ℕ) (runs left : List PendingRun) → None ≡ option_map handle_of (find (may_execute handles) runs) → left ≡ with_first (may_execute handles) run_started runs → left ≡ runs
 none_executed handles runs left none is = is ∙ not_changed (may_execute handles) run_started runs (mapped_none handle_of (find (may_execute handles) runs) none)
 
@@ -76,7 +76,7 @@ executes_so left v new handles run are past some is =
     ∙ ap (λ o. waits_on o (list_any (is_executing_in (handles_of left)) v.runs) left v) waits
     ∙ λ i. Done (Ok (ExecuteRun (sym found.2 i))) ((ap (λ hs. executed hs v) (sym are) ∙ sym is) i)
 
--- it waits where no run is to be executed
+-- it waits if no run is to be executed
 pub pends_so : (left : Tree) (v w new : Machine) (handles : List ℕ) (executing : Bool) (r : Result (Result AwaitResponse Error) Fault) → handles ≡ handles_of left → is_replaying v.phase ≡ false → None ≡ option_map handle_of (find (may_execute handles) v.runs) → w ≡ v
     → executing ≡ list_any (is_executing_in handles) w.runs → Gives (waits_by w.input_closed (any_in_flight w.ephemeral) executing left w) r w new → Gives (pending_on left v) r v new
 pends_so left v w new handles executing r are past none same is gives =

@@ -102,7 +102,7 @@ executed handles v = record v { runs = with_first (may_execute handles) run_star
 
 -- An await waits for input and for the results of runs, by whether the input is closed, whether an
 -- ephemeral read is in flight, and whether a run that it waits for is executing. With closed input
--- no ephemeral read may be in flight; where no run's result can come either, the invocation is
+-- no ephemeral read may be in flight; if no run's result can come either, the invocation is
 -- suspended.
 abbrev pub waits_by : Bool → Bool → Bool → Tree → Machine → Outcome (Result AwaitResponse Error)
 waits_by false in_flight executing left v =
@@ -140,7 +140,7 @@ StaysPending t v o =
     (left : Tree) × LeftPending v.options.signal_delivery v.results t left
     × (o ≡ pending_on left (with_used (length v.results.queued) v))
 
--- what an await of a tree may come to by the notifications alone
+-- the possible outcomes of an await of a tree by the notifications alone
 abbrev pub Tries : Tree → Machine → Outcome (Result AwaitResponse Error) → Type 0
 Tries t v o = AwaitCompletes t v o ⊎ StaysPending t v o
 
@@ -174,7 +174,7 @@ has_woken (Ok (WaitingExternalProgress input run)) = false
 has_woken (Ok (EphemeralNotificationReady id)) = false
 has_woken (Err e) = false
 
--- what comes behind an await that has woken; each other outcome stays
+-- `Next` follows an await that has woken; each other outcome stays
 abbrev pub Behind : (Machine → Outcome (Result AwaitResponse Error) → Type 0)
     → Outcome (Result AwaitResponse Error) → Outcome (Result AwaitResponse Error) → Type 0
 Behind Next (Done answer w) o = MatchBool (has_woken answer) (Next w o) (o ≡ Done answer w)
@@ -211,7 +211,7 @@ TriesOrCancels t v o =
     (first : Outcome (Result AwaitResponse Error)) × Tries (or_cancelled t) v first
     × Behind (λ w p. EndsBy (is_cancelled w) w p) first o
 
--- ---- what an await comes to
+-- ---- the outcome of an await
 
 -- by whether the cancel signal ends awaits
 abbrev pub AwaitsBy : Bool → Tree → Machine → Outcome (Result AwaitResponse Error) → Type 0
@@ -223,6 +223,6 @@ abbrev pub AwaitsAt : Bool → Tree → Machine → Outcome (Result AwaitRespons
 AwaitsAt true t v o = AwaitsBy (ends_awaits v.options.implicit_cancellation) t v o
 AwaitsAt false t v o = o ≡ refused (state_fault v.phase) v
 
--- what an await of a tree may come to
+-- the possible outcomes of an await of a tree
 abbrev pub Awaits : Tree → Machine → Outcome (Result AwaitResponse Error) → Type 0
 Awaits t v o = AwaitsAt (is_running v.phase) t v o

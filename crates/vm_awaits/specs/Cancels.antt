@@ -26,7 +26,7 @@ SendsCancel id sent old new =
     Does (called (commanded (cancel_invocation_command id) old) old) sent old new
     × OnOk sent (CanBeRead (cancel_invocation_command id).message old)
 
--- what comes behind a call that was answered; an error stays
+-- `Next` follows a call that was answered; an error stays
 abbrev pub Onward : (Result (Result AwaitResponse Error) Error → Machine → Machine → Type 0)
     → Result NotificationHandle Error → Result (Result AwaitResponse Error) Error → Machine
     → Machine → Type 0
@@ -59,7 +59,7 @@ FinishesIf true first r mid new =
     Cancels (invocation_ids mid.tracked) r (record mid { tracked = [] }) new
 FinishesIf false first r mid new = (r ≡ first) × (new ≡ mid)
 
--- what comes behind the first part of an await
+-- what follows the first part of an await
 abbrev pub FollowsFirstPart : Result (Result AwaitResponse Error) Error
     → Result (Result AwaitResponse Error) Error → Machine → Machine → Type 0
 FollowsFirstPart first r mid new = FinishesIf (sends_cancels first) first r mid new

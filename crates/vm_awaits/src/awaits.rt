@@ -172,8 +172,8 @@ fn execute_run(machine: &mut Machine, handles: &[u32]) -> Option<NotificationHan
     }
 }
 
-/// An await waits for input and for the results of runs, by whether a run that it waits for is executing. Where no input comes any more,
-/// no ephemeral read may be in flight; where no run's result can come either, the invocation is suspended.
+/// An await waits for input and for the results of runs, by whether a run that it waits for is executing. If no input comes any
+/// more, no ephemeral read may be in flight; if no run's result can come either, the invocation is suspended.
 fn wait_or_suspend(machine: &mut Machine, left: &Residue, executing: bool) -> Result<Awaited, Fault>
     ensures { Gives (waits_by machine.old.input_closed (any_in_flight machine.old.ephemeral)
         executing (tree_left left.now) machine.old) result machine.old machine.new }

@@ -1,4 +1,4 @@
--- What an acknowledgement comes to, by what is kept under its id.
+-- The outcome of an acknowledgement, by what is kept under its id.
 use Rattle.std.proofs.Common.{◌≡◌, ℕ, false, [], ◌∷◌, ◌++◌, Some, None, ap, ◌∙◌}
 use Rattle.std.specs.Prelude.{◌==◌, ◌&&◌, nat_le, nat_lt, if◌then◌else◌}
 use Rattle.std.specs.List.{find}

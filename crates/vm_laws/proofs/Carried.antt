@@ -16,7 +16,7 @@ use Rattle.await_trees.specs.declared.handle.NotificationHandle.{NotificationHan
 use Rattle.vm_parts.specs.Counting.{missing_number, missing_signals, next_index}
 use Rattle.vm_machine.specs.declared.machine.Machine.{Machine}
 use Rattle.vm_machine.specs.Commands.{written, ignores_payloads, phase_after, popped, popped_from, compared, replayed, carried_out, prepared, command_if_counted, issued}
-use Rattle.vm_machine.specs.Outcomes.{Outcome, Done, Failed, ◌>>=◌, about_last}
+use Rattle.vm_machine.specs.Outcomes.{Outcome, Done, Failed, ◌>>>◌, about_last}
 use Rattle.vm_machine.specs.Phases.{is_running, is_processing}
 use Rattle.vm_asks.specs.Requests.{changed, ids_of, with_ids}
 use Rattle.journal_protocol.specs.NotificationResult.{NotificationResult}
@@ -59,12 +59,12 @@ compared_keeps m ignore None v w h = absurd (no_answer _ (tt {0}) v w h)
 compared_keeps m ignore (Some recorded) v w h = compared_at m ignore (header_equal recorded m ignore) v w h
 
 typed_at : (m : Message) (ignore b : Bool) (raw : RawMessage) (v w : Machine)
-    → IsDone ((if b then Done raw v else Failed (about_last fault.CommandTypeMismatch v) v) >>= λ r u. compared m ignore (message_in r.ty r.body) u) w → Keeps v w
+    → IsDone ((if b then Done raw v else Failed (about_last fault.CommandTypeMismatch v) v) >>> λ r u. compared m ignore (message_in r.ty r.body) u) w → Keeps v w
 typed_at m ignore true raw v w h = compared_keeps m ignore (message_in raw.ty raw.body) v w h
 typed_at m ignore false raw v w h = absurd (no_answer _ (tt {0}) v w h)
 
 popped_keeps : (m : Message) (ignore : Bool) (raws : List RawMessage) (v w : Machine)
-    → IsDone (popped_from raws (type_of m) v >>= λ raw u. compared m ignore (message_in raw.ty raw.body) u) w → Keeps v w
+    → IsDone (popped_from raws (type_of m) v >>> λ raw u. compared m ignore (message_in raw.ty raw.body) u) w → Keeps v w
 popped_keeps m ignore [] v w h = absurd (no_answer _ (tt {0}) v w h)
 popped_keeps m ignore (raw ∷ rest) v w h =
     typed_at m ignore (type_number raw.ty == type_number (type_of m)) raw (record v { commands = rest; phase = phase_after rest }) w h
@@ -79,7 +79,7 @@ unfolding carried_out
 carried_keeps m ignore v w h = carried_at m ignore (is_processing v.phase) v w h
 
 -- a call's answer is the handle that comes next
-pub answered : (o : Outcome Unit) (given handle : NotificationHandle) (w : Machine) → (o >>= λ _ u. Done given u) ≡ Done handle w → IsDone o w × (handle ≡ given)
+pub answered : (o : Outcome Unit) (given handle : NotificationHandle) (w : Machine) → (o >>> λ _ u. Done given u) ≡ Done handle w → IsDone o w × (handle ≡ given)
 answered (Done t u) given handle w h = (ap (λ x. Done tt x) (same_machine given handle u w h), same_answer given handle u w h)
 answered (Failed e u) given handle w h = absurd (no_answer e handle u w h)
 

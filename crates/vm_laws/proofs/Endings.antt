@@ -1,4 +1,4 @@
--- Each event writes at most one terminal message, and nothing behind it.
+-- Each event writes at most one terminal message, and nothing after it.
 use Rattle.std.proofs.Common.{◌≡◌, ℕ, Bool, true, false, List, [], ◌∷◌, ◌++◌, Option, Some, None, length, map, refl, sym, ap, subst, ⊎_elim, ◌∙◌, arith}
 use Rattle.std.specs.Prelude.{if◌then◌else◌, ◌||◌, ◌&&◌, ◌==◌, nat_le, nat_lt, not, is_some, drop, Result, Ok, Err}
 use Rattle.std.proofs.lemmas.List.{append-nil}
@@ -73,7 +73,7 @@ use Rattle.vm_machine.specs.Signals.{awakeable_counted, awakeable_step, signal_c
 use Rattle.vm_machine.specs.Commands.{entered, written, ignores_payloads, phase_after, popped, popped_from, compared, replayed, carried_out, prepared, command_if_counted, issued, commanded, commanded_unless, about_next, handed_out}
 use Rattle.vm_machine.specs.Several.{commanded_before, foreseen, foreseen_unless, missing_for, numbers_left}
 use Rattle.vm_laws.specs.Endings.{EndsOnce, EventWrites, Writes, is_over, is_terminal}
-use Rattle.vm_machine.specs.Outcomes.{Outcome, Done, Failed, ◌>>=◌, CalledBy, about_last, called, called_at, failed, refused, ruled}
+use Rattle.vm_machine.specs.Outcomes.{Outcome, Done, Failed, ◌>>>◌, CalledBy, about_last, called, called_at, failed, refused, ruled}
 use Rattle.vm_machine.specs.Phases.{is_closed, is_processing, is_replaying, is_running, state_fault}
 use Rattle.journal_protocol.specs.Versions.{is_from_v7}
 use Rattle.vm_asks.specs.Requests.{ids_of, name_of, shown_type, with_ids}
@@ -216,7 +216,7 @@ compared_quiet : (m : Message) (ignore : Bool) (recorded : Option Message) (v u 
 compared_quiet m ignore None v u s = s
 compared_quiet m ignore (Some recorded) v u s = compared_at m v u (header_equal recorded m ignore) s
 
-then_compared : (m : Message) (ignore : Bool) (v : Machine) (o : Outcome RawMessage) → Quiet v o → Quiet v (o >>= λ raw w. compared m ignore (message_in raw.ty raw.body) w)
+then_compared : (m : Message) (ignore : Bool) (v : Machine) (o : Outcome RawMessage) → Quiet v o → Quiet v (o >>> λ raw w. compared m ignore (message_in raw.ty raw.body) w)
 then_compared m ignore v (Done raw w) s = compared_quiet m ignore (message_in raw.ty raw.body) v w s
 then_compared m ignore v (Failed e w) s = s
 
@@ -236,7 +236,7 @@ carried_event : (m : Message) (ignore : Bool) (v u : Machine) → Same v u → i
 unfolding carried_out
 carried_event m ignore v u s goes c t = carried_at m ignore (is_processing u.phase) v u s goes c t
 
-pub answered : {A B : Type 0} (v : Machine) (o : Outcome A) (f : A → B) → Event v o → Event v (o >>= λ a w. Done (f a) w)
+pub answered : {A B : Type 0} (v : Machine) (o : Outcome A) (f : A → B) → Event v o → Event v (o >>> λ a w. Done (f a) w)
 answered v (Done a w) f h = h
 answered v (Failed e w) f h = h
 
@@ -276,19 +276,19 @@ pub commanded_event : (c : Command) (v : Machine) → is_terminal c.message ≡ 
 commanded_event c v command live = commanded_at c.refusal c.message c.unstable v command live
 
 -- one of several commands
-foreseen_event : (c : Command) (cs : List Command) (v : Machine) → is_terminal c.message ≡ false → v.failure ≡ None → Event v (foreseen c cs v >>= λ _ w. commanded c w)
+foreseen_event : (c : Command) (cs : List Command) (v : Machine) → is_terminal c.message ≡ false → v.failure ≡ None → Event v (foreseen c cs v >>> λ _ w. commanded c w)
 unfolding foreseen
 foreseen_event c cs v command live = by_refusal (any_refusal c cs)
   where
-    by_numbers : (o : Option NamedFault) → Event v (numbers_left o c v >>= λ _ w. commanded c w)
+    by_numbers : (o : Option NamedFault) → Event v (numbers_left o c v >>> λ _ w. commanded c w)
     by_numbers (Some name) = same v
     by_numbers None = commanded_event c v command live
 
-    by_running : (b : Bool) → Event v ((if b then numbers_left (missing_for c cs v.counters) c v else (let w = entered (shown_type c.message) (name_of c.message) v in Failed (about_last (state_fault v.phase) w) w)) >>= λ _ w. commanded c w)
+    by_running : (b : Bool) → Event v ((if b then numbers_left (missing_for c cs v.counters) c v else (let w = entered (shown_type c.message) (name_of c.message) v in Failed (about_last (state_fault v.phase) w) w)) >>> λ _ w. commanded c w)
     by_running true = by_numbers (missing_for c cs v.counters)
     by_running false = record { output = refl; closed = refl; failure = refl }
 
-    by_refusal : (o : Option NamedFault) → Event v (foreseen_unless o c cs v >>= λ _ w. commanded c w)
+    by_refusal : (o : Option NamedFault) → Event v (foreseen_unless o c cs v >>> λ _ w. commanded c w)
     by_refusal (Some name) = same v
     by_refusal None = by_running (is_running v.phase)
 
@@ -462,7 +462,7 @@ event_behind v w (Failed e x) k h =
     let s = kept_same v w k in
     record { output = h.output ∙ s.output; closed = h.closed ∙ s.closed; failure = h.failure ∙ s.failure }
 
--- what comes behind an await that has woken
+-- what follows an await that has woken
 behind_so : (v : Machine) (Next : Machine → Outcome (Result AwaitResponse Error) → Type 0) (first o : Outcome (Result AwaitResponse Error)) → Event v first
     → ((w : Machine) → first ≡ Done (Ok AnyCompleted) w → Next w o → Event v o) → Behind Next first o → Event v o
 behind_so v Next (Done (Ok AnyCompleted) w) o h f on = f w refl on
@@ -549,7 +549,7 @@ read_so : (c : Option InputCommand) (v u : Machine) → Same v u → Quiet v (in
 read_so None v u s = s
 read_so (Some c) v u s = s
 
-then_read : (v : Machine) (o : Outcome RawMessage) → Quiet v o → Quiet v (o >>= λ raw w. input_read (input_in raw.body) w)
+then_read : (v : Machine) (o : Outcome RawMessage) → Quiet v o → Quiet v (o >>> λ raw w. input_read (input_in raw.body) w)
 then_read v (Done raw w) s = read_so (input_in raw.body) v w s
 then_read v (Failed e w) s = s
 
@@ -563,7 +563,7 @@ numbered_so : (r : Result Counters NamedFault) (v : Machine) → is_closed v.pha
 numbered_so (Err name) v c = same v
 numbered_so (Ok counters) v c = then_skipped (input_counted None v) (input_counted_so None v c)
   where
-    then_skipped : (o : Outcome Input) → Quiet v o → Quiet v (o >>= λ input w. Done input (skipped counters w))
+    then_skipped : (o : Outcome Input) → Quiet v o → Quiet v (o >>> λ input w. Done input (skipped counters w))
     then_skipped (Done input w) s = record { output = s.output; closed = sym c; failure = s.failure }
     then_skipped (Failed e w) s = s
 
@@ -719,7 +719,7 @@ closed_quiet Closed v u s = s
 pub close_writes : (v : Machine) → EventWrites v (called (close_step v) v)
 close_writes v = called_writes v (close_step v) (λ live. quiet_event v (close_step v) (closed_quiet v.phase v (record v { input_closed = true }) (record { output = refl; closed = refl; failure = refl })))
 
--- ---- what a run came to
+-- ---- a run's result
 
 proposed_so : (id : ℕ) (result : ValueOrFailure) (v u : Machine) → Same v u → is_over v ≡ false → Writes v (proposed id result u)
 proposed_so id result v u s goes =

@@ -18,7 +18,7 @@ use Rattle.vm_machine.specs.declared.phase.Phase.{Phase}
 use Rattle.vm_machine.specs.declared.phase.Phase.TheVariants.{Replaying}
 use Rattle.vm_machine.specs.Commands.{entered, written, phase_after, popped, popped_from, compared, replayed, carried_out, prepared, command_if_counted, issued}
 use Rattle.vm_laws.specs.Endings.{EndsOnce, Writes, is_over}
-use Rattle.vm_machine.specs.Outcomes.{Outcome, Done, Failed, ◌>>=◌, about_last}
+use Rattle.vm_machine.specs.Outcomes.{Outcome, Done, Failed, ◌>>>◌, about_last}
 use Rattle.vm_machine.specs.Phases.{is_running, is_processing, state_fault}
 use Rattle.vm_laws.specs.Replays.{MayReplay, Pops, Refuses, command_at, ignores, is_header_equal, is_of_its_type}
 use Rattle.vm_asks.specs.Requests.{ids_of, name_of, shown_type}
@@ -28,7 +28,7 @@ use Rattle.vm_laws.proofs.Carried.{IsDone, answered, no_answer, same_machine}
 
 -- it is looked up among these
 abbrev Looked : Message → Bool → List RawMessage → Machine → Outcome Unit
-Looked m ignore raws u = popped_from raws (type_of m) u >>= λ raw w. compared m ignore (message_in raw.ty raw.body) w
+Looked m ignore raws u = popped_from raws (type_of m) u >>> λ raw w. compared m ignore (message_in raw.ty raw.body) w
 
 looked_up : (m : Message) (ignore : Bool) (raws : List RawMessage) (u : Machine) → u.phase ≡ Replaying → u.commands ≡ raws → carried_out m ignore u ≡ Looked m ignore raws u
 unfolding carried_out replayed popped
@@ -62,7 +62,7 @@ read_at m ignore raw None rest u w i h = absurd (no_answer _ (tt {0}) (without r
 read_at m ignore raw (Some recorded) rest u w i h = equal_at m ignore (header_equal recorded m ignore) raw recorded rest u w i refl h
 
 typed_at : (m : Message) (ignore b : Bool) (raw : RawMessage) (rest : List RawMessage) (u w : Machine)
-    → IsDone ((if b then Done raw (without rest u) else Failed (about_last fault.CommandTypeMismatch (without rest u)) (without rest u)) >>= λ x y. compared m ignore (message_in x.ty x.body) y) w
+    → IsDone ((if b then Done raw (without rest u) else Failed (about_last fault.CommandTypeMismatch (without rest u)) (without rest u)) >>> λ x y. compared m ignore (message_in x.ty x.body) y) w
     → Found m ignore (raw ∷ rest) u w
 typed_at m ignore true raw rest u w h = read_at m ignore raw (message_in raw.ty raw.body) rest u w refl h
 typed_at m ignore false raw rest u w h = absurd (no_answer _ (tt {0}) (without rest u) w h)
@@ -104,7 +104,7 @@ counts r unstable v may =
 
 -- the call's answer
 abbrev answer : Machine → Outcome Unit → Outcome NotificationHandle
-answer v o = o >>= λ _ w. Done (record { 0 = v.counters.handle }) w
+answer v o = o >>> λ _ w. Done (record { 0 = v.counters.handle }) w
 
 -- the lookup fails with an error about the command, and so does the call
 refuses : (name : NamedFault) (r : Message) (unstable : Bool) (raws : List RawMessage) (left v : Machine) → MayReplay r v → v.commands ≡ raws → left.output ≡ (prepared r v).output
@@ -125,7 +125,7 @@ other_type r unstable raw rest v may c t =
     let m = command_at r v in
     let x = without rest (prepared r v) in
     refuses fault.CommandTypeMismatch r unstable (raw ∷ rest) x v may c refl
-    (ap (λ b. (if b then Done raw x else Failed (about_last fault.CommandTypeMismatch x) x) >>= λ y z. compared m (ignores v unstable) (message_in y.ty y.body) z) t)
+    (ap (λ b. (if b then Done raw x else Failed (about_last fault.CommandTypeMismatch x) x) >>> λ y z. compared m (ignores v unstable) (message_in y.ty y.body) z) t)
 
 -- a recorded command of the call's type, as it was read
 refuses_read : (name : NamedFault) (r : Message) (unstable : Bool) (raw : RawMessage) (rest : List RawMessage) (v : Machine) (o : Option Message)
@@ -136,7 +136,7 @@ refuses_read name r unstable raw rest v o may c t i f =
     let ignore = ignores v unstable in
     let x = without rest (prepared r v) in
     refuses name r unstable (raw ∷ rest) x v may c refl (
-    ap (λ b. (if b then Done raw x else Failed (about_last fault.CommandTypeMismatch x) x) >>= λ y z. compared m ignore (message_in y.ty y.body) z) t
+    ap (λ b. (if b then Done raw x else Failed (about_last fault.CommandTypeMismatch x) x) >>> λ y z. compared m ignore (message_in y.ty y.body) z) t
     ∙ ap (λ (y : Option Message). compared m ignore y x) i ∙ f
     )
 

@@ -25,7 +25,7 @@ use Rattle.vm_asks.specs.GivenIds.{IsCallWith}
 use Rattle.vm_asks.specs.Requests.{ids_of, name_of, shown_type, with_ids}
 use Rattle.vm_machine.specs.declared.machine.Machine.{Machine}
 use Rattle.vm_machine.specs.Commands.{carried_out, commanded, commanded_unless, compared, command_if_counted, entered, ignores_payloads, issued, mapped_from, phase_after, popped, popped_from, prepared, replayed, written}
-use Rattle.vm_machine.specs.Outcomes.{Does, Done, Failed, Outcome, ◌>>=◌, about_last, called, called_at}
+use Rattle.vm_machine.specs.Outcomes.{Does, Done, Failed, Outcome, ◌>>>◌, about_last, called, called_at}
 use Rattle.vm_machine.specs.Phases.{is_processing, is_running, state_fault}
 use Rattle.vm_machine.proofs.Calling.{answers_first}
 use Rattle.vm_machine.specs.Several.{BehindFirst, MakesAll, MakesOne, answered_so, commanded_before, foreseen, foreseen_unless, missing_for, numbers_left}
@@ -69,13 +69,13 @@ read_at m ignore raw None rest u w c i h = absurd (no_answer _ (tt {0}) (without
 read_at m ignore raw (Some recorded) rest u w c i h = equal_at m ignore (header_equal recorded m ignore) raw recorded rest u w c i refl h
 
 typed_at : (m : Message) (ignore b : Bool) (raw : RawMessage) (rest : List RawMessage) (u w : Machine) → u.commands ≡ raw ∷ rest
-    → IsDone ((if b then Done raw (without rest u) else Failed (about_last fault.CommandTypeMismatch (without rest u)) (without rest u)) >>= λ x y. compared m ignore (message_in x.ty x.body) y) w
+    → IsDone ((if b then Done raw (without rest u) else Failed (about_last fault.CommandTypeMismatch (without rest u)) (without rest u)) >>> λ x y. compared m ignore (message_in x.ty x.body) y) w
     → Enters m ignore u w
 typed_at m ignore true raw rest u w c h = read_at m ignore raw (message_in raw.ty raw.body) rest u w c refl h
 typed_at m ignore false raw rest u w c h = absurd (no_answer _ (tt {0}) (without rest u) w h)
 
 popped_so : (m : Message) (ignore : Bool) (raws : List RawMessage) (u w : Machine) → u.commands ≡ raws
-    → IsDone (popped_from raws (type_of m) u >>= λ raw x. compared m ignore (message_in raw.ty raw.body) x) w → Enters m ignore u w
+    → IsDone (popped_from raws (type_of m) u >>> λ raw x. compared m ignore (message_in raw.ty raw.body) x) w → Enters m ignore u w
 popped_so m ignore [] u w c h = absurd (no_answer _ (tt {0}) u w h)
 popped_so m ignore (raw ∷ rest) u w c h = typed_at m ignore (type_number raw.ty == type_number (type_of m)) raw rest u w c h
 
@@ -136,19 +136,19 @@ commanded_makes None m unstable h v w d = issued_makes m unstable h v w d
 
 -- ---- one of several
 
-foreseen_makes : (c : Command) (cs : List Command) (h : NotificationHandle) (v w : Machine) → (foreseen c cs v >>= λ _ u. commanded c u) ≡ Done h w → Made c.message c.unstable h v w
+foreseen_makes : (c : Command) (cs : List Command) (h : NotificationHandle) (v w : Machine) → (foreseen c cs v >>> λ _ u. commanded c u) ≡ Done h w → Made c.message c.unstable h v w
 unfolding foreseen
 foreseen_makes c cs h v w = by_refusal (any_refusal c cs)
   where
-    by_numbers : (o : Option NamedFault) → (numbers_left o c v >>= λ _ u. commanded c u) ≡ Done h w → Made c.message c.unstable h v w
+    by_numbers : (o : Option NamedFault) → (numbers_left o c v >>> λ _ u. commanded c u) ≡ Done h w → Made c.message c.unstable h v w
     by_numbers (Some name) d = absurd (no_answer _ h _ w d)
     by_numbers None d = commanded_makes c.refusal c.message c.unstable h v w d
 
-    by_running : (b : Bool) → ((if b then numbers_left (missing_for c cs v.counters) c v else (let u = entered (shown_type c.message) (name_of c.message) v in Failed (about_last (state_fault v.phase) u) u)) >>= λ _ u. commanded c u) ≡ Done h w → Made c.message c.unstable h v w
+    by_running : (b : Bool) → ((if b then numbers_left (missing_for c cs v.counters) c v else (let u = entered (shown_type c.message) (name_of c.message) v in Failed (about_last (state_fault v.phase) u) u)) >>> λ _ u. commanded c u) ≡ Done h w → Made c.message c.unstable h v w
     by_running true d = by_numbers (missing_for c cs v.counters) d
     by_running false d = absurd (no_answer _ h _ w d)
 
-    by_refusal : (o : Option NamedFault) → (foreseen_unless o c cs v >>= λ _ u. commanded c u) ≡ Done h w → Made c.message c.unstable h v w
+    by_refusal : (o : Option NamedFault) → (foreseen_unless o c cs v >>> λ _ u. commanded c u) ≡ Done h w → Made c.message c.unstable h v w
     by_refusal (Some name) d = absurd (no_answer _ h _ w d)
     by_refusal None d = by_running (is_running v.phase) d
 
@@ -287,7 +287,7 @@ several_count c (b ∷ bs) h v w (Ok a, mid, one, (given, rest, so)) =
 same_failed : (o : Outcome NotificationHandle) (d e : Error) (v w : Machine) → o ≡ Failed d v → o ≡ Failed e w → (e ≡ d) × (w ≡ v)
 same_failed o d e v w h k = (cc, cc)
 
--- the first error is answered, or want of memory, and the machine stays
+-- the first error is answered, or out of memory, and the machine stays
 abbrev Stays : Error → Result NotificationHandle Error → Machine → Machine → Type 0
 Stays e r v w = ((r ≡ Err e) ⊎ (r ≡ Err no_memory)) × (w ≡ v)
 

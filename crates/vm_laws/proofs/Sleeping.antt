@@ -13,7 +13,7 @@ use Rattle.vm_machine.specs.declared.machine.Machine.{Machine}
 use Rattle.vm_machine.specs.declared.phase.Phase.{Phase}
 use Rattle.vm_machine.specs.declared.phase.Phase.TheVariants.{Processing}
 use Rattle.vm_machine.specs.Commands.{carried_out, commanded, commanded_unless, command_if_counted, entered, ignores_payloads, issued, prepared, replayed, written}
-use Rattle.vm_machine.specs.Outcomes.{Outcome, Done, Failed, ◌>>=◌, IsStarved, about_last, called, called_at}
+use Rattle.vm_machine.specs.Outcomes.{Outcome, Done, Failed, ◌>>>◌, IsStarved, about_last, called, called_at}
 use Rattle.vm_machine.specs.Phases.{is_processing, is_running, state_fault}
 use Rattle.vm_asks.specs.Requests.{shown_type, with_ids}
 use Rattle.vm_asks.specs.Asks.{sleep_command}
@@ -39,7 +39,7 @@ carries_out millis name v p =
     let m = sleep_message millis name in
     let c = with_ids v.counters.completion m in
     let answer : NotificationHandle = record { 0 = v.counters.handle } in
-    ap (λ (x : Phase). (if is_processing x then Done tt (written c (prepared m v)) else replayed c (ignores_payloads v.options.non_determinism_checks false) (prepared m v)) >>= λ _ w. Done answer w) p
+    ap (λ (x : Phase). (if is_processing x then Done tt (written c (prepared m v)) else replayed c (ignores_payloads v.options.non_determinism_checks false) (prepared m v)) >>> λ _ w. Done answer w) p
 
 issues : (millis : ℕ) (name : List ℕ) (v : Machine) → MaySleep v → issued (sleep_message millis name) false v ≡ Done (record { 0 = v.counters.handle }) (sleeping millis name v)
 unfolding issued

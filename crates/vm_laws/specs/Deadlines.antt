@@ -49,7 +49,8 @@ stands_for handle id = record { handle = handle.0; id = CompletionId id }
 -- A call with the next two completion ids was made, and after it a sleep with the third. The
 -- handles that were answered stand for the invocation's id, the call's result and the sleep, in
 -- this order.
-pub record DeadlineCalled (unstable : Bool) (h : DeadlineCallHandle) (old new : Machine) : Type 0 where
+pub record DeadlineCalled (unstable : Bool) (h : DeadlineCallHandle)
+    (old new : Machine) : Type 0 where
   pub call : Message
   pub deadline : Message
   pub between : Machine

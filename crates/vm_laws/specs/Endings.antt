@@ -1,4 +1,4 @@
--- What is written has at most one terminal message, and nothing behind it.
+-- What is written has at most one terminal message, and nothing after it.
 use Rattle.std.specs.Prelude.{◌≡◌, Bool, true, false, ◌||◌, ◌&&◌, nat_le, List, [], ◌∷◌, ◌++◌, map, is_some}
 use Rattle.journal_protocol.specs.Message.{Message}
 use Rattle.journal_protocol.specs.Frames.{encoding, type_of}
@@ -15,8 +15,7 @@ is_terminal m = nat_le 2 (type_number (type_of m)) && nat_le (type_number (type_
 abbrev pub is_over : Machine → Bool
 is_over v = is_some v.failure || is_closed v.phase
 
--- behind a terminal message nothing comes, and it is over; behind another one, what the others may
--- do
+-- after a terminal message nothing comes, and it is over; after another one, what the others may do
 abbrev pub EndsIf : Bool → List Message → Bool → Type 0 → Type 0
 EndsIf true messages after others = (messages ≡ []) × (after ≡ true)
 EndsIf false messages after others = others
@@ -28,7 +27,7 @@ EndsOnce false [] after = Unit {0}
 EndsOnce false (m ∷ messages) after = EndsIf (is_terminal m) messages after
     (EndsOnce false messages after)
 
--- messages are written behind the output, at most the last of them terminal
+-- messages are written after the output, at most the last of them terminal
 pub record Writes (old new : Machine) : Type 0 where
   pub messages : List Message
   pub output : new.output ≡ old.output ++ map encoding messages

@@ -2,7 +2,7 @@
 use Rattle.std.specs.Prelude.{◌≡◌, ℕ, ◌+◌}
 use Rattle.vm_parts.specs.declared.context.Counters.{Counters}
 
--- so many completion ids, signal ids and handles were given
+-- these counts of completion ids, signal ids and handles were given
 pub record Counted (ids signal_ids given : ℕ) (old new : Counters) : Type 0 where
   pub completions : new.completion ≡ old.completion + ids
   pub signals : new.signal ≡ old.signal + signal_ids

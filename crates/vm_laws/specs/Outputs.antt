@@ -1,5 +1,5 @@
--- All that a VM writes, over any list of calls, has at most one terminal message, and nothing
--- behind it.
+-- All that a VM writes, over any list of calls, has at most one terminal message, and nothing after
+-- it.
 use Rattle.std.specs.Prelude.{◌≡◌, ℕ, false, List, ◌++◌}
 use Rattle.std.specs.List.{concat, flat_map}
 use Rattle.journal_protocol.specs.Message.{Message}

@@ -78,8 +78,8 @@ pub fn numbers_are_in_order()
         × (id.0 ≡ v.counters.ephemeral) }
 {}
 
-/// Whatever happens to a machine, at most one Suspension, Error or End is written, and nothing behind it: nothing on a
-/// machine that has failed, has ended or is suspended, and a machine that writes one of them is so.
+/// For all events of a machine: at most one Suspension, Error or End is written, and nothing after it. A machine that has
+/// failed, has ended or is suspended writes nothing, and a machine that writes one of them is so.
 pub fn output_ends_once()
     ensures commands { (m : Message) (unstable : Bool) (v : Machine) → is_terminal m ≡ false
         → EventWrites v (called (issued m unstable v) v) }
@@ -118,8 +118,8 @@ pub fn ephemeral_reads_leave_the_journal()
         → ephemeral_notification_step raw phase v ≡ Done tt w → LeavesJournal v w }
 {}
 
-/// In Processing an acknowledgement brings the proposed result, once, as the completion of its run, and is refused where none is kept;
-/// one is kept only from version 7 on.
+/// In Processing an acknowledgement brings the proposed result, once, as the completion of its run, and is refused if none is
+/// kept; one is kept only from version 7 on.
 pub fn acknowledgements_bring_what_was_proposed()
     ensures kept { (raw : RawMessage) (id : ℕ) (kept : KeptProposal) (v : Machine)
         → Acknowledges raw id v → find (is_for id) v.proposals ≡ Some kept → message_step raw v
@@ -165,7 +165,7 @@ pub fn nothing_follows()
     ensures { (v w : Machine) → is_over v ≡ true → Writes v w → w.output ≡ v.output }
 {}
 
-/// A machine that has failed answers its first error to each event, whatever its answers are, and stays as it is.
+/// A machine that has failed answers its first error to each event, with answers of any type, and stays as it is.
 #[tactic(auto, using(vm_machine::proofs::Calling::answers_first))]
 pub fn first_error_stays<A>()
     ensures { (o : Outcome A) (e : Error) (v : Machine) → v.failure ≡ Some e → called o v

@@ -35,8 +35,8 @@ ghost use Rattle.invocation_vm.specs.Making.{made};
 ghost use Rattle.vm_laws.specs.Sleeps.{MaySleep, sleeping};
 ghost use Rattle.invocation_vm.specs.Views.{View, AnswersFirst, Calls, Leaves, TakesOutput, after_closing, after_error, after_input, messages_in_bytes};
 
-/// Over any list of calls, all output together has at most one Suspension, Error or End, and nothing behind it: that
-/// is so of a new VM, and each call of `VM`, by the clause that it ensures, leaves it so.
+/// Over any list of calls, all output together has at most one Suspension, Error or End, and nothing after it: that is so of a
+/// new VM, and each call of `VM`, by the clause that it ensures, leaves it so.
 pub fn all_output_ends_once()
     ensures fresh { (alloc : Global) (options : VMOptions) (version : Version)
         → EndsOnceAfter [] (made alloc options version) }
@@ -88,7 +88,7 @@ pub fn all_output_ends_once()
 {}
 
 /// A sleep in Processing answers the next handle and writes just one frame, that of a Sleep with the next completion
-/// id; it fails only where it finds no memory.
+/// id; it fails only if it finds no memory.
 pub fn sleep_is_written()
     ensures slept { (millis : ℕ) (name : List ℕ) (handle : NotificationHandle) (old new : View)
         → MaySleep old.machine → millis < 2 ^ 64
@@ -101,8 +101,8 @@ pub fn sleep_is_written()
         → IsStarved old.machine e new.machine }
 {}
 
-/// A failed VM answers its first error to each call of a `VMResult`, or want of memory for it, and stays as it is. Where it is
-/// fed, closed or told of an error, it finds memory, since it takes none.
+/// A failed VM answers its first error to each call of a `VMResult`, or out of memory for it, and stays as it is. When it is
+/// fed, closed or notified of an error, it never runs out of memory, since it takes none.
 pub fn first_error_is_answered<A>()
     ensures calls { (step : Machine → Outcome A) (r : Result A Error) (e : Error) (old new : View)
         → old.machine.failure ≡ Some e → Calls step r old new → AnswersFirst e r old new }

@@ -1,4 +1,4 @@
--- A call whose event may come to several outcomes is the call of one of them.
+-- A call whose event has several possible outcomes is the call of one of them.
 use Rattle.std.proofs.Common.{◌≡◌, Option, Some, None, refl, sym, ap, ◌∙◌}
 use Rattle.journal_protocol.specs.Error.{Error}
 use Rattle.vm_machine.specs.declared.machine.Machine.{Machine}

@@ -13,7 +13,7 @@ use Rattle.vm_machine.specs.declared.fault.Fault.{Fault}
 use Rattle.vm_machine.specs.declared.machine.Machine.{Machine}
 use Rattle.vm_machine.specs.Commands.{carried_out, commanded, commanded_unless, command_if_counted, entered, ignores_payloads, issued, prepared}
 use Rattle.vm_machine.specs.Several.{AllFit, commanded_before, foreseen, foreseen_unless, missing_for, numbers_left}
-use Rattle.vm_machine.specs.Outcomes.{Done, Failed, Gives, Outcome, ◌>>=◌, about_last}
+use Rattle.vm_machine.specs.Outcomes.{Done, Failed, Gives, Outcome, ◌>>>◌, about_last}
 use Rattle.vm_machine.specs.Phases.{is_running, state_fault}
 
 none_done : {A P : Type 0} {e : Error} {v w : Machine} {a : A} → Failed e v ≡ Done a w → P
@@ -21,7 +21,7 @@ none_done h = absurd (cc)
 
 -- ---- the first handle
 
-answered_first : (handle : NotificationHandle) (o : Outcome Unit) (a : NotificationHandle) (w : Machine) → (o >>= λ _ u. Done handle u) ≡ Done a w → a ≡ handle
+answered_first : (handle : NotificationHandle) (o : Outcome Unit) (a : NotificationHandle) (w : Machine) → (o >>> λ _ u. Done handle u) ≡ Done a w → a ≡ handle
 answered_first handle (Done t u) a w h = (let z : Done handle u ≡ Done a w = h in cc)
 answered_first handle (Failed e u) a w h = absurd (cc)
 
@@ -42,19 +42,19 @@ commanded_first (Some name) m unstable v a w h = none_done h
 commanded_first None m unstable v a w h = issued_first m unstable v a w h
 
 -- all that is needed is looked for before
-foreseen_first : (c : Command) (cs : List Command) (v : Machine) (a : NotificationHandle) (w : Machine) → (foreseen c cs v >>= λ _ u. commanded c u) ≡ Done a w → a ≡ record { 0 = v.counters.handle }
+foreseen_first : (c : Command) (cs : List Command) (v : Machine) (a : NotificationHandle) (w : Machine) → (foreseen c cs v >>> λ _ u. commanded c u) ≡ Done a w → a ≡ record { 0 = v.counters.handle }
 unfolding foreseen
 foreseen_first c cs v a w = by_refusal (any_refusal c cs)
   where
-    by_numbers : (o : Option NamedFault) → (numbers_left o c v >>= λ _ u. commanded c u) ≡ Done a w → a ≡ record { 0 = v.counters.handle }
+    by_numbers : (o : Option NamedFault) → (numbers_left o c v >>> λ _ u. commanded c u) ≡ Done a w → a ≡ record { 0 = v.counters.handle }
     by_numbers (Some name) h = none_done h
     by_numbers None h = commanded_first c.refusal c.message c.unstable v a w h
 
-    by_running : (b : Bool) → ((if b then numbers_left (missing_for c cs v.counters) c v else (let u = entered (shown_type c.message) (name_of c.message) v in Failed (about_last (state_fault v.phase) u) u)) >>= λ _ u. commanded c u) ≡ Done a w → a ≡ record { 0 = v.counters.handle }
+    by_running : (b : Bool) → ((if b then numbers_left (missing_for c cs v.counters) c v else (let u = entered (shown_type c.message) (name_of c.message) v in Failed (about_last (state_fault v.phase) u) u)) >>> λ _ u. commanded c u) ≡ Done a w → a ≡ record { 0 = v.counters.handle }
     by_running true h = by_numbers (missing_for c cs v.counters) h
     by_running false h = none_done h
 
-    by_refusal : (o : Option NamedFault) → (foreseen_unless o c cs v >>= λ _ u. commanded c u) ≡ Done a w → a ≡ record { 0 = v.counters.handle }
+    by_refusal : (o : Option NamedFault) → (foreseen_unless o c cs v >>> λ _ u. commanded c u) ≡ Done a w → a ≡ record { 0 = v.counters.handle }
     by_refusal (Some name) h = none_done h
     by_refusal None h = by_running (is_running v.phase) h
 

@@ -7,7 +7,7 @@ use Rattle.vm_parts.specs.Arrived.{Arrived}
 use Rattle.vm_machine.specs.declared.machine.Machine.{Machine}
 use Rattle.vm_machine.specs.Commands.{mapped_from}
 
--- the handle that is given after so many
+-- the handle that is given after n others
 abbrev at_place : ℕ → ℕ → ℕ → Mapping
 at_place n handle id = record { handle = handle + n; id = CompletionId (id + n) }
 
@@ -25,7 +25,7 @@ handles_next before n handle id =
     let e : suc n ≡ n + 1 = omega arith in
     append_assoc before (mapped_from n handle id) (at_place n handle id ∷ []) ∙ ap (λ t. before ++ t) (sym (mapped_next n handle id) ∙ ap (λ k. mapped_from k handle id) e)
 
--- so many handles were mapped
+-- n handles were mapped
 abbrev pub mapped_to : ℕ → Machine → Machine
 mapped_to n v = record v { results = record v.results { handles = v.results.handles ++ mapped_from n v.counters.handle v.counters.completion } }
 

@@ -38,7 +38,7 @@ mapped_some f (Some x) y e = (x, refl, same)
     same : y ≡ f x
     same = cc
 
--- ---- what a run came to
+-- ---- a run's result
 
 pub settled_none : (handle : NotificationHandle) (exit : RunExitResult) (policy : RetryPolicy) (v w : Machine) → None ≡ run_at handle.0 v → w ≡ v
     → GivesBy (Settled handle exit policy (run_at handle.0 v) v) (Err (Refused (named_error name.NoPendingRun None))) v w

@@ -1,5 +1,5 @@
--- What is left where the input was read: the commands behind it are replayed, or skipped, and then the completion id that comes next
--- is past all that they carry.
+-- What is left once the input was read: the commands after it are replayed, or dropped, and then
+-- the completion id that comes next is past all that they carry.
 use Rattle.std.proofs.Common.{◌≡◌, ℕ, ◌+◌, ◌<◌, ◌≤◌, Bool, true, false, List, [], ◌∷◌, ◌++◌, length, Option, Some, None, Result, Ok, Err, refl, sym, ap, ◌∙◌, subst, arith}
 use Rattle.std.specs.Prelude.{◌==◌, if◌then◌else◌, nat_lt, max, drop, unwrap_or}
 use Rattle.std.specs.List.{AllByRecursion}
@@ -23,13 +23,13 @@ use Rattle.vm_machine.specs.declared.phase.Phase.{Phase}
 use Rattle.vm_machine.specs.declared.phase.Phase.TheVariants.{WaitingStart, WaitingReplayEntries, Replaying, Processing, Closed}
 use Rattle.vm_machine.specs.Commands.{entered, phase_after, popped, popped_from}
 use Rattle.vm_machine.specs.Inputs.{input_at, input_by, input_counted, input_numbered, input_of, input_past, input_read, input_step}
-use Rattle.vm_machine.specs.Outcomes.{Done, Failed, Outcome, ◌>>=◌, about_last}
+use Rattle.vm_machine.specs.Outcomes.{Done, Failed, Outcome, ◌>>>◌, about_last}
 use Rattle.vm_machine.specs.Phases.{is_running}
 use Rattle.vm_machine.specs.Skips.{counters_past, skipped, skips_replay}
 
 -- ---- the input was read
 
--- the machine once the input is popped, where these commands stand behind it
+-- the machine once the input is popped, if these commands stand after it
 abbrev pub popped_input : List RawMessage → Machine → Machine
 popped_input rest v = record (entered type.InputCommand [] v) { commands = rest; phase = phase_after rest }
 
@@ -44,7 +44,7 @@ pub record Pops (v : Machine) (i : Input) (w : Machine) : Type 0 where
   pub told : i ≡ input_of v.start input
   pub left : w ≡ popped_input rest v
 
--- what is left where the commands behind the input are skipped, or aren't
+-- what is left, by whether the commands after the input are dropped
 abbrev pub IsLeft : Bool → List RawMessage → Machine → Machine → Type 0
 IsLeft false rest v w = w ≡ popped_input rest v
 IsLeft true rest v w =
@@ -71,7 +71,7 @@ unfolding popped
 counted_is (Some name) v i w h = absurd (cc)
 counted_is None v i w h = from v.commands refl h
   where
-    from : (cs : List RawMessage) → v.commands ≡ cs → (popped_from cs type.InputCommand (entered type.InputCommand [] v) >>= λ raw u. input_read (input_in raw.body) u) ≡ Done i w → Pops v i w
+    from : (cs : List RawMessage) → v.commands ≡ cs → (popped_from cs type.InputCommand (entered type.InputCommand [] v) >>> λ raw u. input_read (input_in raw.body) u) ≡ Done i w → Pops v i w
     from [] e h = absurd (cc)
     from (raw ∷ rest) e h = by_type (type_number raw.ty == type_number type.InputCommand) refl h
       where
@@ -84,7 +84,7 @@ counted_is None v i w h = from v.commands refl h
             let d = done_input (input_of v.start c) i u w h in
             record { first = raw; rest = rest; commands = e; typed = typed; input = c; reads = reads; told = d.0; left = d.1 }
 
-        by_type : (b : Bool) → (type_number raw.ty == type_number type.InputCommand) ≡ b → ((if b then Done raw u else Failed (about_last fault.CommandTypeMismatch u) u) >>= λ raw x. input_read (input_in raw.body) x) ≡ Done i w → Pops v i w
+        by_type : (b : Bool) → (type_number raw.ty == type_number type.InputCommand) ≡ b → ((if b then Done raw u else Failed (about_last fault.CommandTypeMismatch u) u) >>> λ raw x. input_read (input_in raw.body) x) ≡ Done i w → Pops v i w
         by_type true typed h = by_input (input_in raw.body) refl typed h
         by_type false typed h = absurd (cc)
 
@@ -96,7 +96,7 @@ input_is v i w is = by_phase v.phase refl is
     replays at b e p off = record { phase = at; first = p.first; rest = p.rest; commands = p.commands; typed = p.typed; input = p.input; reads = p.reads; told = p.told; left = subst (λ x. IsLeft x p.rest v w) (sym off ∙ sym e) p.left }
 
     skips : (at : v.phase ≡ Replaying) → skips_replay v.options.journal_replay ≡ true → (id : ℕ) → past_all v.counters.completion (drop 1 v.commands) ≡ Some id → (counters : Counters) → counters_past (length (drop 1 v.commands)) id v.counters ≡ Ok counters
-        → (o : Outcome Input) → input_counted None v ≡ o → (o >>= λ input u. Done input (skipped counters u)) ≡ Done i w → ReadsInput v i w
+        → (o : Outcome Input) → input_counted None v ≡ o → (o >>> λ input u. Done input (skipped counters u)) ≡ Done i w → ReadsInput v i w
     skips at e id past counters behind (Failed x u) is h = absurd (cc)
     skips at e id past counters behind (Done input u) is h =
         let d = done_input input i (skipped counters u) w h in
@@ -248,7 +248,7 @@ past_is dropped id c d h = by_id (nat_lt most id) h
     by_id true h = absurd (cc)
     by_id false h = by_index (nat_lt most (next_index c.command + dropped)) h
 
--- the completion id that is next is the one behind them
+-- the completion id that is next is the one past them
 pub past_id : (dropped id : ℕ) (c d : Counters) → counters_past dropped id c ≡ Ok d → d.completion ≡ id
 past_id dropped id c d h = (past_is dropped id c d h).completion
 

@@ -25,7 +25,7 @@ use Rattle.vm_machine.specs.declared.fault.Fault.{Fault}
 use Rattle.vm_machine.specs.declared.machine.Machine.{Machine}
 use Rattle.vm_machine.specs.declared.phase.Phase.{Phase}
 use Rattle.vm_machine.specs.declared.phase.Phase.TheVariants.{Replaying, Processing}
-use Rattle.vm_machine.specs.Outcomes.{Outcome, Done, Failed, ◌>>=◌, Gives, about_last, refused}
+use Rattle.vm_machine.specs.Outcomes.{Outcome, Done, Failed, ◌>>>◌, Gives, about_last, refused}
 use Rattle.vm_machine.specs.Phases.{is_running, is_processing, state_fault}
 use Rattle.runs.specs.Pending.{to_execute}
 use Rattle.vm_parts.specs.declared.run_state.PendingRun.{PendingRun}
@@ -97,7 +97,7 @@ compared m ignore (Some recorded) v =
 -- a recorded command is replayed
 unfoldable pub replayed : Message → Bool → Machine → Outcome Unit
 replayed m ignore v =
-    popped (type_of m) v >>= λ raw w. compared m ignore (message_in raw.ty raw.body) w
+    popped (type_of m) v >>> λ raw w. compared m ignore (message_in raw.ty raw.body) w
 
 -- a command is written, or in replay popped
 unfoldable pub carried_out : Message → Bool → Machine → Outcome Unit
@@ -149,7 +149,7 @@ command_if_counted (Some name) m unstable v = Failed (about_next name (shown_typ
 command_if_counted None m unstable v =
     carried_out (with_ids v.counters.completion m)
     (ignores_payloads v.options.non_determinism_checks unstable) (prepared m v)
-    >>= λ _ w. Done (record { 0 = v.counters.handle }) w
+    >>> λ _ w. Done (record { 0 = v.counters.handle }) w
 
 -- A call that has a command, given without its numbers, and whether its payload may differ from one
 -- attempt to the next; it answers its first handle, where it has one.
@@ -157,7 +157,8 @@ unfoldable pub issued : Message → Bool → Machine → Outcome NotificationHan
 issued m unstable v =
     if is_running v.phase then command_if_counted
     (missing_number (ids_of m) 0 (ids_of m) v.counters) m unstable v
-    else (let w = entered (shown_type m) (name_of m) v in Failed (about_last (state_fault v.phase) w) w)
+    else (let w = entered (shown_type m) (name_of m) v in
+    Failed (about_last (state_fault v.phase) w) w)
 
 -- Where a call's command is written, its frame can be read back: each field and the length fit
 -- their places.
@@ -191,4 +192,4 @@ Carries c r old new =
 
 -- a call that is answered by this of its answer
 abbrev pub answered_by : {A B : Type 0} → (A → B) → Outcome A → Outcome B
-answered_by f o = o >>= λ a w. Done (f a) w
+answered_by f o = o >>> λ a w. Done (f a) w

@@ -32,7 +32,7 @@ use Rattle.vm_machine.specs.declared.fault.Fault.TheVariants as stopped
 use Rattle.vm_machine.specs.declared.machine.Machine.{Machine}
 use Rattle.vm_machine.specs.declared.phase.Phase.{Phase}
 use Rattle.vm_machine.specs.declared.phase.Phase.TheVariants.{WaitingStart, WaitingReplayEntries, Replaying, Processing, Closed}
-use Rattle.vm_machine.specs.Outcomes.{Outcome, Done, Failed, ◌>>=◌, refused, about_last, ruled, failed, starved}
+use Rattle.vm_machine.specs.Outcomes.{Outcome, Done, Failed, ◌>>>◌, refused, about_last, ruled, failed, starved}
 use Rattle.vm_machine.specs.Commands.{entered, about_next, popped}
 use Rattle.vm_machine.specs.Ephemerals.{ephemeral_notification_step}
 use Rattle.vm_machine.specs.Phases.{state_fault}
@@ -72,7 +72,7 @@ coverage_of false = Complete
 abbrev pub entries_in : List (List ℕ × List ℕ) → Option (List (List ℕ × Option (List ℕ)))
 entries_in pairs = if list_all (λ p. is_utf8 p.0) pairs then Some (entries_of pairs) else None
 
--- Start is kept, where its state keys are texts and it tells of at least one entry
+-- Start is kept, if its state keys are texts and it says that there is an entry
 abbrev pub started_with : Start → Option (List (List ℕ × Option (List ℕ))) → Machine → Outcome Unit
 started_with s None v = refused fault.BadEagerStateKey v
 started_with s (Some entries) v =
@@ -186,7 +186,7 @@ close_step v = let w = record v { input_closed = true } in closed_at v.phase w
 
 -- ---- the handler reads its input
 
--- what the handler is told with its input
+-- what the handler is given with its input
 abbrev pub input_of : StartInfo → InputCommand → Input
 input_of s c = record {
   invocation_id = s.debug_id;
@@ -209,20 +209,21 @@ abbrev pub input_counted : Option NamedFault → Machine → Outcome Input
 input_counted (Some name) v = Failed (about_next name type.InputCommand [] v) v
 input_counted None v =
     popped type.InputCommand (entered type.InputCommand [] v)
-    >>= λ raw w. input_read (input_in raw.body) w
+    >>> λ raw w. input_read (input_in raw.body) w
 
--- the input is read and the commands behind it are dropped, by the counters that this leaves
+-- the input is read and the commands after it are dropped; these counters are left
 abbrev pub input_numbered : Result Counters NamedFault → Machine → Outcome Input
 input_numbered (Err name) v = Failed (about_next name type.InputCommand [] v) v
-input_numbered (Ok counters) v = input_counted None v >>= λ input w. Done input (skipped counters w)
+input_numbered (Ok counters) v = input_counted None v >>> λ input w. Done input (skipped counters w)
 
 -- the same, by the completion id that is next past those that the dropped commands carry; each of
 -- them has to be readable
 abbrev pub input_past : Option ℕ → Machine → Outcome Input
-input_past None v = let w = entered type.InputCommand [] v in Failed (about_last fault.BadMessage w) w
+input_past None v =
+    let w = entered type.InputCommand [] v in Failed (about_last fault.BadMessage w) w
 input_past (Some id) v = input_numbered (counters_past (length (drop 1 v.commands)) id v.counters) v
 
--- the input is read, by whether the commands behind it are skipped
+-- the input is read, by whether the commands after it are dropped
 abbrev pub input_by : Bool → Machine → Outcome Input
 input_by false v = input_counted (missing_number 0 0 0 v.counters) v
 input_by true v = input_past (past_all v.counters.completion (drop 1 v.commands)) v
@@ -230,7 +231,8 @@ input_by true v = input_past (past_all v.counters.completion (drop 1 v.commands)
 -- the handler reads its input in this phase
 abbrev pub input_at : Phase → Machine → Outcome Input
 input_at Replaying v = input_by (skips_replay v.options.journal_replay) v
-input_at phase v = let w = entered type.InputCommand [] v in Failed (about_last (state_fault phase) w) w
+input_at phase v =
+    let w = entered type.InputCommand [] v in Failed (about_last (state_fault phase) w) w
 
 -- The handler reads its input: it pops the first recorded command, and drops the others where they
 -- aren't replayed.
@@ -254,7 +256,7 @@ end_at phase v = refused (state_fault phase) v
 abbrev pub end_step : Machine → Outcome Unit
 end_step v = end_at v.phase v
 
--- ---- calls that answer nothing but want of memory
+-- ---- calls whose only error is out of memory
 
 -- what the error rule leaves of an inner function's answer, in a call that began with these
 -- counters

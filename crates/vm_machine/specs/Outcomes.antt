@@ -27,10 +27,10 @@ pub data Outcome (A : Type 0) : Type 0 where
   Failed : Error → Machine → Outcome A
 
 -- one event after another
-infixl 10 ◌>>=◌
-abbrev pub ◌>>=◌ : {A B : Type 0} → Outcome A → (A → Machine → Outcome B) → Outcome B
-(Done a v) >>= f = f a v
-(Failed e v) >>= f = Failed e v
+infixl 10 ◌>>>◌
+abbrev pub ◌>>>◌ : {A B : Type 0} → Outcome A → (A → Machine → Outcome B) → Outcome B
+(Done a v) >>> f = f a v
+(Failed e v) >>> f = Failed e v
 
 -- what a refused event leaves as it is before the error rule, and one that finds no memory
 pub record Lasting : Type 0 where
@@ -50,14 +50,14 @@ lasting v = record {
   output = v.output;
 }
 
--- What an inner function answers and leaves: the event's outcome, or want of memory; where it isn't
--- done, what lasts is as it was.
+-- What an inner function answers and leaves: the event's outcome, or out of memory. If it isn't
+-- done, the lasting parts of the machine are as they were.
 abbrev pub Gives : {A : Type 0} → Outcome A → Result A Fault → Machine → Machine → Type 0
 Gives o (Ok a) old new = o ≡ Done a new
 Gives o (Err (fault.Refused e)) old new = (o ≡ Failed e new) × (lasting new ≡ lasting old)
 Gives o (Err fault.Memory) old new = lasting new ≡ lasting old
 
--- The same of an event that may come to several outcomes.
+-- The same of an event with several possible outcomes.
 abbrev pub GivesBy : {A : Type 0} → (Outcome A → Type 0) → Result A Fault → Machine → Machine
     → Type 0
 GivesBy R (Ok a) old new = R (Done a new)
@@ -126,8 +126,8 @@ called_at (Some e) o v = Failed e v
 unfoldable pub called : {A : Type 0} → Outcome A → Machine → Outcome A
 called o v = called_at v.failure o v
 
--- Want of memory was answered, once this state was reached. The first error is what it was, or else
--- want of memory; there is no frame more than those of that state; version, options, Start and
+-- Out of memory was answered, once this state was reached. The first error is what it was, or else
+-- out of memory; no frame was written after those of that state; version, options, Start and
 -- counters are as they were. A machine that had failed before stays as it was.
 pub record IsStarved (reached : Machine) (e : Error) (new : Machine) : Type 0 where
   pub error : e ≡ no_memory
@@ -144,17 +144,17 @@ abbrev pub Does : {A : Type 0} → Outcome A → Result A Error → Machine → 
 Does o (Ok a) old new = o ≡ Done a new
 Does o (Err e) old new = (o ≡ Failed e new) ⊎ IsStarved old e new
 
--- a call whose event may come to several outcomes, by whether the machine has failed before
+-- a call whose event has several possible outcomes, by whether the machine has failed before
 abbrev pub CalledAt : {A : Type 0} → Option Error → (Outcome A → Type 0) → Machine → Outcome A
     → Type 0
 CalledAt {A} None R v o = (event : Outcome A) × R event × (o ≡ settled event)
 CalledAt (Some e) R v o = o ≡ Failed e v
 
--- The same of a call whose event may come to several outcomes.
+-- The same of a call whose event has several possible outcomes.
 abbrev pub CalledBy : {A : Type 0} → (Outcome A → Type 0) → Machine → Outcome A → Type 0
 CalledBy R v o = CalledAt v.failure R v o
 
--- A call does one of the outcomes that it may come to, or finds no memory.
+-- A call has one of its possible outcomes, or finds no memory.
 abbrev pub DoesBy : {A : Type 0} → (Outcome A → Type 0) → Result A Error → Machine → Machine
     → Type 0
 DoesBy R (Ok a) old new = R (Done a new)

@@ -1,4 +1,4 @@
--- What executing a run came to: its result is proposed, or the attempt fails.
+-- The result of an executed run is reported: it is proposed, or the attempt fails.
 use Rattle.std.specs.Prelude.{◌≡◌, ◌++◌, [], ◌∷◌, not, ◌&&◌, ◌||◌, if◌then◌else◌, ℕ, Option, Some, None, find, is_some}
 use Rattle.await_trees.specs.declared.handle.NotificationHandle.{NotificationHandle}
 use Rattle.journal_protocol.specs.NamedFault.{NamedFault}
@@ -33,7 +33,7 @@ run_at handle v = if is_some (id_at handle v.results.handles)
     then find (has_handle (record { 0 = handle })) v.runs else None
 
 -- why a version can't take a result: metadata on a failure needs V6, and a policy that may pause
--- V7, whatever the result is
+-- V7, for any result
 abbrev pub proposal_fault : RunExitResult → RetryPolicy → Version → Option NamedFault
 proposal_fault exit policy version =
     if (exit_has_metadata exit && not (is_from_v6 version))
@@ -65,7 +65,7 @@ SettlesAs id (settlement.Failed e) v o = o ≡ Failed e v
 abbrev pub without_run : NotificationHandle → Machine → Machine
 without_run handle v = record v { runs = without_first (has_handle handle) v.runs }
 
--- what the run of a handle came to, if there is a pending one
+-- the outcome of a report for a handle, by its pending run; refused if it has none
 abbrev pub Settled : NotificationHandle → RunExitResult → RetryPolicy → Option PendingRun → Machine
     → Outcome Unit → Type 0
 Settled handle exit policy None v o = o ≡ refused fault.NoPendingRun v
@@ -73,7 +73,7 @@ Settled handle exit policy (Some run) v o =
     (s : Settlement) × SettlesRun run exit policy v.start v.wrote_command s
     × SettlesAs run.completion_id s (without_run handle v) o
 
--- Outside Processing what a run came to is ignored.
+-- Outside Processing a run's result is ignored.
 abbrev pub SettledAt : Phase → NotificationHandle → RunExitResult → RetryPolicy → Machine
     → Outcome Unit → Type 0
 SettledAt Processing handle exit policy v o = Settled handle exit policy (run_at handle.0 v) v o
@@ -85,7 +85,7 @@ abbrev pub SettledUnless : Option NamedFault → NotificationHandle → RunExitR
 SettledUnless (Some name) handle exit policy v o = o ≡ refused name v
 SettledUnless None handle exit policy v o = SettledAt v.phase handle exit policy v o
 
--- what it may come to that a run's result is told
+-- the possible outcomes of a report of a run's result
 abbrev pub Proposes : NotificationHandle → RunExitResult → RetryPolicy → Machine → Outcome Unit
     → Type 0
 Proposes handle exit policy v o =

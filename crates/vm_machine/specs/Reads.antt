@@ -62,7 +62,7 @@ read_numbered r v =
     else read_popped r v.counters.handle v.counters.completion v.commands
     (handed_out 1 (entered (eager_type r) [] v))
 
--- the name that a refusal for want of numbers shows: none in replay
+-- the name that a refusal shows if numbers ran out: none in replay
 abbrev pub name_shown : StateRead → Machine → List ℕ
 name_shown r v = if is_processing v.phase then name_read r else []
 

@@ -13,17 +13,17 @@ use Rattle.vm_asks.specs.Asks.{all_ids, any_refusal}
 use Rattle.vm_asks.specs.Requests.{name_of, shown_type}
 use Rattle.vm_machine.specs.declared.machine.Machine.{Machine}
 use Rattle.vm_machine.specs.Commands.{CanBeRead, about_next, commanded, entered}
-use Rattle.vm_machine.specs.Outcomes.{Does, Done, Failed, Outcome, ◌>>=◌, about_last, called, refused}
+use Rattle.vm_machine.specs.Outcomes.{Does, Done, Failed, Outcome, ◌>>>◌, about_last, called, refused}
 use Rattle.vm_machine.specs.Phases.{is_running, state_fault}
 
 -- ---- what all of them need
 
--- fewer command indexes are left than so many
+-- fewer than n command indexes are left
 abbrev pub missing_indexes : ℕ → Counters → Option NamedFault
 missing_indexes n k =
     if nat_lt (most - unwrap_or k.command 0) n then Some ExhaustedCommandIndexes else None
 
--- the first kind of number of which a command and those behind it need more than are left
+-- the first kind of number of which a command and those after it need more than are left
 abbrev pub missing_for : Command → List Command → Counters → Option NamedFault
 missing_for c cs k =
     option_or (missing_number (all_ids c cs) 0 (all_ids c cs) k)
@@ -39,22 +39,23 @@ numbers_left None c v = Done tt v
 abbrev pub looked_for : Command → List Command → Machine → Outcome Unit
 looked_for c cs v =
     if is_running v.phase then numbers_left (missing_for c cs v.counters) c v
-    else (let w = entered (shown_type c.message) (name_of c.message) v in Failed (about_last (state_fault v.phase) w) w)
+    else (let w = entered (shown_type c.message) (name_of c.message) v in
+    Failed (about_last (state_fault v.phase) w) w)
 
 -- the arguments, and then the rest
 abbrev pub foreseen_unless : Option NamedFault → Command → List Command → Machine → Outcome Unit
 foreseen_unless (Some name) c cs v = refused name v
 foreseen_unless None c cs v = looked_for c cs v
 
--- What a command and those behind it need is looked for, before it is made: the first reason that
+-- What a command and those after it need is looked for, before it is made: the first reason that
 -- there is refuses the call.
 unfoldable pub foreseen : Command → List Command → Machine → Outcome Unit
 foreseen c cs v = foreseen_unless (any_refusal c cs) c cs v
 
--- A command with these behind it; where there are any, what all of them need is looked for first.
+-- A command with these after it; if there are any, what all of them need is looked for first.
 abbrev pub commanded_before : Command → List Command → Machine → Outcome NotificationHandle
 commanded_before c [] v = commanded c v
-commanded_before c (b ∷ bs) v = foreseen c (b ∷ bs) v >>= λ _ w. commanded c w
+commanded_before c (b ∷ bs) v = foreseen c (b ∷ bs) v >>> λ _ w. commanded c w
 
 -- ---- the whole call
 
@@ -69,14 +70,14 @@ abbrev pub answered_so : {A B : Type 0} → B → Result A Error → Result B Er
 answered_so b (Ok a) = Ok b
 answered_so b (Err e) = Err e
 
--- what comes behind the first command: the call is answered by its handle; an error stays
+-- after the first command: the call is answered by its handle; an error stays
 abbrev pub BehindFirst : (Result NotificationHandle Error → Machine → Machine → Type 0)
     → Result NotificationHandle Error → Result NotificationHandle Error → Machine → Machine → Type 0
 BehindFirst Next (Ok handle) r mid new = (given : Result NotificationHandle Error)
     × Next given mid new × (r ≡ answered_so handle given)
 BehindFirst Next (Err e) r mid new = (r ≡ Err e) × (new ≡ mid)
 
--- A command and those behind it are made, one after another, each by a call of its own; the call is
+-- A command and those after it are made, one after another, each by a call of its own; the call is
 -- answered by the first one's handle.
 abbrev pub MakesAll : Command → List Command → Result NotificationHandle Error → Machine → Machine
     → Type 0

@@ -13,8 +13,8 @@ use Rattle.vm_machine.specs.declared.machine.Machine.{Machine}
 use Rattle.vm_machine.specs.Outcomes.{Outcome, Done, refused}
 use Rattle.vm_machine.specs.Phases.{is_running, state_fault}
 
--- The id by which others complete an awakeable: behind a fixed text the invocation's id and its
--- signal's in four bytes, in the base64 of URLs without padding.
+-- The id by which others complete an awakeable: a fixed text, and after it the invocation's id and
+-- its signal's in four bytes, in the base64 of URLs without padding.
 unfoldable pub awakeable_id : List ℕ → ℕ → List ℕ
 awakeable_id invocation signal =
     codes "sign_1" ++ encode_of url_safe_no_pad (invocation ++ to_be_bytes w32 signal)

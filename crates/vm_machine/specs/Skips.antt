@@ -1,5 +1,5 @@
--- Recorded commands that are skipped: where they aren't replayed, those behind the input are
--- dropped, and new commands get indexes and completion ids past theirs.
+-- Recorded commands that are dropped: if they aren't replayed, those after the input are dropped,
+-- and new commands get indexes and completion ids past theirs.
 use Rattle.std.specs.Prelude.{ℕ, ◌+◌, Bool, true, false, ◌==◌, if◌then◌else◌, nat_lt, List, [], Option, Some, None, unwrap_or, Result, Ok, Err}
 use Rattle.journal_protocol.specs.NamedFault.{NamedFault}
 use Rattle.journal_protocol.specs.NamedFault.TheVariants.{ExhaustedCompletionIds, ExhaustedCommandIndexes}
@@ -15,7 +15,7 @@ abbrev pub skips_replay : JournalReplay → Bool
 skips_replay Enabled = false
 skips_replay Disabled = true
 
--- The counters once the input is read and so many commands behind it are dropped, where this
+-- The counters once the input is read and this number of commands after it is dropped, if this
 -- completion id is next; or the kind of number that runs out by that.
 abbrev pub counters_past : ℕ → ℕ → Counters → Result Counters NamedFault
 counters_past dropped id c =

@@ -46,7 +46,7 @@ fn input_of(start: &StartInfo, command: InputCommand) -> Result<Input, AllocErro
 }
 
 impl Machine {
-    /// Refuses the input for want of a number, as the command that comes next.
+    /// Refuses the input because a number ran out, as the command that comes next.
     fn refuse_input(&self, fault: NamedFault) -> Fault
         ensures { result ≡ Refused (about_next fault type.InputCommand [] self.now) }
     {

@@ -136,7 +136,7 @@ module _ (s : Setup) (m : Meaning) (p r : Point) where
   abbrev d : Derived
   d = p.derived
 
-  -- the numbers and handles behind a cancel command
+  -- the numbers and handles after a cancel command
   abbrev behind_command : Derived
   behind_command = record (counted 0 d) { tracked = without_first_call d.tracked }
 
@@ -199,14 +199,14 @@ module _ (s : Setup) (m : Meaning) (p r : Point) where
   pub cancel_move : (future : UnresolvedFuture) → IsAwaiting m p future → is_cancelled_in s d ≡ true → next s m p ≡ Some r → CancelMove s p r
   cancel_move future at cancelled moves = cancelled_move (unresolved_handles d.tracked) refl (sym (ap (λ b. moved (awaited s b future d) p) cancelled) ∙ sym (ap (λ st. moved (call_of s st d) p) at) ∙ moves)
 
--- ---- so many moves
+-- ---- several moves
 
 -- no list is longer than itself
 pub longer_list : {A : Type 0} (xs : List A) (y : A) (ys : List A) → xs ≡ xs ++ y ∷ ys → ⊥
 longer_list [] y ys e = absurd (cc)
 longer_list (x ∷ xs) y ys e = longer_list xs y ys (cc)
 
--- two lists go on alike behind what they share
+-- two equal lists have the same item after the same beginning
 pub same_item : {A : Type 0} (xs : List A) (a b : A) (ys zs : List A) → xs ++ a ∷ ys ≡ xs ++ b ∷ zs → a ≡ b
 same_item [] a b ys zs e = (cc)
 same_item (x ∷ xs) a b ys zs e = same_item xs a b ys zs (cc)

@@ -51,7 +51,7 @@ no_calls (t ∷ ts) e f = by_id t.invocation_id e f
     by_id None e f = absurd (cc)
     by_id (Some known) e f = absurd (cc)
 
--- behind the first of some calls whose ids are known
+-- the calls after the first, if all their ids are known
 others_known : (ts : List TrackedCall) (id : List ℕ) (ids : List (List ℕ)) → unresolved_handles ts ≡ [] → invocation_ids ts ≡ id ∷ ids → (unresolved_handles (without_first_call ts) ≡ []) × (invocation_ids (without_first_call ts) ≡ ids)
 others_known [] id ids e f = absurd (cc)
 others_known (t ∷ ts) id ids e f = by_id t.invocation_id e f
@@ -114,7 +114,7 @@ module _ (s : Setup) (d : Derived) (x : Notification) (queue : List Notification
   shifted : (h : ℕ) (handles : List ℕ) (handle : ℕ) (id : List ℕ) → present_in s h d ≡ None → IsInvocation s (arrival_used x d) queue (h ∷ handles) handle None id → IsInvocation s d (x ∷ queue) (h ∷ handles) handle None id
   shifted h handles handle id none (n, least, is) = (suc n, least_next (all_present s (h ∷ handles)) d x queue n (not_all s h handles d none) least, is)
 
-  -- so have the calls behind it
+  -- so have the calls after it
   others_shifted : (h : ℕ) (before : List ℕ) (ts : List TrackedCall) (ids : List (List ℕ)) → present_in s h d ≡ None → AreInvocations s (arrival_used x d) queue (h ∷ before) ts ids → AreInvocations s d (x ∷ queue) (h ∷ before) ts ids
   others_shifted h before [] ids none a = a
   others_shifted h before (t ∷ ts) [] none a = a
@@ -150,7 +150,7 @@ module _ (s : Setup) (d e : Derived) (alike : Alike d e) (queue : List Notificat
   all_with : (h : ℕ) (handles : List ℕ) → is_some (present_in s h d) ≡ true → (ns : List Notification) → all_present s (h ∷ handles) (arrivals_used ns d) ≡ all_present s handles (arrivals_used ns e)
   all_with h handles there ns = one_there s h handles (arrivals_used ns d) (handle_stays s h ns d there) ∙ sym (all_alike s handles (arrivals_used ns d) (arrivals_used ns e) (alike_more ns d e alike))
 
-  -- the calls behind one whose result is there
+  -- the calls after one whose result is there
   behind_read : (h : ℕ) (before : List ℕ) (ts : List TrackedCall) (ids : List (List ℕ)) → is_some (present_in s h d) ≡ true → AreInvocations s e queue before ts ids → AreInvocations s d queue (h ∷ before) ts ids
   behind_read h before [] ids there a = a
   behind_read h before (t ∷ ts) [] there a = a

@@ -501,7 +501,7 @@ module _ (i : ℕ) (p q : Point) where
 
 -- ---- a call with several commands
 
--- how many completion ids the first so many of some commands take
+-- how many completion ids the first n of some commands take
 ids_made : ℕ → Command → List Command → ℕ
 ids_made zero c cs = 0
 ids_made (suc n) c [] = 0
@@ -522,14 +522,15 @@ unfolding made_ids
 none_of_one n (ask.Commands kind first second) one = absurd one
 none_of_one n a one = refl
 
--- the id that comes next where so many are made
+-- the completion id that comes next, once n of them are made
 turn_id : (s : Setup) (n : ℕ) (c : Command) (cs : List Command) (d : Derived) → (turn_after s n c cs d).before.counters.completion ≡ d.counters.completion + ids_made n c cs
 unfolding ids_made
 turn_id s zero c cs d = sym (add-zero d.counters.completion)
 turn_id s (suc n) c [] d = sym (add-zero d.counters.completion)
 turn_id s (suc n) c (b ∷ bs) d = let x = turn_id s n b bs (behind_command s c d) in omega (arith, x)
 
--- The completion id that comes next, behind those of the commands that were made of a call with several.
+-- The completion id that comes next, after those of the commands that were made of a call with
+-- several.
 next_id : Setup → Meaning → Point → ℕ
 next_id s m p = p.derived.counters.completion + made_ids p.derived.parts (ask_of s.version (m p.answers))
 
@@ -557,7 +558,7 @@ module _ (i : ℕ) (s : Setup) (m : Meaning) (p q : Point) where
   abbrev Rests : Point → Type 0
   Rests z = RestsAt (ask_of s.version (m z.answers)) z.derived.parts
 
-  -- a move, and whether parts of a call are made behind it
+  -- a move, and whether parts of a call are made after it
   abbrev Goes : Type 0
   Goes = Between i p q (next_id s m p) (next_id s m q) × Rests q
 
@@ -616,7 +617,7 @@ module _ (i : ℕ) (s : Setup) (m : Meaning) (p q : Point) where
 pub next_rests : (s : Setup) (m : Meaning) (p q : Point) → RestsAt (ask_of s.version (m p.answers)) p.derived.parts → next s m p ≡ Some q → RestsAt (ask_of s.version (m q.answers)) q.derived.parts
 next_rests s m p q rests e = (next_goes 0 s m p q (ask_of s.version (m p.answers)) refl rests e).1
 
--- ---- so many moves
+-- ---- several moves
 
 between_here : (i : ℕ) (p : Point) (first : ℕ) → Between i p p first first
 between_here i p first = record { used = []; left = refl; ordered = omega arith; claim = inl (refl, refl) }
@@ -686,7 +687,7 @@ module _ (s : Setup) (m : Meaning) (input : InputCommand) (ns : List Notificatio
       let some = came i p.derived.usage in
       omega (arith, all, some)
 
-  -- where no result came for what was read, and one at most for each other id
+  -- if no result came for what was read, and one at most for each other id
   pub replays_once : ComeOnce ns → (n : ℕ) (p : Point) → after s m n begun ≡ Some p → ((i : ℕ) → was_read i p.derived.usage ≡ true → results_of (CompletionId i) ns ≡ []) → HasNoTwo p
   unfolding reads_at
   replays_once once n p e none i =

@@ -96,7 +96,7 @@ made_compare s m base (suc n) (suc k) p cs ds a b (state, r, rest, knows, is, mo
 pub undisturbed_compare : (s : Setup) (m : Meaning) (base : StateMap) (input : InputCommand) (ns more : List Notification) (cs ds : List RawMessage) → Undisturbed s m base input ns cs → Undisturbed s m base input (ns ++ more) ds → OneBegins cs ds
 undisturbed_compare s m base input ns more cs ds a b = made_compare s m base a.0 b.0 (start s input (ns ++ more) []) cs ds (later more a.1) b.1 (made_later s m (Whole base) more a.0 (start s input ns []) cs a.1 a.2) b.2
 
--- ---- what was written was written where nothing recorded was left
+-- ---- what was written was written once no recorded command was left
 
 supply_left : (state : StateMap) (mv : Move) (left : List RawMessage) → (supply state mv left ≡ []) ⊎ (left ≡ [])
 supply_left state (Needs e gives d) [] = inr refl

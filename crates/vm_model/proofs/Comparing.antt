@@ -196,7 +196,7 @@ moved_alike st Awaits p q compares h = arrival_alike (StableFor st) p.queue p q 
 moved_alike st Ends p q compares h = none_some h
 moved_alike st (Refuses name) p q compares h = none_some h
 
--- ---- so many moves
+-- ---- several moves
 
 -- no call between these answers is a set with a value that may differ
 abbrev StableBehind : Meaning → List Answer → List Answer → Type 0

@@ -33,7 +33,7 @@ OfMove P Awaits = Unit {0}
 OfMove P Ends = Unit {0}
 OfMove P (Refuses name) = Unit {0}
 
--- it is so of a command, whatever answers its move gives
+-- it is so of a command, for all answers that its move may give
 abbrev OfCommand : Setup → (Demand → List Answer → Type 0) → Command → Type 0
 OfCommand s P c = (d : Derived) (gives : List Answer) → P (demand_of s c d) gives
 

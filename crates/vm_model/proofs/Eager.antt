@@ -122,7 +122,7 @@ eager_made s m base (suc n) p made q spent (state, r, rest, knows, is, moves, fu
 
 -- ---- what recorded eager reads bring
 
--- behind some recorded commands
+-- after some recorded commands
 eager_behind : (base : StateMap) (before : List RawMessage) (raw : RawMessage) (cs : List RawMessage) → EagerFrom base (before ++ raw ∷ cs) → EagerReadMatches (changed_by (messages_in before) base) raw (message_in raw.ty raw.body)
 eager_behind base [] raw cs h = h.0
 eager_behind base (c ∷ before) raw cs h =

@@ -71,11 +71,11 @@ pub whole_rounds : (s : Setup) (m : Meaning) (base : StateMap) (before : List En
 whole_rounds s m base before [] after ordered h d = subst (IsOneRun s m (Whole base)) (sym d) h
 whole_rounds s m base before (a ∷ more) after ordered h (mid, handed, told, round, others) = whole_rounds s m base mid more after ordered (whole_round s m base before a mid ordered h handed told round) others
 
--- the commands behind the input are the first of a run that nothing disturbs
+-- the commands after the input are the first of a run that nothing disturbs
 pub run_is_undisturbed : (s : Setup) (m : Meaning) (base : StateMap) (journal : List Entry) (h : IsOneRun s m (Whole base) journal) → Undisturbed s m base h.input (notifications_in journal) h.rest
 run_is_undisturbed s m base journal h = (h.moves, h.at, h.made)
 
--- ---- what an earlier journal tells, and a later attempt
+-- ---- a point that is reached on an earlier journal, and a later attempt
 
 one_begins : (p a : List Answer) (q : List Answer) → (a ≡ []) ⊎ (a ≡ q) → OneBegins p q → OneBegins p a
 one_begins p a q answered h = ⊎_elim (λ (e : a ≡ []). inr (p, ap (λ l. l ++ p) (sym e))) (λ (e : a ≡ q). subst (OneBegins p) (sym e) h) answered

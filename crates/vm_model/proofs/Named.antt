@@ -53,7 +53,7 @@ use Rattle.vm_model.proofs.Parts.{IsOfOne, next_keeps}
 use Rattle.vm_model.proofs.Runs.{and_then_some, none_some}
 use Rattle.vm_model.proofs.Spans.{InOrder, Span, id_with_more, span_both, span_given, told_in_order}
 
--- ---- handles behind others
+-- ---- handles after others
 
 itself : (a : ℕ) → (a == a) ≡ true
 itself a = eq-eqb a a refl

@@ -1,4 +1,5 @@
--- If signals queue, what is left of a signal's deliveries is behind as many as were taken.
+-- If signals queue, what is left of a signal's deliveries begins at the index, from 0, that is the
+-- number of its takes.
 use Rattle.std.proofs.Common.{◌≡◌, ◌≤◌, ℕ, zero, suc, true, cond, List, [], ◌∷◌, ◌++◌, length, drop, Some, refl, sym, ap, ◌∙◌, subst, arith, append-nil}
 use Rattle.arrivals.specs.Results.{results_of}
 use Rattle.arrivals.proofs.Awaited.{results-append}

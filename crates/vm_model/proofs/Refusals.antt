@@ -24,7 +24,7 @@ leads_nowhere state (Refuses why) left p name is r = refl
 pub refused_stuck : (s : Setup) (m : Meaning) (state : StateMap) (p : Point) (name : NamedFault) → IsRefusedFor (move_at s m p) p.left p.queue name → IsStuck s m state p
 refused_stuck s m state p name r = leads_nowhere state (move_at s m p) p.left p name refl r
 
--- where no recorded command is left, a call is refused for its own reason alone
+-- if no recorded command is left, a call is refused for its own reason alone
 pub own_reason : (mv : Move) (queue : List Notification) (name : NamedFault) → IsRefusedFor mv [] queue name → mv ≡ Refuses name
 own_reason (Answers gives d) queue name r = absurd r
 own_reason (Needs demand gives d) queue name r = absurd r

@@ -138,7 +138,7 @@ newest_present Overwrite n us e = newest_ready Overwrite (CompletionId n) us e
 
 -- ---- an id whose deliveries queue up
 
--- what is left after so many
+-- what is left after the first k
 dropped : {A : Type 0} (xs ys : List A) (k : ℕ) (r : A) → drop k xs ≡ ys → k ≤ length xs → drop k (xs ++ r ∷ []) ≡ ys ++ r ∷ []
 dropped xs ys zero r e h = ap (λ l. l ++ r ∷ []) e
 dropped [] ys (suc k) r e h = absurd (omega (arith, h))
@@ -237,7 +237,7 @@ rest_ready id listed (Used n ∷ us) all = rest_used id us n (rest_ready id list
 rest_ready id listed (Read i result ∷ us) all = rest_read id us i result listed (rest_ready id listed us all)
 rest_ready id listed (Taken i ∷ us) all = rest_taken id i us listed all.0 (rest_ready id listed us all.1)
 
--- of a signal the delivery is present that stands behind as many as were taken
+-- the index of a signal's present delivery, from 0, is the number of takes so far
 pub next_present : (id : NotificationId) → is_listed Queued id ≡ true → (us : List Usage) → EachTookAResult Queued us → present_result Queued id (ready_by_usage Queued us) ≡ first (drop (takes id us) (deliveries id us))
 next_present id listed us all = first_present id listed us ∙ ap first (rest_ready id listed us all).ready
 

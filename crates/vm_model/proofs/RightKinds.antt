@@ -283,7 +283,7 @@ left_each P h ms all = by_test (h == 1)
 
 -- ---- one call
 
--- what a call leaves, behind the recorded command that it uses
+-- what a call leaves, after the recorded command that it uses
 abbrev KeepsTracks : List RawMessage → Move → Type 0
 KeepsTracks us (Answers gives e) = Tracks us e
 KeepsTracks us (Needs demand gives e) = (raw : RawMessage) (result : Option NotificationResult) → stands_for demand raw ≡ Ok result → Tracks (us ++ raw ∷ []) e
@@ -291,7 +291,7 @@ KeepsTracks us Awaits = Unit {0}
 KeepsTracks us Ends = Unit {0}
 KeepsTracks us (Refuses name) = Unit {0}
 
--- handles are given for so many completion ids
+-- handles are given for n completion ids
 counted_tracks : (us : List RawMessage) (n : ℕ) (d : Derived) → Tracks us d → Tracks us (counted n d)
 counted_tracks us n d t =
     tracks_given us d.counters.handle (d.counters.handle + n) d.handles (mapped_from n d.counters.handle d.counters.completion) d.tracked (omega arith) (mapped_at n d.counters.handle d.counters.completion d.counters.handle (omega arith)) (mapped_below n d.counters.handle d.counters.completion (d.counters.handle + n) (omega arith)) t
@@ -430,7 +430,7 @@ uses_goes : (us : List RawMessage) (e : Demand) (gives : List Answer) (d : Deriv
 uses_goes us e gives d [] p q at t m = none_some m
 uses_goes us e gives d (raw ∷ left) p q at t m = command_goes us (stands_for e raw) e gives d raw left p q refl at (t raw) m
 
--- it stays so where no command is used
+-- it stays so if no command is used
 stays : (us : List RawMessage) (p z : Point) → z.left ≡ p.left → Tracks us z.derived → Goes us p z (λ z. z.derived)
 stays us p z same t = ([], sym same, subst (λ l. Tracks l z.derived) (sym (append-nil us)) t)
 
@@ -445,7 +445,7 @@ moved_goes us Awaits p q t k m = arrival_goes us p.queue p q t m
 moved_goes us Ends p q t k m = none_some m
 moved_goes us (Refuses name) p q t k m = none_some m
 
--- what follows behind the commands of a call with several that are made
+-- what is known once some commands of a call with several are made
 standing : Setup → Ask → Derived → Derived
 standing s (ask.Commands kind first second) d = (turn_after s d.parts first (second ∷ []) d).before
 standing s a d = d
@@ -511,7 +511,7 @@ newest_is : {A : Type 0} (P : A → Type 0) (o : Option A) (xs : List A) (r : A)
 newest_is P o [] r before all e = before r e
 newest_is P o (x ∷ xs) r before all e = newest_is P (Some x) xs r (λ y same. subst P (same_Some x y same) all.0) all.1 e
 
--- what was delivered since the last take is of the kind of all arrivals, where nothing was read
+-- if nothing was read, what was delivered since the last take is of the kind of all arrivals
 since_are : (P : NotificationResult → Type 0) (i : ℕ) (us : List Usage) → reads_at i us ≡ 0 → AllByRecursion P (results_of (CompletionId i) (arrivals_in us)) → AllByRecursion P (since_taken (CompletionId i) us)
 unfolding reads_at
 since_are P i [] none all = tt

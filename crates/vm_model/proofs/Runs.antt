@@ -83,7 +83,7 @@ moved_later ns (Refuses name) p q h = none_some h
 pub next_later : (s : Setup) (m : Meaning) (ns : List Notification) (p q : Point) → next s m p ≡ Some q → next s m (later ns p) ≡ Some (later ns q)
 next_later s m ns p q h = moved_later ns (move_at s m p) p q h
 
--- ---- runs, over so many moves
+-- ---- runs of several moves
 
 pub after_longer : (s : Setup) (m : Meaning) (cs : List RawMessage) (n : ℕ) (p q : Point) → after s m n p ≡ Some q → after s m n (longer cs p) ≡ Some (longer cs q)
 unfolding mapped
@@ -149,7 +149,7 @@ made_front s m K (suc n) p front back q (state, x, rest, knows, is, moves, furth
     (suc h.0, h.1, (state, x, y.0, knows, y.1, moves, h.2)))
     (split_supply state (move_at s m p) p.left rest front back is)
 
--- ---- where nothing recorded is left, nothing comes to be
+-- ---- if no recorded command is left, none is left after further moves
 
 command_used_spent : (o : Result (Option NotificationResult) NamedFault) (e : Demand) (gives : List Answer) (d : Derived) (p q : Point) → command_used o e gives d [] p ≡ Some q → q.left ≡ []
 command_used_spent (Err name) e gives d p q h = none_some h

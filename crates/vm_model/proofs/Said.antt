@@ -50,7 +50,7 @@ made_weaken s m K A told f (suc n) p made q x e (state, r, rest, knows, is, move
       made_weaken s m K A told f n r rest q (x ++ y.0) (y.1 ∙ ap (λ l. l ++ y.0) e ∙ append_assoc told x y.0) further,
     )
 
--- ---- where nothing recorded is left
+-- ---- if no recorded command is left
 
 -- what a move says then: its own command stands for itself, and is said
 abbrev pub Says : StateMap → Move → Point → Point → Type 0

@@ -1,4 +1,5 @@
--- What honest rounds make of a sound history: the recorded commands stay, and the very commands of the calls come behind them.
+-- What honest rounds make of a sound history: the recorded commands stay, and the very commands of
+-- the calls come after them.
 use Rattle.std.proofs.Common.{◌≡◌, ◌⊎◌, ℕ, zero, suc, ◌+◌, List, [], ◌∷◌, ◌++◌, take, drop, Some, refl, sym, ap, ◌∙◌, subst, append_assoc, append-nil, inl, inr, ⊎_elim}
 use native.Mathlib.Nat.{zero-add, suc-add}
 use Rattle.std.proofs.lemmas.Option.{same_Some}
@@ -22,9 +23,9 @@ use Rattle.vm_model.proofs.Runs.{after_later, after_longer, and_then_some, longe
 use Rattle.vm_model.proofs.Said.{made_weaken}
 use Rattle.vm_model.proofs.States.{changed_by-append}
 
--- ---- an attempt passes a point that its journal tells
+-- ---- an attempt passes a point that is reached on its journal
 
--- a move that is told needs no command of its own
+-- a move over what is recorded needs no command of its own
 told_supply : (state : StateMap) (mv : Move) (p q : Point) → moved mv p ≡ Some q → supply state mv p.left ≡ []
 told_supply state (Answers gives d) p q h = refl
 told_supply state (Needs demand gives d) p q h = by_left p.left refl
@@ -36,7 +37,7 @@ told_supply state Awaits p q h = refl
 told_supply state Ends p q h = refl
 told_supply state (Refuses name) p q h = refl
 
--- so many moves lead to a point: an attempt that has written a command has passed it
+-- if some moves lead to a point, an attempt that has written a command has passed it
 passes : (s : Setup) (m : Meaning) (A : Knowledge) (n : ℕ) (p q : Point) → after s m n p ≡ Some q → (k : ℕ) (written : List RawMessage) (r : Point) → Made s m A k p written r → (written ≡ []) ⊎ ((j : ℕ) × Made s m A j q written r)
 passes s m A zero p q told k written r made = inr (k, subst (λ z. Made s m A k z written r) (same_Some p q told) made)
 passes s m A (suc n) p q told zero written r made = inl made.0
@@ -48,7 +49,7 @@ passes s m A (suc n) p q told (suc k) written r (state, x, rest, knows, is, move
     let wrote : written ≡ rest = is ∙ ap (λ l. l ++ rest) quiet in
     subst (λ w. (w ≡ []) ⊎ ((j : ℕ) × Made s m A j q w r)) (sym wrote) (passes s m A n t.0 q t.2 k rest r (subst (λ z. Made s m A k z rest r) same further))
 
--- ---- what stands behind what
+-- ---- one after another
 
 eager_append : (state : StateMap) (cs ds : List RawMessage) → EagerFrom state cs → EagerFrom (changed_by (messages_in cs) state) ds → EagerFrom state (cs ++ ds)
 eager_append state [] ds h k = k

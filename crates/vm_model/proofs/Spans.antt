@@ -377,6 +377,6 @@ after_in_order s m (suc n) p q h e =
 pub told_in_order : (s : Setup) (m : Meaning) (n : ℕ) (input : InputCommand) (ns : List Notification) (cs : List RawMessage) (q : Point) → after s m n (start s input ns cs) ≡ Some q → InOrder q.derived
 told_in_order s m n input ns cs q e = after_in_order s m n (start s input ns cs) q (record { handles = (omega arith, omega arith); cancel = refl; tracked = tt }) e
 
--- in a run that a journal tells handle 1 stands for signal 1
+-- in a run over a journal handle 1 stands for signal 1
 pub told_cancel : (s : Setup) (m : Meaning) (n : ℕ) (input : InputCommand) (ns : List Notification) (cs : List RawMessage) (q : Point) → after s m n (start s input ns cs) ≡ Some q → id_at 1 q.derived.handles ≡ Some (SignalId 1)
 told_cancel s m n input ns cs q e = (told_in_order s m n input ns cs q e).cancel

@@ -34,17 +34,17 @@ use Rattle.vm_model.specs.Sums.{calls_after, calls_for, completion_ids, completi
 use Rattle.vm_model.proofs.Parts.{Splits, turn_splits}
 use Rattle.vm_model.proofs.Runs.{and_then_some, none_some}
 
--- so many numbers were given
+-- these counts of ids, signals and handles were given
 pub record Given (ids signals numbers : ℕ) (d e : Derived) : Type 0 where
   pub completion : e.counters.completion ≡ d.counters.completion + ids
   pub signal : e.counters.signal ≡ d.counters.signal + signals
   pub handle : e.counters.handle ≡ d.counters.handle + numbers
 
--- one answer comes and so many numbers are given, or none
+-- one answer comes and these counts of numbers are given, or none
 abbrev pub GivenBy : ℕ → ℕ → ℕ → Derived → List Answer → Derived → Type 0
 GivenBy ids signals numbers d gives e = ((a : Answer) × (gives ≡ a ∷ []) × Given ids signals numbers d e) ⊎ ((gives ≡ []) × Given 0 0 0 d e)
 
--- a move gives one answer and so many numbers, or none
+-- a move gives one answer and these counts of numbers, or none
 abbrev pub GivenAfter : ℕ → ℕ → ℕ → Derived → Move → Type 0
 GivenAfter ids signals numbers d (Answers gives e) = GivenBy ids signals numbers d gives e
 GivenAfter ids signals numbers d (Needs demand gives e) = GivenBy ids signals numbers d gives e
@@ -155,7 +155,7 @@ call_given s st d = asked_given s (ask_of s.version st) d
 
 -- ---- one move
 
--- one answer came and so many numbers were given, or none
+-- one answer came and these counts of numbers were given, or none
 Moves : ℕ → ℕ → ℕ → Point → Point → Type 0
 Moves ids signals numbers p q = ((a : Answer) × (q.answers ≡ p.answers ++ a ∷ []) × Given ids signals numbers p.derived q.derived) ⊎ ((q.answers ≡ p.answers) × Given 0 0 0 p.derived q.derived)
 
@@ -199,7 +199,7 @@ moved_moves ids signals numbers Awaits p q g m = arrival_moves ids signals numbe
 moved_moves ids signals numbers Ends p q g m = none_some m
 moved_moves ids signals numbers (Refuses name) p q g m = none_some m
 
--- ---- so many moves
+-- ---- several moves
 
 -- the numbers given between two points are the sums over the calls between them
 record Sums (s : Setup) (m : Meaning) (p q : Point) : Type 0 where
@@ -250,7 +250,7 @@ after_sums s m (suc n) p q e =
     (λ (y : (x.0.answers ≡ p.answers) × Given 0 0 0 p.derived x.0.derived). sums_still s m p x.0 q y.0 y.1 (after_sums s m n x.0 q x.2))
     (moved_moves (completion_ids s.version (m p.answers)) (signal_ids s.version (m p.answers)) (handles s.version (m p.answers)) (move_at s m p) p x.0 (call_given s (m p.answers) p.derived) x.1)
 
--- in a run that a journal tells: completion ids from 1, signal ids and handles from 17
+-- in a run over a journal: completion ids from 1, signal ids and handles from 17
 pub told_sums : (s : Setup) (m : Meaning) (n : ℕ) (input : InputCommand) (ns : List Notification) (cs : List RawMessage) (q : Point) → after s m n (start s input ns cs) ≡ Some q
     → (q.derived.counters.completion ≡ 1 + total (completion_ids s.version) (calls_for m q.answers)) × (q.derived.counters.signal ≡ 17 + total (signal_ids s.version) (calls_for m q.answers)) × (q.derived.counters.handle ≡ 17 + total (handles s.version) (calls_for m q.answers))
 told_sums s m n input ns cs q e =

@@ -168,7 +168,7 @@ after_took s m (suc n) p q h e =
     let x = and_then_some (next s m p) (after s m n) q e in
     after_took s m n x.0 q (moved_took s (move_at s m p) p x.0 h (asked_took s (ask_of s.version (m p.answers)) p.derived h) x.1) x.2
 
--- in a run that a journal tells each take took what was present
+-- in a run over a journal each take took what was present
 pub told_took : (s : Setup) (m : Meaning) (n : ℕ) (input : InputCommand) (ns : List Notification) (cs : List RawMessage) (q : Point) → after s m n (start s input ns cs) ≡ Some q → EachTookAResult s.options.signal_delivery q.derived.usage
 told_took s m n input ns cs q e = after_took s m n (start s input ns cs) q tt e
 

@@ -84,7 +84,7 @@ pub counters_more : (ns : List Notification) (d : Derived) → (arrivals_used ns
 counters_more [] d = refl
 counters_more (n ∷ ns) d = counters_more ns (arrival_used n d)
 
--- a machine finds as much as the point at which as many arrivals are used
+-- a machine that has used n arrivals finds what the point finds that has used as many
 pub used_at : (s : Setup) (p : Point) (n : ℕ) → used (arrived_at s p) n ≡ arrived_at s (record p { derived = arrivals_used (take n p.queue) p.derived; queue = drop n p.queue })
 used_at s p n = λ i. record { queued = drop n p.queue; ready = sym (ready_more s (take n p.queue) p.derived) i; handles = sym (handles_more (take n p.queue) p.derived) i }
 
@@ -92,7 +92,7 @@ pub all_used : (ns : List Notification) → drop (length ns) ns ≡ []
 all_used [] = refl
 all_used (n ∷ ns) = all_used ns
 
--- a leaf comes to the same in the model
+-- a leaf has the same outcome in the model
 leaf_more : (s : Setup) (p : Point) (n : ℕ) → leaf_outcome s.options.signal_delivery (used (arrived_at s p) n) ≡ leaf_in s (arrivals_used (take n p.queue) p.derived)
 leaf_more s p n = λ i h. result_outcome (present_result_for s.options.signal_delivery (id_at h (sym (handles_more (take n p.queue) p.derived) i)) (sym (ready_more s (take n p.queue) p.derived) i))
 
@@ -121,6 +121,6 @@ module _ (s : Setup) (t : Tree) (p : Point) (queued : s.options.signal_delivery 
       ∙ sym (ap (λ at. awake at t) (λ i h. first_is_now s.options.signal_delivery arrived [] stays_so n h there i))
       ∙ never n there
 
-  -- where all arrivals are used, the leaves have come to what they are at the point
+  -- once all arrivals are used, the leaves' outcomes are those at the point
   pub left_at : outcomes s.options.signal_delivery (arrived_at s p) (length p.queue) ≡ leaf_in s (arrivals_used (take (length p.queue) p.queue) p.derived)
   left_at = (λ i h. first_is_now s.options.signal_delivery arrived [] stays_so (length p.queue) h (omega arith) i) ∙ leaf_more s p (length p.queue)

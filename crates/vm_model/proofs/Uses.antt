@@ -412,7 +412,7 @@ brought_same : (id : ℕ) (result : Option NotificationResult) (d : Derived) →
 brought_same id None d = (refl, refl)
 brought_same id (Some result) d = (refl, refl)
 
--- a call with one answer gives so many numbers
+-- a call with one answer gives these counts of numbers
 one_given : (ids signals numbers : ℕ) (d : Derived) (gives : List Answer) (e : Derived) → (a : Answer) × (gives ≡ a ∷ []) → GivenBy ids signals numbers d gives e → (a : Answer) × (gives ≡ a ∷ []) × Given ids signals numbers d e
 one_given ids signals numbers d gives e one (inl g) = g
 one_given ids signals numbers d gives e (a, is) (inr (none, g)) = absurd (cc)
@@ -544,9 +544,10 @@ module _ (s : Setup) (m : Meaning) (p r : Point) where
       x)
       (await_or_other s p.derived (m p.answers))
 
--- ---- so many moves
+-- ---- several moves
 
--- the next numbers stand behind so many, and each handle stands for what it was given
+-- the next numbers come after these counts of earlier ones, and each handle stands for what it was
+-- given
 record Stood (m : Meaning) (completions signals : ℕ) (given : List NotificationId) (answers : List Answer) (d : Derived) : Type 0 where
   completion : d.counters.completion ≡ 1 + completions
   signal : d.counters.signal ≡ 17 + signals
@@ -632,7 +633,7 @@ module _ (s : Setup) (m : Meaning) (completions signals : ℕ) (given : List Not
   abbrev more : List NotificationId
   more = given_for (1 + completions) (17 + signals) call
 
-  -- the numbers behind a call
+  -- the numbers after a call
   stood_on : OneCall s m p r → Stood m (completions + completion_ids s.version (m p.answers)) (signals + signal_ids s.version (m p.answers)) (given ++ more) r.answers r.derived
   stood_on o =
       let n = o.numbers in
@@ -728,7 +729,7 @@ module _ (s : Setup) (m : Meaning) (completions signals : ℕ) (given : List Not
 
 -- ---- a call with several commands
 
--- From a point at which a call with several commands begins, it has made so many of them.
+-- From a point at which a call with several commands begins, some number of them is made.
 record HasMade (s : Setup) (m : Meaning) (first second : Command) (p r : Point) : Type 0 where
   answers : r.answers ≡ p.answers
   used : List RawMessage

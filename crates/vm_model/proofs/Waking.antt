@@ -66,11 +66,11 @@ least_behind test d x xs j h = (
   },
 )
 
--- the point at which so many more arrivals are used
+-- the point at which j more arrivals are used
 abbrev with_used : ℕ → List Notification → Point → Point
 with_used j queue p = record p { derived = arrivals_used (take j queue) p.derived; queue = drop j queue }
 
--- and the run from there: after so many arrivals it ends
+-- and the run from there: it ends after j arrivals
 pub await_runs : (s : Setup) (m : Meaning) (future : UnresolvedFuture) (j : ℕ) (p : Point) (queue : List Notification) → p.queue ≡ queue → IsAwaiting m p future → IsLeast (ends_await s future) p.derived queue j → after s m j p ≡ Some (with_used j queue p)
 await_runs s m future zero p queue is at h = ap Some (λ i. record p { queue = is i })
 await_runs s m future (suc j) p [] is at h = absurd (omega (arith, h.there))

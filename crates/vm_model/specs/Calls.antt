@@ -44,7 +44,7 @@ use Rattle.vm_machine.specs.Several.{missing_for}
 use Rattle.vm_machine.specs.Signals.{awakeable_id}
 use Rattle.vm_machine.specs.Skips.{skips_replay}
 
--- What stays the same over all attempts of an invocation, as a handler is told it.
+-- What stays the same over all attempts of an invocation, as a handler is given it with its input.
 pub record Identity : Type 0 where
   pub id : List ℕ
   pub debug_id : List ℕ
@@ -110,7 +110,7 @@ ready_in s d = ready_by_usage s.options.signal_delivery d.usage
 abbrev pub has_result_in : Setup → NotificationHandle → Derived → Bool
 has_result_in s handle d = has_result_for (id_at handle.0 d.handles) (ready_in s d)
 
--- what a leaf has come to: by the present result of its handle's id
+-- a leaf's outcome: by the present result of its handle's id
 abbrev pub leaf_in : Setup → Derived → ℕ → Outcome
 leaf_in s d h =
     result_outcome (present_result_for s.options.signal_delivery (id_at h d.handles) (ready_in s d))
@@ -143,7 +143,7 @@ pub data Move : Type 0 where
 
 -- ---- calls with a command
 
--- what a command leaves: it is counted, and so many completion ids are given, with a handle for
+-- after a command: it is counted, and this number of completion ids is given, with a handle for
 -- each
 abbrev pub counted : ℕ → Derived → Derived
 counted ids d = record d {
@@ -160,8 +160,8 @@ demand_of s c d = Exactly (with_ids d.counters.completion c.message)
 abbrev pub answer_of : Command → Derived → Answer
 answer_of c d = command_answer c.message (record { 0 = d.counters.handle })
 
--- what follows behind a command: it is counted and given its numbers, and tracked where its
--- invocation is cancelled with the handler's
+-- after a command: it is counted and given its numbers, and tracked if its invocation is cancelled
+-- with the handler's
 abbrev pub behind_command : Setup → Command → Derived → Derived
 behind_command s c d = record (counted (ids_of c.message) d) {
   tracked = tracked_after s.options.implicit_cancellation c.message d.counters.handle d.tracked;
@@ -183,7 +183,7 @@ commanding s c None d = requested s c d
 
 -- ---- calls with several commands
 
--- Why a command isn't made that has these behind it, where the next numbers are these: the first
+-- Why a command isn't made, if these commands follow it and these numbers are next: the first
 -- reason that there is for all of them, of arguments and then of numbers, and then its own.
 abbrev pub refused_before : Command → List Command → Counters → Option NamedFault
 refused_before c [] k = option_or c.refusal
@@ -192,14 +192,14 @@ refused_before c (b ∷ bs) k = option_or
     (option_or (any_refusal c (b ∷ bs)) (missing_for c (b ∷ bs) k))
     (option_or c.refusal (missing_number (ids_of c.message) 0 (ids_of c.message) k))
 
--- where a call with several commands stands: the command that comes next, those behind it, and what
--- follows behind those before it
+-- A call with several commands, partly made: the command that comes next, the commands after it,
+-- and what is known once those before it are made.
 pub record Turn : Type 0 where
   pub command : Command
   pub behind : List Command
   pub before : Derived
 
--- where it stands once so many of them are made; the last stays
+-- the call once this number of its commands is made; the last command stays
 abbrev pub turn_after : Setup → ℕ → Command → List Command → Derived → Turn
 turn_after s zero c behind d = record { command = c; behind = behind; before = d }
 turn_after s (suc n) c [] d = record { command = c; behind = []; before = d }

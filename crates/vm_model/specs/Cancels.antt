@@ -53,7 +53,9 @@ abbrev pub AreInvocations : Setup → Derived → List Notification → List ℕ
 AreInvocations s d queue before [] ids = ids ≡ []
 AreInvocations s d queue before (t ∷ ts) [] = ⊥
 AreInvocations s d queue before (t ∷ ts) (id ∷ ids) =
-    (let handles = with_unresolved t.invocation_id t.handle before in IsInvocation s d queue handles t.handle t.invocation_id id × AreInvocations s d queue handles ts ids)
+    (let handles = with_unresolved t.invocation_id t.handle before in
+    IsInvocation s d queue handles t.handle t.invocation_id id
+    × AreInvocations s d queue handles ts ids)
 
 -- the invocations of tracked calls, one for one, where all results are read here
 abbrev pub AreInvocationsIn : Setup → Derived → List TrackedCall → List (List ℕ) → Type 0
@@ -71,9 +73,9 @@ cancel_commands (id ∷ ids) = (cancel_invocation_command id).message ∷ cancel
 
 -- From this point on an await of a cancelled handler was answered. It used the least number of the
 -- next arrivals by which each tracked call whose id isn't known has a present result. Its commands
--- cancel the tracked calls' invocations, in order; where no completion has two results, they are
--- those that are present by that number. Behind its answer, which is Cancelled, one result of the
--- cancel handle is taken, and no call is tracked.
+-- cancel the tracked calls' invocations, in order. If no completion has two results, they are those
+-- that are present by that number. After its answer, which is Cancelled, one result of the cancel
+-- handle is taken, and no call is tracked.
 pub record CancelledAwait (s : Setup) (m : Meaning) (p : Point) (a : Answer) : Type 0 where
   pub answered : a ≡ answer.Cancelled
   pub arrivals : ℕ

@@ -50,8 +50,8 @@ EachTookAResult delivery (Taken i
     ∷ us) = (is_some (present_result delivery i (ready_by_usage delivery us))
     ≡ true) × EachTookAResult delivery us
 
--- The result that a take of an id takes: where its deliveries queue up, the one behind as many as
--- were taken; else the newest that came since its result was last taken.
+-- The result that a take of an id takes: if its deliveries queue up, the one whose index, from 0,
+-- is the number of takes so far; else the newest that came since its result was last taken.
 abbrev pub next_taken : SignalDelivery → NotificationId → List Usage → Option NotificationResult
 next_taken delivery id us = cond (is_listed delivery id)
     (first (drop (takes id us) (deliveries id us))) (newest (since_taken id us))

@@ -1,4 +1,4 @@
--- What a journal tells of a handler's run, and what an attempt writes.
+-- Which points of a handler's run are reached on a journal, and what an attempt writes.
 use Rattle.std.specs.Prelude.{◌≡◌, ◌⊎◌, ◌<◌, ◌≤◌, length, take, ℕ, zero, suc, Bool, true, false, ◌||◌, List, [], ◌∷◌, ◌++◌, Option, Some, None}
 use Rattle.journal_protocol.specs.InputCommand.{InputCommand}
 use Rattle.journal_protocol.specs.Message.{Message}
@@ -21,7 +21,7 @@ use Rattle.vm_model.specs.Calls.{Setup, Meaning, Derived, is_awake, is_cancelled
 use Rattle.vm_model.specs.Journal.{Entry, commands_in, notifications_in, input_read_from, messages_in, stored_form}
 use Rattle.vm_model.specs.Moves.{Point, after, next, start, supplied, longer, arrival_used, changed_by}
 
--- A point is told by a journal: so many moves lead to it from the point after the input.
+-- A point is reached on a journal: some number of moves leads to it from the point after the input.
 abbrev pub Told : Setup → Meaning → InputCommand → List Notification → List RawMessage → Point
     → Type 0
 Told s m input ns cs p = (n : ℕ) × (after s m n (start s input ns cs) ≡ Some p)
@@ -42,7 +42,7 @@ pub record IsAllOf (now state : StateMap) : Type 0 where
   pub at : (key : List ℕ) → value_known key state ≡ value_known key now
   pub keys : known_keys state ≡ known_keys now
 
--- which state a call may go by, where so much was said
+-- the states that a call may go by, after the commands said so far
 abbrev pub Knowledge : Type 1
 Knowledge = StateMap → List Message → Type 0
 
@@ -66,7 +66,7 @@ EagerReadMatches state raw (Some (message.GetEagerStateKeys c)) = (id : ℕ) →
     ≡ stored_form (own_form (reads.Keys c.name) id state)
 EagerReadMatches state raw m = Unit {0}
 
--- the result that an eager read records of a key of which so much is known
+-- the result that an eager read records of a key, by what is known of it
 abbrev pub recorded_value : Known → Option VoidOrValue
 recorded_value Unknown = None
 recorded_value Empty = Some stands.Void
@@ -81,8 +81,8 @@ EagerFrom state (c ∷ cs) = EagerReadMatches state c (message_in c.ty c.body)
 -- ---- histories
 
 -- The journal is one history of the handler, each command once: it begins with an input, some point
--- that it tells with its own notifications uses all its commands, and each eager read is as the
--- state is there, from the base on.
+-- that is reached on it with its own notifications uses all its commands, and each eager read is as
+-- the state is there, from the base on.
 pub record History (s : Setup) (m : Meaning) (base : StateMap) (journal : List Entry) : Type 0 where
   pub first : RawMessage
   pub input : InputCommand
@@ -94,8 +94,8 @@ pub record History (s : Setup) (m : Meaning) (base : StateMap) (journal : List E
   pub uses_all : at.left ≡ []
   pub eager : EagerFrom base rest
 
--- So many moves from p to q, where each command that is needed and not recorded is the call's own,
--- by a state that it may go by: those are made.
+-- This number of moves leads from p to q and makes these commands: each that was needed and not
+-- recorded. Such a command is the call's own, by a state that it may go by.
 abbrev pub Made : Setup → Meaning → Knowledge → ℕ → Point → List RawMessage → Point → Type 0
 Made s m Knows zero p made q = (made ≡ []) × (p ≡ q)
 Made s m Knows (suc n) p made q =
@@ -111,7 +111,7 @@ abbrev pub Undisturbed : Setup → Meaning → StateMap → InputCommand → Lis
 Undisturbed s m base input ns cs =
     (n : ℕ) × (q : Point) × Made s m (Whole base) n (start s input ns []) cs q
 
--- no move comes next, not even with the call's own command, where so much of the state is known
+-- no move comes next, not even with the call's own command, by what is known of the state
 abbrev pub IsStuck : Setup → Meaning → StateMap → Point → Type 0
 IsStuck s m state p = next s m (longer (supplied s m state p) p) ≡ None
 
@@ -136,7 +136,8 @@ arrivals_used [] d = d
 arrivals_used (n ∷ ns) d = arrivals_used ns (arrival_used n d)
 
 -- the least number of the next arrivals after which the test holds
-pub record IsLeast (test : Derived → Bool) (d : Derived) (queue : List Notification) (n : ℕ) : Type 0 where
+pub record IsLeast (test : Derived → Bool) (d : Derived) (queue : List Notification)
+    (n : ℕ) : Type 0 where
   pub there : n ≤ length queue
   pub holds : test (arrivals_used (take n queue) d) ≡ true
   pub least : (i : ℕ) → i < n → test (arrivals_used (take i queue) d) ≡ false

@@ -10,10 +10,11 @@ use Rattle.vm_model.specs.Journal.{Entry, Recorded, Notified, commands_in, notif
 use Rattle.vm_model.specs.Moves.{Point, start}
 use Rattle.vm_model.specs.Histories.{Handed, IsPrefix, Knowledge, Made, after_head}
 
--- One run made the journal, whose calls went by so much of the state: it begins with an input, and
--- the commands behind it are the very ones that the handler's calls define, by the journal's
--- notifications and with nothing recorded.
-pub record IsOneRun (s : Setup) (m : Meaning) (Knows : Knowledge) (journal : List Entry) : Type 0 where
+-- One run made the journal, and its calls went by states that `Knows` allows: it begins with an
+-- input, and the commands after it are the very ones that the handler's calls define, by the
+-- journal's notifications and with nothing recorded.
+pub record IsOneRun (s : Setup) (m : Meaning) (Knows : Knowledge)
+    (journal : List Entry) : Type 0 where
   pub first : RawMessage
   pub input : InputCommand
   pub reads : input_read_from first ≡ Some input
@@ -24,16 +25,16 @@ pub record IsOneRun (s : Setup) (m : Meaning) (Knows : Knowledge) (journal : Lis
   pub made : Made s m Knows moves (start s input (notifications_in journal) []) rest at
 
 -- An attempt on a journal: the state that it was handed; its course, which is the notifications
--- that were delivered to it behind the journal's and the commands that it wrote, in the order in
+-- that were delivered to it after the journal's and the commands that it wrote, in the order in
 -- which this happened; and its answers.
 pub record Attempted : Type 0 where
   pub given : StateMap
   pub course : List Entry
   pub answers : List Answer
 
--- The attempt is told by the journal and by what it was handed: with the journal's notifications
--- and the delivered ones, so many moves made what it wrote, and its answers are those of the point
--- that they lead to, or it hasn't read its input.
+-- The attempt is the handler's run over the journal and what it was handed. With the journal's
+-- notifications and the delivered ones, some number of moves made what it wrote; and its answers
+-- are those of the point that they lead to, or it hasn't read its input.
 pub record IsToldOn (s : Setup) (m : Meaning) (journal : List Entry) (a : Attempted) : Type 0 where
   pub first : RawMessage
   pub input : InputCommand
@@ -55,10 +56,11 @@ ahead_of zero (Recorded c ∷ es) = []
 ahead_of (suc n) (Recorded c ∷ es) = ahead_of n es
 
 -- An honest round, by what was delivered and written: the new journal begins with the old one; its
--- new notifications are the delivered ones, and behind them some that weren't delivered; its new
--- commands are a beginning of the written ones; and each of them stands behind all notifications
+-- new notifications are the delivered ones, and after them some that weren't delivered; its new
+-- commands are a beginning of the written ones; and each of them stands after all notifications
 -- that were delivered before it was written.
-pub record HonestRound (before : List Entry) (course : List Entry) (after : List Entry) : Type 0 where
+pub record HonestRound (before : List Entry) (course : List Entry)
+    (after : List Entry) : Type 0 where
   pub added : List Entry
   pub extends : after ≡ before ++ added
   pub undelivered : List Notification
@@ -68,12 +70,12 @@ pub record HonestRound (before : List Entry) (course : List Entry) (after : List
   pub order : (n : ℕ) → n < length (commands_in added)
       → IsPrefix (ahead_of n course) (ahead_of n added)
 
--- what the attempt was handed is as this says, behind what the journal's commands say
+-- the state that the attempt was handed is one that `Knows` allows after the journal's commands
 abbrev pub IsHanded : Knowledge → List Entry → Attempted → Type 0
 IsHanded Knows journal a = Knows a.given (messages_in (after_head (commands_in journal)))
 
--- Honest rounds, one after another, each of an attempt that is told and that was handed so much of
--- the state.
+-- Honest rounds, one after another, each of an attempt that is the handler's run over the journal
+-- and was handed a state that `Knows` allows.
 abbrev pub HonestRounds : Setup → Meaning → Knowledge → List Entry → List Attempted → List Entry
     → Type 0
 HonestRounds s m Knows before [] after = after ≡ before

@@ -15,3 +15,5 @@ pub mod TakenHandles
 pub mod SignalQueues
 pub mod SaidState
 pub mod NamedHandles
+pub mod JournalFrames
+pub mod Fixed

@@ -113,14 +113,14 @@ abbrev pub and_then : {A B : Type 0} → Option A → (A → Option B) → Optio
 and_then None f = None
 and_then (Some x) f = f x
 
--- the point after so many moves
+-- the point after this number of moves
 abbrev pub after : Setup → Meaning → ℕ → Point → Option Point
 after s m zero p = Some p
 after s m (suc n) p = and_then (next s m p) (after s m n)
 
 -- ---- the first point
 
--- what a handler is told with its input
+-- what a handler is given with its input
 abbrev pub told_input : Identity → InputCommand → Input
 told_input i c = record {
   invocation_id = i.debug_id;
@@ -162,12 +162,12 @@ changed_by (c ∷ cs) state = changed_by cs (changed c state)
 
 -- ---- what a call brings itself
 
--- the call's own command, where so much of the state is known
+-- the call's own command, by what is known of the state
 abbrev pub own : StateMap → Demand → Message
 own state (Exactly command ignore) = command
 own state (Reads r id) = own_form r id state
 
--- the call's own command, where one is needed and none is recorded
+-- the call's own command, if one is needed and none is recorded
 abbrev pub supply : StateMap → Move → List RawMessage → List RawMessage
 supply state (Needs demand gives d) [] = stored_form (own state demand) ∷ []
 supply state (Needs demand gives d) (c ∷ left) = []
@@ -176,14 +176,14 @@ supply state Awaits left = []
 supply state Ends left = []
 supply state (Refuses name) left = []
 
--- where no recorded command is left, the command that the call needs
+-- the command that the call needs, if no recorded command is left
 abbrev pub supplied : Setup → Meaning → StateMap → Point → List RawMessage
 supplied s m state p = supply state (move_at s m p) p.left
 
--- the point with more recorded commands behind its own
+-- the point with more recorded commands after its own
 abbrev pub longer : List RawMessage → Point → Point
 longer cs p = record p { left = p.left ++ cs }
 
--- the point with more arrivals behind its own
+-- the point with more arrivals after its own
 abbrev pub later : List Notification → Point → Point
 later ns p = record p { queue = p.queue ++ ns }

@@ -11,7 +11,7 @@ use Rattle.vm_model.specs.Moves.{found}
 
 -- While recorded commands are left: the next doesn't stand for the call's, or the await is pending
 -- with all arrivals used, or the handler ends. At any time: the call is refused for a reason of its
--- own. Where no recorded command is left nothing else is a reason: a call's own command stands for
+-- own. If no recorded command is left, nothing else is a reason: a call's own command stands for
 -- itself, an await waits, and the handler may end.
 abbrev pub IsRefusedFor : Move → List RawMessage → List Notification → NamedFault → Type 0
 IsRefusedFor (Answers gives d) left queue name = ⊥

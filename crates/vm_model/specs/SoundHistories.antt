@@ -10,6 +10,7 @@ use Rattle.vm_model.specs.Histories.{History}
 -- it. The state that an attempt knows follows its calls; the state that the next attempt is handed
 -- follows the recorded commands. If payloads aren't compared, a recorded value may be another than
 -- the call's.
-pub record SoundHistory (s : Setup) (m : Meaning) (base : StateMap) (journal : List Entry) : Type 0 where
+pub record SoundHistory (s : Setup) (m : Meaning) (base : StateMap)
+    (journal : List Entry) : Type 0 where
   pub history : History s m base journal
   pub leaves : changed_by (messages_in history.rest) base ≡ changed_by history.at.said base

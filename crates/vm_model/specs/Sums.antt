@@ -42,7 +42,7 @@ signal_ids version s = signal_ids_in (ask_of version s)
 abbrev pub handles : Version → Step → ℕ
 handles version s = handles_in (ask_of version s)
 
--- the calls that brought these answers behind those
+-- the calls that brought the second answers, after the first ones
 abbrev pub calls_after : Meaning → List Answer → List Answer → List Step
 calls_after m before [] = []
 calls_after m before (a ∷ answers) = m before ∷ calls_after m (before ++ a ∷ []) answers

@@ -10,7 +10,8 @@ use Rattle.vm_model.specs.Calls.{Meaning, Setup}
 use Rattle.vm_model.specs.Moves.{Point, next}
 
 -- between these two points a take of this handle was answered with a value
-pub record TookValue (s : Setup) (m : Meaning) (handle : NotificationHandle) (p q : Point) : Type 0 where
+pub record TookValue (s : Setup) (m : Meaning) (handle : NotificationHandle)
+    (p q : Point) : Type 0 where
   pub asks : m p.answers ≡ step.Take handle
   pub moves : next s m p ≡ Some q
   pub value : Value

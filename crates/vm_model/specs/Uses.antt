@@ -35,7 +35,7 @@ abbrev pub needed_for : Setup → ℕ → Command → Demand
 needed_for s id c =
     Exactly (with_ids id c.message) (ignores_payloads s.options.non_determinism_checks c.unstable)
 
--- and what it needs with those behind it
+-- and what it needs with the commands after it
 abbrev pub all_needed : Setup → ℕ → Command → List Command → List Demand
 all_needed s id c [] = needed_for s id c ∷ []
 all_needed s id c (b ∷ bs) = needed_for s id c ∷ all_needed s (id + ids_of c.message) b bs
@@ -54,9 +54,9 @@ cancels_needed s (id ∷ ids) = Exactly (cancel_invocation_command id).message
     (ignores_payloads s.options.non_determinism_checks (cancel_invocation_command id).unstable)
     ∷ cancels_needed s ids
 
--- What calls need recorded, in order, where for each of them the cancel signal is sent to such
--- invocations: the completion ids of each stand behind so many, and behind those of the calls
--- before it.
+-- What calls need recorded, in order, if each of them sends the cancel signal to these invocations.
+-- Their completion ids come after this number of earlier ones, and those of each call after those
+-- of the calls before it.
 abbrev pub needed : Setup → ℕ → List Step → List (List (List ℕ)) → List Demand
 needed s before [] cancels = []
 needed s before (st ∷ steps) [] = needed_by s (1 + before) (ask_of s.version st)
@@ -108,7 +108,7 @@ arrivals_in (Taken id ∷ us) = arrivals_in us
 
 -- ---- handles
 
--- so many completion ids from this one on
+-- this number of completion ids, from this one on
 abbrev pub ids_from : ℕ → ℕ → List NotificationId
 ids_from zero id = []
 ids_from (suc n) id = CompletionId id ∷ ids_from n (id + 1)
@@ -123,8 +123,8 @@ given_for completion signal ask.Awakeable = SignalId signal ∷ []
 given_for completion signal (ask.Signal name) = SignalName name ∷ []
 given_for completion signal a = []
 
--- The ids that calls were given, in order: completion ids from 1 and signal ids from 17, behind so
--- many of each.
+-- The ids that calls were given, in order, after these numbers of earlier completion ids and signal
+-- ids: completion ids count from 1 and signal ids from 17.
 abbrev pub ids_of_steps : Version → ℕ → ℕ → List Step → List NotificationId
 ids_of_steps version completions signals [] = []
 ids_of_steps version completions signals (st ∷ steps) =

@@ -55,8 +55,8 @@ pub fn cancelled_awaits()
         → CancelledAwait s m p a }
 {}
 
-/// Where signals are queued and no completion id has two results, an await of a tree ends in a machine after the least prefix of the
-/// arrivals by which the tree is awake at its point; and where no number of them wakes it there, it is awake after none of them.
+/// If signals queue and no completion id has two results, an await of a tree ends in a machine after the least prefix of the
+/// arrivals by which the tree is awake at its point. If no number of them wakes it there, it is awake after none of them.
 pub fn trees_wake()
     ensures ends { (s : Setup) (t : Tree) (p : Point) (n : ℕ) → s.options.signal_delivery ≡ Queued
         → HasNoTwo p → LeastAwake s.options.signal_delivery (arrived_at s p) t n
@@ -66,9 +66,9 @@ pub fn trees_wake()
         → tree_wakes s t (arrivals_used (take n p.queue) p.derived) ≡ false }
 {}
 
-/// In a run the present result of an id is the one that a take takes next: of a signal whose deliveries queue up the delivery behind
-/// as many as were taken; else the newest that came since a result was last taken, so of a completion that wasn't taken its newest.
-/// Each take took a result that was present, and is answered with its value.
+/// In a run the present result of an id is the one that the next take gives. For a signal whose deliveries queue up, its index
+/// among them, from 0, is the number of takes so far. Else it is the newest that came since a result was last taken, so of a
+/// completion that wasn't taken its newest. Each take took a result that was present, and is answered with its value.
 pub fn results_are_present()
     ensures present { (delivery : SignalDelivery) (id : NotificationId) (us : List Usage)
         → EachTookAResult delivery us → present_result delivery id (ready_by_usage delivery us)

@@ -14,8 +14,9 @@ ghost use Rattle.vm_model.specs.HonestRounds.{Attempted, HonestRound, HonestRoun
 ghost use Rattle.vm_model.specs.SoundHistories.{SoundHistory};
 ghost use Rattle.vm_model.specs.Sums.{calls_for};
 
-/// Honest rounds of attempts that are told, each handed a state of which what is known is so, leave a journal that one run of
-/// the handler made, the very commands of its calls; and such a journal is a sound history.
+/// Honest rounds over a journal that one run of the handler made leave such a journal, with the very commands of its calls, if
+/// each attempt is the handler's run over its journal, and what it is handed of the state is right. Such a journal is a sound
+/// history.
 pub fn honest_rounds()
     ensures round { (s : Setup) (m : Meaning) (base : StateMap) (before : List Entry)
         (a : Attempted) (after : List Entry) → IsInOrder base.entries
@@ -50,8 +51,8 @@ pub fn compared_histories_are_sound()
         → SoundHistory s m base journal }
 {}
 
-/// Where each attempt is handed all of the state, the commands stay those of an undisturbed run: where the rounds stopped leaves
-/// no trace. Those behind the input are its first ones.
+/// If each attempt is handed all of the state, the commands stay those of an undisturbed run: where the rounds stopped leaves
+/// no trace. Those after the input are its first ones.
 pub fn whole_rounds()
     ensures round { (s : Setup) (m : Meaning) (base : StateMap) (before : List Entry)
         (a : Attempted) (after : List Entry) → IsInOrder base.entries
@@ -73,9 +74,9 @@ pub fn one_undisturbed()
         → Undisturbed s m base input (ns ++ more) ds → OneBegins cs ds }
 {}
 
-/// In the journal that an honest round leaves, each new command stands behind all that was delivered before it was written. Cut the
-/// course in front of a command, and what was added in front of the one with the same index: it is the same command, and what was
-/// delivered in front of it stands in front of it.
+/// In the journal that an honest round leaves, each new command stands after all that was delivered before it was written. Cut
+/// the course before a command, and what was added before the one with the same index: it is the same command, and what was
+/// delivered before it stands before it.
 pub fn commands_stand_behind()
     ensures { (before course after : List Entry) → HonestRound before course after
         → (ahead behind earlier later : List Entry) (command written : RawMessage) → after ≡ before
@@ -84,7 +85,7 @@ pub fn commands_stand_behind()
         → (command ≡ written) × IsPrefix (notifications_in earlier) (notifications_in ahead) }
 {}
 
-/// What an earlier journal tells and what a later attempt was answered: one begins the other.
+/// Of the answers at a point that is reached on an earlier journal, and those of a later attempt, one begins the other.
 pub fn attempts_agree()
     ensures { (s : Setup) (m : Meaning) (journal more : List Entry) (a : Attempted)
         (t : IsToldOn s m (journal ++ more) a) (rest : List RawMessage) → commands_in journal

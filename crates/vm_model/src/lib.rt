@@ -1,5 +1,5 @@
-//! What whole runs of a handler are: the table of its calls, the moves that a journal tells, what an attempt writes, and
-//! what rounds of attempts leave; with the laws of these, as functions that do nothing.
+//! What whole runs of a handler are: the table of its calls, the moves over a journal, what an attempt writes, and what rounds
+//! of attempts leave; with the laws of these, as functions that do nothing.
 #![tactic(auto)]
 
 mod awaits;

@@ -41,9 +41,9 @@ pub fn lists_are_used()
         → ns ≡ arrivals_in q.derived.usage ++ q.queue }
 {}
 
-/// Whatever a handle stands for is what its call was given: 1 is the cancel signal, and the handles from 17 on stand for the
-/// completion ids, signal ids and names that the calls were given, in order. Each of these stands for it until it is taken, and 1
-/// stands for the cancel signal at each point.
+/// Each id that a handle stands for was given to its call: 1 is the cancel signal, and the handles from 17 on stand for the
+/// completion ids, signal ids and names that the calls were given, in order. Each of these stands for it until it is taken, and
+/// 1 stands for the cancel signal at each point.
 pub fn handles_stand_for_ids()
     ensures stands { (s : Setup) (m : Meaning) (n : ℕ) (input : InputCommand)
         (ns : List Notification) (cs : List RawMessage) (q : Point)
@@ -63,12 +63,12 @@ pub fn handles_stand_for_ids()
         ⊎ WasTaken m (17 + k) q.answers }
 {}
 
-/// No completion id has two results at any point of a run, where some point uses all recorded commands, and the arrivals have one
+/// No completion id has two results at any point of a run, if some point uses all recorded commands, and the arrivals have one
 /// result at most for each completion id, and only for ids that the commands carry: an eager read has an id of its own.
 /// The same is so of an attempt, whose written commands count as the recorded ones do: it has the results of its own commands,
-/// and at each point of its run, before it wrote them and behind, no completion id has two. It is so too at each point of a run over
-/// commands that don't all fit, where the arrivals have one result at most for each completion id, and none for an id to which the run
-/// itself has given the result of an eager read.
+/// and at each point of its run, before it wrote them and after, no completion id has two. It is so too at each point of a run
+/// over commands that don't all fit, if the arrivals have one result at most for each completion id, and none for an id to
+/// which the run itself has given the result of an eager read.
 pub fn completions_come_once()
     ensures told { (s : Setup) (m : Meaning) (n k : ℕ) (input : InputCommand)
         (ns : List Notification) (cs : List RawMessage) (p q : Point)

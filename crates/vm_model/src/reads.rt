@@ -18,8 +18,8 @@ ghost use Rattle.vm_model.specs.Journal.{Entry, messages_in};
 ghost use Rattle.vm_model.specs.Moves.{changed_by};
 ghost use Rattle.vm_model.specs.Histories.{History, Honest, Whole, recorded_value};
 
-/// What was handed out honestly behind some commands is honest with these and further ones applied to it again: what is known is
-/// so. And so it is with a state of which all was handed out.
+/// A state that was handed out honestly after some commands stays honest once these and further commands are applied to it:
+/// what is known of it is right. The same holds of a state of which all was handed out.
 pub fn handed_stays_so()
     ensures honest { (base given : StateMap) (said more : List Message) → IsInOrder base.entries
         → Honest base given said → Honest base (changed_by (said ++ more) given) (said ++ more) }

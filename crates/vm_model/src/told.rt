@@ -1,4 +1,4 @@
-//! Laws of one attempt: what a journal tells of it.
+//! Laws of one attempt: which points are reached on its journal.
 ghost use Rattle.std.specs.Prelude.{◌≡◌, ◌⊎◌, ◌∷◌, ◌++◌, Bool, List, [], ℕ, Some, None, Ok};
 ghost use Rattle.journal_protocol.specs.InputCommand.{InputCommand};
 ghost use Rattle.journal_protocol.specs.RawMessage.{RawMessage};
@@ -25,15 +25,15 @@ pub fn later_changes_nothing()
         ≡ Some (longer cs (later ns q)) }
 {}
 
-/// Of two points that a journal tells, also with more arrivals and commands, the answers of one begin the other's.
+/// Of two points that are reached on a journal, also with more arrivals and commands, the answers of one begin the other's.
 pub fn one_told()
     ensures { (s : Setup) (m : Meaning) (input : InputCommand) (ns more_notes : List Notification)
         (cs more : List RawMessage) (p q : Point) → Told s m input ns cs p
         → Told s m input (ns ++ more_notes) (cs ++ more) q → OneBegins p.answers q.answers }
 {}
 
-/// What an attempt does is told by its journal followed by what it wrote, and it wrote nothing while recorded commands
-/// were left.
+/// The point that an attempt reaches is reached on its journal followed by what it wrote, and it wrote nothing while recorded
+/// commands were left.
 pub fn attempt_is_told()
     ensures { (s : Setup) (m : Meaning) (given : StateMap) (input : InputCommand) (n : ℕ)
         (ns : List Notification) (cs written : List RawMessage) (q : Point)
@@ -50,8 +50,8 @@ pub fn attempts_go_on()
         written q → q.left ≡ c ∷ left → (r : Point) × (next s m q ≡ Some r) }
 {}
 
-/// On a history no call is refused while recorded commands are left, for whatever reason; where none is left, a call is refused
-/// only for a reason of its own.
+/// On a history no call is refused while recorded commands are left, for any reason. Once none is left, a call is refused only
+/// for a reason of its own.
 pub fn none_refused()
     ensures reasons { (s : Setup) (m : Meaning) (state : StateMap) (p : Point) (name : NamedFault)
         → IsRefusedFor (move_at s m p) p.left p.queue name → IsStuck s m state p }

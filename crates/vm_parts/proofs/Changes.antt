@@ -67,7 +67,7 @@ known_cleared key s = ap (known_by s.coverage) (its_own key None s.entries)
 pub known_besides_cleared : (key other : List ℕ) (s : StateMap) → (other ≡ key → ⊥) → value_known other (state_cleared key s) ≡ value_known other s
 known_besides_cleared key other s differs = ap (known_by s.coverage) (of_another key other None s.entries differs)
 
--- what is behind a key stays behind it, with one more that is
+-- keys after a key stay after it, with one more that is after it
 stays_behind : (k key : List ℕ) (value : Option (List ℕ)) (es : List (List ℕ × Option (List ℕ))) → by_bytes k key ≡ Less
     → AllByRecursion (λ y. by_bytes k y ≡ Less) (keys_of es) → AllByRecursion (λ y. by_bytes k y ≡ Less) (keys_of (with_entry key value es))
 stays_behind k key value [] less behind = (less, tt)
@@ -79,7 +79,7 @@ stays_behind k key value (e ∷ es) less behind = by_place (by_bytes key e.0) (s
     by_place Equal more = behind
     by_place Greater more = (behind.0, more)
 
--- what is behind a key is behind an earlier one
+-- what is after a key is after an earlier one
 further : (key k : List ℕ) (ks : List (List ℕ)) → by_bytes key k ≡ Less → AllByRecursion (λ y. by_bytes k y ≡ Less) ks → AllByRecursion (λ y. by_bytes key y ≡ Less) ks
 further key k [] less behind = tt
 further key k (y ∷ ys) less behind = (nat_list_cmp_total.trans key k y less behind.0, further key k ys less behind.1)

@@ -10,7 +10,7 @@ use Rattle.vm_parts.specs.Entries.{IsInOrder, by_bytes, entry_of, is_key_among, 
 use Rattle.vm_parts.specs.States.{has_value, known_by}
 use Rattle.vm_parts.proofs.Changes.{key_at}
 
--- some of the keys behind a key
+-- of the keys after a key, those that have a value
 some_behind : (k : List ℕ) (es : List (List ℕ × Option (List ℕ))) → AllByRecursion (λ y. by_bytes k y ≡ Less) (keys_of es) → AllByRecursion (λ y. by_bytes k y ≡ Less) (keys_with_value es)
 some_behind k [] behind = tt
 some_behind k ((y, None) ∷ es) behind = some_behind k es behind.1

@@ -1,4 +1,5 @@
--- The bytes of an outbox are cut into its frames by the lengths in them; one more frame is put behind the others.
+-- The bytes of an outbox are cut into its frames by the lengths in them; one more frame is put
+-- after the others.
 use Rattle.std.proofs.Common.{◌≡◌, ℕ, zero, suc, ◌+◌, ◌<◌, ◌≤◌, ◌^◌, List, [], ◌∷◌, ◌++◌, length, map, take, drop, refl, sym, ap, subst, ◌∙◌, append_assoc, length-append, arith, Result, Ok, Err}
 use Rattle.std.proofs.lemmas.List.{append-nil, drop_at}
 use Rattle.std.proofs.Math.Seq.{take-append_seam}

@@ -9,7 +9,7 @@ use Rattle.vm_parts.specs.StateKeys.{IsKeyNumber, number_of_front}
 abbrev pub AreBytes : List ℕ → Type 0
 AreBytes text = (k : ℕ) → get_or text k 0 < 256
 
--- ---- a number of so many bytes fits
+-- ---- a number of n bytes fits
 
 abbrev scale : ℕ → ℕ
 scale zero = 1
@@ -30,7 +30,7 @@ more_fits n text small few =
     let eight : scale 8 ≡ 2 ^ 64 = refl in
     omega (arith, front_fits (suc n) text small, scale_grows (suc n) 8 (omega arith), eight)
 
--- ---- texts of which one byte differs, behind bytes that are the same
+-- ---- texts of which one byte differs, after bytes that are the same
 
 first_differs : (n : ℕ) (xs ys : List ℕ) → ((k : ℕ) → k < n → get_or xs k 0 ≡ get_or ys k 0) → get_or xs n 0 < get_or ys n 0
     → (slice_cmp nat_cmp xs ys ≡ Less) × (slice_cmp nat_cmp ys xs ≡ Greater)

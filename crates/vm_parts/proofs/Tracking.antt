@@ -66,7 +66,7 @@ with_call-before handle t ts less = grind (arith, nat_tests)
 with_call-same : (handle : ℕ) (t : TrackedCall) (ts : List TrackedCall) → t.handle ≡ handle → with_call handle (t ∷ ts) ≡ unresolved_call handle ∷ ts
 with_call-same handle t ts e = grind (arith, nat_tests)
 
--- behind a lesser handle
+-- after a lesser handle
 with_call-behind : (handle : ℕ) (t : TrackedCall) (ts : List TrackedCall) → t.handle < handle → with_call handle (t ∷ ts) ≡ t ∷ with_call handle ts
 with_call-behind handle t ts less = grind (arith, nat_tests)
 
@@ -74,7 +74,7 @@ with_call-behind handle t ts less = grind (arith, nat_tests)
 less_before : (handle : ℕ) (t : TrackedCall) (ts : List TrackedCall) (i : ℕ) → TrackedAscend (t ∷ ts) → IsTrackedAt handle (t ∷ ts) (suc i) → t.handle < handle
 less_before handle t ts i a at = let l = at.0 in let g = above_at t.handle ts a.0 i t (omega arith) in let e = at.1 t in omega arith
 
--- the place of a handle, seen from behind the first call
+-- the place of a handle, counted from after the first call
 at_tail : (handle : ℕ) (t : TrackedCall) (ts : List TrackedCall) (i : ℕ) → IsTrackedAt handle (t ∷ ts) (suc i) → IsTrackedAt handle ts i
 at_tail handle t ts i at = (let l = at.0 in omega arith, at.1)
 
@@ -132,12 +132,12 @@ Ascend-insert (t ∷ ts) (suc i) x p a =
 
 -- ---- ids that are known
 
--- where a call's id is known, and those behind it have ids as long as others had
+-- if all ids of one list are known once those of another are, this stays so with one call more
 if_unresolved-nil : (o : Option (List ℕ)) (handle : ℕ) (hs ks : List ℕ) → (hs ≡ [] → ks ≡ []) → if_unresolved o handle hs ≡ [] → if_unresolved o handle ks ≡ []
 if_unresolved-nil None handle hs ks then e = cc
 if_unresolved-nil (Some id) handle hs ks then e = then e
 
--- where no id is left to become known, none is behind the first call
+-- if no id is left to become known, none is after the first call
 nil_behind : (o : Option (List ℕ)) (handle : ℕ) (hs : List ℕ) → if_unresolved o handle hs ≡ [] → hs ≡ []
 nil_behind None handle hs e = cc
 nil_behind (Some id) handle hs e = e
@@ -252,7 +252,7 @@ pub unresolved-take-more : (ts : List TrackedCall) (i : ℕ) (d : TrackedCall) �
 unresolved-take-more ts i d l some known =
     ap unresolved_handles (take_more ts i d l) ∙ unresolved-append (take i ts) (get_or ts i d ∷ []) ∙ rw known (if_unresolved-known (get_or ts i d).invocation_id (get_or ts i d).handle some)
 
--- behind those that are known
+-- after those that are known
 unresolved-drop : (ts : List TrackedCall) (i : ℕ) → unresolved_handles (take i ts) ≡ [] → unresolved_handles ts ≡ unresolved_handles (drop i ts)
 unresolved-drop ts i known =
     sym (ap unresolved_handles (take-append-drop i ts)) ∙ unresolved-append (take i ts) (drop i ts) ∙ ap (λ hs. hs ++ unresolved_handles (drop i ts)) known
@@ -282,7 +282,7 @@ with_next_id-end id [] e = refl
 with_next_id-end id (t ∷ ts) e =
     by_id-known t.invocation_id t.handle (unresolved_handles ts) _ _ e ∙ ap (λ us. t ∷ us) (with_next_id-end id ts (nil_behind t.invocation_id t.handle (unresolved_handles ts) e))
 
--- the id behind those that are known becomes known
+-- the first id after those that are known becomes known
 with_next_id-at : (id : List ℕ) (ts : List TrackedCall) (i : ℕ) (t : TrackedCall) → i < length ts → unresolved_handles (take i ts) ≡ [] → (get_or ts i t).invocation_id ≡ None → t ≡ get_or ts i t → with_next_id id ts ≡ set ts i (known_call id t)
 with_next_id-at id [] i t l known none e = absurd (omega arith)
 with_next_id-at id (u ∷ us) zero t l known none e = rw none (ap (λ x. known_call id x ∷ us) (sym e))

@@ -118,7 +118,8 @@ taken_by delivery handle (Some id) (Some result) v = after_take delivery handle 
 taken_by delivery handle _ _ v = v
 
 -- what a take of a handle answers and leaves
-pub record IsTakeOf (delivery : SignalDelivery) (handle : ℕ) (old : Arrived) (answer : Option NotificationResult) (new : Arrived) : Type 0 where
+pub record IsTakeOf (delivery : SignalDelivery) (handle : ℕ) (old : Arrived)
+    (answer : Option NotificationResult) (new : Arrived) : Type 0 where
   pub result : answer ≡ present_result_for delivery (id_at handle old.handles) old.ready
   pub left : new ≡ taken_by delivery handle (id_at handle old.handles)
       (present_result_for delivery (id_at handle old.handles) old.ready) old

@@ -24,7 +24,8 @@ len_of pieces = min (length (concat pieces)) (2 ^ 64 - 1)
 abbrev pub first_frames : ℕ → List ℕ → List (List ℕ)
 first_frames zero bytes = []
 first_frames (suc n) [] = []
-first_frames (suc n) (b ∷ bs) = let bytes = b ∷ bs in take (frame_size bytes) bytes ∷ first_frames n (drop (frame_size bytes) bytes)
+first_frames (suc n) (b ∷ bs) = let bytes = b ∷ bs in take (frame_size bytes) bytes
+    ∷ first_frames n (drop (frame_size bytes) bytes)
 
 -- the frames that some bytes are, one after another
 unfoldable pub frames_in : List ℕ → List (List ℕ)

@@ -230,7 +230,8 @@ pub fn state_changes()
           coverage = c;
         })
         ≡ Value value }
-    ensures besides_last_pair { (key other value : List ℕ) (pairs : List (List ℕ × List ℕ)) (c : Coverage) → other ≢ key
+    ensures besides_last_pair { (key other value : List ℕ) (pairs : List (List ℕ × List ℕ))
+        (c : Coverage) → other ≢ key
         → value_known other (record {
           entries = entries_of (pairs ++ (key, value) ∷ []);
           coverage = c;

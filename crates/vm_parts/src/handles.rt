@@ -105,7 +105,7 @@ fn is_above(held: &[Held], handle: u32) -> bool
     }
 }
 
-/// Takes the id out, and tells whether there was one.
+/// Takes the id out, and answers whether there was one.
 fn give_up(held: &mut Held) -> bool
     ensures result { result ≡ is_some held.old.id }
     ensures left { held.new ≡ record held.old { id = None } }
@@ -113,7 +113,7 @@ fn give_up(held: &mut Held) -> bool
     held.id.take().is_some()
 }
 
-/// Forgets a handle, and tells whether it stood for an id.
+/// Forgets a handle, and answers whether it stood for an id.
 fn forget(held: &mut Vec<Held>, handle: u32) -> bool
     requires { MappingsAscend held.old.items }
     ensures result { result ≡ is_some (id_at handle (live_mappings held.old.items)) }

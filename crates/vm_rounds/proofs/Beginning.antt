@@ -17,7 +17,7 @@ use Rattle.vm_rounds.specs.Places.{FaultsAt, IsMemoryAside, RoundStops}
 use Rattle.vm_store.specs.States.{HaveTextKeys, pairs_for}
 use Rattle.vm_store.specs.Worlds.{IsJournal, fixed_in, start_message}
 use Rattle.vm_rounds.proofs.Rounding.{short_all}
-use Rattle.vm_attempt.specs.Fixed.{Fixed, fixed_by}
+use Rattle.vm_model.specs.Fixed.{Fixed, fixed_by}
 
 begun_is : (w : Setting) (round : Round) (old : List (List ℕ)) (alloc : Global) (waiting : List ℕ) (r : Record) → waiting ≡ encoding (start_message w round old) ++ concat old → r ≡ fresh_record (made alloc w.options w.version) → new_now w.version old waiting r ≡ begin alloc w round old
 begun_is w round old alloc waiting r e f = λ i. new_now w.version old (e i) (f i)

@@ -17,7 +17,7 @@ use Rattle.journal_protocol.specs.Version.{Version}
 use Rattle.vm_parts.specs.declared.run_state.KeptProposal.{KeptProposal}
 use Rattle.vm_attempt.specs.Arrivals.{AllFound, arriving, kept_after, kept_behind}
 use Rattle.vm_steps.specs.Heard.{acknowledged_from, proposals_among}
-use Rattle.vm_attempt.specs.Journals.{commands_among}
+use Rattle.vm_model.specs.JournalFrames.{commands_among}
 use Rattle.vm_steps.specs.Record.{Record, bytes_written, heard}
 use Rattle.vm_steps.specs.Stepping.{output_taken}
 use Rattle.vm_attempt.specs.Told.{arrivals_of, bytes_in, frames_fed, written_by}

@@ -28,7 +28,8 @@ use Rattle.vm_model.proofs.Compared.{wrote_left}
 use Rattle.vm_model.proofs.Runs.{made_after}
 use Rattle.vm_model.proofs.Uses.{commands_used}
 use Rattle.vm_attempt.specs.Honest.{frame_bytes}
-use Rattle.vm_attempt.specs.Journals.{commands_among, notified_by, setup_for}
+use Rattle.vm_model.specs.JournalFrames.{commands_among, notified_by}
+use Rattle.vm_attempt.specs.Journals.{setup_for}
 use Rattle.vm_attempt.specs.Told.{BeforeInput, HasCome, IsKept, IsLive, HandlerRuns, Wrote}
 use Rattle.vm_attempt.proofs.Advanced.{made_new}
 use Rattle.vm_attempt.proofs.Coming.{made_comes}

@@ -30,8 +30,9 @@ use Rattle.vm_model.proofs.RightKinds.{fewer_kinds}
 use Rattle.vm_model.proofs.Runs.{made_later}
 use Rattle.vm_attempt.specs.Arrivals.{AllFound, FindsProposal, IsOfKept, arriving, kept_after, kept_behind}
 use Rattle.vm_attempt.specs.Blames.{IsHonest, Place, fault_by, phase_fault, kept_fault, notification_fault, acknowledgement_body_fault, refused_start, start_fault}
-use Rattle.vm_attempt.specs.Fixed.{Fixed}
-use Rattle.vm_attempt.specs.Journals.{AcknowledgesNothing, as_entries, commands_among, is_acknowledgement, is_command_frame, is_notification, setup_for}
+use Rattle.vm_model.specs.Fixed.{Fixed}
+use Rattle.vm_model.specs.JournalFrames.{AcknowledgesNothing, as_entries, commands_among, is_acknowledgement, is_command_frame, is_notification}
+use Rattle.vm_attempt.specs.Journals.{setup_for}
 use Rattle.vm_attempt.specs.Told.{Journal, arrivals, begun, bytes_fed, frames_fed, start_state}
 use Rattle.vm_attempt.proofs.Entries.{not_both}
 use Rattle.vm_attempt.proofs.Proposed.{arriving_append, arriving_notified, found_append, kept_all, none_found}

@@ -16,7 +16,7 @@ use Rattle.vm_model.specs.Journal.{stored_form}
 use Rattle.vm_model.specs.Moves.{start}
 use Rattle.vm_model.specs.Histories.{Knowledge}
 use Rattle.vm_model.specs.HonestRounds.{IsOneRun}
-use Rattle.vm_attempt.specs.Journals.{as_entries, commands_among, notified_by}
+use Rattle.vm_model.specs.JournalFrames.{as_entries, commands_among, notified_by}
 use Rattle.vm_store.specs.Completions.{CompleteOnce, NoteIsOfItsKind}
 use Rattle.vm_store.specs.Entries.{journal_entries, frame_in, framed_by, journal_frames, may_stand, note_of, notes_in, read_from}
 use Rattle.vm_store.specs.Worlds.{IsJournal}

@@ -12,7 +12,7 @@ use Rattle.invocation_vm.specs.Frames.{frames_of}
 use Rattle.vm_model.specs.Calls.{Meaning}
 use Rattle.vm_model.specs.Journal.{stored_form}
 use Rattle.vm_steps.specs.Record.{heard}
-use Rattle.vm_attempt.specs.Journals.{commands_among}
+use Rattle.vm_model.specs.JournalFrames.{commands_among}
 use Rattle.vm_attempt.specs.Told.{HasFreshIds, Journal, written_by}
 use Rattle.vm_attempt.proofs.Numbers.{carried_append}
 use Rattle.vm_attempt.proofs.Replayed.{head_same, tail_same}

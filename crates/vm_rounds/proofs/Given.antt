@@ -12,7 +12,7 @@ use Rattle.journal_protocol.specs.NotificationId.{NotificationId}
 use Rattle.journal_protocol.specs.NotificationId.TheVariants.{CompletionId, SignalId, SignalName}
 use Rattle.journal_protocol.specs.NotificationResult.{NotificationResult}
 use Rattle.vm_model.specs.Carried.{AreCarried, is_carried}
-use Rattle.vm_attempt.specs.Journals.{commands_among, is_command_frame, notifications_among, notified_by}
+use Rattle.vm_model.specs.JournalFrames.{commands_among, is_command_frame, notifications_among, notified_by}
 use Rattle.vm_attempt.proofs.Pieces.{commands_append}
 use Rattle.vm_model.proofs.Once.{still_carried}
 use Rattle.vm_store.specs.declared.completions.Completes.{Completes}

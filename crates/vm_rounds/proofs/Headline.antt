@@ -10,7 +10,8 @@ use Rattle.vm_model.specs.Journal.{Entry, notifications_in}
 use Rattle.vm_model.specs.Moves.{Point, start as first_point}
 use Rattle.vm_model.specs.Histories.{Handed, History, IsPrefix, Made}
 use Rattle.vm_model.specs.HonestRounds.{Attempted, HonestRound, IsToldOn}
-use Rattle.vm_attempt.specs.Journals.{commands_among, setup_for}
+use Rattle.vm_model.specs.JournalFrames.{commands_among}
+use Rattle.vm_attempt.specs.Journals.{setup_for}
 use Rattle.vm_parts.specs.declared.context.StateMap.{StateMap}
 use Rattle.vm_attempt.specs.Told.{AnswersAreTold, IsKept, written_by}
 use Rattle.vm_store.specs.declared.types.Setting.{Setting}

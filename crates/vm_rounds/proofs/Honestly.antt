@@ -25,7 +25,8 @@ use Rattle.vm_model.proofs.Once.{made_along, run_once, still_carried}
 use Rattle.vm_model.proofs.Runs.{after_later, made_later}
 use Rattle.vm_attempt.specs.Arrivals.{AllFound, arriving}
 use Rattle.vm_attempt.specs.Blames.{IsHonest}
-use Rattle.vm_attempt.specs.Journals.{commands_among, setup_for}
+use Rattle.vm_model.specs.JournalFrames.{commands_among}
+use Rattle.vm_attempt.specs.Journals.{setup_for}
 use Rattle.vm_attempt.specs.Told.{BeforeInput, IsKept, HandlerRuns, Wrote, frames_fed}
 use Rattle.vm_attempt.proofs.Pieces.{commands_append}
 use Rattle.vm_attempt.proofs.Replayed.{commands_same, notes_same}

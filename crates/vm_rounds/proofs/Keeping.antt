@@ -14,7 +14,7 @@ use Rattle.vm_parts.specs.declared.run_state.KeptProposal.{KeptProposal}
 use Rattle.vm_model.specs.Calls.{Meaning}
 use Rattle.vm_model.specs.Histories.{IsPrefix}
 use Rattle.vm_steps.specs.Heard.{proposals_among, proposals_in}
-use Rattle.vm_attempt.specs.Journals.{commands_among, is_command_frame, is_notification, notified_by}
+use Rattle.vm_model.specs.JournalFrames.{commands_among, is_command_frame, is_notification, notified_by}
 use Rattle.vm_steps.specs.Record.{Record, bytes_written}
 use Rattle.vm_steps.specs.Stepping.{output_taken}
 use Rattle.vm_attempt.specs.Told.{bytes_in}

@@ -16,7 +16,7 @@ use Rattle.vm_asks.specs.Carried.{carried}
 use Rattle.vm_model.specs.Carried.{AreCarried, ComeOnce, is_id_among, is_carried, read_carries}
 use Rattle.vm_model.specs.Journal.{messages_in, read_before}
 use Rattle.vm_model.proofs.Results.{results_behind, same_is}
-use Rattle.vm_attempt.specs.Journals.{commands_among}
+use Rattle.vm_model.specs.JournalFrames.{commands_among}
 use Rattle.vm_store.specs.Completions.{CompleteOnce, EachOfItsKind, HasNoOther, CompletesNone, IsOfItsKind, IsOfKind, NoteIsOfItsKind}
 use Rattle.vm_store.specs.declared.completions.Completes.{Completes}
 use Rattle.vm_store.specs.declared.completions.Completes.TheVariants as completes

@@ -48,7 +48,7 @@ use Rattle.vm_machine.specs.declared.phase.Phase.{Phase}
 use Rattle.vm_machine.specs.declared.phase.Phase.TheVariants.{WaitingStart, WaitingReplayEntries, Replaying, Processing, Closed}
 use Rattle.vm_machine.specs.Commands.{entered, knows_next, phase_after, popped, popped_from}
 use Rattle.vm_machine.specs.Inputs.{input_at, input_by, input_counted, input_numbered, input_past, input_read, input_step}
-use Rattle.vm_machine.specs.Outcomes.{CalledBy, IsStarved, Outcome, Done, Failed, ◌>>=◌, about_last, called, settled}
+use Rattle.vm_machine.specs.Outcomes.{CalledBy, IsStarved, Outcome, Done, Failed, ◌>>>◌, about_last, called, settled}
 use Rattle.vm_machine.specs.Phases.{is_running}
 use Rattle.vm_machine.specs.Proposals.{Proposes as MayCome, Settled, SettledAt, SettledUnless, SettlesAs, proposal_fault, proposed, run_at, without_run}
 use Rattle.vm_machine.specs.Skips.{counters_past, skipped, skips_replay}
@@ -72,7 +72,7 @@ use Rattle.vm_steps.specs.Record.{Record}
 use Rattle.vm_steps.specs.Stepping.{Advances, MakesStep, CloseDoes, InputIsClosed, FeedDoes, FeedsPiece, FinishDoes, CompletesRun, LacksMemory, InputIsRead, StepAt, StepDoes, StepFrom, StepUnless, future_in, with_piece_kept, kept_at, newly_proposed, failed_run_noted, noted_at, replied, step_asked, output_taken, with_vm}
 use Rattle.vm_steps.specs.Steps.{StepMade}
 use Rattle.vm_attempt.specs.Blames.{fault_among}
-use Rattle.vm_attempt.specs.Journals.{is_acknowledgement, is_command_frame, is_notification}
+use Rattle.vm_model.specs.JournalFrames.{is_acknowledgement, is_command_frame, is_notification}
 use Rattle.vm_attempt.specs.Told.{IsLive, Quiet}
 use Rattle.vm_attempt.proofs.Advanced.{done_of, failed_quiet, input_silent}
 use Rattle.vm_attempt.proofs.Arriving.{failed_receives}
@@ -384,14 +384,14 @@ read_stays : (o : Option InputCommand) (v w : Machine) → w.runs ≡ v.runs →
 read_stays None v w same = tt
 read_stays (Some c) v w same = same
 
-popped_stays : (commands : List RawMessage) (v w : Machine) → w.runs ≡ v.runs → RunsStay v (popped_from commands type.InputCommand w >>= λ raw u. input_read (input_in raw.body) u)
+popped_stays : (commands : List RawMessage) (v w : Machine) → w.runs ≡ v.runs → RunsStay v (popped_from commands type.InputCommand w >>> λ raw u. input_read (input_in raw.body) u)
 popped_stays [] v w same = tt
 popped_stays (raw ∷ rest) v w same = by_test (type_number raw.ty == type_number type.InputCommand)
   where
     u : Machine
     u = record w { commands = rest; phase = phase_after rest }
 
-    by_test : (b : Bool) → RunsStay v ((if b then Done raw u else Failed (about_last fault.CommandTypeMismatch u) u) >>= λ raw u. input_read (input_in raw.body) u)
+    by_test : (b : Bool) → RunsStay v ((if b then Done raw u else Failed (about_last fault.CommandTypeMismatch u) u) >>> λ raw u. input_read (input_in raw.body) u)
     by_test true = read_stays (input_in raw.body) v u same
     by_test false = tt
 
@@ -400,7 +400,7 @@ unfolding popped
 counted_stays (Some name) v = tt
 counted_stays None v = popped_stays v.commands v (entered type.InputCommand [] v) refl
 
-skipped_stays : (counters : Counters) (v : Machine) (o : Outcome Input) → RunsStay v o → RunsStay v (o >>= λ input w. Done input (skipped counters w))
+skipped_stays : (counters : Counters) (v : Machine) (o : Outcome Input) → RunsStay v o → RunsStay v (o >>> λ input w. Done input (skipped counters w))
 skipped_stays counters v (Failed e w) h = tt
 skipped_stays counters v (Done input w) h = h
 

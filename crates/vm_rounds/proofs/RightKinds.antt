@@ -21,7 +21,7 @@ use Rattle.vm_model.specs.Carried.{AreOfTheirKind, IsInvocationId, is_id_among, 
 use Rattle.vm_model.specs.Histories.{History, IsPrefix}
 use Rattle.vm_model.specs.Journal.{input_read_from, messages_in, notifications_in, read_before}
 use Rattle.vm_model.proofs.Results.{same_is}
-use Rattle.vm_attempt.specs.Journals.{commands_among, notified_by}
+use Rattle.vm_model.specs.JournalFrames.{commands_among, notified_by}
 use Rattle.vm_attempt.proofs.Pieces.{commands_append}
 use Rattle.vm_attempt.proofs.Replayed.{commands_same}
 use Rattle.vm_store.specs.declared.completions.Completes.{Completes}

@@ -24,7 +24,7 @@ use Rattle.vm_model.proofs.SoundHistories.{run_is_sound, sound_round, sound_roun
 use Rattle.journal_protocol.specs.Version.{Version}
 use Rattle.vm_attempt.specs.Arrivals.{arriving}
 use Rattle.vm_steps.specs.Heard.{acknowledged_from}
-use Rattle.vm_attempt.specs.Journals.{commands_among}
+use Rattle.vm_model.specs.JournalFrames.{commands_among}
 use Rattle.vm_steps.specs.Record.{Record}
 use Rattle.vm_steps.specs.Stepping.{fresh_record}
 use Rattle.vm_attempt.specs.Told.{bytes_in}

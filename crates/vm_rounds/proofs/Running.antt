@@ -23,7 +23,8 @@ use Rattle.vm_model.specs.Journal.{Entry, input_read_from, notifications_in}
 use Rattle.vm_model.specs.Moves.{Point, later, start as first_point}
 use Rattle.vm_model.proofs.Once.{run_once, still_carried}
 use Rattle.vm_model.proofs.Runs.{after_later}
-use Rattle.vm_attempt.specs.Journals.{commands_among, setup_for}
+use Rattle.vm_model.specs.JournalFrames.{commands_among}
+use Rattle.vm_attempt.specs.Journals.{setup_for}
 use Rattle.vm_attempt.specs.Told.{BeforeInput, HasCome, IsKept, Journal, NoneHasTwo, HandlerRuns, Wrote, arrivals, begun, start_state}
 use Rattle.vm_attempt.specs.Arrivals.{arriving}
 use Rattle.vm_steps.specs.Heard.{acknowledged_from}

@@ -50,7 +50,7 @@ use Rattle.vm_machine.specs.declared.phase.Phase.{Phase}
 use Rattle.vm_machine.specs.declared.phase.Phase.TheVariants.{WaitingStart, WaitingReplayEntries, Replaying, Processing, Closed}
 use Rattle.vm_machine.specs.Commands.{CanBeRead, about_next, carried_out, commanded, commanded_unless, compared, command_if_counted, entered, handed_out, ignores_payloads, issued, knows_next, phase_after, popped, popped_from, prepared, replayed, runs_after, written}
 use Rattle.vm_machine.specs.Inputs.{end_at, end_step}
-use Rattle.vm_machine.specs.Outcomes.{CalledBy, DoesBy, Outcome, Done, Failed, ◌>>=◌, about_last, called, called_at, refused, settled}
+use Rattle.vm_machine.specs.Outcomes.{CalledBy, DoesBy, Outcome, Done, Failed, ◌>>>◌, about_last, called, called_at, refused, settled}
 use Rattle.vm_machine.specs.Phases.{is_processing, is_replaying, is_running, state_fault}
 use Rattle.vm_machine.specs.Reads.{own_result, read_back as read_again, read_counted, read_numbered, read_popped, read_step, read_written, with_read_ready}
 use Rattle.vm_machine.specs.Signals.{awakeable_counted, awakeable_step, signal_counted, signal_step}
@@ -122,9 +122,9 @@ Carried m v runs next w = (w.runs ≡ runs) × (w.counters.completion ≡ next) 
 
 module _ (v : Machine) (handle : NotificationHandle) (m : Message) (ignore : Bool) (u : Machine) (commands : u.commands ≡ v.commands) (phase : u.phase ≡ v.phase) (output : u.output ≡ v.output) where
   abbrev Answer : Outcome Unit → Type 0
-  Answer o = Leaves (Carried m v u.runs u.counters.completion) (o >>= λ _ w. Done handle w)
+  Answer o = Leaves (Carried m v u.runs u.counters.completion) (o >>> λ _ w. Done handle w)
 
-  pops : (left : List RawMessage) → u.commands ≡ left → Answer (popped_from left (type_of m) u >>= λ raw w. compared m ignore (message_in raw.ty raw.body) w)
+  pops : (left : List RawMessage) → u.commands ≡ left → Answer (popped_from left (type_of m) u >>> λ raw w. compared m ignore (message_in raw.ty raw.body) w)
   pops [] is = tt
   pops (raw ∷ rest) is = by_type (type_number raw.ty == type_number (type_of m)) refl
     where
@@ -139,7 +139,7 @@ module _ (v : Machine) (handle : NotificationHandle) (m : Message) (ignore : Boo
       by_read type None reads = tt
       by_read type (Some recorded) reads = by_equal recorded reads type (header_equal recorded m ignore) refl
 
-      by_type : (b : Bool) → (type_number raw.ty == type_number (type_of m)) ≡ b → Answer ((if b then Done raw w else Failed (about_last fault.CommandTypeMismatch w) w) >>= λ raw w. compared m ignore (message_in raw.ty raw.body) w)
+      by_type : (b : Bool) → (type_number raw.ty == type_number (type_of m)) ≡ b → Answer ((if b then Done raw w else Failed (about_last fault.CommandTypeMismatch w) w) >>> λ raw w. compared m ignore (message_in raw.ty raw.body) w)
       by_type true type = by_read type (message_in raw.ty raw.body) refl
       by_type false type = tt
 
@@ -223,19 +223,19 @@ no_run refusal m unstable v plain = weaken (Commanded m v) (SameRuns v) (command
 -- ---- several commands
 
 -- one, where all that is needed is looked for before
-foreseen_same : (c : Command) (cs : List Command) (v : Machine) → IsNoRun c.message → Leaves (SameRuns v) (foreseen c cs v >>= λ _ w. commanded c w)
+foreseen_same : (c : Command) (cs : List Command) (v : Machine) → IsNoRun c.message → Leaves (SameRuns v) (foreseen c cs v >>> λ _ w. commanded c w)
 unfolding foreseen
 foreseen_same c cs v plain = by_refusal (any_refusal c cs)
   where
-    by_numbers : (o : Option NamedFault) → Leaves (SameRuns v) (numbers_left o c v >>= λ _ w. commanded c w)
+    by_numbers : (o : Option NamedFault) → Leaves (SameRuns v) (numbers_left o c v >>> λ _ w. commanded c w)
     by_numbers (Some name) = tt
     by_numbers None = no_run c.refusal c.message c.unstable v plain
 
-    by_running : (b : Bool) → Leaves (SameRuns v) ((if b then numbers_left (missing_for c cs v.counters) c v else (let w = entered (shown_type c.message) (name_of c.message) v in Failed (about_last (state_fault v.phase) w) w)) >>= λ _ w. commanded c w)
+    by_running : (b : Bool) → Leaves (SameRuns v) ((if b then numbers_left (missing_for c cs v.counters) c v else (let w = entered (shown_type c.message) (name_of c.message) v in Failed (about_last (state_fault v.phase) w) w)) >>> λ _ w. commanded c w)
     by_running true = by_numbers (missing_for c cs v.counters)
     by_running false = tt
 
-    by_refusal : (o : Option NamedFault) → Leaves (SameRuns v) (foreseen_unless o c cs v >>= λ _ w. commanded c w)
+    by_refusal : (o : Option NamedFault) → Leaves (SameRuns v) (foreseen_unless o c cs v >>> λ _ w. commanded c w)
     by_refusal (Some name) = tt
     by_refusal None = by_running (is_running v.phase)
 

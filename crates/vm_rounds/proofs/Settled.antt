@@ -24,7 +24,7 @@ use Rattle.vm_model.specs.Journal.{stored_form}
 use Rattle.vm_model.proofs.Once.{still_carried}
 use Rattle.vm_attempt.specs.Arrivals.{AllFound, FindsProposal, IsOfKept, arriving, kept_after, acknowledged_as, unacknowledged}
 use Rattle.vm_steps.specs.Heard.{acknowledged_from, is_proposal, proposals_among, proposed_by}
-use Rattle.vm_attempt.specs.Journals.{commands_among, is_acknowledgement, is_command_frame, is_notification, notifications_among, notified_by}
+use Rattle.vm_model.specs.JournalFrames.{commands_among, is_acknowledgement, is_command_frame, is_notification, notifications_among, notified_by}
 use Rattle.vm_attempt.proofs.Advanced.{nothing_acknowledged}
 use Rattle.vm_attempt.proofs.Arriving.{arriving_alone, kept_none}
 use Rattle.vm_attempt.proofs.Finishing.{acknowledged_more}

@@ -17,7 +17,7 @@ use Rattle.vm_asks.specs.Carried.{all_carried, carried, carried_by, read_carried
 use Rattle.vm_parts.specs.declared.run_state.KeptProposal.{KeptProposal}
 use Rattle.vm_model.specs.Carried.{is_id_among, is_carried, read_carries}
 use Rattle.vm_model.specs.Journal.{messages_in, read_before}
-use Rattle.vm_attempt.specs.Journals.{commands_among, is_command_frame}
+use Rattle.vm_model.specs.JournalFrames.{commands_among, is_command_frame}
 use Rattle.vm_attempt.proofs.Numbers.{carried_append}
 use Rattle.vm_attempt.proofs.Pieces.{commands_append}
 use Rattle.vm_store.specs.declared.completions.Completes.{Completes}

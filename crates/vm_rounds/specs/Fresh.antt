@@ -4,7 +4,7 @@ use Rattle.vm_types.specs.declared.options.JournalReplay.TheVariants.{Disabled}
 use Rattle.vm_types.specs.declared.options.VMOptions.{VMOptions}
 use Rattle.vm_asks.specs.Carried.{AreGreater, all_carried}
 use Rattle.invocation_vm.specs.Frames.{frames_of}
-use Rattle.vm_attempt.specs.Journals.{commands_among}
+use Rattle.vm_model.specs.JournalFrames.{commands_among}
 use Rattle.vm_store.specs.Entries.{journal_frames}
 use Rattle.vm_rounds.specs.Rounds.{ReportView}
 

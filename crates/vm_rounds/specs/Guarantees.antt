@@ -1,6 +1,6 @@
 -- What rounds guarantee of a handler and its world. Read this file first.
 use Rattle.std.specs.Prelude.{ℕ, List, map, length}
-use Rattle.vm_attempt.specs.Journals.{commands_among}
+use Rattle.vm_model.specs.JournalFrames.{commands_among}
 use Rattle.vm_model.specs.Calls.{Meaning}
 use Rattle.vm_model.specs.Carried.{AreOfTheirKind}
 use Rattle.vm_model.specs.Histories.{Honest, Whole}

@@ -16,7 +16,8 @@ use Rattle.vm_rounds.specs.Rounds.{Happen, IsRefusal, Now, ReportView, RoundDoes
 -- At a moment of a round, after the first of its events, its attempt has this error as its own:
 -- out of memory, input that was closed too early, a call's own refusal after the recorded
 -- commands, or that of a run's result.
-pub record IsOwnIn (m : Meaning) (w : Setting) (events : List Event) (begun : Now) (e : Error) : Type 0 where
+pub record IsOwnIn (m : Meaning) (w : Setting) (events : List Event) (begun : Now)
+    (e : Error) : Type 0 where
   pub before : List Event
   pub behind : List Event
   pub split : events ≡ before ++ behind

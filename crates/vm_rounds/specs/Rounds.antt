@@ -36,7 +36,7 @@ use Rattle.vm_store.specs.Entries.{journal_entries}
 use Rattle.vm_store.specs.States.{HaveTextKeys, pairs_for}
 use Rattle.vm_store.specs.Storing.{FirstFault, Stores, written_from}
 use Rattle.vm_store.specs.Worlds.{fixed_in, start_message}
-use Rattle.vm_attempt.specs.Fixed.{Fixed}
+use Rattle.vm_model.specs.Fixed.{Fixed}
 
 -- ---- a round on its way
 
@@ -239,7 +239,8 @@ abbrev pub StaysShort : Meaning → List Event → Now → Type 0
 StaysShort m events now = (end : Now) → Happen m events now end → length end.journal ≤ most_entries
 
 -- Events that come to an end leave this journal, and tell this report.
-pub record Ran (fixed : Fixed) (events : List Event) (begun : Now) (report : ReportView) (new : List (List ℕ)) : Type 0 where
+pub record Ran (fixed : Fixed) (events : List Event) (begun : Now) (report : ReportView)
+    (new : List (List ℕ)) : Type 0 where
   pub now : Now
   pub happen : Happen fixed.handler events begun now
   pub ends : EndsTold fixed now.attempt
@@ -252,7 +253,8 @@ IsSupported version = supported version ≡ Ok version
 
 -- A round with its attempt, in a version that the VM supports, leaves this journal and tells this
 -- report. The keys of the state that its Start hands out are texts.
-pub record AttemptDoes (m : Meaning) (w : Setting) (round : Round) (old : List (List ℕ)) (report : ReportView) (new : List (List ℕ)) : Type 0 where
+pub record AttemptDoes (m : Meaning) (w : Setting) (round : Round) (old : List (List ℕ))
+    (report : ReportView) (new : List (List ℕ)) : Type 0 where
   pub alloc : Global
   pub speaks : IsSupported w.version
   pub start : IsWhole (start_message w round old)
@@ -260,7 +262,8 @@ pub record AttemptDoes (m : Meaning) (w : Setting) (round : Round) (old : List (
   pub ran : Ran (fixed_in m w) round.events (begin alloc w round old) report new
 
 -- A round whose attempt was refused leaves this journal and tells this report.
-pub record RefusedDoes (w : Setting) (round : Round) (old : List (List ℕ)) (report : ReportView) (new : List (List ℕ)) : Type 0 where
+pub record RefusedDoes (w : Setting) (round : Round) (old : List (List ℕ)) (report : ReportView)
+    (new : List (List ℕ)) : Type 0 where
   pub error : Error
   pub refusal : IsRefusal (supported w.version) error
   pub arrivals : ArrivalsDo round.events old new
@@ -281,14 +284,16 @@ RoundsDo m w (r ∷ rs) old reports new =
     × (reports ≡ report ∷ more) × RoundDoes m w r old report mid × RoundsDo m w rs mid more new
 
 -- the first event of a round with its attempt that has a fault has this one
-pub record AttemptFaults (m : Meaning) (w : Setting) (round : Round) (old : List (List ℕ)) (f : RoundFault) : Type 0 where
+pub record AttemptFaults (m : Meaning) (w : Setting) (round : Round) (old : List (List ℕ))
+    (f : RoundFault) : Type 0 where
   pub alloc : Global
   pub speaks : IsSupported w.version
   pub start : IsWhole (start_message w round old)
   pub faults : HappenFaults m round.events (begin alloc w round old) f
 
 -- the first arrival of a round whose attempt was refused that has a fault has this one
-pub record RefusedFaults (w : Setting) (round : Round) (old : List (List ℕ)) (f : RoundFault) : Type 0 where
+pub record RefusedFaults (w : Setting) (round : Round) (old : List (List ℕ))
+    (f : RoundFault) : Type 0 where
   pub error : Error
   pub refusal : IsRefusal (supported w.version) error
   pub faults : ArrivalsFault round.events old f

@@ -23,7 +23,7 @@ failed_noted handle old (Err e) bad live = by_failure old.vm.machine.failure liv
     by_failure None h = refl
     by_failure (Some f) h = absurd (let z : true ≡ false = h in cc)
 
--- one that was told well, or to a VM that had failed
+-- no run is noted if the report was accepted, or if the VM had failed before
 pub none_noted : (handle : NotificationHandle) (old : Record) (result : Result Unit Error) → ((is_err result ≡ true) × (is_some old.vm.machine.failure ≡ true)) ⊎ (is_err result ≡ false) → failed_run_noted result handle old ≡ old
 none_noted handle old (Ok t) h = refl
 none_noted handle old (Err e) (inr told) = absurd (let z : true ≡ false = told in cc)

@@ -25,12 +25,12 @@ pub replies : {A : Type 0} (f : A → Reply) (step : Machine → Outcome A) (r :
 replies f step (Ok a) old new h = ap (mapped f) (sym h)
 replies f step (Err e) old new h = ⊎_elim (λ (x : called (step old) old ≡ Failed e new). inl (ap (mapped f) (sym x))) (λ (x : IsStarved old e new). inr x) h
 
--- what the whole call of an await came to
+-- the outcome of the whole call of an await
 pub awaits_reply : (future : UnresolvedFuture) (r : Result (Result AwaitResponse Error) Error) (old new : Machine) → AwaitsWhole (tree_of future) r old new → DoesBy (Awaited future old) (result_mapped await_reply r) old new
 awaits_reply future (Ok a) old new h = (a, h, refl)
 awaits_reply future (Err e) old new h = inl h
 
--- what the whole call of several commands came to
+-- the outcome of the whole call of several commands
 pub all_reply : (kind : AnswerKind) (c : Command) (cs : List Command) (r : Result NotificationHandle Error) (old new : Machine) → MakesAll c cs r old new → DoesBy (AllCarried kind c cs old) (result_mapped (λ handle. reply.Answer (answer_by kind handle)) r) old new
 all_reply kind c cs (Ok handle) old new h = (handle, h, refl)
 all_reply kind c cs (Err e) old new h = inl h

@@ -1,5 +1,5 @@
--- What an attempt has heard: the pieces of its input, and the results of runs that it was told and
--- has proposed.
+-- What an attempt has received: the pieces of its input, and the results of runs that were reported
+-- to it and that it has proposed.
 use Rattle.std.specs.Prelude.{◌==◌, ◌++◌, Bool, cond, if◌then◌else◌, List, [], ◌∷◌, ℕ, Option, Some, None}
 use Rattle.journal_protocol.specs.ProposeRunCompletion.{ProposeRunCompletion}
 use Rattle.journal_protocol.specs.Version.{Version}
@@ -32,7 +32,7 @@ proposals_among (raw ∷ raws) = cond (is_proposal raw)
 abbrev pub proposals_in : List ℕ → List KeptProposal
 proposals_in bytes = proposals_among (frames_of bytes).0
 
--- ---- what was heard
+-- ---- what was received
 
 pub record Heard : Type 0 where
   -- the pieces, in the order in which they came

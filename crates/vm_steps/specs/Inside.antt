@@ -23,7 +23,7 @@ record_with proposed a = record {
   vm = seen a.vm;
 }
 
--- the fields themselves, which don't tell what was proposed
+-- the fields themselves, which don't say what was proposed
 abbrev pub the_fields : {H : Type 0} → Inner H → Record
 the_fields a = record_with [] a
 

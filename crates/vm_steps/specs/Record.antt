@@ -16,7 +16,7 @@ use Rattle.vm_steps.specs.declared.progress.Progress.{Progress}
 pub record Record : Type 0 where
   -- the pieces that came until the VM failed or closed
   pub fed : List Fed
-  -- the pieces that came behind them, to a VM that was closed and hadn't failed
+  -- the pieces that came after them, to a VM that was closed and hadn't failed
   pub late : List Fed
   -- the input was closed
   pub closed : Bool
@@ -35,23 +35,23 @@ pub record Record : Type 0 where
   pub over : Option Progress
   pub vm : View
 
--- what the attempt has heard until its VM failed or closed
+-- what the attempt has received until its VM failed or closed
 abbrev pub heard : Version → Record → Heard
 heard version r = record { pieces = r.fed; proposed = acknowledged_from version r.proposed }
 
--- what it has heard until its VM failed
+-- what it has received until its VM failed
 abbrev pub all_heard : Version → Record → Heard
 all_heard version r =
     record { pieces = r.fed ++ r.late; proposed = acknowledged_from version r.proposed }
 
--- what an attempt was told besides its bytes
+-- what was reported to an attempt besides its bytes
 pub record Said : Type 0 where
   -- that no more bytes come
   pub closed : Bool
   -- the result of this run, and it failed the VM
   pub failed_by : Option NotificationHandle
 
--- what an attempt was told besides its bytes, by its record
+-- what was reported to an attempt besides its bytes, by its record
 abbrev pub all_said : Record → Said
 all_said r = record { closed = r.closed; failed_by = r.failed_by }
 

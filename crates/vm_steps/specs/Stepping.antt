@@ -108,8 +108,7 @@ replied r future (Ok reply.Suspended) w = record r { over = Some progress.Suspen
 replied r future (Ok reply.Ended) w = record r { over = Some progress.Ended; vm = w }
 replied r future (Err e) w = record r { vm = w }
 
--- want of memory of the handler, of room for the answer or of a copy of the future: nothing was
--- asked
+-- memory ran out in the handler, for the answer or for a copy of the future: nothing was asked
 abbrev pub LacksMemory : Record → Result Progress Error → Record → Type 0
 LacksMemory old result new = (result ≡ Err no_memory) × (new ≡ record old { starved = true })
 
@@ -128,7 +127,7 @@ MakesStep meaning old result new =
     (r : Result Reply Error) × (w : View) × StepMade (step_asked meaning old) r old.vm w
     × (new ≡ replied old (future_in (step_asked meaning old)) r w) × (result ≡ progress_of r)
 
--- the handler runs: memory is lacking, or the input is read, or the step is made
+-- the handler runs: memory runs out, or the input is read, or the step is made
 abbrev pub Advances : StepFunction → Record → Result Progress Error → Record → Type 0
 Advances meaning old result new =
     LacksMemory old result new
@@ -152,15 +151,15 @@ StepUnless (Some e) over meaning old result new = ((result ≡ Err e) ⊎ (resul
 StepUnless None (Some made) meaning old result new = (result ≡ Ok made) × (new ≡ old)
 StepUnless None None meaning old result new = StepAt old.vm.machine.phase meaning old result new
 
--- What a step does, the first of these that holds: after the attempt's own want of memory that;
--- after an error of the VM that; after Suspended or Ended that; not ready while the VM waits; the
--- input is read; the step is made.
+-- What a step does, the first of these that holds: once the attempt itself ran out of memory, that
+-- error; after an error of the VM, that error; after Suspended or Ended, that; not ready while the
+-- VM waits; the input is read; the step is made.
 abbrev pub StepFrom : Bool → StepFunction → Record → Result Progress Error → Record → Type 0
 StepFrom true meaning old result new = (result ≡ Err no_memory) × (new ≡ old)
 StepFrom false meaning old result new =
     StepUnless old.vm.machine.failure old.over meaning old result new
 
--- a step, unless the attempt's own memory was lacking
+-- a step, unless the attempt itself ran out of memory
 abbrev pub StepDoes : StepFunction → Record → Result Progress Error → Record → Type 0
 StepDoes meaning old result new = StepFrom old.starved meaning old result new
 
@@ -216,7 +215,7 @@ FeedsPiece piece old (Err e) new =
     ⊎ ((w : View) × StarvesAmong (messages_in_bytes old.vm piece) old.vm.machine w.machine
     × (new ≡ with_vm w (with_piece_kept piece old)))
 
--- what a piece does: nothing after the attempt's own want of memory
+-- what a piece does: nothing once the attempt itself ran out of memory
 abbrev pub FeedDoes : Bool → List ℕ → Record → Result Unit AllocError → Record → Type 0
 FeedDoes true piece old result new = (result ≡ Ok tt) × (new ≡ old)
 FeedDoes false piece old result new = FeedsPiece piece old result new
@@ -244,12 +243,12 @@ abbrev pub noted_at : Option Error → NotificationHandle → Record → Record
 noted_at (Some e) handle r = r
 noted_at None handle r = record r { failed_by = Some handle }
 
--- the run is noted where telling its result was answered by an error
+-- the run is noted if the report of its result was answered by an error
 abbrev pub failed_run_noted : Result Unit Error → NotificationHandle → Record → Record
 failed_run_noted (Ok t) handle r = r
 failed_run_noted (Err e) handle r = noted_at r.vm.machine.failure handle r
 
--- What executing a run came to is told to the VM; the run is noted where that failed the VM.
+-- The outcome of an executed run is reported to the VM; the run is noted if that failed the VM.
 abbrev pub ReportsRunResult : NotificationHandle → RunExitResult → RetryPolicy → Record
     → Result Unit Error
     → Record → Type 0
@@ -257,15 +256,15 @@ ReportsRunResult handle exit policy old result new = (w : View)
     × CallsProposal handle exit policy result old.vm w
     × (new ≡ with_vm w (failed_run_noted result handle old))
 
--- the same, unless the attempt's own memory was lacking
+-- the same, unless the attempt itself ran out of memory
 abbrev pub TellsUnless : Bool → NotificationHandle → RunExitResult → RetryPolicy → Record
     → Result Unit Error → Record → Type 0
 TellsUnless true handle exit policy old result new = (result ≡ Err no_memory) × (new ≡ old)
 TellsUnless false handle exit policy old result new =
     ReportsRunResult handle exit policy old result new
 
--- What executing a run came to is told to the VM. Where it answers, what it has written may propose
--- a result; else the run is noted where that failed the VM.
+-- The outcome of an executed run is reported to the VM. If the VM answers without an error, what it
+-- has written may propose a result; else the run is noted if that failed the VM.
 abbrev pub CompletesRun : NotificationHandle → RunExitResult → RetryPolicy → Record
     → Result Unit Error
     → Record → Type 0
@@ -278,7 +277,7 @@ CompletesRun handle exit policy old (Ok t) new =
 CompletesRun handle exit policy old (Err e) new = ReportsRunResult handle exit policy old (Err e)
     new
 
--- what telling it does: nothing after the attempt's own want of memory
+-- what this report does: nothing once the attempt itself ran out of memory
 abbrev pub FinishDoes : Bool → NotificationHandle → RunExitResult → RetryPolicy → Record
     → Result Unit Error → Record → Type 0
 FinishDoes true handle exit policy old result new = (result ≡ Err no_memory) × (new ≡ old)

@@ -44,9 +44,8 @@ abbrev pub commanded_reply : Command → Machine → Outcome Reply
 commanded_reply c v =
     mapped (λ handle. reply.Answer (command_answer c.message handle)) (called (commanded c v) v)
 
--- A call that has several commands: what it may come to, as a reply; the answer is by its first
--- handle. An error is that of the call, also where it found no memory for a command behind the
--- first.
+-- A call that has several commands: its possible outcomes, as a reply; the answer is by its first
+-- handle. An error is that of the call, also if it found no memory for a command after the first.
 abbrev pub AllCarried : AnswerKind → Command → List Command → Machine → Outcome Reply → Type 0
 AllCarried kind c cs v (Done given w) = (handle : NotificationHandle)
     × MakesAll c cs (Ok handle) v w × (given ≡ reply.Answer (answer_by kind handle))
@@ -75,8 +74,8 @@ await_reply (Ok (ExecuteRun run)) = reply.Execute run
 await_reply (Ok (EphemeralNotificationReady id)) = reply.Waiting true false
 await_reply (Err e) = reply.Suspended
 
--- An await of a future: what its whole call may come to, as a reply. An error is that of the call,
--- also where it found no memory for one of its commands.
+-- An await of a future: the possible outcomes of its whole call, as a reply. An error is that of
+-- the call, also if it found no memory for one of its commands.
 abbrev pub Awaited : UnresolvedFuture → Machine → Outcome Reply → Type 0
 Awaited future v (Done given w) = (answered : Result AwaitResponse Error)
     × AwaitsWhole (tree_of future) (Ok answered) v w × (given ≡ await_reply answered)
@@ -95,11 +94,11 @@ end_reply v = mapped (λ _. reply.Ended) (called (end_step v) v)
 abbrev pub completed_reply : NotificationHandle → Machine → Outcome Reply
 completed_reply handle v = Done (reply.Answer (answer.Completed (is_completed handle.0 v))) v
 
--- it comes to what the call does, and to nothing else
+-- the only outcome is what the call does
 abbrev pub ComesTo : (Machine → Outcome Reply) → Machine → Outcome Reply → Type 0
 ComesTo call v o = o ≡ call v
 
--- what the call may come to that is asked for
+-- the possible outcomes of the call that is asked for
 abbrev pub PerformsBy : Ask → Machine → Outcome Reply → Type 0
 PerformsBy (ask.Command c) = ComesTo (commanded_reply c)
 PerformsBy (ask.Commands kind first second) = AllCarried kind first (second ∷ [])
@@ -111,7 +110,7 @@ PerformsBy (ask.Take handle) = ComesTo (taken handle)
 PerformsBy (ask.Completed handle) = ComesTo (completed_reply handle)
 PerformsBy ask.End = ComesTo end_reply
 
--- what the call of a step may come to
+-- the possible outcomes of a step's call
 abbrev pub Performs : Step → Machine → Outcome Reply → Type 0
 Performs s v = PerformsBy (ask_of v.version s) v
 

@@ -13,7 +13,7 @@ pub trait Handler {
     /// The step that follows a list of answers.
     ghost meaning: { Self → List Answer → Step };
 
-    /// The one step that the handler's meaning gives to these answers, where there is memory for it.
+    /// The one step that the handler's meaning gives to these answers, if there is memory for it.
     fn next(&self, answers: &[Answer]) -> Result<Step, AllocError>
         ensures { IfOk result (λ step. step ≡ meaning self.now answers.now) };
 }

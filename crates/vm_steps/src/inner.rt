@@ -225,7 +225,8 @@ impl<H: Handler> Inner<H> {
     }
 
     pub fn close(&mut self) -> Result<(), AllocError>
-        ensures does { CloseDoes self.old.starved (the_fields self.old) result (the_fields self.new) }
+        ensures does { CloseDoes self.old.starved (the_fields self.old) result
+            (the_fields self.new) }
         ensures handler { self.new.handler ≡ self.old.handler }
     {
         if self.starved {
@@ -235,7 +236,7 @@ impl<H: Handler> Inner<H> {
         self.vm.notify_input_closed()
     }
 
-    /// Tells the VM what executing a run came to, and notes the run where that fails a VM that hadn't failed.
+    /// Reports the outcome of an executed run to the VM, and notes the run if that fails a VM that hadn't failed.
     pub fn run_result(
         &mut self,
         handle: NotificationHandle,

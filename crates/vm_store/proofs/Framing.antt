@@ -13,7 +13,7 @@ use Rattle.journal_protocol.proofs.Facts.{whole_spelled}
 use Rattle.invocation_vm.specs.Frames.{Tail, Rest, Garbage, frames_from, frames_of, frames_joined}
 use Rattle.invocation_vm.proofs.Cuts.{frames_of-append, frames_of-next}
 use Rattle.vm_model.specs.Journal.{Entry, messages_in, read_before}
-use Rattle.vm_attempt.specs.Journals.{AcknowledgesNothing, as_entries, commands_among, is_acknowledgement, is_command_frame, is_notification, notifications_among, notified_by, recorded_by, told_by}
+use Rattle.vm_model.specs.JournalFrames.{AcknowledgesNothing, as_entries, commands_among, is_acknowledgement, is_command_frame, is_notification, notifications_among, notified_by, recorded_by, told_by}
 use Rattle.vm_store.specs.Entries.{AreEntries, only_frame, journal_entries, frame_in, frame_of, framed_by, journal_frames, may_stand, note_in, note_of, notes_in, read_from, said_by, said_in}
 
 -- ---- frames of bytes

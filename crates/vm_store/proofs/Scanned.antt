@@ -13,7 +13,7 @@ use Rattle.journal_protocol.proofs.Facts.{whole_shorter}
 use Rattle.invocation_vm.specs.Frames.{Tail, frames_from, frames_of}
 use Rattle.invocation_vm.proofs.Cuts.{frames_of-next}
 use Rattle.vm_parts.specs.declared.run_state.KeptProposal.{KeptProposal}
-use Rattle.vm_attempt.specs.Journals.{is_command_frame}
+use Rattle.vm_model.specs.JournalFrames.{is_command_frame}
 use Rattle.vm_store.specs.declared.storing.Written.{Written}
 use Rattle.vm_store.specs.declared.storing.Written.TheVariants.{Command, Proposal}
 use Rattle.vm_store.specs.declared.types.RoundFault.{RoundFault}

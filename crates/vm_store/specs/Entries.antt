@@ -7,7 +7,7 @@ use Rattle.journal_protocol.specs.Notification.{Notification}
 use Rattle.journal_protocol.specs.Frames.{NextFrame, Whole, Partial, Malformed, next_of, frame}
 use Rattle.journal_protocol.specs.Bodies.{message_in, notification_in}
 use Rattle.vm_model.specs.Journal.{Entry, read_before}
-use Rattle.vm_attempt.specs.Journals.{as_entries, is_command_frame, is_notification, notified_by}
+use Rattle.vm_model.specs.JournalFrames.{as_entries, is_command_frame, is_notification, notified_by}
 
 -- a frame's bytes
 abbrev pub frame_of : RawMessage → List ℕ

@@ -20,7 +20,8 @@ IsWholeItem version (Command raw) = Unit {0}
 IsWholeItem version (Proposal p) = StoredCanBeRead version (Proposal p)
 
 -- it was stored
-pub record StoresItem (version : Version) (w : Written) (journal : List (List ℕ)) (waiting : List ℕ) (journal' : List (List ℕ)) (waiting' : List ℕ) : Type 0 where
+pub record StoresItem (version : Version) (w : Written) (journal : List (List ℕ)) (waiting : List ℕ)
+    (journal' : List (List ℕ)) (waiting' : List ℕ) : Type 0 where
   pub faultless : storing_fault w journal ≡ None
   pub stored : journal' ≡ journal ++ stored_as w ∷ []
   pub waits : waiting' ≡ waiting ++ waits_behind version w

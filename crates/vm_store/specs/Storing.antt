@@ -14,7 +14,7 @@ use Rattle.vm_machine.specs.Inputs.{acknowledged_completion}
 use Rattle.journal_protocol.specs.Versions.{is_from_v7}
 use Rattle.journal_protocol.specs.Bodies.{proposal_in}
 use Rattle.vm_steps.specs.Heard.{is_proposal}
-use Rattle.vm_attempt.specs.Journals.{is_command_frame}
+use Rattle.vm_model.specs.JournalFrames.{is_command_frame}
 use Rattle.vm_store.specs.declared.storing.Written.{Written}
 use Rattle.vm_store.specs.declared.storing.Written.TheVariants.{Command, Proposal}
 use Rattle.vm_store.specs.declared.types.RoundFault.{RoundFault}
@@ -102,7 +102,9 @@ FirstFault version (w ∷ ws) journal f = (storing_fault w journal ≡ Some f)
 -- The next n commands and proposals among the frames of some bytes are stored, or all where there
 -- are fewer: some frames of them were looked at, the journal has grown by what is stored of them,
 -- and what answers the proposals waits.
-pub record Stores (version : Version) (n : ℕ) (unstored : List ℕ) (journal : List (List ℕ)) (waiting : List ℕ) (journal' : List (List ℕ)) (waiting' : List ℕ) (unstored' : List ℕ) : Type 0 where
+pub record Stores (version : Version) (n : ℕ) (unstored : List ℕ) (journal : List (List ℕ))
+    (waiting : List ℕ) (journal' : List (List ℕ)) (waiting' : List ℕ)
+    (unstored' : List ℕ) : Type 0 where
   pub seen : List RawMessage
   pub frames : frames_of unstored ≡ (seen ++ (frames_of unstored').0, (frames_of unstored').1)
   pub next : written_among seen ≡ take n (written_from unstored)

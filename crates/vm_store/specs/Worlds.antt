@@ -7,8 +7,8 @@ use Rattle.journal_protocol.specs.Message.TheVariants as message
 use Rattle.journal_protocol.specs.Start.{Start}
 use Rattle.vm_model.specs.Calls.{Meaning, Setup}
 use Rattle.vm_model.specs.Carried.{AreCarried}
-use Rattle.vm_attempt.specs.Fixed.{Fixed, fixed_by}
-use Rattle.vm_attempt.specs.Journals.{commands_among, setup_with}
+use Rattle.vm_model.specs.Fixed.{Fixed, fixed_by}
+use Rattle.vm_model.specs.JournalFrames.{commands_among, setup_with}
 use Rattle.vm_store.specs.Completions.{CompleteOnce, EachOfItsKind}
 use Rattle.vm_store.specs.declared.types.Identity.{Identity}
 use Rattle.vm_store.specs.declared.types.Round.{Round}

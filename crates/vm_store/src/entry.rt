@@ -1,7 +1,7 @@
 //! The entries of a journal, which are stored as frames.
 ghost use Rattle.std.specs.Prelude.{◌≡◌, IfOk, is_some};
 ghost use Rattle.vm_model.specs.Journal.{input_read_from};
-ghost use Rattle.vm_attempt.specs.Journals.{is_command_frame, is_notification};
+ghost use Rattle.vm_model.specs.JournalFrames.{is_command_frame, is_notification};
 ghost use Rattle.vm_store.specs.Entries.{frame_in, frame_of, note_in, note_of, said_at, said_by};
 
 use bytes::Bytes;

@@ -1,4 +1,4 @@
--- The message types by which errors name commands, and the texts by which people are told of them.
+-- The message types by which errors name commands, and the texts that name them to people.
 use Rattle.std.specs.Prelude.{ℕ, List, codes}
 use Rattle.journal_protocol.specs.MessageType.{MessageType}
 use Rattle.journal_protocol.specs.MessageType.TheVariants as message
@@ -28,7 +28,7 @@ message_type command.GetInvocationOutput = message.GetInvocationOutputCommand
 message_type command.CompleteAwakeable = message.CompleteAwakeableCommand
 message_type command.CancelInvocation = message.SendSignalCommand
 
--- what people are told of a command
+-- the text that names a command to people
 unfoldable pub command_text : CommandType → List ℕ
 command_text command.Input = codes "handler input"
 command_text command.Output = codes "handler return"

@@ -1,4 +1,4 @@
--- What a VM does where nothing else is asked for.
+-- What a VM does if nothing else is asked for.
 use Rattle.std.specs.Prelude.{Bool, true, false}
 use Rattle.vm_types.specs.declared.options.VMOptions.{VMOptions}
 use Rattle.vm_types.specs.declared.options.AwaitingOnPolicy.TheVariants as awaiting

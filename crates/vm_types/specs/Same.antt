@@ -141,6 +141,7 @@ relationship_exact (related.Next s m) (related.Next t n) =
     let both = exact_pair type_exact (exact_option bytes_decides) (s, m) (t, n) in
     (λ e. ap (λ p. related.Next p.0 p.1) (both.0 e), λ e. both.1 cc)
 relationship_exact (related.Specific i s m) (related.Specific j t n) =
-    let all = exact_pair Decides-eqb (exact_pair type_exact (exact_option bytes_decides)) (i, (s, m)) (j, (t, n)) in
+    let all = exact_pair Decides-eqb (exact_pair type_exact (exact_option bytes_decides))
+    (i, (s, m)) (j, (t, n)) in
     (λ e. ap (λ p. related.Specific p.0 p.1.0 p.1.1) (all.0 e), λ e. all.1 cc)
 relationship_exact _ _ = (λ e. absurd cc, λ e. absurd cc)

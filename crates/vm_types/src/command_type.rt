@@ -56,7 +56,7 @@ impl fmt::Display for CommandType {
 }
 
 impl CommandType {
-    /// What people are told of the command.
+    /// How errors name the command to people.
     #[tactic(auto, unfolding(crate::specs::CommandTypes::command_text))]
     fn text(&self) -> &'static str
         ensures { result.now ≡ command_text self.now }

@@ -45,7 +45,7 @@ pub enum Step {
         name: Option<Text>,
         options: PayloadOptions,
     },
-    /// A call, and behind it a sleep until its deadline.
+    /// A call, and after it a sleep until its deadline.
     CallWithDeadline {
         target: Boxed<Target>,
         input: Bytes,

@@ -41,7 +41,7 @@ impl Frames {
         self.large(body as u64)
     }
 
-    /// A Start of the invocation "abc" with so many known entries, and an Input.
+    /// A Start of the invocation "abc" with this number of known entries, and an Input.
     pub(crate) fn start(&mut self, known: u32, is_partial: bool) -> Result<(), AllocError> {
         self.head(1, 0x42)?;
         self.text("abc")?;

@@ -1,4 +1,4 @@
-//! `vmbench`: plays one case of so many entries through the VM's calls and prints nothing, so that what they cost can be counted. The
+//! `vmbench`: plays one case of a given number of entries through the VM's calls and prints nothing, so that their cost can be counted. The
 //! typed calls of C play the same cases in `bindings/bench.c`.
 #![tactic(auto)]
 
@@ -36,7 +36,7 @@ fn read_arguments(rt: &(impl Env + AllocGlobal)) -> io::Result<Option<Arguments>
     }
 }
 
-/// Plays the case that the arguments name: 0, 1 where that fails or 2 where they name none.
+/// Plays the case that the arguments name. Returns 0; 1 if that fails; or 2 if they name none.
 fn run(rt: &HostRuntime) -> u8 {
     match read_arguments(rt) {
         Ok(Some(arguments)) => {

@@ -47,7 +47,7 @@ pub(crate) fn feed(alloc: Global, vm: &mut CoreVM, fed: &mut Frames) -> Result<(
     Ok(vm.notify_input(copy)?)
 }
 
-/// A VM whose handler has begun: the frames stand behind its Start and Input. So many entries are known.
+/// A VM whose handler has begun: the frames stand after its Start and Input, and `known` entries are known.
 pub(crate) fn begin(
     alloc: Global,
     known: u32,

@@ -2,6 +2,7 @@
 #![tactic(auto)]
 
 use command_lines::asks_for_help;
+use hints::note::round_note;
 use plain::Fault;
 use plans::reading::plan_of;
 use round_reports::run::{run, run_handler};
@@ -85,6 +86,16 @@ fn play(rt: &HostRuntime, arguments: Arguments) -> RunEnd {
     }
 }
 
+/// Says which line has no meaning, and what could stand there.
+fn print_refused(rt: &HostRuntime, number: u64, line: &Option<Vec<u8>>) {
+    let _ = rt.eprintln(format_args!("line {number} has no meaning"));
+    if let Some(line) = line
+        && let Some(note) = round_note(rt.alloc(), number, line.as_slice())
+    {
+        let _ = rt.eprintln(note.as_str());
+    }
+}
+
 fn main(rt: HostRuntime) -> ExitCode {
     if asks_for_help(&rt) {
         let _ = rt.println(format_args!("{USAGE}\n{HELP}"));
@@ -95,13 +106,11 @@ fn main(rt: HostRuntime) -> ExitCode {
         Ok(None) => RunEnd::Refused(Refusal::UnknownHandler),
         Err(error) => RunEnd::ReadFailed(error),
     };
-    match end {
+    match &end {
         RunEnd::Refused(Refusal::UnknownHandler) => {
             let _ = rt.eprintln(USAGE);
         }
-        RunEnd::Refused(Refusal::NoMeaning(number)) => {
-            let _ = rt.eprintln(format_args!("line {number} has no meaning"));
-        }
+        RunEnd::Refused(Refusal::NoMeaning(number, line)) => print_refused(&rt, *number, line),
         RunEnd::Written(
             Ending {
                 stopped_by: Some(Stop::Rounds(at)),

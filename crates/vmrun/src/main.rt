@@ -16,7 +16,7 @@ const HELP: &str = "
 Runs one attempt of a handler over the journal on standard input, and writes what the attempt sends.
 Exit status: 0 the handler has ended, 3 it is suspended, 1 a failure, 2 other arguments than these.";
 
-/// The two arguments, where there are just two.
+/// The two arguments, if there are just two.
 fn arguments(rt: &(impl Env + AllocGlobal)) -> io::Result<Option<(String, String)>> {
     let mut arguments = env::args(rt)?;
     let _program = arguments.next();

@@ -242,7 +242,7 @@ impl<T: Wire> Wire for Items<T> {
     }
 }
 
-/// The value that all of the bytes spell.
+/// The value whose encoding is all of the bytes.
 pub fn whole<T: Wire>(alloc: Global, bytes: &Bytes) -> Result<T, Fault>
     ensures { ReadsAll T.format bytes.now result }
 {

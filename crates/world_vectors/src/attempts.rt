@@ -1,5 +1,5 @@
 // One attempt of a handler, from the bytes of its journal to the bytes of its commands.
-// Rows tell what happens to it in turn.
+// Rows say what happens to it in turn.
 use attempt_bench::asker::Asker;
 use attempt_bench::frames::AWAITING_ON_SIGNAL_17;
 use attempt_bench::napper::Napper;
@@ -26,7 +26,7 @@ enum Act {
     Trickle(&'static [u8]),
     /// No more bytes come.
     Close,
-    /// So many steps are made, each with this answer.
+    /// This number of steps is made, each with this answer.
     Step(usize, Progress),
     /// A step is answered with an error of this code and text.
     Fails(u16, &'static str),

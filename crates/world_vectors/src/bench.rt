@@ -83,7 +83,7 @@ fn rounds(alloc: Global, all: &[&[Happens]]) -> Result<Vec<Round>, AllocError> {
     Ok(rounds)
 }
 
-/// The world and the reports behind these rounds of a new world.
+/// The world and the reports after these rounds of a new world.
 pub fn played<H: Handler>(
     alloc: Global,
     handler: &H,

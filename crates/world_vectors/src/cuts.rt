@@ -9,7 +9,7 @@ use std::process::Abort;
 use std::test::Fail;
 use vm_attempt::{Attempt, Handler, Progress};
 
-/// Feeds these pieces, and drives the attempt behind each. It is ready as soon as the known entries are there.
+/// Feeds these pieces, and drives the attempt after each. It is ready as soon as the known entries are there.
 fn feed_pieces<H: Handler>(
     rt: &impl Abort,
     alloc: Global,
@@ -83,7 +83,7 @@ fn single_bytes(alloc: Global, bytes: &[u8]) -> Result<Vec<&[u8]>, AllocError> {
     Ok(single)
 }
 
-/// The journal of which so many entries are known makes the run, cut at each byte, and one byte at a time.
+/// The journal, if its first `known` entries are known, makes the run: cut at each byte, and one byte at a time.
 fn assert_each_cut<H: Handler>(
     rt: &impl Abort,
     alloc: Global,

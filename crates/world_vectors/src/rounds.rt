@@ -9,7 +9,7 @@ use std::test::Fail;
 use vectors::frames::{AWAITING_ON_1, COMPLETION_1, END, INPUT_TILL, OUTPUT_EMPTY, SLEEP_TO_1000};
 use vm_rounds::Report;
 
-/// The report tells these answers, this output and this many entries, and no error.
+/// The report has these answers, this output and this many entries, and no error.
 fn assert_report(
     rt: &impl Abort,
     report: &Report,
@@ -48,7 +48,7 @@ const TOLD: &[Told] = &[
     Told::Unit,
 ];
 
-/// What the first round tells, and the second.
+/// What the first round reports, and the second.
 fn assert_reports(rt: &impl Abort, alloc: Global, reports: &[Report]) -> Result<(), Fail> {
     let [first, second] = reports else {
         return Err(Fail::from("not two reports"));

@@ -65,7 +65,7 @@ struct Dice {
     has_stored: bool,
     /// The state is handed out without the count.
     lacks_count: bool,
-    /// What a run came to is told, whether it is executing or not.
+    /// A result is proposed for the run, whether it is executing or not.
     executes: bool,
 }
 
@@ -95,7 +95,7 @@ impl Dice {
         }
     }
 
-    /// The run of handle 17 came to "x"; else a step.
+    /// Proposes "x" as the result of the run of handle 17; else a step.
     fn execute(&mut self) -> Event {
         if self.executes {
             Event::RunResult(
@@ -180,7 +180,7 @@ fn begins(journal: &[Bytes], wanted: &[&[u8]]) -> bool {
     true
 }
 
-/// How many results the journal has, where each is "x" under id 1.
+/// How many results the journal has, if each is "x" under id 1.
 fn results_of_x(journal: &[Bytes]) -> Option<usize> {
     let mut results = 0usize;
     for entry in journal {
@@ -316,7 +316,7 @@ fn counts_leave_one_history(rt: HostRuntime) -> Result<(), Fail> {
     Ok(())
 }
 
-/// The result of the call arrives, or its time is over: one of them, which the output tells.
+/// The result of the call arrives, or its time is over: one of them, and the output shows which.
 #[test]
 fn calls_with_a_deadline_leave_one_history(rt: HostRuntime) -> Result<(), Fail> {
     let alloc = rt.alloc();
@@ -346,7 +346,7 @@ fn calls_with_a_deadline_leave_one_history(rt: HostRuntime) -> Result<(), Fail> 
     Ok(())
 }
 
-/// Nothing arrives from outside, and what is told that isn't executing fails its attempt alone: no event has a fault.
+/// Nothing arrives from outside. A result proposed for a run that isn't executing fails its attempt alone: no event has a fault.
 #[test]
 fn charges_leave_one_history(rt: HostRuntime) -> Result<(), Fail> {
     let alloc = rt.alloc();

@@ -1,4 +1,4 @@
-// A handler that finds no memory: the attempt answers that to each further step, and does nothing more.
+// A handler that is out of memory: the attempt answers that to each further step, and does nothing more.
 // What was written before stays, and no Error frame is added.
 use crate::histories::{CHOSE_SUCCESS, KEPT};
 use attempt_bench::chooser::Chooser;
@@ -16,7 +16,7 @@ use std::test::Fail;
 use vectors::frames::{CLEAR_ALL, OUTPUT_EMPTY, OUTPUT_X, SLEEP_TO_1000};
 use vm_attempt::{Attempt, Handler};
 
-/// The attempt answers want of memory to a step, has these answers, and sends these frames.
+/// The attempt answers a step with out of memory, has these answers, and sends these frames.
 fn assert_starved<H: Handler>(
     alloc: Global,
     attempt: &mut Attempt<H>,
@@ -66,7 +66,7 @@ fn assert_starved_on<H: Handler>(
     assert_stays(alloc, attempt, answers)
 }
 
-/// An attempt of a handler that finds no memory behind these answers sends these frames, and fails for good.
+/// The handler is out of memory after these answers: its attempt sends these frames, and fails for good.
 fn assert_starves<H: Handler>(
     rt: &impl Abort,
     alloc: Global,
@@ -85,7 +85,7 @@ fn assert_starves<H: Handler>(
     starved
 }
 
-/// Memory wants behind each answer of the run, when these frames were written.
+/// The handler is out of memory after each answer of the run in turn, when these frames were written.
 fn assert_starves_everywhere<H: Handler>(
     rt: &impl Abort,
     alloc: Global,
@@ -105,7 +105,7 @@ fn assert_starves_everywhere<H: Handler>(
 
 const NOTHING: &[&[u8]] = &[];
 
-/// The frames that the keeper has written behind each answer.
+/// The frames that the keeper has written after each answer.
 const BY_KEEPER: &[&[&[u8]]] = &[
     NOTHING,
     &[CLEAR_A],
@@ -116,7 +116,7 @@ const BY_KEEPER: &[&[&[u8]]] = &[
     &[CLEAR_A, SET_B, SLEEP_TO_1000, OUTPUT_EMPTY],
 ];
 
-/// The frames that the chooser has written behind each answer.
+/// The frames that the chooser has written after each answer.
 const BY_CHOOSER: &[&[&[u8]]] = &[
     NOTHING,
     &[COMPLETE_1],

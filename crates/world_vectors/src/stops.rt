@@ -1,4 +1,4 @@
-// A round that is stopped behind each of its events in turn, and then one to the end: the commands are those of a run that
+// A round that is stopped after each of its events in turn, and then one to the end: the commands are those of a run that
 // nothing stops, each once.
 use crate::bench::Happens::{self, Arrive, Feed, Step, Store};
 use crate::bench::{assert_journal, played};
@@ -11,7 +11,7 @@ use std::test::Fail;
 use vectors::frames::{COMPLETION_1, INPUT_TILL, OUTPUT_EMPTY, OUTPUT_X, SLEEP_TO_1000};
 use vm_attempt::Handler;
 
-/// The first round stops behind each of its events, the second goes on to the end of the handler and leaves this journal.
+/// The first round stops after each of its events, the second goes on to the end of the handler and leaves this journal.
 struct Stops {
     first: &'static [Happens],
     second: &'static [Happens],

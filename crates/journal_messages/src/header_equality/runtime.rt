@@ -65,7 +65,8 @@ pub fn is_get_state_ephemeral_notification(
 ) -> bool
     ensures equal { IsTrue result
         → HeaderEqual ignore_payloads (Message.GetStateEphemeralNotification a.now) message.now }
-    ensures test { result ≡ get_state_ephemeral_notification_equal ignore_payloads a.now message.now }
+    ensures test { result ≡ get_state_ephemeral_notification_equal ignore_payloads a.now
+        message.now }
 {
     match message {
         Message::GetStateEphemeralNotification(b) => a.id == b.id

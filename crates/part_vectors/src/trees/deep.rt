@@ -17,7 +17,7 @@ fn around(
     Ok(node_over(kind, children))
 }
 
-/// So many nodes of this kind, one around the other, around handle 17.
+/// `DEPTH` nodes of this kind, one around the other, around handle 17.
 pub fn deep(alloc: Global, kind: FutureKind) -> Result<UnresolvedFuture, AllocError> {
     let mut tree = UnresolvedFuture::Single(NotificationHandle(17));
     for _ in 0..DEPTH {

@@ -1,4 +1,4 @@
-//! Deep trees alone: made, printed, copied and let go.
+//! Deep trees alone: made, printed, copied and dropped.
 use crate::trees::deep::deep;
 use crate::trees::shown::tree_shown;
 use await_trees::{FutureKind, UnresolvedFuture, list_nodes};

@@ -64,7 +64,7 @@ fn sent_of(alloc: Global, results: &AsyncResults, left: &Residue) -> Result<Sent
     })
 }
 
-/// What a try leaves; none where the tree is awake.
+/// What a try leaves; none if the tree is awake.
 fn asked(
     alloc: Global,
     results: &mut AsyncResults,

@@ -29,7 +29,7 @@ struct Left {
     future: Line,
 }
 
-/// Where a row stands: the tree that was tried last, and what the try left, or none where it is awake.
+/// What a row has reached: the tree that was tried last, and what the try left, or none if it is awake.
 #[derive(Drop)]
 struct Bench<'a> {
     row: &'a str,
@@ -54,7 +54,7 @@ fn expect_result(row: &str, found: Option<&NotificationResult>, wanted: &str) ->
     expect(row, result_shown(found), wanted)
 }
 
-/// Whether so many that arrived weren't used, and no more; now they are used.
+/// Uses each result that arrived and wasn't used. Whether there were just `count` of these.
 fn were_unused(results: &mut AsyncResults, count: u32) -> bool {
     for _ in 0..count {
         if !results.use_one() {
@@ -64,7 +64,7 @@ fn were_unused(results: &mut AsyncResults, count: u32) -> bool {
     !results.use_one()
 }
 
-/// Puts what arrives behind what waits.
+/// Puts what arrives after what waits.
 pub fn arrive(alloc: Global, results: &mut AsyncResults, words: &str) -> Result<(), Fail> {
     for word in words.split_whitespace() {
         results.enqueue(arrival(alloc, word)?)?;
@@ -105,7 +105,7 @@ fn shown(alloc: Global, results: &AsyncResults, left: &Residue) -> Result<Left, 
     })
 }
 
-/// What a try leaves of a tree; none where it is awake.
+/// What a try leaves of a tree; none if it is awake.
 fn tried(
     alloc: Global,
     results: &mut AsyncResults,
@@ -258,7 +258,7 @@ fn play_row(alloc: Global, row: &str, again: Again) -> Result<(), Fail> {
 ///     left TREE         the try left this
 ///     handles 13 12     of these leaves, in this order
 ///     send FUTURE       and sends this
-///     unused N          so many that arrived weren't used; now they are
+///     unused N          N that arrived weren't used; now they are
 ///     map H ID          the handle stands for this id
 ///     copy H VALUE      the handle's present result
 ///     take H VALUE      it is taken

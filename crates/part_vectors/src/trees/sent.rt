@@ -21,7 +21,7 @@ fn what_is_awaited_is_sent(rt: HostRuntime) -> Result<(), Fail> {
     play(rt.alloc(), SENT)
 }
 
-/// What is left is sent, and its handles are told in the order of its leaves.
+/// What is left is sent, and its handles are given in the order of its leaves.
 const LEFT: &str =
     r#"ids 1 2 3; arrive s1; await asff(11, 12, 13); left asff(13, 12); handles 13 12; send (kind=AllSucceededOrFirstFailed completions=[3, 2])
 ids 1 2 3; await 11; arrive s2; again; left 11; send (kind=FirstCompleted completions=[1])

@@ -23,7 +23,7 @@ static RACES: [Row; 17] = [
         &[SLEEP_TO_1000, CALL_GREET, RACE_WAITS],
         ExitStatus::Suspended,
     ),
-    // lost behind its sleep: the call alone is sent
+    // lost after its sleep: the call alone is sent
     (
         &[START_2, INPUT_TILL, SLEEP_TO_1000],
         &[CALL_GREET, RACE_WAITS],
@@ -53,7 +53,7 @@ static RACES: [Row; 17] = [
         &[OUTPUT_TIMEOUT, END],
         ExitStatus::Done,
     ),
-    // the call is first, and the sleep is over behind it
+    // the call is first, and the sleep is over after it
     (
         &[
             START_3,
@@ -66,7 +66,7 @@ static RACES: [Row; 17] = [
         &[OUTPUT_HI, END],
         ExitStatus::Done,
     ),
-    // the sleep is first: what came behind it isn't used, so the call isn't completed
+    // the sleep is first: what came after it isn't used, so the call isn't completed
     (
         &[
             START_3,
@@ -136,7 +136,7 @@ static RACES: [Row; 17] = [
         &[SUSPENSION_FOR_2],
         ExitStatus::Suspended,
     ),
-    // cancelled behind the result of the call: the call is first
+    // cancelled after the result of the call: the call is first
     (
         &[
             START_3,
@@ -188,7 +188,7 @@ static PARENTS: [Row; 16] = [
         &[CALL_A, CALL_B, PARENT_WAITS],
         ExitStatus::Suspended,
     ),
-    // lost behind its first call
+    // lost after its first call
     (
         &[START_2, INPUT_TILL, CALL_A],
         &[CALL_B, PARENT_WAITS],
@@ -299,7 +299,7 @@ static PARENTS: [Row; 16] = [
         &[CANCEL_INV_1, CANCEL_INV_2, OUTPUT_CANCELLED, END],
         ExitStatus::Done,
     ),
-    // cancelled behind both results: it is done
+    // cancelled after both results: it is done
     (
         &[
             START_3, INPUT_TILL, CALL_A, CALL_B, RESULT_2, RESULT_4, CANCEL,
@@ -307,7 +307,7 @@ static PARENTS: [Row; 16] = [
         &[OUTPUT_DONE, END],
         ExitStatus::Done,
     ),
-    // lost behind the first of the two signals
+    // lost after the first of the two signals
     (
         &[
             START_7,
@@ -373,7 +373,7 @@ fn parents_wait_for_both_children(rt: HostRuntime) -> Result<(), Fail> {
 /// A cancelled parent, up to the known entries, which lack the second child's id.
 const CANCELLED: &[&[u8]] = &[START_5, INPUT_TILL, CALL_A, CALL_B, INVOCATION_1, CANCEL];
 
-/// What it writes where so many bytes of its known entries and of the second child's id came, and how it ends.
+/// What it writes if the first `place` bytes of its known entries and of the second child's id came, and how it ends.
 fn cut_at(place: usize, known: usize, whole: usize) -> (&'static [&'static [u8]], ExitStatus) {
     if place < known {
         (&[ERROR_INPUT_CLOSED], ExitStatus::Failed)

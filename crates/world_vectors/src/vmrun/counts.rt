@@ -36,7 +36,7 @@ const START_UP_TO_COUNT: &[u8] = b"\0\0\0\0\0\0\0\x03abc\
     \0\0\0\x01\
     \0\0\0\0\0\0\0\x01\0\0\0\0\0\0\0\x05count";
 
-/// What stands behind the value: the state is whole, and all else is at its default.
+/// The bytes after the value: the state is whole, and all else is at its default.
 const START_BEHIND_COUNT: &[u8] = &[0; 24];
 
 /// Writes a frame of this type, whose body is these fields, this text with its length, and these bytes.
@@ -73,7 +73,7 @@ fn input_with(alloc: Global, count: &[u8]) -> Result<Vec<u8>, AllocError> {
     Ok(input)
 }
 
-/// What is written where this count was found, or asked for, and the next one set.
+/// What is written if this count was found, or asked for, and the next one set.
 fn output_of(alloc: Global, found: Option<&[u8]>, next: &[u8]) -> Result<Vec<u8>, AllocError> {
     let mut output = Vec::new(alloc);
     if let Some(found) = found {
@@ -85,7 +85,7 @@ fn output_of(alloc: Global, found: Option<&[u8]>, next: &[u8]) -> Result<Vec<u8>
     Ok(output)
 }
 
-/// Counts, and those behind them.
+/// Counts, and the next count of each.
 static COUNTS: [(&[u8], &[u8]); 7] = [
     (b"41", b"42"),
     (b"007", b"8"),

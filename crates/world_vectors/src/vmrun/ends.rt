@@ -24,7 +24,7 @@ const COMPLETED: &[&[u8]] = &[START_3, INPUT_TILL, SLEEP_TO_2024, COMPLETION_1];
 
 const ENDED: &[&[u8]] = &[OUTPUT_EMPTY, END];
 
-/// How a run ends, as a row tells it.
+/// How a run ends, as a row has it.
 #[derive(Clone, Copy, Debug)]
 enum Told {
     UnknownHandler,
@@ -162,7 +162,7 @@ fn refused_arguments_read_and_write_nothing(rt: HostRuntime) {
     }
 }
 
-/// A connection that is reset behind these bytes.
+/// A connection that is reset after these bytes.
 #[derive(Drop)]
 struct Reset<'a>(&'a [u8]);
 
@@ -181,7 +181,7 @@ impl Source for Reset<'_> {
     }
 }
 
-/// A file that finds no memory for its bytes.
+/// A file that is out of memory for its bytes.
 #[derive(Drop)]
 struct Starved;
 
@@ -191,7 +191,7 @@ impl Read for Starved {
     }
 }
 
-/// The input is reset behind each byte.
+/// The input is reset after each byte.
 fn assert_resets(rt: &impl Abort, alloc: Global, journal: &[u8]) -> Result<(), Fail> {
     for place in 0..=journal.len() {
         let front = journal.get(..place).ok_or("no such place")?;

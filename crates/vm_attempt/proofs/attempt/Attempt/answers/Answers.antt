@@ -4,7 +4,7 @@ use Rattle.vm_attempt.proofs.Freshly.{come_fresh}
 use Rattle.vm_attempt.proofs.InReplay.{told_in_replay}
 use Rattle.vm_attempt.proofs.Written.{none_before_input}
 use Rattle.vm_attempt.proofs.attempt.Attempt.answers.Goals as goal
-use Rattle.vm_attempt.specs.Fixed.{fixed_by}
+use Rattle.vm_model.specs.Fixed.{fixed_by}
 
 pub returns-clause-came : goal.returns-clause-came
 returns-clause-came g c = rw (← c.self.view_is) c.self.invariant.0

@@ -6,7 +6,7 @@ use Rattle.vm_attempt.proofs.Advanced.{new_is_new, new_whole}
 use Rattle.vm_attempt.proofs.Blamed.{new_blamed}
 use Rattle.vm_attempt.proofs.Steady.{made_told, new_told}
 use Rattle.vm_attempt.proofs.attempt.Attempt.new.Goals as goal
-use Rattle.vm_attempt.specs.Fixed.{fixed_by}
+use Rattle.vm_model.specs.Fixed.{fixed_by}
 
 pub invariant_of-result : goal.invariant_of-result
 invariant_of-result g c =

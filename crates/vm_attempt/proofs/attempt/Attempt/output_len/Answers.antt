@@ -1,7 +1,7 @@
 use Rattle.vm_steps.specs.Inside.{the_record}
 use Rattle.vm_attempt.proofs.Written.{writes_whole}
 use Rattle.vm_attempt.proofs.attempt.Attempt.output_len.Goals as goal
-use Rattle.vm_attempt.specs.Fixed.{fixed_by}
+use Rattle.vm_model.specs.Fixed.{fixed_by}
 
 pub returns-clause-whole : goal.returns-clause-whole
 returns-clause-whole g c =

@@ -10,7 +10,7 @@ use Rattle.vm_attempt.proofs.Sleeping.{step_sleeps, waits_rightly}
 use Rattle.vm_attempt.proofs.Steady.{step_told}
 use Rattle.vm_attempt.proofs.Under.{step_under}
 use Rattle.vm_attempt.proofs.attempt.Attempt.step.Goals as goal
-use Rattle.vm_attempt.specs.Fixed.{fixed_by}
+use Rattle.vm_model.specs.Fixed.{fixed_by}
 
 pub invariant_of-self : goal.invariant_of-self
 invariant_of-self g c =

@@ -7,7 +7,7 @@ use Rattle.vm_attempt.proofs.Sleeping.{take_sleeps}
 use Rattle.vm_attempt.proofs.Steady.{take_told}
 use Rattle.vm_attempt.proofs.Under.{take_under}
 use Rattle.vm_attempt.proofs.attempt.Attempt.take_output.Goals as goal
-use Rattle.vm_attempt.specs.Fixed.{fixed_by}
+use Rattle.vm_model.specs.Fixed.{fixed_by}
 
 pub invariant_of-self : goal.invariant_of-self
 invariant_of-self g c =

@@ -1,0 +1,16 @@
+pub mod Bracketed
+pub mod Closed
+pub mod Joined
+pub mod Named
+pub mod Quoted
+pub mod Values
+pub mod Once
+pub mod Fitting
+pub mod Choices
+pub mod Rows
+pub mod Lines
+pub mod Messages
+pub mod OneMessage
+pub mod TypeWords
+pub mod OneFrame
+pub mod ReadingBack

@@ -1,0 +1,2 @@
+pub mod WithoutFuture
+pub mod ReadBack

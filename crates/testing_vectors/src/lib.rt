@@ -1,0 +1,7 @@
+//! Tests of what crash tests are written with: worlds that a test describes, and reports that it asks.
+#![tactic(auto)]
+
+#[cfg(test)]
+mod reports;
+#[cfg(test)]
+mod worlds;
