@@ -1,11 +1,13 @@
 -- The choices of a message, and headers, as they stand in it and on a line. For each choice: its values
 -- are read back, a text begins with the word of its case, says one value at most, and is not empty.
-use Rattle.std.proofs.Common.{◌≡◌, ℕ, List, [], length, ap, sym, refl, subst, ◌∙◌, arith}
+use Rattle.std.proofs.Common.{◌≡◌, ◌==◌, ℕ, if◌then◌else◌, List, [], get_or, length, ap, sym, refl, subst, ◌∙◌, arith}
 use Rattle.std.specs.Prelude.{codes}
 use Rattle.own_bytes.specs.Bytes.{failure}
-use Rattle.own_bytes.specs.Formats.{behavior_format, failure_same, header_format, id_format, idempotency_id, idempotency_id_same, result_format, signal_format, signal_result_format, target_format, value_format, void_or_value_format, workflow_id, workflow_id_same}
+use Rattle.own_bytes.specs.Formats.{behavior_format, failure_same, header_format, id_format, idempotency_id, idempotency_id_same, kind_format, result_format, signal_format, signal_result_format, target_format, value_format, void_or_value_format, workflow_id, workflow_id_same}
 use Rattle.journal_protocol.specs.ErrorBehavior.{ErrorBehavior}
 use Rattle.journal_protocol.specs.ErrorBehavior.TheVariants as behaviors
+use Rattle.journal_protocol.specs.FutureKind.{FutureKind}
+use Rattle.journal_protocol.specs.FutureKind.TheVariants as kinds
 use Rattle.journal_protocol.specs.VoidOrValue.{VoidOrValue}
 use Rattle.journal_protocol.specs.VoidOrValue.TheVariants as voids
 use Rattle.journal_protocol.specs.ValueOrFailure.{ValueOrFailure}
@@ -24,7 +26,7 @@ use Rattle.journal_protocol.specs.Failure.{Failure}
 use Rattle.journal_protocol.specs.Header.{Header}
 use Rattle.journal_protocol.specs.IdempotencyId.{IdempotencyId}
 use Rattle.journal_protocol.specs.WorkflowId.{WorkflowId}
-use Rattle.frame_lines.specs.Choices.{behavior_notation, failure_fields, idempotency_id_fields, notification_id_notation, notification_result_notation, signal_notation, signal_result_notation, target_notation, value_or_failure_notation, void_or_value_notation, workflow_id_fields}
+use Rattle.frame_lines.specs.Choices.{behavior_notation, failure_fields, idempotency_id_fields, kind_notation, kind_text, notification_id_notation, notification_result_notation, signal_notation, signal_result_notation, target_notation, value_or_failure_notation, void_or_value_notation, workflow_id_fields}
 use Rattle.frame_lines.specs.Notation.{bytes_notation, header_notation, list_notation, number, string}
 use Rattle.frame_lines.proofs.Bracketing.{front}
 use Rattle.frame_lines.proofs.Naming.{unequal}
@@ -470,4 +472,47 @@ target_item = record {
   once = target_once;
   left_out = never_left_out target_notation (λ a. refl);
   something = target_something;
+}
+
+-- ---- kind
+
+pub kind_reads : (it : FutureKind) → (kind_format).valid it → AllBytes ((kind_format).spelling it) → ReadsBack kind_notation it
+kind_reads kinds.FirstCompleted v b = record { says = refl; word = plain_word (codes "FirstCompleted") (omega arith) refl }
+kind_reads kinds.AllCompleted v b = record { says = refl; word = plain_word (codes "AllCompleted") (omega arith) refl }
+kind_reads kinds.FirstSucceededOrAllFailed v b = record { says = refl; word = plain_word (codes "FirstSucceededOrAllFailed") (omega arith) refl }
+kind_reads kinds.AllSucceededOrFirstFailed v b = record { says = refl; word = plain_word (codes "AllSucceededOrFirstFailed") (omega arith) refl }
+kind_reads kinds.Unknown v b = record { says = refl; word = plain_word (codes "Unknown") (omega arith) refl }
+
+-- the kind that a text names, by the bytes in which the names differ
+abbrev kind_in : List ℕ → FutureKind
+kind_in text =
+    if get_or text 0 0 == 85 then kinds.Unknown else
+    if get_or text 0 0 == 70 then (if get_or text 5 0 == 67 then kinds.FirstCompleted else kinds.FirstSucceededOrAllFailed)
+    else (if get_or text 3 0 == 67 then kinds.AllCompleted else kinds.AllSucceededOrFirstFailed)
+
+kind_named : (it : FutureKind) → kind_in (kind_text it) ≡ it
+kind_named kinds.FirstCompleted = refl
+kind_named kinds.AllCompleted = refl
+kind_named kinds.FirstSucceededOrAllFailed = refl
+kind_named kinds.AllSucceededOrFirstFailed = refl
+kind_named kinds.Unknown = refl
+
+pub kind_once : SaysOnce (kind_notation).Says
+kind_once text a b p q = sym (kind_named a) ∙ ap kind_in (sym p ∙ q) ∙ kind_named b
+
+pub kind_something : SaysSomething kind_notation
+kind_something kinds.FirstCompleted says = let long = ap length says in absurd (omega (arith, long))
+kind_something kinds.AllCompleted says = let long = ap length says in absurd (omega (arith, long))
+kind_something kinds.FirstSucceededOrAllFailed says = let long = ap length says in absurd (omega (arith, long))
+kind_something kinds.AllSucceededOrFirstFailed says = let long = ap length says in absurd (omega (arith, long))
+kind_something kinds.Unknown says = let long = ap length says in absurd (omega (arith, long))
+
+abbrev pub kind_item : Item FutureKind
+kind_item = record {
+  format = kind_format;
+  value = kind_notation;
+  reads = kind_reads;
+  once = kind_once;
+  left_out = never_left_out kind_notation (λ a. refl);
+  something = kind_something;
 }

@@ -7,6 +7,10 @@ pub mod Values
 pub mod Once
 pub mod Fitting
 pub mod Choices
+pub mod FutureParts
+pub mod FutureTexts
+pub mod OneFuture
+pub mod Futures
 pub mod Rows
 pub mod Lines
 pub mod Messages

@@ -1,5 +1,5 @@
 -- What is printed of a frame or of a rest is read back from its line.
-use Rattle.std.proofs.Common.{◌≡◌, ◌<◌, ◌/◌, ◌%◌, ◌^◌, ◌++◌, ℕ, true, List, [], ◌∷◌, Option, Some, None, ◌⊎◌, inl, inr, ap, sym, refl, subst, ◌∙◌, arith, append_assoc}
+use Rattle.std.proofs.Common.{◌≡◌, ◌<◌, ◌/◌, ◌%◌, ◌^◌, ◌++◌, ℕ, true, List, [], ◌∷◌, Option, Some, None, inl, inr, ap, sym, refl, subst, ◌∙◌, arith, append_assoc}
 use Rattle.std.specs.Prelude.{codes}
 use Rattle.std.specs.Char.{digit_char}
 use Rattle.std.specs.Fmt.{decimal}
@@ -18,6 +18,7 @@ use Rattle.journal_protocol.specs.Types.{type_number}
 use Rattle.journal_protocol.specs.Message.{Message}
 use Rattle.journal_protocol.specs.RawMessage.{RawMessage}
 use Rattle.journal_protocol.proofs.Facts.{small_number}
+use Rattle.frame_lines.specs.FrameLines.{LineShows}
 use Rattle.frame_lines.specs.Messages.{fields_of, message_text}
 use Rattle.frame_lines.specs.Names.{type_word}
 use Rattle.frame_lines.specs.Printed.{frame_text, raw_text, rest_text, text_as}
@@ -28,19 +29,18 @@ use Rattle.line_laws.proofs.Joined.{are_words, bors, decimal_word, each_after}
 use Rattle.line_laws.proofs.Messages.{message_reads}
 use Rattle.line_laws.proofs.Named.{words_of}
 use Rattle.line_laws.proofs.TypeWords.{type_is_word}
-use Rattle.line_laws.specs.WithoutFuture.{HasNoFuture, LineShowsAsIs, LineShowsWithoutFuture}
 
 -- ---- messages
 
-pub message_shown : (m : Message) → IsValid m → AllBytes (body m) → HasNoFuture (type_of m) → LineShowsWithoutFuture (message_text m) (encoding m)
-message_shown m valid small none =
-    let reads = message_reads m valid small none in
+pub message_shown : (m : Message) → IsValid m → AllBytes (body m) → LineShows (message_text m) (encoding m)
+message_shown m valid small =
+    let reads = message_reads m valid small in
     let name = type_word (type_of m) in
     let fields = words_of (fields_of m) in
     let line : message_text m ≡ name ++ each_after 32 fields = put_more name (fields_of m) in (
       bors (name ∷ fields),
       subst (λ text. AreWords text (bors (name ∷ fields))) (sym line) (are_words name fields (type_is_word (type_of m), reads.0)),
-      (record { ty = type_of m; named = refl; encodes = record { message = m; typed = refl; fields = reads.1; is = refl } }, none),
+      inr (record { ty = type_of m; named = refl; encodes = record { message = m; typed = refl; fields = reads.1; is = refl } }),
     )
 
 -- ---- bytes as hex digits
@@ -62,7 +62,7 @@ hexed_atom bytes all = inr (flat_map in_hex bytes, refl, digits_read bytes (belo
 
 -- ---- frames as they are, and rests
 
-pub raw_shown : (raw : RawMessage) → AllBytes raw.body → LineShowsAsIs (raw_text raw) (numbered_frame (type_number raw.ty) raw.body)
+pub raw_shown : (raw : RawMessage) → AllBytes raw.body → LineShows (raw_text raw) (numbered_frame (type_number raw.ty) raw.body)
 raw_shown raw small =
     let number = type_number raw.ty in
     let fits = small_number raw.ty in
@@ -76,7 +76,7 @@ raw_shown raw small =
       bors (codes "raw" ∷ texts),
       subst (λ text. AreWords text (bors (codes "raw" ∷ texts))) (sym line)
           (are_words (codes "raw") texts (plain_word (codes "raw") (omega arith) refl, (decimal_word number wide, (hexed_word raw.body small, tt)))),
-      inl (
+      inl (inl (
         refl,
         record {
           bytes_of = raw.body;
@@ -85,37 +85,32 @@ raw_shown raw small =
           is_body = hexed_atom raw.body small;
           is = ap (λ n. numbered_frame n raw.body) (sym numeral.1);
         },
-      ),
+      )),
     )
 
-pub rest_shown : (rest : List ℕ) → AllBytes rest → LineShowsAsIs (rest_text rest) rest
+pub rest_shown : (rest : List ℕ) → AllBytes rest → LineShows (rest_text rest) rest
 rest_shown rest small =
     let texts : List (List ℕ) = hexed rest ∷ [] in
     let line : rest_text rest ≡ codes "rest" ++ each_after 32 texts = ap (λ l. codes "rest " ++ l) (sym (append-nil (hexed rest))) in (
       bors (codes "rest" ∷ texts),
       subst (λ text. AreWords text (bors (codes "rest" ∷ texts))) (sym line)
           (are_words (codes "rest") texts (plain_word (codes "rest") (omega arith) refl, (hexed_word rest small, tt))),
-      inr (refl, hexed_atom rest small),
+      inl (inr (refl, hexed_atom rest small)),
     )
 
 -- ---- each frame
 
--- A frame whose body is no message is shown as it is, one whose body is a message without a future
--- as that message.
-abbrev pub FrameShown : RawMessage → Type 0
-FrameShown raw = LineShowsAsIs (frame_text raw) (frame raw.ty raw.body) ⊎ LineShowsWithoutFuture (frame_text raw) (frame raw.ty raw.body)
-
+-- one whose body is a message is shown as that message, another as it is
 module _ (raw : RawMessage) (small : AllBytes raw.body) where
-  as_read : (m : Message) → message_in raw.ty raw.body ≡ Some m → HasNoFuture raw.ty → LineShowsWithoutFuture (text_as raw (Some m)) (frame raw.ty raw.body)
-  as_read m read none =
+  as_read : (m : Message) → message_in raw.ty raw.body ≡ Some m → LineShows (message_text m) (frame raw.ty raw.body)
+  as_read m read =
       let is = message_is raw.ty raw.body m read in
       let bytes : encoding m ≡ frame raw.ty raw.body = λ i. frame (is.1 i) (sym is.2 i) in
-      subst (λ shown. LineShowsWithoutFuture (message_text m) shown) bytes (message_shown m is.0 (subst AllBytes is.2 small) (subst HasNoFuture (sym is.1) none))
+      subst (λ shown. LineShows (message_text m) shown) bytes (message_shown m is.0 (subst AllBytes is.2 small))
 
-  shown_as : (o : Option Message) → message_in raw.ty raw.body ≡ o → HasNoFuture raw.ty ⊎ (o ≡ None) → LineShowsAsIs (text_as raw o) (frame raw.ty raw.body) ⊎ LineShowsWithoutFuture (text_as raw o) (frame raw.ty raw.body)
-  shown_as None read which = inl (raw_shown raw small)
-  shown_as (Some m) read (inl none) = inr (as_read m read none)
-  shown_as (Some m) read (inr not) = absurd (cc not)
+  shown_as : (o : Option Message) → message_in raw.ty raw.body ≡ o → LineShows (text_as raw o) (frame raw.ty raw.body)
+  shown_as None read = raw_shown raw small
+  shown_as (Some m) read = as_read m read
 
-  pub frame_shown : HasNoFuture raw.ty ⊎ (message_in raw.ty raw.body ≡ None) → FrameShown raw
-  frame_shown which = shown_as (message_in raw.ty raw.body) refl which
+  pub frame_shown : LineShows (frame_text raw) (frame raw.ty raw.body)
+  frame_shown = shown_as (message_in raw.ty raw.body) refl

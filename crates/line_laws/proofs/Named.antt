@@ -24,7 +24,7 @@ abbrev pub are_apart : List (List ℕ) → Bool
 are_apart [] = true
 are_apart (n ∷ names) = list_all (apart n) names && list_all (λ m. apart m n) names && are_apart names
 
-not_named : (name other after : List ℕ) → apart name other ≡ true → is_named name (other ++ after) ≡ false
+pub not_named : (name other after : List ℕ) → apart name other ≡ true → is_named name (other ++ after) ≡ false
 not_named [] other after differ = absurd (cc differ)
 not_named (x ∷ xs) [] after differ = absurd (cc differ)
 not_named (x ∷ xs) (y ∷ ys) after differ = go (λ more. not_named xs ys after more) (nat_eq x y) refl differ

@@ -8,11 +8,10 @@ use Rattle.lines.proofs.Once.{Same, words_once}
 use Rattle.lines.specs.Atoms.{IsAtom}
 use Rattle.journal_protocol.specs.Frames.{encoding, numbered_frame}
 use Rattle.journal_protocol.specs.Message.{Message}
-use Rattle.frame_lines.specs.FrameLines.{AreRaw, IsNamed, IsRaw, IsRest, LineShows, ShowAsIs, Shows}
+use Rattle.frame_lines.specs.FrameLines.{AreRaw, IsNamed, IsRaw, IsRest, LineShows, Shows}
 use Rattle.frame_lines.proofs.Naming.{no_raw, no_rest, one_type, unequal}
 use Rattle.frame_lines.proofs.Typing.{same_fields_of}
 use Rattle.line_laws.proofs.OneMessage.{message_once}
-use Rattle.line_laws.specs.WithoutFuture.{HasNoFuture, LineShowsAsIs, LineShowsWithoutFuture, ShowWithoutFuture}
 
 -- ---- frames as they are
 
@@ -36,38 +35,31 @@ rest_once (n ∷ []) [] a b same p q = absurd q
 rest_once (n ∷ []) (m ∷ e ∷ vs) a b same p q = absurd q
 rest_once (n ∷ []) (m ∷ []) a b same p q = atom_once m.now a b (subst (λ t. IsAtom t a) same.0 p) q
 
-as_is_once : (ws vs : List (Bor (List ℕ))) (a b : List ℕ) → Same ws vs → ShowAsIs ws a → Shows vs b → a ≡ b
-as_is_once [] vs a b same p q = absurd p
-as_is_once (w ∷ ws) [] a b same p q = absurd q
-as_is_once (w ∷ ws) (v ∷ vs) a b same (inl (raw, p)) (inl (inl (also, q))) = raw_once ws vs a b same.1 p q
-as_is_once (w ∷ ws) (v ∷ vs) a b same (inl (raw, p)) (inl (inr (rest, q))) = absurd (unequal (codes "raw") (codes "rest") refl (sym raw ∙ same.0 ∙ rest))
-as_is_once (w ∷ ws) (v ∷ vs) a b same (inl (raw, p)) (inr named) = absurd (no_raw named.ty (sym named.named ∙ sym same.0 ∙ raw))
-as_is_once (w ∷ ws) (v ∷ vs) a b same (inr (rest, p)) (inl (inl (raw, q))) = absurd (unequal (codes "raw") (codes "rest") refl (sym raw ∙ sym same.0 ∙ rest))
-as_is_once (w ∷ ws) (v ∷ vs) a b same (inr (rest, p)) (inl (inr (also, q))) = rest_once ws vs a b same.1 p q
-as_is_once (w ∷ ws) (v ∷ vs) a b same (inr (rest, p)) (inr named) = absurd (no_rest named.ty (sym named.named ∙ sym same.0 ∙ rest))
-
 -- ---- messages
 
-named_once : (ws vs : List (Bor (List ℕ))) (w v a b : List ℕ) → Same ws vs → w ≡ v → (p : IsNamed w ws a) → HasNoFuture p.ty → IsNamed v vs b → a ≡ b
-named_once ws vs w v a b same is p none q =
+named_once : (ws vs : List (Bor (List ℕ))) (w v a b : List ℕ) → Same ws vs → w ≡ v → IsNamed w ws a → IsNamed v vs b → a ≡ b
+named_once ws vs w v a b same is p q =
     let types = one_type p.ty q.ty (sym p.named ∙ is ∙ q.named) in
     let m : Message = p.encodes.message in
     let n : Message = q.encodes.message in
     let typed = p.encodes.typed ∙ types ∙ sym q.encodes.typed in
-    let one = message_once vs m n typed (subst HasNoFuture (sym p.encodes.typed) none) (same_fields_of ws vs same m p.encodes.fields) q.encodes.fields in
+    let one = message_once vs m n typed (same_fields_of ws vs same m p.encodes.fields) q.encodes.fields in
     p.encodes.is ∙ ap encoding one ∙ sym q.encodes.is
-
-shown_once : (ws vs : List (Bor (List ℕ))) (a b : List ℕ) → Same ws vs → ShowWithoutFuture ws a → Shows vs b → a ≡ b
-shown_once [] vs a b same p q = absurd p
-shown_once (w ∷ ws) [] a b same p q = absurd q
-shown_once (w ∷ ws) (v ∷ vs) a b same (p, none) (inl (inl (raw, q))) = absurd (no_raw p.ty (sym p.named ∙ same.0 ∙ raw))
-shown_once (w ∷ ws) (v ∷ vs) a b same (p, none) (inl (inr (rest, q))) = absurd (no_rest p.ty (sym p.named ∙ same.0 ∙ rest))
-shown_once (w ∷ ws) (v ∷ vs) a b same (p, none) (inr q) = named_once ws vs w.now v.now a b same.1 same.0 p none q
 
 -- ---- lines
 
-pub line_as_is_once : (line a b : List ℕ) → LineShowsAsIs line a → LineShows line b → a ≡ b
-line_as_is_once line a b (ws, are, p) (vs, be, q) = as_is_once ws vs a b (words_once line ws vs are be) p q
+shown_once : (ws vs : List (Bor (List ℕ))) (a b : List ℕ) → Same ws vs → Shows ws a → Shows vs b → a ≡ b
+shown_once [] vs a b same p q = absurd p
+shown_once (w ∷ ws) [] a b same p q = absurd q
+shown_once (w ∷ ws) (v ∷ vs) a b same (inl (inl (raw, p))) (inl (inl (also, q))) = raw_once ws vs a b same.1 p q
+shown_once (w ∷ ws) (v ∷ vs) a b same (inl (inl (raw, p))) (inl (inr (rest, q))) = absurd (unequal (codes "raw") (codes "rest") refl (sym raw ∙ same.0 ∙ rest))
+shown_once (w ∷ ws) (v ∷ vs) a b same (inl (inl (raw, p))) (inr q) = absurd (no_raw q.ty (sym q.named ∙ sym same.0 ∙ raw))
+shown_once (w ∷ ws) (v ∷ vs) a b same (inl (inr (rest, p))) (inl (inl (raw, q))) = absurd (unequal (codes "raw") (codes "rest") refl (sym raw ∙ sym same.0 ∙ rest))
+shown_once (w ∷ ws) (v ∷ vs) a b same (inl (inr (rest, p))) (inl (inr (also, q))) = rest_once ws vs a b same.1 p q
+shown_once (w ∷ ws) (v ∷ vs) a b same (inl (inr (rest, p))) (inr q) = absurd (no_rest q.ty (sym q.named ∙ sym same.0 ∙ rest))
+shown_once (w ∷ ws) (v ∷ vs) a b same (inr p) (inl (inl (raw, q))) = absurd (no_raw p.ty (sym p.named ∙ same.0 ∙ raw))
+shown_once (w ∷ ws) (v ∷ vs) a b same (inr p) (inl (inr (rest, q))) = absurd (no_rest p.ty (sym p.named ∙ same.0 ∙ rest))
+shown_once (w ∷ ws) (v ∷ vs) a b same (inr p) (inr q) = named_once ws vs w.now v.now a b same.1 same.0 p q
 
-pub line_once : (line a b : List ℕ) → LineShowsWithoutFuture line a → LineShows line b → a ≡ b
+pub line_once : (line a b : List ℕ) → LineShows line a → LineShows line b → a ≡ b
 line_once line a b (ws, are, p) (vs, be, q) = shown_once ws vs a b (words_once line ws vs are be) p q

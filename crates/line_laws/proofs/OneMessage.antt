@@ -36,8 +36,7 @@ use Rattle.journal_protocol.specs.Suspension.{Suspension}
 use Rattle.frame_lines.specs.Forms.{awaiting_on_fields, call_fields, clear_all_state_fields, clear_state_fields, complete_awakeable_fields, complete_promise_fields, error_fields, get_eager_state_fields, get_eager_state_keys_fields, get_lazy_state_fields, get_lazy_state_keys_fields, get_state_ephemeral_command_fields, get_state_ephemeral_notification_fields, input_fields, invocation_fields, notification_fields, one_way_call_fields, output_fields, promise_fields, propose_run_completion_fields, propose_run_completion_ack_fields, run_fields, send_signal_fields, set_state_fields, sleep_fields, start_fields, suspension_fields}
 use Rattle.frame_lines.specs.Messages.{AreFieldsOf}
 use Rattle.frame_lines.specs.Notation.{AreFields}
-use Rattle.line_laws.proofs.Rows.{call_once, clear_all_state_once, clear_state_once, complete_awakeable_once, complete_promise_once, error_once, get_eager_state_once, get_eager_state_keys_once, get_lazy_state_once, get_lazy_state_keys_once, get_state_ephemeral_command_once, get_state_ephemeral_notification_once, input_once, invocation_once, notification_once, one_way_call_once, output_once, promise_once, propose_run_completion_once, propose_run_completion_ack_once, run_once, send_signal_once, set_state_once, sleep_once, start_once}
-use Rattle.line_laws.specs.WithoutFuture.{HasNoFuture}
+use Rattle.line_laws.proofs.Rows.{awaiting_on_once, call_once, clear_all_state_once, clear_state_once, complete_awakeable_once, complete_promise_once, error_once, get_eager_state_once, get_eager_state_keys_once, get_lazy_state_once, get_lazy_state_keys_once, get_state_ephemeral_command_once, get_state_ephemeral_notification_once, input_once, invocation_once, notification_once, one_way_call_once, output_once, promise_once, propose_run_completion_once, propose_run_completion_ack_once, run_once, send_signal_once, set_state_once, sleep_once, start_once, suspension_once}
 
 -- what a message of the type holds
 abbrev Held : MessageType → Type 0
@@ -234,40 +233,40 @@ are_held words (message.GetInvocationOutput it) are = are
 are_held words (message.Output it) are = are
 are_held words (message.Notification it) are = are
 
-held_once : (ty : MessageType) → HasNoFuture ty → (words : List (Bor (List ℕ))) (a b : Held ty) → Are ty words a → Are ty words b → make ty a ≡ make ty b
-held_once type.Start n words a b p q = ap message.Start (start_once words a b p q)
-held_once type.Suspension n words a b p q = absurd n
-held_once type.Error n words a b p q = ap message.Error (error_once words a b p q)
-held_once type.End n words a b p q = refl
-held_once type.ProposeRunCompletion n words a b p q = ap message.ProposeRunCompletion (propose_run_completion_once words a b p q)
-held_once type.ProposeRunCompletionAck n words a b p q = ap message.ProposeRunCompletionAck (propose_run_completion_ack_once words a b p q)
-held_once type.AwaitingOn n words a b p q = absurd n
-held_once type.GetStateEphemeralCommand n words a b p q = ap message.GetStateEphemeralCommand (get_state_ephemeral_command_once words a b p q)
-held_once type.GetStateEphemeralNotification n words a b p q = ap message.GetStateEphemeralNotification (get_state_ephemeral_notification_once words a b p q)
-held_once type.InputCommand n words a b p q = ap message.Input (input_once words a b p q)
-held_once type.GetEagerStateCommand n words a b p q = ap message.GetEagerState (get_eager_state_once words a b p q)
-held_once type.GetLazyStateCommand n words a b p q = ap message.GetLazyState (get_lazy_state_once words a b p q)
-held_once type.GetEagerStateKeysCommand n words a b p q = ap message.GetEagerStateKeys (get_eager_state_keys_once words a b p q)
-held_once type.GetLazyStateKeysCommand n words a b p q = ap message.GetLazyStateKeys (get_lazy_state_keys_once words a b p q)
-held_once type.SetStateCommand n words a b p q = ap message.SetState (set_state_once words a b p q)
-held_once type.ClearStateCommand n words a b p q = ap message.ClearState (clear_state_once words a b p q)
-held_once type.ClearAllStateCommand n words a b p q = ap message.ClearAllState (clear_all_state_once words a b p q)
-held_once type.SleepCommand n words a b p q = ap message.Sleep (sleep_once words a b p q)
-held_once type.CallCommand n words a b p q = ap message.Call (call_once words a b p q)
-held_once type.OneWayCallCommand n words a b p q = ap message.OneWayCall (one_way_call_once words a b p q)
-held_once type.CompleteAwakeableCommand n words a b p q = ap message.CompleteAwakeable (complete_awakeable_once words a b p q)
-held_once type.SendSignalCommand n words a b p q = ap message.SendSignal (send_signal_once words a b p q)
-held_once type.GetPromiseCommand n words a b p q = ap message.GetPromise (promise_once words a b p q)
-held_once type.PeekPromiseCommand n words a b p q = ap message.PeekPromise (promise_once words a b p q)
-held_once type.CompletePromiseCommand n words a b p q = ap message.CompletePromise (complete_promise_once words a b p q)
-held_once type.RunCommand n words a b p q = ap message.Run (run_once words a b p q)
-held_once type.AttachInvocationCommand n words a b p q = ap message.AttachInvocation (invocation_once words a b p q)
-held_once type.GetInvocationOutputCommand n words a b p q = ap message.GetInvocationOutput (invocation_once words a b p q)
-held_once type.OutputCommand n words a b p q = ap message.Output (output_once words a b p q)
-held_once type.Notification n words a b p q = ap message.Notification (notification_once words a b p q)
+held_once : (ty : MessageType) (words : List (Bor (List ℕ))) (a b : Held ty) → Are ty words a → Are ty words b → make ty a ≡ make ty b
+held_once type.Start words a b p q = ap message.Start (start_once words a b p q)
+held_once type.Suspension words a b p q = ap message.Suspension (suspension_once words a b p q)
+held_once type.Error words a b p q = ap message.Error (error_once words a b p q)
+held_once type.End words a b p q = refl
+held_once type.ProposeRunCompletion words a b p q = ap message.ProposeRunCompletion (propose_run_completion_once words a b p q)
+held_once type.ProposeRunCompletionAck words a b p q = ap message.ProposeRunCompletionAck (propose_run_completion_ack_once words a b p q)
+held_once type.AwaitingOn words a b p q = ap message.AwaitingOn (awaiting_on_once words a b p q)
+held_once type.GetStateEphemeralCommand words a b p q = ap message.GetStateEphemeralCommand (get_state_ephemeral_command_once words a b p q)
+held_once type.GetStateEphemeralNotification words a b p q = ap message.GetStateEphemeralNotification (get_state_ephemeral_notification_once words a b p q)
+held_once type.InputCommand words a b p q = ap message.Input (input_once words a b p q)
+held_once type.GetEagerStateCommand words a b p q = ap message.GetEagerState (get_eager_state_once words a b p q)
+held_once type.GetLazyStateCommand words a b p q = ap message.GetLazyState (get_lazy_state_once words a b p q)
+held_once type.GetEagerStateKeysCommand words a b p q = ap message.GetEagerStateKeys (get_eager_state_keys_once words a b p q)
+held_once type.GetLazyStateKeysCommand words a b p q = ap message.GetLazyStateKeys (get_lazy_state_keys_once words a b p q)
+held_once type.SetStateCommand words a b p q = ap message.SetState (set_state_once words a b p q)
+held_once type.ClearStateCommand words a b p q = ap message.ClearState (clear_state_once words a b p q)
+held_once type.ClearAllStateCommand words a b p q = ap message.ClearAllState (clear_all_state_once words a b p q)
+held_once type.SleepCommand words a b p q = ap message.Sleep (sleep_once words a b p q)
+held_once type.CallCommand words a b p q = ap message.Call (call_once words a b p q)
+held_once type.OneWayCallCommand words a b p q = ap message.OneWayCall (one_way_call_once words a b p q)
+held_once type.CompleteAwakeableCommand words a b p q = ap message.CompleteAwakeable (complete_awakeable_once words a b p q)
+held_once type.SendSignalCommand words a b p q = ap message.SendSignal (send_signal_once words a b p q)
+held_once type.GetPromiseCommand words a b p q = ap message.GetPromise (promise_once words a b p q)
+held_once type.PeekPromiseCommand words a b p q = ap message.PeekPromise (promise_once words a b p q)
+held_once type.CompletePromiseCommand words a b p q = ap message.CompletePromise (complete_promise_once words a b p q)
+held_once type.RunCommand words a b p q = ap message.Run (run_once words a b p q)
+held_once type.AttachInvocationCommand words a b p q = ap message.AttachInvocation (invocation_once words a b p q)
+held_once type.GetInvocationOutputCommand words a b p q = ap message.GetInvocationOutput (invocation_once words a b p q)
+held_once type.OutputCommand words a b p q = ap message.Output (output_once words a b p q)
+held_once type.Notification words a b p q = ap message.Notification (notification_once words a b p q)
 
-same_type : (t u : MessageType) → t ≡ u → HasNoFuture t → (words : List (Bor (List ℕ))) (a : Held t) → Are t words a → (b : Held u) → Are u words b → make t a ≡ make u b
-same_type t u e n words a p = subst (λ (s : MessageType). (b : Held s) → Are s words b → make t a ≡ make s b) e (λ b q. held_once t n words a b p q)
+same_type : (t u : MessageType) → t ≡ u → (words : List (Bor (List ℕ))) (a : Held t) → Are t words a → (b : Held u) → Are u words b → make t a ≡ make u b
+same_type t u e words a p = subst (λ (s : MessageType). (b : Held s) → Are s words b → make t a ≡ make s b) e (λ b q. held_once t words a b p q)
 
-pub message_once : (words : List (Bor (List ℕ))) (m n : Message) → type_of m ≡ type_of n → HasNoFuture (type_of m) → AreFieldsOf words m → AreFieldsOf words n → m ≡ n
-message_once words m n e none p q = sym (made m) ∙ same_type (type_of m) (type_of n) e none words (held m) (are_held words m p) (held n) (are_held words n q) ∙ made n
+pub message_once : (words : List (Bor (List ℕ))) (m n : Message) → type_of m ≡ type_of n → AreFieldsOf words m → AreFieldsOf words n → m ≡ n
+message_once words m n e p q = sym (made m) ∙ same_type (type_of m) (type_of n) e words (held m) (are_held words m p) (held n) (are_held words n q) ∙ made n

@@ -11,7 +11,7 @@ use Rattle.line_laws.proofs.Closed.{IsInner, IsWord, escape_inner, in_both, in_b
 -- ---- a byte between quotes
 
 -- no quote, and no backslash
-abbrev IsCharacter : ℕ → Type 0
+abbrev pub IsCharacter : ℕ → Type 0
 IsCharacter b = ((b == 34) ≡ false) × ((b == 92) ≡ false)
 
 character_stays : (n b : ℕ) → IsCharacter b → nesting_after (in_both in_quotes n) b ≡ in_both in_quotes n
@@ -48,10 +48,10 @@ stays_escape n b = (
   (quotes_inner n, (subst (λ p. p ≢ outside) (sym (slash_escapes n)) (escape_inner n), tt)),
 )
 
-hex_is_character : (d : ℕ) → d < 16 → IsCharacter (digit_char d)
+pub hex_is_character : (d : ℕ) → d < 16 → IsCharacter (digit_char d)
 hex_is_character d less = (grind (arith, nat_tests), grind (arith, nat_tests))
 
-plain_is_character : (b : ℕ) → is_plain b ≡ true → IsCharacter b
+pub plain_is_character : (b : ℕ) → is_plain b ≡ true → IsCharacter b
 plain_is_character b plain = (grind (arith, nat_tests), grind (arith, nat_tests))
 
 byte_stays : (n b : ℕ) → b < 256 → Stays n (printed_byte b)

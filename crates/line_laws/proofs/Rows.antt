@@ -1,6 +1,7 @@
 -- The fields of messages as they stand in a message and on a line.
 use Rattle.std.proofs.Common.{refl}
 use Rattle.std.specs.Prelude.{codes}
+use Rattle.journal_protocol.specs.AwaitingOn.{AwaitingOn}
 use Rattle.journal_protocol.specs.CallCommand.{CallCommand}
 use Rattle.journal_protocol.specs.ClearAllStateCommand.{ClearAllStateCommand}
 use Rattle.journal_protocol.specs.ClearStateCommand.{ClearStateCommand}
@@ -26,9 +27,11 @@ use Rattle.journal_protocol.specs.SendSignalCommand.{SendSignalCommand}
 use Rattle.journal_protocol.specs.SetStateCommand.{SetStateCommand}
 use Rattle.journal_protocol.specs.SleepCommand.{SleepCommand}
 use Rattle.journal_protocol.specs.Start.{Start}
-use Rattle.frame_lines.specs.Forms.{call_fields, clear_all_state_fields, clear_state_fields, complete_awakeable_fields, complete_promise_fields, error_fields, get_eager_state_fields, get_eager_state_keys_fields, get_lazy_state_fields, get_lazy_state_keys_fields, get_state_ephemeral_command_fields, get_state_ephemeral_notification_fields, input_fields, invocation_fields, notification_fields, one_way_call_fields, output_fields, promise_fields, propose_run_completion_ack_fields, propose_run_completion_fields, run_fields, send_signal_fields, set_state_fields, sleep_fields, start_fields}
+use Rattle.journal_protocol.specs.Suspension.{Suspension}
+use Rattle.frame_lines.specs.Forms.{awaiting_on_fields, call_fields, clear_all_state_fields, clear_state_fields, complete_awakeable_fields, complete_promise_fields, error_fields, get_eager_state_fields, get_eager_state_keys_fields, get_lazy_state_fields, get_lazy_state_keys_fields, get_state_ephemeral_command_fields, get_state_ephemeral_notification_fields, input_fields, invocation_fields, notification_fields, one_way_call_fields, output_fields, promise_fields, propose_run_completion_ack_fields, propose_run_completion_fields, run_fields, send_signal_fields, set_state_fields, sleep_fields, start_fields, suspension_fields}
 use Rattle.line_laws.proofs.Choices.{behavior_item, header_item, notification_id_item, notification_result_item, signal_item, signal_result_item, target_item, value_or_failure_item, void_or_value_item}
 use Rattle.line_laws.proofs.Fitting.{Row, bytes_item, flag_item, last, list_item, more, pair_item, row_once, some, text_item, u32_item, u64_item, whole}
+use Rattle.line_laws.proofs.Futures.{future_item}
 use Rattle.line_laws.proofs.Once.{AreFieldsOnce}
 
 abbrev pub start_row : Row Start
@@ -48,6 +51,20 @@ start_row =
 
 pub start_once : AreFieldsOnce start_fields
 start_once = row_once start_row (λ p. record { id = p.0; debug_id = p.1.0; key = p.1.1.0; known_entries = p.1.1.1.0; state = p.1.1.1.1.0; partial = p.1.1.1.1.1.0; retry_count = p.1.1.1.1.1.1.0; duration = p.1.1.1.1.1.1.1.0; random_seed = p.1.1.1.1.1.1.1.1.0; scope = p.1.1.1.1.1.1.1.1.1.0; limit_key = p.1.1.1.1.1.1.1.1.1.1.0; idempotency_key = p.1.1.1.1.1.1.1.1.1.1.1.0 }) (λ it. refl)
+
+abbrev pub suspension_row : Row Suspension
+suspension_row = last (codes "future") refl (λ m. m.future) (whole future_item)
+
+pub suspension_once : AreFieldsOnce suspension_fields
+suspension_once = row_once suspension_row (λ p. record { future = p.0 }) (λ it. refl)
+
+abbrev pub awaiting_on_row : Row AwaitingOn
+awaiting_on_row =
+    more (codes "future") refl (λ m. m.future) (whole future_item) (
+    last (codes "executing_side_effects") refl (λ m. m.executing_side_effects) (whole flag_item))
+
+pub awaiting_on_once : AreFieldsOnce awaiting_on_fields
+awaiting_on_once = row_once awaiting_on_row (λ p. record { future = p.0; executing_side_effects = p.1.0 }) (λ it. refl)
 
 abbrev pub error_row : Row ErrorMessage
 error_row =

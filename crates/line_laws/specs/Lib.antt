@@ -1,2 +1,1 @@
-pub mod WithoutFuture
 pub mod ReadBack

@@ -1,9 +1,7 @@
 //! A frame that is printed as a line and read back from it.
-ghost use Rattle.std.specs.Prelude.{◌≡◌, None};
-ghost use Rattle.journal_protocol.specs.Bodies.{message_in};
+ghost use Rattle.std.specs.Prelude.{◌≡◌};
 ghost use Rattle.journal_protocol.specs.Frames.{frame};
 ghost use Rattle.line_laws.specs.ReadBack.{GivesJust};
-ghost use Rattle.line_laws.specs.WithoutFuture.{HasNoFuture};
 
 use crate::laws::printed_frames_are_read_back;
 use bytes::Bytes;
@@ -13,14 +11,10 @@ use lines::line::Line;
 use plain::Fault;
 use std::alloc::Global;
 
-/// Prints a frame as a line and reads the line. It gives the frame's bytes, or memory ran out, if the body is a message without a
-/// future, and if it is none.
+/// Prints a frame as a line and reads the line. It gives the frame's bytes, or memory ran out.
 #[tactic(auto, using(crate::proofs::ReadingBack::read_gives))]
 pub fn print_and_read(alloc: Global, raw: &RawMessage) -> Result<Bytes, Fault>
-    ensures message { HasNoFuture raw.now.ty
-        → GivesJust (frame raw.now.ty raw.now.body) result }
-    ensures raw { message_in raw.now.ty raw.now.body ≡ None
-        → GivesJust (frame raw.now.ty raw.now.body) result }
+    ensures { GivesJust (frame raw.now.ty raw.now.body) result }
 {
     printed_frames_are_read_back(raw.ty, raw.body.as_slice());
     let mut line = Line::new(alloc);

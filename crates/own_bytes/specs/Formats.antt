@@ -8,8 +8,10 @@ pub use Rattle.journal_state.specs.Choices.{void_or_value_format}
 pub use Rattle.journal_calls.specs.Choices.{signal_format, signal_result_format, target_format}
 unfoldable pub use Rattle.journal_calls.specs.Encoding.{idempotency_id, workflow_id}
 pub use Rattle.journal_messages.specs.Message.{IsValid, body}
+pub use Rattle.journal_attempt.specs.Futures.{future_format, kind_format, node_format}
+unfoldable pub use Rattle.journal_attempt.specs.Futures.{future, future_valid}
 -- a body's bytes are those of its format
-pub use Rattle.journal_attempt.specs.Bodies.{input_same, output_same, propose_run_completion_ack_same, propose_run_completion_same, run_same, sleep_same, start_same}
+pub use Rattle.journal_attempt.specs.Bodies.{awaiting_on_same, input_same, output_same, propose_run_completion_ack_same, propose_run_completion_same, run_same, sleep_same, start_same, suspension_same}
 pub use Rattle.journal_calls.specs.Bodies.{call_request_same, call_same, complete_awakeable_same, complete_promise_same, invocation_same, one_way_call_same, promise_same, send_signal_same}
 pub use Rattle.journal_calls.specs.Choices.{idempotency_id_same, workflow_id_same}
 pub use Rattle.journal_errors.specs.Bodies.{error_same}

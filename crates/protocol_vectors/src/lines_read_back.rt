@@ -5,8 +5,22 @@ use line_laws::print_and_read;
 use std::alloc::Global;
 use std::test::Fail;
 
-fn comes_back(alloc: Global, ty: MessageType, body: &[u8], frame: &[u8]) -> Result<(), Fail> {
-    let body = Bytes::copy_from_slice(alloc, body)?;
+// Suspended until signal 1 comes, or completion 1 or 3: one future nests in another.
+const SUSPENSION_OF_A_RACE: &[u8] = b"\0\x02\0\0\0\0\0\0\0\x4e\
+    \0\
+    \0\0\0\0\0\0\0\0\
+    \0\0\0\0\0\0\0\x01\0\0\0\x01\
+    \0\0\0\0\0\0\0\0\
+    \0\0\0\0\0\0\0\x01\
+    \0\
+    \0\0\0\0\0\0\0\x02\0\0\0\x01\0\0\0\x03\
+    \0\0\0\0\0\0\0\0\
+    \0\0\0\0\0\0\0\0\
+    \0\0\0\0\0\0\0\0";
+
+// Prints the frame of this type and reads the line. Its body stands after its type and its length.
+fn comes_back(alloc: Global, ty: MessageType, frame: &[u8]) -> Result<(), Fail> {
+    let body = Bytes::copy_from_slice(alloc, frame.get(10..).ok_or("no whole frame")?)?;
     let read = print_and_read(alloc, &RawMessage { ty, body })?;
     if read.as_slice() == frame {
         Ok(())
@@ -17,14 +31,18 @@ fn comes_back(alloc: Global, ty: MessageType, body: &[u8], frame: &[u8]) -> Resu
 
 #[test]
 fn message_comes_back(rt: HostRuntime) -> Result<(), Fail> {
-    let body = b"\x00\x00\x01\x90\xba\xf7\x79\x8e\x00\x00\x00\x01\x00\x00\x00\x00\x00\x00\x00\x01n";
     let frame =
         b"\x00\x12\x00\x00\x00\x00\x00\x00\x00\x15\x00\x00\x01\x90\xba\xf7\x79\x8e\x00\x00\x00\x01\x00\x00\x00\x00\x00\x00\x00\x01n";
-    comes_back(rt.alloc(), MessageType::SleepCommand, body, frame)
+    comes_back(rt.alloc(), MessageType::SleepCommand, frame)
+}
+
+#[test]
+fn future_comes_back(rt: HostRuntime) -> Result<(), Fail> {
+    comes_back(rt.alloc(), MessageType::Suspension, SUSPENSION_OF_A_RACE)
 }
 
 #[test]
 fn frame_without_a_message_comes_back(rt: HostRuntime) -> Result<(), Fail> {
     let frame = b"\x00\x04\x00\x00\x00\x00\x00\x00\x00\x01\xff";
-    comes_back(rt.alloc(), MessageType::End, b"\xff", frame)
+    comes_back(rt.alloc(), MessageType::End, frame)
 }
