@@ -1,19 +1,11 @@
 // What a report answers: how its attempt ended, which commands it has sent, and its error.
-use examples::sleeper::Sleeper;
-use palqytun::handler::Durable;
+use handlers::sleeper::Sleeper;
 use palqytun::testing::{
     Ending, Report, Round, WorldBuilder, expect_answers, expect_commands, expect_ending,
     expect_error, output, play, round, sleep, void, world_of,
 };
 use std::alloc::{AllocError, Global};
 use std::test::Fail;
-
-fn sleeper(alloc: Global) -> Durable<Sleeper> {
-    Durable {
-        alloc,
-        flow: Sleeper,
-    }
-}
 
 /// It crashes after its sleep was stored, is suspended in its sleep, and ends once the sleep is over.
 fn rounds(alloc: Global) -> Result<[Round; 3], AllocError> {
@@ -41,7 +33,7 @@ fn expect_sleep(alloc: Global, reports: &[Report]) -> Result<(), Fail> {
 fn the_sleeper_crashes_is_suspended_and_ends(rt: HostRuntime) -> Result<(), Fail> {
     let alloc = rt.alloc();
     let world = world_of(alloc, b"Till")?;
-    let (_, reports) = play(&sleeper(alloc), world, &rounds(alloc)?)?;
+    let (_, reports) = play(&Sleeper { alloc }, world, &rounds(alloc)?)?;
     expect_sleep(alloc, reports.as_slice())
 }
 
@@ -51,7 +43,7 @@ fn another_handlers_journal_fails_the_attempt(rt: HostRuntime) -> Result<(), Fai
     // Where the sleeper sleeps, the journal has an output.
     let world = WorldBuilder::new(alloc, b"Till")?.stored(output(alloc, b"Hello")?)?;
     let rounds = [round(alloc).feed()?.step(2)?.crash()];
-    let (_, reports) = play(&sleeper(alloc), world.build()?, &rounds)?;
+    let (_, reports) = play(&Sleeper { alloc }, world.build()?, &rounds)?;
     let [report] = reports.as_slice() else {
         return Err(Fail::from("not one report"));
     };

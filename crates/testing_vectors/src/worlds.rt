@@ -1,7 +1,7 @@
 // Worlds that a test describes: a key, a state, a seed, a version, and entries that are stored already.
-use examples::sleeper::Sleeper;
 use handlers::counter::Counter;
-use palqytun::handler::{Answer, Durable};
+use handlers::sleeper::Sleeper;
+use palqytun::handler::Answer;
 use palqytun::testing::{
     Report, RoundFault, WorldBuilder, expect_end, input, output, play, round, sleep, void,
 };
@@ -37,10 +37,7 @@ fn the_count_goes_on_from_the_state(rt: HostRuntime) -> Result<(), Fail> {
 #[test]
 fn a_seed_is_the_identitys_or_the_options(rt: HostRuntime) -> Result<(), Fail> {
     let alloc = rt.alloc();
-    let handler = Durable {
-        alloc,
-        flow: Sleeper,
-    };
+    let handler = Sleeper { alloc };
     let mut options = VMOptions::default();
     options.fallback_random_seed = 9;
     // Before version 6 a Start has no seed.
@@ -57,10 +54,7 @@ fn a_seed_is_the_identitys_or_the_options(rt: HostRuntime) -> Result<(), Fail> {
 #[test]
 fn a_stored_sleep_is_not_slept_again(rt: HostRuntime) -> Result<(), Fail> {
     let alloc = rt.alloc();
-    let handler = Durable {
-        alloc,
-        flow: Sleeper,
-    };
+    let handler = Sleeper { alloc };
     let world = WorldBuilder::new(alloc, b"Till")?.stored(sleep(alloc, 1000, 1)?)?;
     let rounds = [round(alloc).feed()?.step(6)?.store_all()?.crash()];
     let (world, _) = play(&handler, world.stored(void(alloc, 1)?)?.build()?, &rounds)?;
