@@ -1,9 +1,9 @@
-"""Each method of `VM` once, in one attempt, with what it answers: a test of the module."""
+"""Each method of `VM`, with what it answers and which frames it writes: a test of the module, and of the calls of `trait VM` below it."""
 
 import pathlib
 import struct
 
-from handler import CONTENT_TYPE, start
+from handler import CONTENT_TYPE, frames, start
 from palqytun import VM, BadLine, Cancelled, EphemeralReady, Failure, IdempotencyId, InvocationId, Retryable, Suspended, VMError, WorkflowId
 from palqytun import retry_exponential, retry_fixed, retry_never
 from palqytun import all_completed, all_succeeded_or_first_failed, first_completed, first_succeeded_or_all_failed, unknown
@@ -26,6 +26,20 @@ def refused(call, *arguments, **options):
         return call(*arguments, **options)
     except (VMError, BadLine, Cancelled, RuntimeError) as error:
         return f"{type(error).__name__}: {error}"
+
+
+def begun():
+    """A VM that runs its handler. Of the state a part was handed out, in which there is nothing."""
+    vm = VM("application/vnd.restate.invocation.v8")
+    body = text(b"abc") * 2 + text(b"") + struct.pack(">IQ", 1, 0) + b"\1" + bytes(4 + 8 + 8 + 3)
+    vm.notify_input(struct.pack(">HQ", 1, len(body)) + body + INPUT)
+    vm.sys_input()
+    return vm
+
+
+def shows(vm, *answers):
+    """Prints what a call is answered, and the frames that it wrote (docs/WIRE.md), in hex."""
+    print(*answers, *(frame.hex() for _, frame in frames(vm.take_output())))
 
 
 def awaited(vm, handle):
@@ -135,3 +149,61 @@ for policy in retry_fixed(5, attempts=1), retry_exponential(5, 3, 2, longest=8, 
         run = vm.sys_run("charge")
         vm.do_await(run.handle)
         print(policy, refused(vm.propose_run_completion, run.handle, Retryable(418, "no", 3, delay=5), policy=policy))
+
+# Each call that has a command, once more, with its frames: those that answer one handle,
+with begun() as vm:
+    shows(vm, vm.sys_sleep(1, name="n"))
+    shows(vm, vm.sys_state_get("k"))
+    shows(vm, vm.sys_state_get_keys())
+    shows(vm, vm.sys_get_promise("p"))
+    shows(vm, vm.sys_peek_promise("p"))
+    shows(vm, vm.sys_complete_promise("p", b"v"))
+    shows(vm, vm.sys_attach_invocation(InvocationId("x")))
+    shows(vm, vm.sys_get_invocation_output(InvocationId("x")))
+    shows(vm, vm.create_signal_handle("s"), vm.last_command_index())
+    shows(vm, vm.sys_attach_invocation(WorkflowId("w", "k")))
+    shows(vm, vm.sys_get_invocation_output(IdempotencyId("s", "h", "i", service_key="k")))
+
+# those of other handlers,
+with begun() as vm:
+    shows(vm, vm.sys_call("s", "h", b"i"))
+    shows(vm, vm.sys_call_with_deadline("s", "h", b"i", 5))
+    shows(vm, vm.sys_send("s", "h", b"i", at=2))
+
+# those that answer nothing,
+with begun() as vm:
+    shows(vm, vm.sys_state_set("k", b"v"))
+    shows(vm, vm.sys_state_clear("k"))
+    shows(vm, vm.sys_state_clear_all())
+    shows(vm, vm.sys_complete_awakeable("a", b"v"))
+    shows(vm, vm.sys_complete_signal("x", "s", b"v"))
+    shows(vm, vm.sys_cancel_invocation("x"))
+    shows(vm, vm.sys_write_output(b"v"))
+    shows(vm, vm.sys_end(), vm.last_command_index(), vm.state())
+    print(refused(vm.do_await, 17))
+
+# a run and its proposal,
+with begun() as vm:
+    shows(vm, vm.sys_run("r"))
+    shows(vm, vm.do_await(17))
+    shows(vm, vm.propose_run_completion(17, b"v"))
+
+# a sleep that is over, and an awakeable,
+with begun() as vm:
+    shows(vm, vm.sys_sleep(1, name="n"), vm.is_completed(17))
+    vm.notify_input(notification(b"\0" + struct.pack(">I", 1), b"\0"))
+    shows(vm, *awaited(vm, 17), vm.sys_awakeable())
+
+# an ephemeral read, which is answered before an await,
+with begun() as vm:
+    shows(vm, vm.ephemeral_state_get("k"))
+    vm.notify_input(struct.pack(">HQI", 9, 15, 1) + b"\1\1" + text(b"w"))
+    shows(vm, vm.do_await(1), vm.take_ephemeral_notification(1))
+
+# and those of the handler's runner.
+with begun() as vm:
+    print(vm.get_response_head(), vm.is_ready_to_execute(), vm.state())
+    vm.notify_input_closed()
+    print(vm.state())
+    vm.notify_error(500, "no")
+    print(vm.state())

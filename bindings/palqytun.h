@@ -532,6 +532,15 @@ palqytun_told palqytun_notification(uint32_t kind, uint32_t id, const uint8_t *n
 palqytun_judged palqytun_is_awake(
     const uint8_t *suspension, size_t suspension_len, const uint8_t *notifications, size_t notifications_len);
 
+/* ---- Which library this is */
+
+/* The version, the commit, the sum of the kit's logic, and whether the library was proved: "0.1.0 commit 0123456789ab logic dac8208d650f15bf
+   proved". A word that isn't known is "unknown". The text is the library's own, and ends with a 0. */
+const char *palqytun_build(void);
+
+/* Whether the library was built of sources that were proved. If not, it was made for a trial by `bindings/build --unproved`. */
+bool palqytun_is_proved(void);
+
 #ifdef __cplusplus
 }
 #endif

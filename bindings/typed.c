@@ -138,18 +138,61 @@ static int look(palqytun_vm *vm)
         ended = show(vm, "get_output", palqytun_get_output(vm, &other));
     if (ended == 0 && palqytun_attach(vm, &unknown).status != PALQYTUN_BAD_NUMBER)
         ended = 4;
+    if (ended == 0 && palqytun_get_output(vm, &unknown).status != PALQYTUN_BAD_NUMBER)
+        ended = 4;
     return ended;
 }
 
-/* An error of the handler's own, on a VM that is freed afterwards: it fails by it. */
+/* A run that fails: of a behavior, a policy and a factor that there aren't nothing is done, and after a delay the VM fails to be tried again. */
+static int retry(palqytun_vm *vm)
+{
+    const palqytun_error later = {503, 0, bytes("later"), bytes(""), true, 20}, odd = {503, 3, bytes("later"), bytes(""), true, 20};
+    const palqytun_policy each = {.kind = 2, .has_interval = true, .interval_millis = 500};
+    const palqytun_policy none = {.kind = 4}, growing = {.kind = 3, .numerator = 3};
+    int ended = show(vm, "run", palqytun_run(vm, bytes("charge")));
+    if (ended == 0)
+        ended = show(vm, "await", palqytun_await(vm, 17));
+    if (ended != 0)
+        return ended;
+    uint32_t statuses[] = {palqytun_propose_retryable(vm, 17, 5, &odd, &each).status,
+        palqytun_propose_retryable(vm, 17, 5, &later, &none).status, palqytun_propose_retryable(vm, 17, 5, &later, &growing).status};
+    for (size_t i = 0; i < 3; i++)
+        if (statuses[i] != PALQYTUN_BAD_NUMBER)
+            return failed(statuses[i]);
+    return show(vm, "propose_retryable", palqytun_propose_retryable(vm, 17, 5, &later, &each));
+}
+
+/* Begins once more with another VM, whose handler has its input and nothing else. */
+static int begin_again(palqytun_vm *vm)
+{
+    const palqytun_options options = {.replay = 1};
+    int ended = show(vm, "make", palqytun_make(vm, given("application/vnd.restate.invocation.v7"), &options));
+    if (ended != 0)
+        return ended;
+    uint32_t status = palqytun_feed(vm, journal, sizeof journal);
+    if (status != PALQYTUN_DONE)
+        return failed(status);
+    return show(vm, "input", palqytun_input(vm));
+}
+
+/* An error of the handler's own, on a VM that is freed afterwards: it fails by it. Of a behavior, a kind of command and a type that there
+   aren't nothing is done. */
 static int report(palqytun_vm *vm)
 {
     const palqytun_options options = {0};
-    const palqytun_error error = {418, 1, bytes("no tea"), bytes("at 1"), true, 500};
-    const palqytun_command related = {0, 0, 0, none()};
+    const palqytun_error error = {418, 1, bytes("no tea"), bytes("at 1"), true, 500}, odd = {418, 3, bytes("no tea"), bytes(""), false, 0};
+    const palqytun_command related = {3, 1, 18, given("n")}, unknown = {4, 1, 18, none()}, no_type = {2, 1, 19, none()};
     int ended = show(vm, "make", palqytun_make(vm, given("application/vnd.restate.invocation.v7"), &options));
     if (ended == 0)
-        ended = show(vm, "report_error", palqytun_report_error(vm, &error, &related));
+        ended = show(vm, "output", palqytun_output(vm));
+    if (ended != 0)
+        return ended;
+    uint32_t statuses[] = {palqytun_report_error(vm, &odd, &related).status, palqytun_report_error(vm, &error, &unknown).status,
+        palqytun_report_error(vm, &error, &no_type).status};
+    for (size_t i = 0; i < 3; i++)
+        if (statuses[i] != PALQYTUN_BAD_NUMBER)
+            return failed(statuses[i]);
+    ended = show(vm, "report_error", palqytun_report_error(vm, &error, &related));
     if (ended == 0)
         ended = show(vm, "sleep", palqytun_sleep(vm, bytes(""), 1));
     return ended;
@@ -193,6 +236,10 @@ static int run(palqytun_vm *vm)
         ended = look(vm);
     if (ended == 0)
         ended = finish(vm);
+    if (ended == 0)
+        ended = begin_again(vm);
+    if (ended == 0)
+        ended = retry(vm);
     if (ended == 0)
         ended = report(vm);
     return ended;

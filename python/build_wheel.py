@@ -10,6 +10,7 @@ import base64
 import hashlib
 import io
 import pathlib
+import sys
 import sysconfig
 import tarfile
 import tomllib
@@ -19,6 +20,7 @@ from typing import Any
 
 HERE = pathlib.Path(__file__).resolve().parent
 LIBRARY = "libpalqytun.so"
+HOW_TO_MAKE_IT = "at the top of the repository, `./bindings/build --unproved` makes it in some minutes, and `./bindings/build` makes one that is proved"
 Settings = Mapping[str, str | list[str]]
 
 
@@ -58,7 +60,8 @@ def entry_points() -> str:
 def sources() -> Iterator[tuple[str, bytes]]:
     """The files of the package, by their names in a wheel, with the shared object."""
     if not (HERE / "src/palqytun" / LIBRARY).is_file():
-        raise FileNotFoundError(f"src/palqytun/{LIBRARY} isn't there: ./bindings/build makes it, at the top of the repository")
+        # An exit prints this line alone, and pip shows it; of an exception pip would show the traceback.
+        sys.exit(f"python/src/palqytun/{LIBRARY} isn't there: {HOW_TO_MAKE_IT}")
     for file in sorted((HERE / "src").rglob("*")):
         if file.suffix in (".py", ".typed", ".so"):
             yield str(file.relative_to(HERE / "src")), file.read_bytes()

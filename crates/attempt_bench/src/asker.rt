@@ -1,9 +1,9 @@
 //! A handler that makes an awakeable and waits for it.
 //! It ends without an output.
 
+use await_trees::{NotificationHandle, UnresolvedFuture};
 use std::alloc::AllocError;
-use vm_attempt::Handler;
-use vm_parts::{Answer, NotificationHandle, Step, UnresolvedFuture};
+use vm_types::{Answer, Handler, Step};
 
 /// Makes an awakeable, awaits it, takes its result and ends.
 #[derive(Drop)]

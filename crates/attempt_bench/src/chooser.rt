@@ -5,13 +5,11 @@ ghost use Rattle.std.specs.Option.{option_copied};
 ghost use Rattle.attempt_bench.specs.Choosing.{success_bytes, bytes_taken};
 
 use crate::steps::{output, sleep};
+use await_trees::{NotificationHandle, UnresolvedFuture};
 use bytes::Bytes;
 use plain::Text;
 use std::alloc::{AllocError, Global};
-use vm_attempt::Handler;
-use vm_parts::{
-    Answer, NonEmptyValue, NotificationHandle, PayloadOptions, Step, UnresolvedFuture, Value,
-};
+use vm_types::{Answer, Handler, NonEmptyValue, PayloadOptions, Step, Value};
 
 /// Completes the awakeable "prom_1" with "v", makes an awakeable, awaits it and takes its result. If that is a success, it writes the same
 /// bytes as its output; else it sleeps to 1000 ms, awaits the sleep and writes an empty output. Then it ends.

@@ -2,11 +2,11 @@
 //! Its steps follow from the number of its answers alone.
 
 use crate::steps::{output, sleep};
+use await_trees::{NotificationHandle, UnresolvedFuture};
 use bytes::Bytes;
 use plain::Text;
 use std::alloc::{AllocError, Global};
-use vm_attempt::Handler;
-use vm_parts::{Answer, NotificationHandle, PayloadOptions, Step, UnresolvedFuture};
+use vm_types::{Answer, Handler, PayloadOptions, Step};
 
 /// Clears the key "a", sets the key "b" to "x", sleeps to 1000 ms, awaits the sleep, takes its result, writes an empty
 /// output and ends.

@@ -2,10 +2,10 @@
 //! It asks whether its sleep is over before it takes the result.
 
 use crate::steps::{output, sleep};
+use await_trees::{NotificationHandle, UnresolvedFuture};
 use bytes::Bytes;
 use std::alloc::{AllocError, Global};
-use vm_attempt::Handler;
-use vm_parts::{Answer, NotificationHandle, Step, UnresolvedFuture};
+use vm_types::{Answer, Handler, Step};
 
 /// Sleeps to 1000 ms, awaits the sleep, asks whether it is over, takes its result, writes an empty output and ends.
 #[derive(Drop)]

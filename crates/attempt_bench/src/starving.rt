@@ -1,8 +1,7 @@
 //! A handler that runs out of memory. Its meaning is that of another, which it asks until then.
 
 use std::alloc::AllocError;
-use vm_attempt::Handler;
-use vm_parts::{Answer, Step};
+use vm_types::{Answer, Handler, Step};
 
 /// The other handler, but out of memory for the step after this number of answers.
 #[derive(Drop)]

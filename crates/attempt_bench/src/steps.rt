@@ -7,7 +7,7 @@ use bytes::Bytes;
 use plain::Text;
 use std::alloc::Global;
 use std::time::Duration;
-use vm_parts::{NonEmptyValue, PayloadOptions, Step};
+use vm_types::{NonEmptyValue, PayloadOptions, Step};
 
 /// A sleep to 1000 ms.
 pub fn sleep(alloc: Global) -> Step

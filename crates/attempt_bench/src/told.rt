@@ -2,12 +2,12 @@
 //! for the version 7, under the options by default.
 
 use bytes::Bytes;
-use invocation_vm::{AwaitingOnPolicy, VMOptions, VMResult, Value};
 use std::alloc::Global;
 use std::test::Fail;
 use vectors::headers::Headers;
-use vm_attempt::{Attempt, Handler, Progress};
-use vm_parts::Answer;
+use vm_attempt::Attempt;
+use vm_steps::Progress;
+use vm_types::{Answer, AwaitingOnPolicy, Handler, VMOptions, VMResult, Value};
 
 /// An answer, as a row has it.
 #[derive(Clone, Copy, Debug)]

@@ -13,7 +13,6 @@ pub mod tree;
 
 pub use copying::node_over;
 pub use handle::{CANCEL_NOTIFICATION_HANDLE, NotificationHandle};
-pub use journal_protocol::FutureKind;
 pub use listing::list_nodes;
 pub use nodes::{Label, Node};
 pub use outcome::Outcome;

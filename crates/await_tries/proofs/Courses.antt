@@ -18,7 +18,7 @@ use Rattle.await_trees.specs.declared.outcome.Outcome.{Outcome}
 use Rattle.await_trees.specs.declared.outcome.Outcome.TheVariants.{Pending, Succeeded, Failed}
 use Rattle.await_trees.specs.Outcomes.{any_fires, all_wait, outcome_of, is_done, first_of}
 use Rattle.await_trees.specs.Tree.{Tree, Forest, leaf, none, more}
-use Rattle.vm_types.specs.declared.options.SignalDelivery.{SignalDelivery}
+use Rattle.journal_protocol.specs.SignalDelivery.{SignalDelivery}
 use Rattle.vm_parts.specs.Arrived.{Arrived}
 use Rattle.vm_parts.specs.Deliveries.{id_at, is_listed, present_result, present_result_for, has_result_for, ready_after, first_result_for}
 use Rattle.await_tries.specs.Await.{earlier, outcomes}

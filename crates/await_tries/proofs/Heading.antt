@@ -57,6 +57,12 @@ module _ (id : ℕ → Option NotificationId) where
   pub whole_head : (k : FutureKind) (n : FutureNode) (ts us : Forest) → with_children id n us ≡ with_children id (bare k) ts → us ≡ none → n ≡ head_of id k ts
   whole_head k n ts us e o = sym (ap (with_children id n) o ∙ with_none n) ∙ e ∙ bare_filled k ts
 
+  -- two leaves
+  pub two_put : (k : FutureKind) (one other : ℕ) → with_leaf_id (id other) (with_leaf_id (id one) (bare k)) ≡ head_of id k (more (leaf one) (more (leaf other) none))
+  two_put k one other =
+      sym (with_none (with_leaf_id (id other) (with_leaf_id (id one) (bare k)))) ∙ with_leaf (with_leaf_id (id one) (bare k)) other none ∙ with_leaf (bare k) one (more (leaf other) none)
+      ∙ bare_filled k (more (leaf one) (more (leaf other) none))
+
   module _ (ns : List Node) (kids cs : List ℕ) (i : ℕ) (whole head after : FutureNode) (l : i < length cs) (some : 0 < length ns) where
     abbrev c : ℕ
     c = get_or cs i 0

@@ -11,5 +11,6 @@ pub mod PrunedTrees
 pub mod Spelled
 pub mod Sweeping
 pub mod Trying
+pub mod TwoLeaves
 pub mod Waking
 pub mod Walking

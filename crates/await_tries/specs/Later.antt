@@ -4,8 +4,8 @@ use Rattle.journal_protocol.specs.Notification.{Notification}
 use Rattle.journal_protocol.specs.NotificationId.{NotificationId}
 use Rattle.journal_protocol.specs.NotificationId.TheVariants.{CompletionId}
 use Rattle.arrivals.specs.Results.{results_of}
-use Rattle.vm_types.specs.declared.options.SignalDelivery.{SignalDelivery}
-use Rattle.vm_types.specs.declared.options.SignalDelivery.TheVariants.{Queued}
+use Rattle.journal_protocol.specs.SignalDelivery.{SignalDelivery}
+use Rattle.journal_protocol.specs.SignalDelivery.TheVariants.{Queued}
 use Rattle.vm_parts.specs.Arrived.{Arrived}
 use Rattle.vm_parts.specs.Deliveries.{id_at, is_listed, present_result_for}
 use Rattle.await_trees.specs.Outcomes.{is_done, awake}

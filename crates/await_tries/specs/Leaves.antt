@@ -2,7 +2,7 @@
 use Rattle.std.specs.Prelude.{ℕ, Option, Some, None}
 use Rattle.journal_protocol.specs.NotificationResult.{NotificationResult}
 use Rattle.journal_protocol.specs.NotificationResult.TheVariants.{Void, Value, Failure, StateKeys, InvocationId}
-use Rattle.vm_types.specs.declared.options.SignalDelivery.{SignalDelivery}
+use Rattle.journal_protocol.specs.SignalDelivery.{SignalDelivery}
 use Rattle.vm_parts.specs.Arrived.{Arrived}
 use Rattle.vm_parts.specs.Deliveries.{id_at, present_result_for}
 use Rattle.await_trees.specs.declared.outcome.Outcome.{Outcome}

@@ -7,6 +7,7 @@ pub mod Leaves
 pub mod Left
 pub mod Link
 pub mod Message
+pub mod Pairs
 pub mod Pruned
 pub mod Ranges
 pub mod Resolved

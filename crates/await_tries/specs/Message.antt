@@ -3,7 +3,7 @@ use Rattle.std.specs.Prelude.{ℕ, ◌≡◌, ◌+◌, List, take, length, Optio
 use Rattle.journal_protocol.specs.Notification.{Notification}
 use Rattle.journal_protocol.specs.NotificationId.{NotificationId}
 use Rattle.arrivals.specs.Results.{results_of, first}
-use Rattle.vm_types.specs.declared.options.SignalDelivery.{SignalDelivery}
+use Rattle.journal_protocol.specs.SignalDelivery.{SignalDelivery}
 use Rattle.vm_parts.specs.Arrived.{Arrived}
 use Rattle.vm_parts.specs.Deliveries.{id_at}
 use Rattle.await_trees.specs.declared.outcome.Outcome.{Outcome}

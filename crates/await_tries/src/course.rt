@@ -4,8 +4,9 @@ ghost use Rattle.arrivals.specs.Came.{enough};
 ghost use Rattle.await_trees.specs.Outcomes.{outcome_of, is_done, fires_on, waits_for};
 ghost use Rattle.await_tries.specs.Courses.{outcome_by, course_at, any_fires_by, all_wait_by, end_of};
 
+use await_trees::Outcome;
 use await_trees::outcome::{fires_on, outcome_of, waits_for};
-use await_trees::{FutureKind, Outcome};
+use journal_protocol::FutureKind;
 
 /// A tree's outcome; how many notifications it takes until the tree has it; and how many until the await that it stands in
 /// wakes on its account. None: all that came are too few.
@@ -17,7 +18,7 @@ pub struct Course {
 }
 
 /// How many it takes until the one or the other is so.
-fn sooner(a: Option<usize>, b: Option<usize>) -> Option<usize>
+pub fn sooner(a: Option<usize>, b: Option<usize>) -> Option<usize>
     ensures { (n : ℕ) → enough result n ≡ (enough a n || enough b n) }
 {
     match (a, b) {

@@ -10,9 +10,9 @@ ghost use Rattle.await_tries.specs.Spells.{node_at, Spells};
 
 use crate::course::{Course, course_of};
 use await_trees::{Label, Node, Outcome};
-use journal_protocol::NotificationResult;
+use journal_protocol::{NotificationResult, SignalDelivery};
 use std::alloc::{AllocError, Global};
-use vm_parts::{AsyncResults, SignalDelivery};
+use vm_parts::AsyncResults;
 
 /// The outcome of a leaf, by the result that its handle has.
 fn outcome_with(given: Option<&NotificationResult>) -> Outcome

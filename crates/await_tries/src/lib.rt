@@ -7,6 +7,7 @@ pub mod following;
 pub mod handles;
 pub mod laws;
 pub mod linking;
+pub mod pairs;
 pub mod pruning;
 pub mod residue;
 pub mod tries;
@@ -15,6 +16,8 @@ pub mod walk;
 pub mod wire_future;
 
 pub use handles::{has_leaf, list_handles};
+pub use pairs::uses_until_either;
 pub use residue::{Residue, Resolution};
 pub use tries::try_future;
-pub use wire_future::future_of;
+pub use using::{use_all, use_first};
+pub use wire_future::{future_of, future_of_two};

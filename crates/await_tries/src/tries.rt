@@ -9,8 +9,9 @@ use crate::pruning::prune;
 use crate::residue::{Residue, Resolution};
 use crate::using::{use_all, use_first};
 use await_trees::{Label, Node, UnresolvedFuture, list_nodes};
+use journal_protocol::SignalDelivery;
 use std::alloc::{AllocError, Global};
-use vm_parts::{AsyncResults, SignalDelivery};
+use vm_parts::AsyncResults;
 
 /// As `try_future`, of the leaf of a handle: there is nothing to walk over.
 fn try_leaf(

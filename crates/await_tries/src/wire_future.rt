@@ -6,13 +6,14 @@ ghost use Rattle.await_trees.specs.Wires.{sent, head_of};
 ghost use Rattle.await_tries.specs.Heads.{bare, with_leaf_id};
 ghost use Rattle.await_tries.specs.Left.{tree_left};
 ghost use Rattle.await_tries.specs.Message.{ids};
+ghost use Rattle.await_tries.specs.Pairs.{first_of_two};
 ghost use Rattle.await_tries.specs.Spells.{children};
 ghost use Rattle.await_tries.specs.Walks.{reads};
 
 use crate::residue::Residue;
 use crate::walk::{Row, next_node};
-use await_trees::{FutureKind, Label, Node};
-use journal_protocol::{Future, FutureNode, NotificationId};
+use await_trees::{Label, Node};
+use journal_protocol::{Future, FutureKind, FutureNode, NotificationId};
 use plain::{Items, copy_of};
 use std::alloc::{AllocError, Global};
 use vm_parts::AsyncResults;
@@ -147,5 +148,36 @@ pub fn future_of(
     ensures { IfOk result (λ future. future ≡ sent (ids results.now) (tree_left left.now)) }
 {
     let nodes = nodes_sent(alloc, results, left)?;
+    Ok(Future::from_nodes(nodes).unwrap())
+}
+
+/// The node of the first of two leaves, as `future_of` sends it.
+fn two_sent(
+    alloc: Global,
+    results: &AsyncResults,
+    one: u32,
+    other: u32,
+) -> Result<Items<FutureNode>, AllocError>
+    ensures { IfOk result (λ nodes. nodes ≡ sent (ids results.now) (first_of_two one other)) }
+{
+    let mut head = bare(alloc, FutureKind::FirstCompleted);
+    put_id(&mut head, results.find(one))?;
+    put_id(&mut head, results.find(other))?;
+    let mut sent = Items::new(alloc);
+    sent.push(head)?;
+    Ok(sent)
+}
+
+/// As `future_of`, of the first of two leaves.
+pub fn future_of_two(
+    alloc: Global,
+    results: &AsyncResults,
+    one: u32,
+    other: u32,
+) -> Result<Future, AllocError>
+    ensures { IfOk result
+        (λ future. future ≡ sent (ids results.now) (first_of_two one other)) }
+{
+    let nodes = two_sent(alloc, results, one, other)?;
     Ok(Future::from_nodes(nodes).unwrap())
 }

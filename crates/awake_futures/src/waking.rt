@@ -12,9 +12,9 @@ ghost use Rattle.awake_futures.specs.Waking.{outcome_in};
 use crate::judged::Judged;
 use crate::leaves::listed_outcomes;
 use arrivals::Arrivals;
+use await_trees::Outcome;
 use await_trees::outcome::{fires_on, outcome_of, waits_for};
-use await_trees::{FutureKind, Outcome};
-use journal_protocol::FutureNode;
+use journal_protocol::{FutureKind, FutureNode};
 use std::alloc::{AllocError, Global};
 
 /// Whether a node waits for each of these.

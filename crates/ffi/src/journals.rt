@@ -1,7 +1,7 @@
 //! The calls of a stored journal.
 ghost use Rattle.std.specs.Prelude.{◌≡◌, ◌≤◌, None};
-ghost use Rattle.vm_store.specs.Arrivals.{arrival_fault};
-ghost use Rattle.vm_store.specs.Given.{given_fault};
+ghost use Rattle.journal_entries.specs.Arrivals.{arrival_fault};
+ghost use Rattle.journal_entries.specs.Given.{given_fault};
 ghost use Rattle.held_journals.specs.Journals.{HasEntries, EntryAnswered, FeedAnswered, FrameAnswered, IsNewJournal, CommitAnswered, OutputAnswered, RowAnswered, UndoAnswered};
 ghost use Rattle.held_journals.specs.Statuses.{status_by, version_named};
 

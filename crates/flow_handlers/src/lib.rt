@@ -8,8 +8,7 @@ ghost use Rattle.flow_handlers.specs.Meaning.{fault_failure, output_written};
 use flows::{Context, Exit, Fault, Flow};
 use plain::{Items, Text};
 use std::alloc::{AllocError, Global};
-use vm_steps::Handler;
-use vm_types::{Answer, NonEmptyValue, PayloadOptions, Step, TerminalFailure};
+use vm_types::{Answer, Handler, NonEmptyValue, PayloadOptions, Step, TerminalFailure};
 
 /// The handler that a flow is. Its code runs again from its start at each step, over the answers so far.
 #[derive(Drop)]

@@ -5,9 +5,10 @@ ghost use Rattle.flows.specs.Follows.{Follows};
 
 use crate::context::Context;
 use crate::exit::{Exit, Fault};
+use await_trees::NotificationHandle;
 use bytes::Bytes;
 use std::alloc::AllocError;
-use vm_types::{Answer, AwakeableHandle, NotificationHandle, Step, Value};
+use vm_types::{Answer, AwakeableHandle, Step, Value};
 
 /// The handle of a sleep, a call, a read or a run.
 pub(crate) fn handle_in(answer: &Answer) -> Option<NotificationHandle>

@@ -5,11 +5,11 @@ ghost use Rattle.flows.specs.Follows.{Follows};
 
 use crate::context::Context;
 use crate::exit::Exit;
+use await_trees::{NotificationHandle, UnresolvedFuture};
 use bytes::Bytes;
 use plain::Items;
 use std::alloc::{AllocError, Global};
 use std::time::Duration;
-use vm_types::{NotificationHandle, UnresolvedFuture};
 
 /// Two handles, to be awaited together.
 fn both(

@@ -5,14 +5,13 @@ ghost use Rattle.flows.specs.Steps.{clear, completed, send, set, start_call, sta
 
 use crate::answers::{completed_in, handle_in, taken_in, unit_in};
 use crate::exit::Exit;
+use await_trees::{NotificationHandle, UnresolvedFuture};
 use bytes::Bytes;
 use plain::{Items, Text};
 use std::alloc::{AllocError, Global};
 use std::marker::Model;
 use std::time::Duration;
-use vm_types::{
-    Answer, Boxed, NotificationHandle, PayloadOptions, Step, Target, UnresolvedFuture, Value,
-};
+use vm_types::{Answer, Boxed, PayloadOptions, Step, Target, Value};
 
 /// A handler's calls. Contracts see the answers that are left.
 #[derive(Drop)]

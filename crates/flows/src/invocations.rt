@@ -7,13 +7,12 @@ ghost use Rattle.journal_protocol.specs.InvocationTarget.TheVariants as target;
 use crate::answers::{handle_in, unit_in};
 use crate::context::{Context, target};
 use crate::exit::Exit;
+use await_trees::{NotificationHandle, UnresolvedFuture};
 use bytes::Bytes;
 use plain::Text;
 use std::alloc::{AllocError, Global};
 use std::time::Duration;
-use vm_types::{
-    AttachInvocationTarget, Boxed, NotificationHandle, PayloadOptions, Step, UnresolvedFuture,
-};
+use vm_types::{AttachInvocationTarget, Boxed, PayloadOptions, Step};
 
 /// The invocation of this id.
 fn invocation(alloc: Global, id: &str) -> Result<Boxed<AttachInvocationTarget>, AllocError>

@@ -5,11 +5,10 @@ ghost use Rattle.flows.specs.Promises.{awakeable, complete_awakeable, complete_p
 use crate::answers::{awakeable_in, handle_in, unit_in};
 use crate::context::Context;
 use crate::exit::Exit;
+use await_trees::{NotificationHandle, UnresolvedFuture};
 use bytes::Bytes;
 use plain::Text;
-use vm_types::{
-    AwakeableHandle, NonEmptyValue, NotificationHandle, PayloadOptions, Step, UnresolvedFuture,
-};
+use vm_types::{AwakeableHandle, NonEmptyValue, PayloadOptions, Step};
 
 impl<'a> Context<'a> {
     /// Makes an awakeable: hand its id to whoever completes it, and wait for its handle (`value`).

@@ -6,14 +6,14 @@ use Rattle.journal_protocol.specs.FutureNode.{FutureNode}
 use Rattle.journal_protocol.specs.Notification.{Notification}
 use Rattle.journal_protocol.specs.RawMessage.{RawMessage}
 use Rattle.journal_protocol.specs.Frames.{Whole, Partial, Malformed, next_of}
-use Rattle.invocation_vm.specs.Frames.{Tail, Rest, Garbage, frames_from, frames_of}
-use Rattle.invocation_vm.proofs.Cuts.{frames_of-next}
+use Rattle.journal_entries.specs.Frames.{Tail, Rest, Garbage, frames_from, frames_of}
+use Rattle.journal_entries.proofs.Cuts.{frames_of-next}
 use Rattle.await_trees.specs.Outcomes.{awake}
 use Rattle.await_trees.specs.Wires.{tree_of_nodes}
-use Rattle.vm_model.specs.JournalFrames.{notified_by}
-use Rattle.vm_store.specs.Entries.{note_of}
+use Rattle.journal_entries.specs.JournalFrames.{notified_by}
+use Rattle.journal_entries.specs.Entries.{note_of}
 use Rattle.awake_futures.specs.Waking.{is_awake_by, only_came, outcome_in}
-use Rattle.frame_lines.specs.Runs.{HasNoFrame}
+use Rattle.frame_lines.specs.Printed.{HasNoFrame}
 use Rattle.frame_calls.specs.declared.status.Status.{Status}
 use Rattle.frame_calls.specs.declared.status.Status.TheVariants as status
 use Rattle.frame_calls.specs.Reading.{if_found, awake_by, came_by, notes_among, notes_at, notes_before}

@@ -1,7 +1,7 @@
 -- Why a line shows nothing.
 use Rattle.std.specs.Prelude.{ℕ, List}
 use Rattle.std.specs.Str.{IsUtf8}
-use Rattle.frame_lines.specs.Runs.{ShowsNothing}
+use Rattle.frame_lines.specs.FrameLines.{ShowsNothing}
 use Rattle.frame_calls.specs.declared.status.Status.{Status}
 use Rattle.frame_calls.specs.declared.status.Status.TheVariants as status
 

@@ -2,8 +2,8 @@
 use Rattle.std.specs.Prelude.{◌≡◌, ℕ, List, ◌++◌}
 use Rattle.arrivals.specs.Came.{Came}
 use Rattle.journal_protocol.specs.RawMessage.{RawMessage}
-use Rattle.invocation_vm.specs.Frames.{frames_of}
-use Rattle.frame_lines.specs.Runs.{HasNoFrame}
+use Rattle.journal_entries.specs.Frames.{frames_of}
+use Rattle.frame_lines.specs.Printed.{HasNoFrame}
 use Rattle.awake_futures.specs.Waking.{only_came}
 use Rattle.frame_calls.specs.Reading.{notes_among}
 

@@ -11,9 +11,9 @@ use Rattle.journal_protocol.specs.NotificationResult.{NotificationResult}
 use Rattle.journal_protocol.specs.RawMessage.{RawMessage}
 use Rattle.journal_protocol.specs.Bodies.{message_in}
 use Rattle.journal_protocol.specs.Frames.{encoding}
-use Rattle.invocation_vm.specs.Frames.{Tail, Rest, Garbage, frames_of}
-use Rattle.vm_model.specs.JournalFrames.{notified_by}
-use Rattle.vm_store.specs.Entries.{frame_in, note_of}
+use Rattle.journal_entries.specs.Frames.{Tail, Rest, Garbage, frames_of}
+use Rattle.journal_entries.specs.JournalFrames.{notified_by}
+use Rattle.journal_entries.specs.Entries.{frame_in, note_of}
 use Rattle.arrivals.specs.Came.{Came}
 use Rattle.awake_futures.specs.Waking.{is_awake_by, only_came}
 use Rattle.frame_lines.specs.Printed.{frame_text}

@@ -7,7 +7,7 @@ use Rattle.journal_protocol.specs.NotificationResult.{NotificationResult}
 use Rattle.journal_protocol.specs.NotificationResult.TheVariants as result
 use Rattle.journal_protocol.specs.SignalResult.{SignalResult}
 use Rattle.journal_protocol.specs.SignalResult.TheVariants as signal_result
-use Rattle.runs.specs.Kept.{completion_result}
+use Rattle.journal_entries.specs.Proposals.{completion_result}
 
 -- the result of a signal
 abbrev pub delivered_result : SignalResult → NotificationResult

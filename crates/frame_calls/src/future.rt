@@ -1,7 +1,7 @@
 //! Whether the future of a suspension is awake.
 ghost use Rattle.std.specs.Prelude.{◌≡◌, ◌++◌, ◌∷◌, [], IfNone, IfOk, IfSome, OnOk};
 ghost use Rattle.journal_protocol.specs.Frames.{Whole, next_of};
-ghost use Rattle.frame_lines.specs.Runs.{HasNoFrame};
+ghost use Rattle.frame_lines.specs.Printed.{HasNoFrame};
 ghost use Rattle.frame_calls.specs.Noting.{AllRead};
 ghost use Rattle.frame_calls.specs.Reading.{awake_at, awake_by, came_by, message_awake, notes_among, notes_at};
 
@@ -10,10 +10,10 @@ use crate::status::Status;
 use arrivals::Arrivals;
 use awake_futures::is_awake;
 use bytes::Bytes;
+use journal_entries::entry::note_of;
 use journal_protocol::{Decoder, Future, Message, RawMessage};
 use plain::Fault;
 use std::alloc::{AllocError, Global};
-use vm_store::entry::note_of;
 
 /// The next frame, if a whole one of a known type waits.
 fn next_whole(decoder: &mut Decoder) -> Result<Option<RawMessage>, AllocError>

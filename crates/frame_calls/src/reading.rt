@@ -9,11 +9,11 @@ ghost use Rattle.frame_calls.specs.Lines.{IsRefusedLine};
 use crate::status::Status;
 use bytes::Bytes;
 use frame_lines::entry::{frame_of, print_frame};
+use journal_entries::entry::frame_in;
 use journal_protocol::{Message, NotificationId, RawMessage};
 use lines::line::Line;
 use plain::{Fault, Text};
 use std::alloc::{AllocError, Global};
-use vm_store::entry::frame_in;
 
 /// The one whole frame that bytes are.
 pub(crate) fn frame_at(

@@ -1,6 +1,6 @@
 //! The result that a message has, as a notification has it.
 ghost use Rattle.std.specs.Prelude.{◌≡◌, IfOk};
-ghost use Rattle.runs.specs.Kept.{completion_result};
+ghost use Rattle.journal_entries.specs.Proposals.{completion_result};
 ghost use Rattle.journal_protocol.specs.Bodies.{message_in};
 ghost use Rattle.journal_protocol.specs.Frames.{encoding};
 ghost use Rattle.frame_calls.specs.Reading.{notification_at, notification_of, found_or, result_read, result_of_frame};
@@ -10,11 +10,11 @@ ghost use Rattle.frame_calls.specs.declared.status.Status.TheVariants.{NoResult}
 use crate::reading::{frame_at, id_named, message_in};
 use crate::status::Status;
 use bytes::Bytes;
+use journal_entries::completion_result;
 use journal_protocol::{
     Encoder, Message, Notification, NotificationId, NotificationResult, RawMessage, SignalResult,
     ValueOrFailure,
 };
-use runs::completion_result;
 use std::alloc::{AllocError, Global};
 
 /// The result of a value or a failure.

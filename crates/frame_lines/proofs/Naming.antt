@@ -1,7 +1,6 @@
 -- Which types have a name.
-use Rattle.std.proofs.Common.{◌≡◌, ◌≢◌, ◌<◌, ◌+◌, ℕ, List, [], ◌∷◌, Option, Some, None, false, if◌then◌else◌, nat_eq, inl, inr, ap, refl, sym, ◌∙◌, arith}
+use Rattle.std.proofs.Common.{◌≡◌, ◌≢◌, ◌<◌, ◌+◌, ℕ, List, [], ◌∷◌, Option, Some, None, if◌then◌else◌, nat_eq, inl, inr, ap, refl, sym, ◌∙◌, arith}
 use Rattle.std.proofs.lemmas.Bool.{cases_lt}
-use Rattle.std.proofs.lemmas.Slice.Eq.{bytes_eq-Decides}
 use Rattle.std.specs.Cmp.Lexicographic.{pointwise}
 use Rattle.std.specs.Prelude.{codes}
 use Rattle.journal_protocol.specs.MessageType.{MessageType}
@@ -45,10 +44,6 @@ has_number type.Notification = omega arith
 
 pub same_type : (o : Option MessageType) (a b : MessageType) → o ≡ Some a → o ≡ Some b → a ≡ b
 same_type o a b e f = cc
-
--- texts that compare as unequal are unequal
-pub unequal : (xs ys : List ℕ) → pointwise nat_eq xs ys ≡ false → xs ≢ ys
-unequal xs ys differ e = cc (sym differ ∙ (bytes_eq-Decides xs ys).1 e)
 
 -- one number more
 pub none_more : (name : List ℕ) (below : ℕ) → ((n : ℕ) (ty : MessageType) → n < below → type_at n ≡ Some ty → name ≢ type_word ty)

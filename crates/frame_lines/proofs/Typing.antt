@@ -13,8 +13,8 @@ use Rattle.journal_protocol.specs.Message.TheVariants as message
 use Rattle.frame_lines.specs.Forms.{awaiting_on_fields, call_fields, clear_all_state_fields, clear_state_fields, complete_awakeable_fields, complete_promise_fields, error_fields, get_eager_state_fields, get_eager_state_keys_fields, get_lazy_state_fields, get_lazy_state_keys_fields, get_state_ephemeral_command_fields, get_state_ephemeral_notification_fields, input_fields, invocation_fields, notification_fields, one_way_call_fields, output_fields, promise_fields, propose_run_completion_ack_fields, propose_run_completion_fields, run_fields, send_signal_fields, set_state_fields, sleep_fields, start_fields, suspension_fields}
 use Rattle.frame_lines.specs.FrameLines.{Encodes}
 use Rattle.frame_lines.specs.Messages.{AreFieldsOf}
-use Rattle.frame_lines.specs.Notation.{AreFields, Fields}
-use Rattle.frame_lines.proofs.Refusing.{same_fields}
+use Rattle.frame_values.specs.Notation.{AreFields, Fields}
+use Rattle.frame_values.proofs.Refusing.{same_fields}
 
 -- ---- the words' texts decide
 

@@ -28,9 +28,9 @@ use Rattle.journal_protocol.specs.GetStateEphemeralCommand.{GetStateEphemeralCom
 use Rattle.journal_protocol.specs.GetStateEphemeralNotification.{GetStateEphemeralNotification}
 use Rattle.journal_protocol.specs.SetStateCommand.{SetStateCommand}
 use Rattle.journal_protocol.specs.Notification.{Notification}
-use Rattle.frame_lines.specs.Choices.{behavior_notation, notification_id_notation, notification_result_notation, signal_notation, signal_result_notation, target_notation, value_or_failure_notation, void_or_value_notation}
-use Rattle.frame_lines.specs.Futures.{future_notation}
-use Rattle.frame_lines.specs.Notation.{Fields, bytes_notation, field, flag_notation, header_notation, list_notation, nothing, number, optional, pair, string}
+use Rattle.frame_values.specs.Choices.{behavior_notation, notification_id_notation, notification_result_notation, signal_notation, signal_result_notation, target_notation, value_or_failure_notation, void_or_value_notation}
+use Rattle.frame_values.specs.Futures.{future_notation}
+use Rattle.frame_values.specs.Notation.{Fields, bytes_notation, field, flag_notation, header_notation, list_notation, nothing, number, optional, pair, string}
 
 abbrev pub start_fields : Fields Start
 start_fields =

@@ -55,3 +55,7 @@ Shows (name ∷ others) shown = ShowAsIs (name ∷ others) shown ⊎ IsNamed nam
 -- the words of a line show these bytes
 abbrev pub LineShows : List ℕ → List ℕ → Type 0
 LineShows line shown = (words : List (Bor (List ℕ))) × AreWords line words × Shows words shown
+
+-- no bytes are what the line shows
+abbrev pub ShowsNothing : List ℕ → Type 0
+ShowsNothing line = (bytes : List ℕ) → LineShows line bytes → ⊥

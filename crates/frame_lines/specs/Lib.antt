@@ -1,12 +1,5 @@
-pub mod Statuses
 pub mod Names
-pub mod Notation
-pub mod Choices
-pub mod Futures
-pub mod FutureWords
-pub mod OpenFutures
 pub mod Forms
 pub mod Messages
 pub mod Printed
-pub mod Runs
 pub mod FrameLines

@@ -6,7 +6,7 @@ use Rattle.journal_protocol.specs.Message.{Message}
 use Rattle.journal_protocol.specs.Message.TheVariants as message
 use Rattle.frame_lines.specs.Forms.{awaiting_on_fields, call_fields, clear_all_state_fields, clear_state_fields, complete_awakeable_fields, complete_promise_fields, error_fields, get_eager_state_fields, get_eager_state_keys_fields, get_lazy_state_fields, get_lazy_state_keys_fields, get_state_ephemeral_command_fields, get_state_ephemeral_notification_fields, input_fields, invocation_fields, notification_fields, one_way_call_fields, output_fields, promise_fields, propose_run_completion_fields, propose_run_completion_ack_fields, run_fields, send_signal_fields, set_state_fields, sleep_fields, start_fields, suspension_fields}
 use Rattle.frame_lines.specs.Names.{type_word}
-use Rattle.frame_lines.specs.Notation.{AreFields, Field, put_all}
+use Rattle.frame_values.specs.Notation.{AreFields, Field, put_all}
 
 -- the message's fields, in their order
 unfoldable pub fields_of : Message → List Field

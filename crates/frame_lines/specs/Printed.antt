@@ -1,6 +1,7 @@
 -- The line of a frame.
-use Rattle.std.specs.Prelude.{ℕ, List, ◌++◌, Option, Some, None, codes}
+use Rattle.std.specs.Prelude.{◌≡◌, ◌⊎◌, ℕ, List, ◌++◌, Option, Some, None, codes}
 use Rattle.std.specs.Fmt.{decimal}
+use Rattle.journal_protocol.specs.Frames.{Malformed, Partial, next_of}
 use Rattle.journal_protocol.specs.Types.{type_number}
 use Rattle.journal_protocol.specs.Bodies.{message_in}
 use Rattle.journal_protocol.specs.Message.{Message}
@@ -23,3 +24,7 @@ frame_text raw = text_as raw (message_in raw.ty raw.body)
 -- bytes that are no whole frame
 abbrev pub rest_text : List ℕ → List ℕ
 rest_text rest = codes "rest " ++ hexed rest
+
+-- no whole frame of a known type stands at the front
+abbrev pub HasNoFrame : List ℕ → Type 0
+HasNoFrame stream = (next_of stream ≡ Partial) ⊎ (next_of stream ≡ Malformed)

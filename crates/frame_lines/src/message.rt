@@ -3,7 +3,7 @@ ghost use Rattle.std.specs.Prelude.{◌≡◌, ◌++◌, false, IfErr, IfOk, OnO
 ghost use Rattle.lines.specs.Readings.{Blames};
 ghost use Rattle.journal_protocol.specs.Frames.{type_of};
 ghost use Rattle.frame_lines.specs.Messages.{AreFieldsOf, fields_of, message_text};
-ghost use Rattle.frame_lines.specs.Notation.{put_all};
+ghost use Rattle.frame_values.specs.Notation.{put_all};
 
 use crate::forms::Form;
 use crate::type_names::name_of;

@@ -2,8 +2,8 @@
 #![tactic(auto)]
 
 use command_lines::asks_for_help;
-use frame_lines::refusal::{Refusal, RunEnd};
-use frame_lines::run::{decode, encode};
+use frame_runs::refusal::{Refusal, RunEnd};
+use frame_runs::run::{decode, encode};
 use hints::note::frame_note;
 use std::env::{self, Env};
 use std::io;

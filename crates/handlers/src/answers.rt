@@ -2,12 +2,11 @@
 ghost use Rattle.std.specs.Prelude.{◌≡◌, slice_get, IfOk};
 ghost use Rattle.handlers.specs.Answers.{call_handle_of, cancelled_output, deadline_handle_of, answered_handle, bytes_of_input, says_cancelled, says_completed, output_of, output_of_value};
 
+use await_trees::NotificationHandle;
 use bytes::Bytes;
 use plain::{Items, Text};
 use std::alloc::{AllocError, Global};
-use vm_parts::{
-    Answer, NonEmptyValue, NotificationHandle, PayloadOptions, Step, TerminalFailure, Value,
-};
+use vm_types::{Answer, NonEmptyValue, PayloadOptions, Step, TerminalFailure, Value};
 
 /// The bytes of the input, which is the first answer.
 pub fn input_bytes(answers: &[Answer]) -> Result<Bytes, AllocError>

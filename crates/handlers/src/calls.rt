@@ -2,11 +2,12 @@
 ghost use Rattle.std.specs.Prelude.{◌≡◌, IfOk};
 ghost use Rattle.handlers.specs.Calls.{two_awaited, plain_call, call_until, plain_target};
 
+use await_trees::{NotificationHandle, UnresolvedFuture};
 use bytes::Bytes;
 use plain::{Items, Text};
 use std::alloc::{AllocError, Global};
 use std::time::Duration;
-use vm_parts::{Boxed, NotificationHandle, PayloadOptions, Step, Target, UnresolvedFuture};
+use vm_types::{Boxed, PayloadOptions, Step, Target};
 
 /// A service's handler, without a key.
 fn target(alloc: Global, service: &str, handler: &str) -> Result<Target, AllocError>

@@ -1,9 +1,9 @@
 //! The handler `charge`: it has a charge made outside, in a run, and ends with the run's result.
 use crate::answers::{cancelled_output, handle_at, is_cancelled_at, output_at};
+use await_trees::UnresolvedFuture;
 use plain::Text;
 use std::alloc::{AllocError, Global};
-use vm_attempt::Handler;
-use vm_parts::{Answer, PayloadOptions, Step, UnresolvedFuture};
+use vm_types::{Answer, Handler, PayloadOptions, Step};
 
 /// Runs "charge", awaits the run, takes its result, writes it as its output and ends.
 #[derive(Debug, Drop)]

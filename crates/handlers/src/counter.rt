@@ -4,11 +4,11 @@ ghost use Rattle.std.specs.Str.Parse.{without_leading_plus};
 ghost use Rattle.handlers.specs.Counter.{count_in, count_of, count_of_value, next_count};
 
 use crate::answers::{cancelled_output, handle_at, is_cancelled_at};
+use await_trees::UnresolvedFuture;
 use bytes::Bytes;
 use plain::Text;
 use std::alloc::{AllocError, Global};
-use vm_attempt::Handler;
-use vm_parts::{Answer, NonEmptyValue, PayloadOptions, Step, UnresolvedFuture, Value};
+use vm_types::{Answer, Handler, NonEmptyValue, PayloadOptions, Step, Value};
 
 /// Reads the count, awaits and takes it, writes the number that follows, and answers it.
 #[derive(Debug, Drop)]

@@ -7,11 +7,11 @@ use crate::answers::{
     is_completed_at, output_at,
 };
 use crate::calls::{call_until, two_awaited};
+use await_trees::{NotificationHandle, UnresolvedFuture};
 use bytes::Bytes;
 use std::alloc::{AllocError, Global};
 use std::time::Duration;
-use vm_attempt::Handler;
-use vm_parts::{Answer, NonEmptyValue, NotificationHandle, PayloadOptions, Step, UnresolvedFuture};
+use vm_types::{Answer, Handler, NonEmptyValue, PayloadOptions, Step};
 
 /// Calls with a deadline, awaits the first of result and deadline and takes it, writes what the call gave, or "timeout", and ends.
 #[derive(Debug, Drop)]

@@ -9,8 +9,7 @@ use crate::parent::Parent;
 use crate::race::Race;
 use crate::sleeper::Sleeper;
 use std::alloc::{AllocError, Global};
-use vm_attempt::Handler;
-use vm_parts::{Answer, Step};
+use vm_types::{Answer, Handler, Step};
 
 /// A handler that has a name.
 #[derive(Debug, Drop)]

@@ -1,10 +1,10 @@
 //! The handler `parent`: it calls two other handlers, and ends when both have answered.
 use crate::answers::{call_handle_at, cancelled_output, is_cancelled_at};
 use crate::calls::{call, two_awaited};
+use await_trees::UnresolvedFuture;
 use bytes::Bytes;
 use std::alloc::{AllocError, Global};
-use vm_attempt::Handler;
-use vm_parts::{Answer, NonEmptyValue, PayloadOptions, Step, UnresolvedFuture};
+use vm_types::{Answer, Handler, NonEmptyValue, PayloadOptions, Step};
 
 /// Calls two handlers, awaits both results and takes them, writes "done" and ends.
 #[derive(Debug, Drop)]

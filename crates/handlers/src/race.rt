@@ -7,12 +7,12 @@ use crate::answers::{
     output_at,
 };
 use crate::calls::{call, two_awaited};
+use await_trees::{NotificationHandle, UnresolvedFuture};
 use bytes::Bytes;
 use plain::Text;
 use std::alloc::{AllocError, Global};
 use std::time::Duration;
-use vm_attempt::Handler;
-use vm_parts::{Answer, NonEmptyValue, NotificationHandle, PayloadOptions, Step, UnresolvedFuture};
+use vm_types::{Answer, Handler, NonEmptyValue, PayloadOptions, Step};
 
 /// Sleeps, calls, awaits the first of both and takes its result, writes what the call gave, or "timeout", and ends.
 #[derive(Debug, Drop)]

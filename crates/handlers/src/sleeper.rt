@@ -1,11 +1,11 @@
 //! The handler `sleeper`: it sleeps to one second after the Unix epoch, and ends with an empty result.
 use crate::answers::{cancelled_output, handle_at, is_cancelled_at};
+use await_trees::UnresolvedFuture;
 use bytes::Bytes;
 use plain::Text;
 use std::alloc::{AllocError, Global};
 use std::time::Duration;
-use vm_attempt::Handler;
-use vm_parts::{Answer, NonEmptyValue, PayloadOptions, Step, UnresolvedFuture};
+use vm_types::{Answer, Handler, NonEmptyValue, PayloadOptions, Step};
 
 /// Sleeps, awaits the sleep, takes its result, writes an empty output and ends.
 #[derive(Debug, Drop)]

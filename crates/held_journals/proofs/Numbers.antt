@@ -1,6 +1,6 @@
 -- A status and its number.
 use Rattle.std.proofs.Common.{◌≡◌, refl}
-use Rattle.vm_store.specs.declared.types.RoundFault.TheVariants as round_fault
+use Rattle.journal_entries.specs.declared.fault.RoundFault.TheVariants as round_fault
 use Rattle.held_journals.specs.declared.status.Status.{Status}
 use Rattle.held_journals.specs.declared.status.Status.TheVariants as status
 use Rattle.held_journals.specs.Statuses.{status_number, status_by}

@@ -2,7 +2,7 @@
 -- when nothing was to be appended before.
 use Rattle.std.proofs.Common.{◌≡◌, ℕ, List, [], length, Bool, sym, ◌∙◌, subst}
 use Rattle.journal_protocol.specs.Version.{Version}
-use Rattle.vm_store.specs.declared.types.RoundFault.{RoundFault}
+use Rattle.journal_entries.specs.declared.fault.RoundFault.{RoundFault}
 use Rattle.stored_journals.specs.Ids.{known_kept}
 use Rattle.stored_journals.specs.Known.{IsKnown}
 use Rattle.stored_journals.specs.Journals.{IsSameKept, Kept, JournalView}

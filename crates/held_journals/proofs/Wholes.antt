@@ -8,11 +8,11 @@ use Rattle.journal_protocol.specs.Version.{Version}
 use Rattle.journal_protocol.specs.RawMessage.{RawMessage}
 use Rattle.journal_protocol.specs.Frames.{NextFrame, Whole, Partial, Malformed, next_of}
 use Rattle.journal_protocol.proofs.Facts.{whole_shorter}
-use Rattle.invocation_vm.specs.Frames.{Garbage, Rest, Tail, frames_by, frames_from, frames_of}
-use Rattle.invocation_vm.proofs.Cuts.{frames_of-next}
-use Rattle.vm_store.specs.declared.storing.Written.{Written}
-use Rattle.vm_store.specs.NextFrames.{NextWritten}
-use Rattle.vm_store.specs.Storing.{NoneFaults, Stores, stored_as, waits_behind, written_among, written_as, written_before, written_from}
+use Rattle.journal_entries.specs.Frames.{Garbage, Rest, Tail, frames_by, frames_from, frames_of}
+use Rattle.journal_entries.proofs.Cuts.{frames_of-next}
+use Rattle.journal_entries.specs.declared.storing.Written.{Written}
+use Rattle.journal_entries.specs.NextFrames.{NextWritten}
+use Rattle.journal_entries.specs.Storing.{NoneFaults, Stores, stored_as, waits_behind, written_among, written_as, written_before, written_from}
 use Rattle.stored_journals.specs.Journals.{Holds, JournalView}
 use Rattle.held_journals.specs.Journals.{EndsAs, LeavesRest, StoresAll, StoresWhole}
 

@@ -1,11 +1,11 @@
 -- What a call from C does to the journal that it is given.
 use Rattle.std.specs.Prelude.{◌≡◌, ◌≢◌, ◌<◌, ◌++◌, ℕ, Bool, true, false, List, [], length, drop, map, slice_get, Option, Some, None}
 use Rattle.journal_protocol.specs.Version.{Version}
-use Rattle.invocation_vm.specs.Frames.{Rest, frames_of}
-use Rattle.vm_store.specs.declared.types.RoundFault.{RoundFault}
-use Rattle.vm_store.specs.declared.types.RoundFault.TheVariants as round_fault
+use Rattle.journal_entries.specs.Frames.{Rest, frames_of}
+use Rattle.journal_entries.specs.declared.fault.RoundFault.{RoundFault}
+use Rattle.journal_entries.specs.declared.fault.RoundFault.TheVariants as round_fault
 use Rattle.std.specs.List.{flat_map}
-use Rattle.vm_store.specs.Storing.{NoneFaults, stored_as, waits_behind, written_from}
+use Rattle.journal_entries.specs.Storing.{NoneFaults, stored_as, waits_behind, written_from}
 use Rattle.stored_journals.specs.Journals.{Enters, Holds, IsFault, IsSameKept, Kept, JournalView}
 use Rattle.stored_journals.specs.Stored.{IsStoringFault, StoresNext}
 use Rattle.held_journals.specs.declared.row.Stored.{Stored}

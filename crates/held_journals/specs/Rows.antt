@@ -6,7 +6,7 @@ use Rattle.journal_protocol.specs.RawMessage.{RawMessage}
 use Rattle.journal_protocol.specs.Notification.{Notification}
 use Rattle.journal_protocol.specs.NotificationId.{NotificationId}
 use Rattle.journal_protocol.specs.NotificationId.TheVariants.{CompletionId, SignalId, SignalName}
-use Rattle.vm_store.specs.Entries.{frame_in, note_in}
+use Rattle.journal_entries.specs.Entries.{frame_in, note_in}
 use Rattle.held_journals.specs.declared.row.Row.{Row}
 use Rattle.held_journals.specs.declared.status.Status.{Status}
 use Rattle.held_journals.specs.Statuses.{status_number}

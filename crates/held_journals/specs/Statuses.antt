@@ -3,8 +3,8 @@
 use Rattle.std.specs.Prelude.{ℕ, ◌==◌, if◌then◌else◌, Option, Some, None}
 use Rattle.journal_protocol.specs.Version.{Version}
 use Rattle.journal_protocol.specs.Version.TheVariants as version
-use Rattle.vm_store.specs.declared.types.RoundFault.{RoundFault}
-use Rattle.vm_store.specs.declared.types.RoundFault.TheVariants as round_fault
+use Rattle.journal_entries.specs.declared.fault.RoundFault.{RoundFault}
+use Rattle.journal_entries.specs.declared.fault.RoundFault.TheVariants as round_fault
 use Rattle.held_journals.specs.declared.status.Status.{Status}
 use Rattle.held_journals.specs.declared.status.Status.TheVariants as status
 

@@ -1,8 +1,8 @@
 //! What each call from C does with the journal that C holds, if there is one.
 ghost use Rattle.std.specs.Prelude.{◌≡◌, ◌≤◌, None, Some};
 ghost use Rattle.std.specs.Option.{MatchOption};
-ghost use Rattle.vm_store.specs.Arrivals.{arrival_fault};
-ghost use Rattle.vm_store.specs.Given.{given_fault};
+ghost use Rattle.journal_entries.specs.Arrivals.{arrival_fault};
+ghost use Rattle.journal_entries.specs.Given.{given_fault};
 ghost use Rattle.held_journals.specs.Journals.{CommitAnswered, EntryAnswered, FeedAnswered, FrameAnswered, HasEntries, IsNewJournal, OutputAnswered, OutputStored, RowAnswered, UndoAnswered};
 ghost use Rattle.held_journals.specs.Statuses.{status_by, version_named};
 
@@ -10,10 +10,10 @@ use crate::held::{Journal, empty, hide, show};
 use crate::journal::HeldJournal;
 use crate::row::{Row, Stored, answer_store, no_row};
 use crate::status::Status;
+use journal_entries::RoundFault;
 use journal_protocol::Version;
 use loose_boxes::Loose;
 use std::alloc::Global;
-use vm_store::types::RoundFault;
 
 /// How a call ended, and a length.
 #[repr(C)]

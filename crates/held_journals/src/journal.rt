@@ -1,7 +1,7 @@
 //! `HeldJournal`: a stored journal, with what the last store of an output is to append and to feed.
 ghost use Rattle.std.specs.Prelude.{◌≡◌, ◌≤◌, List, [], length, OnOk, IfOk, IfErr, Some};
-ghost use Rattle.vm_store.specs.Arrivals.{arrival_fault};
-ghost use Rattle.vm_store.specs.Given.{given_fault};
+ghost use Rattle.journal_entries.specs.Arrivals.{arrival_fault};
+ghost use Rattle.journal_entries.specs.Given.{given_fault};
 ghost use Rattle.stored_journals.specs.Journals.{Enters, IsFault, IsSameKept};
 ghost use Rattle.stored_journals.specs.Stored.{IsStoringFault};
 ghost use Rattle.held_journals.specs.Journals.{BytesWritten, EntryDone, FeedAnswered, FrameAnswered, IsEmptyJournal, IsUndone, KeepsAll, OutputDone, RowAnswered, SameRows, StoresAll};
@@ -13,10 +13,10 @@ use crate::rest::ends_whole;
 use crate::row::{Row, Stored, answer_store, no_row, row_in};
 use crate::status::Status;
 use bytes::{Bytes, BytesMut};
+use journal_entries::RoundFault;
 use journal_protocol::{Decoder, Version};
 use std::alloc::{AllocError, Global};
 use stored_journals::{StoredJournal, store_from};
-use vm_store::types::RoundFault;
 
 /// A stored journal, the entries that the last store is to append, in order, and the bytes that answer it.
 #[derive(Drop)]

@@ -1,11 +1,11 @@
 //! Whether what is left of an output is whole frames.
 ghost use Rattle.std.specs.Prelude.{◌≡◌, IfErr, IfOk};
 ghost use Rattle.held_journals.specs.Journals.{EndsAs};
-ghost use Rattle.vm_store.specs.declared.types.RoundFault.TheVariants as round_fault;
+ghost use Rattle.journal_entries.specs.declared.fault.RoundFault.TheVariants as round_fault;
 
+use journal_entries::RoundFault;
+use journal_entries::storing::next_written;
 use journal_protocol::Decoder;
-use vm_store::storing::next_written;
-use vm_store::types::RoundFault;
 
 /// Takes the whole frames that are left, of which nothing is stored; whether no bytes are left after them.
 pub fn ends_whole(left: &mut Decoder) -> Result<bool, RoundFault>

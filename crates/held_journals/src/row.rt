@@ -1,15 +1,15 @@
 //! A row: an entry of a journal as a runtime stores it, with the completion id that it completes.
 ghost use Rattle.std.specs.Prelude.{◌≡◌, ◌≤◌, IfOk};
-ghost use Rattle.vm_store.specs.Entries.{frame_in, note_in};
+ghost use Rattle.journal_entries.specs.Entries.{frame_in, note_in};
 ghost use Rattle.held_journals.specs.Rows.{id_completed, frame_type, row_in, no_row};
 ghost use Rattle.held_journals.specs.Statuses.{status_by};
 ghost use Rattle.held_journals.specs.declared.status.Status.TheVariants.{Done};
 
 use crate::status::Status;
 use bytes::Bytes;
+use journal_entries::entry::{frame_in, note_in};
 use journal_protocol::{Notification, NotificationId};
 use std::alloc::{AllocError, Global};
-use vm_store::entry::{frame_in, note_in};
 
 /// An entry as it is stored, or why there is none.
 #[repr(C)]

@@ -2,7 +2,7 @@
 ghost use Rattle.std.specs.Prelude.{◌≡◌, ◌≤◌};
 ghost use Rattle.held_journals.specs.Statuses.{status_number, fault_code, status_by};
 
-use vm_store::types::RoundFault;
+use journal_entries::RoundFault;
 
 /// How a call from C ended.
 #[derive(Clone, Copy, Debug, PartialEq, Eq)]

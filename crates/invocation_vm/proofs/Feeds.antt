@@ -14,10 +14,11 @@ use Rattle.vm_machine.specs.declared.fault.Fault.TheVariants as fault
 use Rattle.vm_machine.specs.declared.machine.Machine.{Machine}
 use Rattle.vm_machine.specs.Inputs.{message_step, malformed_step, Quiets}
 use Rattle.vm_machine.specs.Outcomes.{Outcome, Gives, called, called_at, IsStarved, starved}
-use Rattle.invocation_vm.specs.Frames.{frames_of}
+use Rattle.journal_entries.specs.Frames.{frames_of}
 use Rattle.invocation_vm.specs.Views.{View, received, spoiled, all_received, consumed, left_by, Goes, HaveCome, Leaves, StarvesAmong}
 use Rattle.invocation_vm.proofs.Calls.{starves}
-use Rattle.invocation_vm.proofs.Cuts.{frames_of-next, consumed_failed}
+use Rattle.invocation_vm.proofs.Cuts.{consumed_failed}
+use Rattle.journal_entries.proofs.Cuts.{frames_of-next}
 
 -- no whole frame is there
 pub consumed_none : (bytes : List ℕ) (m : Machine) → next_of bytes ≡ Partial → m.failure ≡ None → consumed (frames_of bytes) m ≡ record { undecoded = bytes; machine = m }

@@ -9,8 +9,8 @@ use Rattle.vm_types.specs.declared.types.AwaitResponse.TheVariants.{EphemeralNot
 use Rattle.vm_types.specs.declared.types.AwakeableHandle.{AwakeableHandle}
 use Rattle.await_trees.specs.declared.handle.NotificationHandle.{NotificationHandle}
 use Rattle.retries.specs.declared.policy.RetryPolicy.{RetryPolicy}
-use Rattle.runs.specs.declared.types.RunExitResult.{RunExitResult}
-use Rattle.runs.specs.declared.types.RunHandle.{RunHandle}
+use Rattle.vm_types.specs.declared.runs.RunExitResult.{RunExitResult}
+use Rattle.vm_types.specs.declared.runs.RunHandle.{RunHandle}
 use Rattle.await_trees.specs.declared.tree.UnresolvedFuture.{UnresolvedFuture}
 use Rattle.vm_asks.specs.declared.command.Command.{Command}
 use Rattle.vm_machine.specs.declared.machine.Machine.{Machine}
@@ -25,7 +25,7 @@ use Rattle.vm_machine.specs.Proposals.{Proposes}
 use Rattle.vm_asks.specs.declared.state_read.StateRead.{StateRead}
 use Rattle.vm_machine.specs.Reads.{ReadCanBeRead, read_step}
 use Rattle.vm_machine.specs.Signals.{awakeable_step}
-use Rattle.vm_machine.specs.Skips.{skips_replay}
+use Rattle.vm_types.specs.Options.{skips_replay}
 use Rattle.await_trees.specs.Tree.{tree_of}
 use Rattle.invocation_vm.specs.Views.{View, Calls, CallsBy}
 

@@ -11,7 +11,7 @@ use Rattle.vm_machine.specs.declared.machine.Machine.{Machine}
 use Rattle.vm_machine.specs.Inputs.{message_step, malformed_step, close_step}
 use Rattle.vm_machine.specs.Outcomes.{CalledBy, Does, DoesBy, Done, Failed, IsStarved, Outcome, called}
 use Rattle.vm_machine.specs.Reports.{report_step}
-use Rattle.invocation_vm.specs.Frames.{Tail, Rest, Garbage, frames_of}
+use Rattle.journal_entries.specs.Frames.{Tail, Rest, Garbage, frames_of}
 
 -- the machine, and the bytes that came and are no whole frame yet
 pub record View : Type 0 where

@@ -17,11 +17,11 @@ use crate::shared::{
 };
 use crate::versions::{response_head, version_in};
 use crate::vm::VM;
+use await_trees::{NotificationHandle, UnresolvedFuture};
 use bytes::Bytes;
 use journal_protocol::{Decoder, Error, HeaderMap, NamedFault, Version};
 use plain::Text;
 use retries::RetryPolicy;
-use runs::{RunExitResult, RunHandle};
 use std::alloc::{AllocError, Global};
 use std::fmt;
 use std::time::Duration;
@@ -29,11 +29,11 @@ use vm_asks::{Ask, Command, StateRead, asks};
 use vm_awaits::{Awaited, await_tree, drop_cancel, flatten};
 use vm_inputs::close_input;
 use vm_machine::Machine;
-use vm_parts::{
+use vm_parts::{StateKey, TrackedCall};
+use vm_types::{
     AttachInvocationTarget, AwaitResponse, AwakeableHandle, CallHandle, CommandRelationship,
-    DeadlineCallHandle, EphemeralCompletionId, Input, NonEmptyValue, NotificationHandle,
-    PayloadOptions, ResponseHead, SendHandle, State, StateKey, Step, Target, TrackedCall,
-    UnresolvedFuture, VMOptions, VMResult, Value,
+    DeadlineCallHandle, EphemeralCompletionId, Input, NonEmptyValue, PayloadOptions, ResponseHead,
+    RunExitResult, RunHandle, SendHandle, State, Step, Target, VMOptions, VMResult, Value,
 };
 
 /// The invocation VM.
@@ -253,6 +253,14 @@ impl CoreVM {
         ensures frames { WholeFrames (seen self.now).machine.output }
     {
         self.machine.output.bytes(self.machine.alloc)
+    }
+
+    /// The bytes that wait to be sent, where they lie: whole frames.
+    pub fn waiting_bytes(&self) -> &[u8]
+        ensures bytes { result.now ≡ concat (seen self.now).machine.output }
+        ensures whole { WholeStream result.now }
+    {
+        self.machine.output.as_slice()
     }
 
     /// How many bytes wait to be sent, as far as a `usize` goes; they are whole frames.

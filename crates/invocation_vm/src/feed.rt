@@ -3,7 +3,7 @@ ghost use Rattle.std.specs.Prelude.{◌≡◌, ◌++◌, List, ℕ, IfOk, OnErr,
 ghost use Rattle.journal_protocol.specs.Errors.{no_memory};
 ghost use Rattle.vm_machine.specs.Outcomes.{IsStarved};
 ghost use Rattle.journal_protocol.specs.Frames.{Malformed, next_of};
-ghost use Rattle.invocation_vm.specs.Frames.{frames_of};
+ghost use Rattle.journal_entries.specs.Frames.{frames_of};
 ghost use Rattle.invocation_vm.specs.Seen.{seen};
 ghost use Rattle.invocation_vm.specs.Views.{View, Goes, Leaves, consumed, after_input};
 

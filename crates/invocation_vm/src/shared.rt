@@ -6,18 +6,17 @@ ghost use Rattle.vm_machine.specs.Outcomes.{Gives};
 ghost use Rattle.invocation_vm.specs.Calls.{name_or_empty, new_awakeable_step, result_by, run_handle};
 ghost use Rattle.vm_machine.specs.Several.{answered_so};
 
+use await_trees::NotificationHandle;
 use journal_protocol::NamedFault;
 use plain::Text;
-use runs::RunHandle;
 use std::alloc::Global;
 use vm_asks::asks::{call_handles, deadline_handles, send_handle};
 use vm_awaits::Awaited;
 use vm_machine::fault::refuse;
 use vm_machine::skips::skips_replay;
 use vm_machine::{Fault, Machine};
-use vm_parts::{
-    AwaitResponse, AwakeableHandle, CallHandle, DeadlineCallHandle, NotificationHandle, SendHandle,
-    VMResult,
+use vm_types::{
+    AwaitResponse, AwakeableHandle, CallHandle, DeadlineCallHandle, RunHandle, SendHandle, VMResult,
 };
 
 /// An absent name is empty.

@@ -5,7 +5,7 @@ ghost use Rattle.invocation_vm.specs.Making.{supported, version_in, response_hea
 use journal_protocol::{Error, Header, HeaderMap, NamedFault, Version};
 use plain::{Items, Text};
 use std::alloc::{AllocError, Global};
-use vm_parts::ResponseHead;
+use vm_types::ResponseHead;
 
 /// Refuses a version that is not supported.
 fn supported(version: Version) -> Result<Version, Error>

@@ -9,24 +9,23 @@ ghost use Rattle.vm_machine.specs.Inputs.{end_step, input_step};
 ghost use Rattle.vm_machine.specs.declared.phase.Phase.TheVariants.{Closed};
 ghost use Rattle.vm_machine.specs.Phases.{is_waiting};
 ghost use Rattle.vm_machine.specs.Signals.{signal_step};
-ghost use Rattle.vm_machine.specs.Skips.{skips_replay};
-ghost use Rattle.vm_asks.specs.Carried.{AreBelow, all_carried};
+ghost use Rattle.vm_types.specs.Options.{skips_replay};
+ghost use Rattle.journal_entries.specs.Carried.{AreBelow, all_carried};
 ghost use Rattle.vm_asks.specs.declared.state_read.StateRead.TheVariants as reads;
 ghost use Rattle.invocation_vm.specs.Calls.{CallsAllFor, CallsCommand, CallsFlatAwait, CallsFor, CallsProposal, CallsRead, CallsRun, CallsUnit, name_or_empty, new_awakeable_step};
 ghost use Rattle.invocation_vm.specs.Making.{Makes, response_head, version_in};
 ghost use Rattle.invocation_vm.specs.Views.{View, Calls, Leaves, TakesOutput, after_closing, after_error, after_input, messages_in_bytes};
 
+use await_trees::{NotificationHandle, UnresolvedFuture};
 use bytes::Bytes;
 use journal_protocol::{Error, HeaderMap};
 use retries::RetryPolicy;
-use runs::{RunExitResult, RunHandle};
 use std::alloc::{AllocError, Global};
 use std::time::Duration;
-use vm_parts::{
+use vm_types::{
     AttachInvocationTarget, AwaitResponse, AwakeableHandle, CallHandle, CommandRelationship,
-    DeadlineCallHandle, EphemeralCompletionId, Input, NonEmptyValue, NotificationHandle,
-    PayloadOptions, ResponseHead, SendHandle, State, Target, UnresolvedFuture, VMOptions, VMResult,
-    Value,
+    DeadlineCallHandle, EphemeralCompletionId, Input, NonEmptyValue, PayloadOptions, ResponseHead,
+    RunExitResult, RunHandle, SendHandle, State, Target, VMOptions, VMResult, Value,
 };
 
 /// One attempt of an invocation: the bytes of its journal come in, the handler's calls are answered, and the bytes

@@ -15,6 +15,7 @@ pub use Rattle.journal_errors.specs.Versions
 pub use Rattle.journal_values.specs.declared.notification.Notification
 pub use Rattle.journal_values.specs.declared.notification.NotificationId
 pub use Rattle.journal_values.specs.declared.notification.NotificationResult
+pub use Rattle.journal_values.specs.declared.delivery.SignalDelivery
 pub use Rattle.journal_values.specs.declared.parts.Failure
 pub use Rattle.journal_values.specs.declared.parts.Header
 pub use Rattle.journal_values.specs.declared.parts.ValueOrFailure

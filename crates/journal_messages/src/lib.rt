@@ -29,7 +29,8 @@ pub use journal_state::{
     GetStateEphemeralNotification, SetStateCommand, VoidOrValue,
 };
 pub use journal_values::{
-    Failure, Header, Notification, NotificationId, NotificationResult, ValueOrFailure,
+    Failure, Header, Notification, NotificationId, NotificationResult, SignalDelivery,
+    ValueOrFailure,
 };
 pub use message::{Encoder, Message, RawMessage};
 pub use stream::messages_of;

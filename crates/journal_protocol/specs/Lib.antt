@@ -9,6 +9,7 @@ pub mod Versions
 pub use Rattle.journal_messages.specs.Notification
 pub use Rattle.journal_messages.specs.NotificationId
 pub use Rattle.journal_messages.specs.NotificationResult
+pub use Rattle.journal_messages.specs.SignalDelivery
 pub use Rattle.journal_messages.specs.Failure
 pub use Rattle.journal_messages.specs.Header
 pub use Rattle.journal_messages.specs.ValueOrFailure

@@ -14,8 +14,9 @@ pub use journal_messages::{
     InputCommand, InvocationCommand, InvocationTarget, Message, MessageType, NamedFault,
     Notification, NotificationId, NotificationResult, OneWayCallCommand, OutputCommand,
     PromiseCommand, ProposeRunCompletion, ProposeRunCompletionAck, RawMessage, RelatedCommand,
-    RunCommand, Said, SendSignalCommand, SetStateCommand, Signal, SignalResult, SleepCommand,
-    Start, Suspension, ValueOrFailure, Version, VoidOrValue, WorkflowId, header_eq, messages_of,
+    RunCommand, Said, SendSignalCommand, SetStateCommand, Signal, SignalDelivery, SignalResult,
+    SleepCommand, Start, Suspension, ValueOrFailure, Version, VoidOrValue, WorkflowId, header_eq,
+    messages_of,
 };
 pub use laws::{
     bodies_are_read_back, bytes_are_cut_anywhere, encodings_are_of_one_form, frames_are_read_off,

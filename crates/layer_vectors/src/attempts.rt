@@ -1,11 +1,9 @@
 // One attempt over a layer, whole: a handler that sleeps and answers. The peer speaks the layer's bytes; the VM's own are translated
 // at the boundary, and nothing else knows of them. What the VM writes is the same over each layer.
 use crate::short::Short;
+use await_trees::{NotificationHandle, UnresolvedFuture};
 use bytes::Bytes;
-use invocation_vm::{
-    AwaitResponse, CoreVM, NonEmptyValue, NotificationHandle, PayloadOptions, UnresolvedFuture, VM,
-    VMOptions, VMResult, Value,
-};
+use invocation_vm::{CoreVM, VM};
 use layers::{Layer, LayerFault, Own, translate};
 use std::alloc::Global;
 use std::process::Abort;
@@ -15,6 +13,7 @@ use vectors::frames::{
     AWAITING_ON_1, COMPLETION_1, END, INPUT_TILL, OUTPUT_X, SLEEP_TO_1000, START_1,
 };
 use vectors::headers::Headers;
+use vm_types::{AwaitResponse, NonEmptyValue, PayloadOptions, VMOptions, VMResult, Value};
 
 fn answered<T>(given: VMResult<T>) -> Result<T, Fail> {
     match given {

@@ -4,7 +4,7 @@ use Rattle.std.specs.Prelude.{codes}
 use Rattle.std.specs.List.{AllByRecursion}
 use Rattle.std.proofs.lemmas.List.{append-nil}
 use Rattle.lines.specs.Pieces.{AreWords}
-use Rattle.frame_lines.specs.Notation.{Field, Fields, HoldsFields, bracketed, put, put_all}
+use Rattle.frame_values.specs.Notation.{Field, Fields, HoldsFields, bracketed, put, put_all}
 use Rattle.line_laws.proofs.Closed.{IsClosed, IsWord, closed_append, closed_none}
 use Rattle.line_laws.proofs.Joined.{are_words, bors, each_after, each_closed, no_words}
 use Rattle.line_laws.proofs.Named.{FieldsReadBack, are_apart, fields_are, words_of}

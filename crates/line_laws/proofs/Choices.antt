@@ -26,10 +26,10 @@ use Rattle.journal_protocol.specs.Failure.{Failure}
 use Rattle.journal_protocol.specs.Header.{Header}
 use Rattle.journal_protocol.specs.IdempotencyId.{IdempotencyId}
 use Rattle.journal_protocol.specs.WorkflowId.{WorkflowId}
-use Rattle.frame_lines.specs.Choices.{behavior_notation, failure_fields, idempotency_id_fields, kind_notation, kind_text, notification_id_notation, notification_result_notation, signal_notation, signal_result_notation, target_notation, value_or_failure_notation, void_or_value_notation, workflow_id_fields}
-use Rattle.frame_lines.specs.Notation.{bytes_notation, header_notation, list_notation, number, string}
-use Rattle.frame_lines.proofs.Bracketing.{front}
-use Rattle.frame_lines.proofs.Naming.{unequal}
+use Rattle.frame_values.specs.Choices.{behavior_notation, failure_fields, idempotency_id_fields, kind_notation, kind_text, notification_id_notation, notification_result_notation, signal_notation, signal_result_notation, target_notation, value_or_failure_notation, void_or_value_notation, workflow_id_fields}
+use Rattle.frame_values.specs.Notation.{bytes_notation, header_notation, list_notation, number, string}
+use Rattle.frame_values.proofs.Bracketing.{front}
+use Rattle.frame_values.proofs.Bracketing.{unequal}
 use Rattle.line_laws.proofs.Bracketed.{bracketed_said, bracketed_word}
 use Rattle.line_laws.proofs.Closed.{plain_word}
 use Rattle.line_laws.proofs.Fitting.{AllBytes, Item, Row, bytes_item, last, list_item, more, never_left_out, pair_item, row_once, some, text_item, u32_item, whole}

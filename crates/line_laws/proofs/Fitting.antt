@@ -4,10 +4,10 @@ use Rattle.std.proofs.Common.{◌^◌, ◌≡◌, ◌<◌, ◌++◌, ℕ, zero, 
 use Rattle.std.specs.Prelude.{codes}
 use Rattle.std.specs.List.{AllByRecursion, flat_map, list_all}
 use Rattle.std.proofs.lemmas.Bool.{true≢false}
-use Rattle.line_parts.specs.Fields.{texts_named}
+use Rattle.lines.specs.Fields.{texts_named}
 use Rattle.own_bytes.specs.Bytes.{bytes, list, option, u64s}
 use Rattle.own_bytes.specs.Formats.{Format, bytes_format, flag_format, list_format, option_format, pair_format, text_format, u32_format, u64_format}
-use Rattle.frame_lines.specs.Notation.{AreFields, Fields, Notation, bytes_notation, field, flag_notation, list_notation, nothing, number, optional, pair, string}
+use Rattle.frame_values.specs.Notation.{AreFields, Fields, Notation, bytes_notation, field, flag_notation, list_notation, nothing, number, optional, pair, string}
 use Rattle.line_laws.proofs.Closed.{IsWord, is_word_byte, plain_word}
 use Rattle.line_laws.proofs.Joined.{bors}
 use Rattle.line_laws.proofs.Named.{FieldsReadBack, are_apart, field_reads, fields_are, nothing_reads, words_of}

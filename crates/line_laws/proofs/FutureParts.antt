@@ -15,10 +15,10 @@ use Rattle.journal_protocol.specs.FutureKind.TheVariants as kinds
 use Rattle.journal_protocol.specs.FutureNode.{FutureNode}
 use Rattle.own_bytes.specs.Bytes.{bytes, list, u64s}
 use Rattle.own_bytes.specs.Formats.{node_format}
-use Rattle.frame_lines.specs.Choices.{kind_text}
-use Rattle.frame_lines.specs.FutureWords.{ends_word, within_after}
-use Rattle.frame_lines.specs.Futures.{IsUnbroken, IsWord as IsPart, node_fields}
-use Rattle.frame_lines.specs.Notation.{AreFields, Field, items_text, list_notation, number, string, unless_left_out}
+use Rattle.frame_values.specs.Choices.{kind_text}
+use Rattle.frame_values.specs.FutureWords.{ends_word, within_after}
+use Rattle.frame_values.specs.Futures.{IsUnbroken, IsWord as IsPart, node_fields}
+use Rattle.frame_values.specs.Notation.{AreFields, Field, items_text, list_notation, number, string, unless_left_out}
 use Rattle.line_laws.proofs.Choices.{kind_item}
 use Rattle.line_laws.proofs.Closed.{IsWord, is_word_byte, type_taken}
 use Rattle.line_laws.proofs.Fitting.{AllBytes, Row, below, bytes_apart, last, list_item, more, row_reads, spelled_bytes, text_item, u32_item, whole}

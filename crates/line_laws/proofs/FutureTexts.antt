@@ -9,7 +9,7 @@ use Rattle.lines.specs.Pieces.{piece_texts}
 use Rattle.journal_protocol.specs.FutureNode.{FutureNode}
 use Rattle.journal_protocol.specs.Futures.{are_whole}
 use Rattle.own_bytes.specs.Formats.{future, future_format, future_valid}
-use Rattle.frame_lines.specs.Futures.{EndsPart, IsWord as IsPart, SayFutures, SayParts, SayWords, SaysFuture, a_blank, a_list, a_word, ends_text, future as a_future, future_notation, future_text, left_then, more_futures, no_part, node_fields, node_head_text, nodes_text, one_future, some_futures}
+use Rattle.frame_values.specs.Futures.{EndsPart, IsWord as IsPart, SayFutures, SayParts, SayWords, SaysFuture, a_blank, a_list, a_word, ends_text, future as a_future, future_notation, future_text, left_then, more_futures, no_part, node_fields, node_head_text, nodes_text, one_future, some_futures}
 use Rattle.line_laws.proofs.Bracketed.{joined, joined_closed, put_first}
 use Rattle.line_laws.proofs.Closed.{IsClosed, IsWord, closed_append, closed_byte, in_round, in_square, plain_word}
 use Rattle.line_laws.proofs.Fitting.{AllBytes}

@@ -2,7 +2,7 @@
 use Rattle.std.proofs.Common.{List, refl}
 use Rattle.journal_protocol.specs.FutureNode.{FutureNode}
 use Rattle.own_bytes.specs.Formats.{future_format}
-use Rattle.frame_lines.specs.Futures.{future_notation}
+use Rattle.frame_values.specs.Futures.{future_notation}
 use Rattle.line_laws.proofs.Fitting.{Item, never_left_out}
 use Rattle.line_laws.proofs.FutureTexts.{future_reads}
 use Rattle.line_laws.proofs.OneFuture.{future_once, future_something}

@@ -5,8 +5,8 @@ use Rattle.std.specs.List.{AllByRecursion, list_all, list_any}
 use Rattle.std.proofs.Math.Seq.{drop-append_seam, take-append_seam}
 use Rattle.std.proofs.lemmas.Bool.{and_parts}
 use Rattle.std.proofs.lemmas.Slice.Eq.{bytes_eq-Decides}
-use Rattle.line_parts.specs.Fields.{are_named, is_named, text_behind, texts_named}
-use Rattle.frame_lines.specs.Notation.{AreFields, Field, Fields, Notation, SayField, field, nothing, unless_left_out}
+use Rattle.lines.specs.Fields.{are_named, is_named, text_behind, texts_named}
+use Rattle.frame_values.specs.Notation.{AreFields, Field, Fields, Notation, SayField, field, nothing, unless_left_out}
 use Rattle.line_laws.proofs.Closed.{IsWord, word_append}
 use Rattle.line_laws.proofs.Joined.{bors}
 use Rattle.line_laws.proofs.Values.{ReadsBack}

@@ -12,10 +12,10 @@ use Rattle.lines.specs.Pieces.{ArePieces, AreWords}
 use Rattle.lines.proofs.Blaming.{atom_once}
 use Rattle.lines.proofs.Cutting.{ended}
 use Rattle.lines.proofs.Once.{Same, words_once, words_within_once}
-use Rattle.line_parts.specs.Words.{text_at}
-use Rattle.frame_lines.specs.Notation.{AreFields, Fields, HoldsAfterWord, HoldsFields, IsBehind, Notation, SayField, SayItems, SaysInside, SaysPair, bytes_notation, flag_notation, is_nothing, list_notation, number, optional, string}
-use Rattle.frame_lines.proofs.Listing.{pieces_once}
-use Rattle.frame_lines.proofs.Refusing.{same_fields}
+use Rattle.lines.specs.Words.{text_at}
+use Rattle.frame_values.specs.Notation.{AreFields, Fields, HoldsAfterWord, HoldsFields, IsBehind, Notation, SayField, SayItems, SaysInside, SaysPair, bytes_notation, flag_notation, is_nothing, list_notation, number, optional, string}
+use Rattle.frame_values.proofs.Listing.{pieces_once}
+use Rattle.frame_values.proofs.Refusing.{same_fields}
 use Rattle.line_laws.proofs.Joined.{nothing_trimmed}
 
 -- the text says one value at most

@@ -9,7 +9,8 @@ use Rattle.lines.specs.Atoms.{IsAtom}
 use Rattle.journal_protocol.specs.Frames.{encoding, numbered_frame}
 use Rattle.journal_protocol.specs.Message.{Message}
 use Rattle.frame_lines.specs.FrameLines.{AreRaw, IsNamed, IsRaw, IsRest, LineShows, Shows}
-use Rattle.frame_lines.proofs.Naming.{no_raw, no_rest, one_type, unequal}
+use Rattle.frame_lines.proofs.Naming.{no_raw, no_rest, one_type}
+use Rattle.frame_values.proofs.Bracketing.{unequal}
 use Rattle.frame_lines.proofs.Typing.{same_fields_of}
 use Rattle.line_laws.proofs.OneMessage.{message_once}
 

@@ -1,16 +1,16 @@
 -- A text says one future at most.
 use Rattle.std.proofs.Common.{◌≡◌, ◌<◌, ◌++◌, ℕ, Bool, true, List, [], ◌∷◌, drop, get_or, length, ap, sym, refl, subst, ◌∙◌, arith}
 use Rattle.std.specs.Borrow.{Bor}
-use Rattle.line_parts.specs.Fields.{texts_named}
+use Rattle.lines.specs.Fields.{texts_named}
 use Rattle.lines.proofs.Once.{Same}
 use Rattle.lines.specs.Pieces.{piece_texts}
 use Rattle.journal_protocol.specs.FutureNode.{FutureNode}
-use Rattle.frame_lines.specs.FutureWords.{ends_word, first_word}
-use Rattle.frame_lines.specs.Futures.{SayWords, SaysFuture, future_notation, node_fields}
-use Rattle.frame_lines.specs.OpenFutures.{RestOf, blank, close, comma, empty, end, list, nested, word}
-use Rattle.frame_lines.proofs.Opening.{at_blank, at_comma, at_empty, at_end, at_list, at_nested, at_word}
-use Rattle.frame_lines.proofs.Parting.{IsRead, says_read}
-use Rattle.frame_lines.proofs.Refusing.{same_fields}
+use Rattle.frame_values.specs.FutureWords.{ends_word, first_word}
+use Rattle.frame_values.specs.Futures.{SayWords, SaysFuture, future_notation, node_fields}
+use Rattle.frame_values.specs.OpenFutures.{RestOf, blank, close, comma, empty, end, list, nested, word}
+use Rattle.frame_values.proofs.Opening.{at_blank, at_comma, at_empty, at_end, at_list, at_nested, at_word}
+use Rattle.frame_values.proofs.Parting.{IsRead, says_read}
+use Rattle.frame_values.proofs.Refusing.{same_fields}
 use Rattle.line_laws.proofs.Closed.{type_taken}
 use Rattle.line_laws.proofs.FutureParts.{node_row}
 use Rattle.line_laws.proofs.Once.{SaysOnce, SaysSomething}

@@ -35,7 +35,7 @@ use Rattle.journal_protocol.specs.Start.{Start}
 use Rattle.journal_protocol.specs.Suspension.{Suspension}
 use Rattle.frame_lines.specs.Forms.{awaiting_on_fields, call_fields, clear_all_state_fields, clear_state_fields, complete_awakeable_fields, complete_promise_fields, error_fields, get_eager_state_fields, get_eager_state_keys_fields, get_lazy_state_fields, get_lazy_state_keys_fields, get_state_ephemeral_command_fields, get_state_ephemeral_notification_fields, input_fields, invocation_fields, notification_fields, one_way_call_fields, output_fields, promise_fields, propose_run_completion_fields, propose_run_completion_ack_fields, run_fields, send_signal_fields, set_state_fields, sleep_fields, start_fields, suspension_fields}
 use Rattle.frame_lines.specs.Messages.{AreFieldsOf}
-use Rattle.frame_lines.specs.Notation.{AreFields}
+use Rattle.frame_values.specs.Notation.{AreFields}
 use Rattle.line_laws.proofs.Rows.{awaiting_on_once, call_once, clear_all_state_once, clear_state_once, complete_awakeable_once, complete_promise_once, error_once, get_eager_state_once, get_eager_state_keys_once, get_lazy_state_once, get_lazy_state_keys_once, get_state_ephemeral_command_once, get_state_ephemeral_notification_once, input_once, invocation_once, notification_once, one_way_call_once, output_once, promise_once, propose_run_completion_once, propose_run_completion_ack_once, run_once, send_signal_once, set_state_once, sleep_once, start_once, suspension_once}
 
 -- what a message of the type holds

@@ -9,7 +9,7 @@ use Rattle.std.proofs.lemmas.List.{append-nil}
 use Rattle.lines.specs.Atoms.{printed_byte}
 use Rattle.lines.specs.Pieces.{AreWords, IsPiece, outside}
 use Rattle.lines.proofs.Spelling.{chars_read}
-use Rattle.frame_lines.specs.Notation.{HoldsAfterWord, Notation, SayItems, SaysInside, bytes_notation, flag_notation, holding, items_text, list_notation, number, optional, pair, string}
+use Rattle.frame_values.specs.Notation.{HoldsAfterWord, Notation, SayItems, SaysInside, bytes_notation, flag_notation, holding, items_text, list_notation, number, optional, pair, string}
 use Rattle.line_laws.proofs.Closed.{EndsTight, IsClosed, IsWord, begins_before, closed_append, closed_byte, closed_none, ends_after, in_round, in_square, kept_after, piece_of, plain_word, word_append, word_item}
 use Rattle.line_laws.proofs.Joined.{are_pieces, are_words, bors, decimal_word, each_after, nothing_trimmed, tight_after_blank, tight_trimmed}
 use Rattle.line_laws.proofs.Quoted.{quoted_word}

@@ -12,8 +12,8 @@ use Rattle.vm_types.specs.declared.options.JournalReplay.{JournalReplay}
 use Rattle.vm_types.specs.declared.options.JournalReplay.TheVariants as replay
 use Rattle.vm_types.specs.declared.options.NonDeterministicChecksOption.{NonDeterministicChecksOption}
 use Rattle.vm_types.specs.declared.options.NonDeterministicChecksOption.TheVariants as checks
-use Rattle.vm_types.specs.declared.options.SignalDelivery.{SignalDelivery}
-use Rattle.vm_types.specs.declared.options.SignalDelivery.TheVariants as delivery
+use Rattle.journal_protocol.specs.SignalDelivery.{SignalDelivery}
+use Rattle.journal_protocol.specs.SignalDelivery.TheVariants as delivery
 use Rattle.line_parts.specs.VmOptions.{IsAwaitingPolicy, IsCancel, IsChecks, IsDelivery, IsMismatch, IsReplay}
 
 pub no_cancel : (text : List ℕ) (fault : Fault) → text ≢ codes "calls" → text ≢ codes "none" → text ≢ codes "sends" → text ≢ codes "both" → text ≢ codes "off" → Blames (IsCancel text) fault

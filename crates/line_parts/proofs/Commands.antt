@@ -9,10 +9,10 @@ use Rattle.lines.specs.Pieces.{AreWordsWithin}
 use Rattle.lines.specs.Readings.{Blames}
 use Rattle.lines.proofs.Once.{words_within_once}
 use Rattle.line_parts.specs.Reports.{AreTypeAndName, IsCommandText, IsCommandAt, IsCommandName, IsType, command_type_name}
-use Rattle.line_parts.specs.Words.{IsNumberOf, text_at}
+use Rattle.lines.specs.Words.{IsNumberOf, text_at}
 use Rattle.line_parts.proofs.Finding.{none_named}
 use Rattle.line_parts.proofs.Pairs.{same_at, same_length}
-use Rattle.line_parts.proofs.Places.{word_at}
+use Rattle.lines.proofs.Places.{word_at}
 
 -- the types of commands
 abbrev pub types : List CommandType

@@ -8,7 +8,7 @@ use Rattle.lines.specs.Readings.{Blames}
 use Rattle.vm_types.specs.declared.values.NonEmptyValue.{NonEmptyValue}
 use Rattle.vm_types.specs.declared.values.NonEmptyValue.TheVariants as value
 use Rattle.line_parts.specs.Values.{ArePairs, IsFailure, IsValueBehind}
-use Rattle.line_parts.specs.Words.{IsNumberOf, IsOneAtom, text_at}
+use Rattle.lines.specs.Words.{IsNumberOf, IsOneAtom, text_at}
 
 pub code_blamed : (words : List (Bor (List ℕ))) (fault : Fault) → Blames (IsNumberOf 16 (text_at 0 words)) fault → Blames (IsFailure words) fault
 code_blamed words fault blames = record { nothing = λ bad failure is. blames.nothing bad failure.code is.first.0 }

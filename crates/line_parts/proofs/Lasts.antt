@@ -3,7 +3,7 @@ use Rattle.std.proofs.Common.{◌≡◌, ◌-◌, ◌++◌, ℕ, Bool, true, fal
 use Rattle.std.proofs.Math.Seq.{take-append_seam}
 use Rattle.std.specs.Borrow.{Bor}
 use Rattle.line_parts.specs.Values.{but_last, last_is}
-use Rattle.line_parts.specs.Words.{text_at}
+use Rattle.lines.specs.Words.{text_at}
 
 at_end : (front : List (Bor (List ℕ))) (last : Bor (List ℕ)) → text_at (length front) (front ++ last ∷ []) ≡ last.now
 at_end [] last = refl

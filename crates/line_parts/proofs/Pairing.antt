@@ -2,16 +2,10 @@
 use Rattle.std.proofs.Common.{◌≡◌, ◌<◌, ◌+◌, ◌++◌, ℕ, List, [], ◌∷◌, length, take, get_or, sym, subst}
 use Rattle.std.proofs.lemmas.List.{take_more}
 use Rattle.std.specs.Borrow.{Bor}
-use Rattle.std.specs.List.{AllZip}
 use Rattle.journal_protocol.specs.Header.{Header}
+use Rattle.lines.proofs.Growing.{zip_push}
 use Rattle.line_parts.specs.Targets.{AreHeaders}
 use Rattle.line_parts.specs.Values.{ArePairs, IsPair}
-
-pub zip_push : {A B : Type 0} (R : A → B → Type 0) (xs : List A) (ys : List B) (x : A) (y : B) → AllZip R xs ys → R x y → AllZip R (xs ++ x ∷ []) (ys ++ y ∷ [])
-zip_push R [] [] x y all more = (more, tt)
-zip_push R [] (b ∷ ys) x y all more = absurd all
-zip_push R (a ∷ xs) [] x y all more = absurd all
-zip_push R (a ∷ xs) (b ∷ ys) x y all more = (all.0, zip_push R xs ys x y all.1 more)
 
 -- one word more that is a pair
 pub pairs_more : (words : List (Bor (List ℕ))) (i : ℕ) (d : Bor (List ℕ)) (pairs after : List (List ℕ × List ℕ)) (pair : List ℕ × List ℕ) → i < length words → ArePairs (take i words) pairs → IsPair (get_or words i d).now pair

@@ -8,11 +8,11 @@ use Rattle.lines.specs.Pieces.{AreWordsWithin}
 use Rattle.lines.specs.Readings.{Blames}
 use Rattle.lines.proofs.Once.{Same, words_within_once}
 use Rattle.journal_protocol.specs.Header.{Header}
-use Rattle.line_parts.specs.Fields.{text_behind, texts_named}
+use Rattle.lines.specs.Fields.{text_behind, texts_named}
 use Rattle.line_parts.specs.Targets.{AreHeaders}
 use Rattle.line_parts.specs.Values.{ArePairs, IsPair}
-use Rattle.line_parts.specs.Words.{AreTwoTexts, text_at}
-use Rattle.line_parts.proofs.Places.{word_at}
+use Rattle.lines.specs.Words.{AreTwoTexts, text_at}
+use Rattle.lines.proofs.Places.{word_at}
 
 -- words that are the same as texts
 pub same_length : (ws vs : List (Bor (List ℕ))) → Same ws vs → length ws ≡ length vs

@@ -4,16 +4,17 @@ use Rattle.std.specs.Borrow.{Bor}
 use Rattle.plain.specs.declared.fault.Fault.{Fault}
 use Rattle.plain.specs.declared.fault.Fault.TheVariants.{Malformed}
 use Rattle.retries.specs.declared.policy.RetryPolicy.TheVariants as policy
-use Rattle.runs.specs.declared.types.RunExitResult.{RunExitResult}
-use Rattle.runs.specs.declared.types.RunExitResult.TheVariants as exit
+use Rattle.vm_types.specs.declared.runs.RunExitResult.{RunExitResult}
+use Rattle.vm_types.specs.declared.runs.RunExitResult.TheVariants as exit
 use Rattle.vm_types.specs.declared.values.NonEmptyValue.TheVariants as value
 use Rattle.lines.specs.Readings.{Blames}
-use Rattle.line_parts.specs.Fields.{IsSet, are_named, texts_named}
+use Rattle.lines.specs.Fields.{IsSet, are_named, texts_named}
 use Rattle.line_parts.specs.Policies.{IsPolicy}
 use Rattle.line_parts.specs.Reports.{IsError}
 use Rattle.line_parts.specs.Results.{IsProposal, IsResult, IsRetryable, is_policy, retryable_names}
-use Rattle.line_parts.specs.Values.{IsTime, IsValue, but_last, last_is}
-use Rattle.line_parts.specs.Words.{IsNumberOf, words_after_first, text_at}
+use Rattle.lines.specs.Durations.{IsTime}
+use Rattle.line_parts.specs.Values.{IsValue, but_last, last_is}
+use Rattle.lines.specs.Words.{IsNumberOf, words_after_first, text_at}
 
 pub duration_blamed : (words : List (Bor (List ℕ))) (fault : Fault) → Blames (IsTime (text_at 0 words)) fault → Blames (IsRetryable words) fault
 duration_blamed words fault blames = record { nothing = λ bad failed is. blames.nothing bad failed.0 is.duration }

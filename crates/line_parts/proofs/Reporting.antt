@@ -9,10 +9,10 @@ use Rattle.vm_types.specs.declared.command_type.CommandRelationship.{CommandRela
 use Rattle.vm_types.specs.declared.command_type.CommandRelationship.TheVariants as relationship
 use Rattle.lines.specs.Atoms.{IsText}
 use Rattle.lines.specs.Readings.{Blames}
-use Rattle.line_parts.specs.Fields.{IsOptional, are_named, text_behind, texts_named}
+use Rattle.lines.specs.Fields.{IsOptional, are_named, text_behind, texts_named}
 use Rattle.line_parts.specs.Reports.{AreDetails, IsBehavior, IsCommandText, IsCommandAt, IsCommandName, IsError, IsRelated, IsRelatedAlone, IsReport, error_names}
-use Rattle.line_parts.specs.Words.{IsNumberOf, text_at}
-use Rattle.line_parts.proofs.Naming.{begins_so, otherwise, same_text}
+use Rattle.lines.specs.Words.{IsNumberOf, text_at}
+use Rattle.lines.proofs.Naming.{begins_so, otherwise, same_text}
 
 pub no_behavior : (text : List ℕ) (fault : Fault) → text ≢ codes "retry" → text ≢ codes "pause" → text ≢ codes "fail" → Blames (IsBehavior text) fault
 no_behavior text fault r p f = record { nothing = λ bad it is. go it is }

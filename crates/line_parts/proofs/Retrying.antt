@@ -11,12 +11,14 @@ use Rattle.lines.specs.Readings.{Blames}
 use Rattle.lines.proofs.Once.{Same, words_within_once}
 use Rattle.line_parts.specs.declared.policies.Bounds.{Bounds}
 use Rattle.line_parts.specs.declared.policies.Growth.{Growth}
-use Rattle.line_parts.specs.Fields.{IsOptional, IsRequired, are_named, text_behind, texts_named}
+use Rattle.lines.specs.Fields.{IsOptional, IsRequired, are_named, text_behind, texts_named}
 use Rattle.line_parts.specs.Policies.{AreBounds, AreGrowth, IsExponential, IsFixed, IsFraction, IsPolicy, exponential_names, fixed_names, is_slash}
-use Rattle.line_parts.specs.Values.{HasFlag, IsTime, words_without}
-use Rattle.line_parts.specs.Words.{IsNumberOf}
-use Rattle.line_parts.proofs.Naming.{begins_so, otherwise, same_text}
-use Rattle.line_parts.proofs.Sames.{flag_same, named_same, texts_same, without_same}
+use Rattle.line_parts.specs.Values.{HasFlag, words_without}
+use Rattle.lines.specs.Durations.{IsTime}
+use Rattle.lines.specs.Words.{IsNumberOf}
+use Rattle.lines.proofs.Naming.{begins_so, otherwise, same_text}
+use Rattle.line_parts.proofs.Flags.{flag_same, without_same}
+use Rattle.lines.proofs.Sames.{named_same, texts_same}
 
 -- ---- fractions
 

@@ -7,7 +7,7 @@ use Rattle.journal_protocol.specs.InvocationTarget.{InvocationTarget}
 use Rattle.journal_protocol.specs.InvocationTarget.TheVariants as target
 use Rattle.lines.specs.Readings.{Blames}
 use Rattle.line_parts.specs.Targets.{HasKeyAndScope, IsCallOf, IsWorkflow, NamesBehind}
-use Rattle.line_parts.specs.Words.{AreThreeTexts, AreTwoTexts, IsOneText}
+use Rattle.lines.specs.Words.{AreThreeTexts, AreTwoTexts, IsOneText}
 
 pub workflow_texts_blamed : (words : List (Bor (List ℕ))) (fault : Fault) → Blames (AreTwoTexts words) fault → Blames (IsWorkflow words) fault
 workflow_texts_blamed words fault blames = record { nothing = λ bad workflow is. blames.nothing bad (workflow.name, workflow.key) is.texts }

@@ -15,7 +15,7 @@ use Rattle.await_trees.specs.declared.tree.UnresolvedFuture.{UnresolvedFuture}
 use Rattle.lines.specs.Readings.{Blames}
 use Rattle.line_parts.specs.OpenNodes.{ClosesNodes, GoesOn, behind_word, is_break, word_of}
 use Rattle.line_parts.specs.Trees.{IsKind, SpellsClosely, SpellsTree, SpellsForest, kind_name}
-use Rattle.line_parts.specs.Words.{IsNumberOf}
+use Rattle.lines.specs.Words.{IsNumberOf}
 
 -- ---- words and breaks
 

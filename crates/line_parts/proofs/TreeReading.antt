@@ -11,7 +11,7 @@ use Rattle.await_trees.specs.declared.tree.UnresolvedFuture.{UnresolvedFuture}
 use Rattle.await_trees.specs.declared.tree.UnresolvedFuture.TheVariants.{Single}
 use Rattle.line_parts.specs.Trees.{SpellsTree, SpellsForest, kind_name}
 use Rattle.line_parts.specs.OpenNodes.{AreFollowed, Begins, Begin, StandsAt}
-use Rattle.line_parts.specs.Words.{IsNumberOf}
+use Rattle.lines.specs.Words.{IsNumberOf}
 use Rattle.line_parts.specs.declared.trees.OpenNode.{OpenNode}
 
 -- the tree of a node over children

@@ -1,5 +1,4 @@
-pub mod Durations
-pub mod Fields
+pub mod Handles
 pub mod OpenNodes
 pub mod Policies
 pub mod Reports
@@ -8,4 +7,3 @@ pub mod Targets
 pub mod Trees
 pub mod Values
 pub mod VmOptions
-pub mod Words

@@ -8,9 +8,10 @@ use Rattle.retries.specs.declared.policy.RetryPolicy.TheVariants as policy
 use Rattle.lines.specs.Pieces.{AreWordsWithin}
 use Rattle.line_parts.specs.declared.policies.Bounds.{Bounds}
 use Rattle.line_parts.specs.declared.policies.Growth.{Growth}
-use Rattle.line_parts.specs.Fields.{IsOptional, IsRequired, are_named, text_behind, texts_named}
-use Rattle.line_parts.specs.Values.{HasFlag, IsTime, words_without}
-use Rattle.line_parts.specs.Words.{IsNumberOf}
+use Rattle.lines.specs.Fields.{IsOptional, IsRequired, are_named, text_behind, texts_named}
+use Rattle.line_parts.specs.Values.{HasFlag, words_without}
+use Rattle.lines.specs.Durations.{IsTime}
+use Rattle.lines.specs.Words.{IsNumberOf}
 
 abbrev pub is_slash : ℕ → Bool
 is_slash b = b == 47

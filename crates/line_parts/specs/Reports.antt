@@ -15,9 +15,10 @@ use Rattle.std.specs.Borrow.{Bor}
 use Rattle.lines.specs.Atoms.{IsText}
 use Rattle.lines.specs.Pieces.{AreWordsWithin}
 use Rattle.line_parts.specs.declared.report.Details.{Details}
-use Rattle.line_parts.specs.Fields.{IsOptional, IsSet, are_named, text_behind, texts_named}
-use Rattle.line_parts.specs.Values.{HasCodeAndText, IsTime}
-use Rattle.line_parts.specs.Words.{IsNumberOf, text_at}
+use Rattle.lines.specs.Fields.{IsOptional, IsSet, are_named, text_behind, texts_named}
+use Rattle.line_parts.specs.Values.{HasCodeAndText}
+use Rattle.lines.specs.Durations.{IsTime}
+use Rattle.lines.specs.Words.{IsNumberOf, text_at}
 
 -- what is to be done after an error
 abbrev pub behavior_name : ErrorBehavior → List ℕ

@@ -4,16 +4,17 @@ use Rattle.std.specs.Borrow.{Bor}
 use Rattle.std.specs.declared.time.Duration.{Duration}
 use Rattle.journal_protocol.specs.Error.{Error}
 use Rattle.retries.specs.declared.policy.RetryPolicy.TheVariants as policy
-use Rattle.runs.specs.declared.types.RunExitResult.{RunExitResult}
-use Rattle.runs.specs.declared.types.RunExitResult.TheVariants as exit
+use Rattle.vm_types.specs.declared.runs.RunExitResult.{RunExitResult}
+use Rattle.vm_types.specs.declared.runs.RunExitResult.TheVariants as exit
 use Rattle.vm_types.specs.declared.values.NonEmptyValue.{NonEmptyValue}
 use Rattle.vm_types.specs.declared.values.NonEmptyValue.TheVariants as value
 use Rattle.line_parts.specs.declared.results.Proposal.{Proposal}
-use Rattle.line_parts.specs.Fields.{IsSet, are_named, is_named, texts_named}
+use Rattle.lines.specs.Fields.{IsSet, are_named, is_named, texts_named}
 use Rattle.line_parts.specs.Policies.{IsPolicy}
 use Rattle.line_parts.specs.Reports.{IsError}
-use Rattle.line_parts.specs.Values.{IsTime, IsValue, but_last}
-use Rattle.line_parts.specs.Words.{IsNumberOf, words_after_first, text_at}
+use Rattle.lines.specs.Durations.{IsTime}
+use Rattle.line_parts.specs.Values.{IsValue, but_last}
+use Rattle.lines.specs.Words.{IsNumberOf, words_after_first, text_at}
 
 -- whether a word names a policy
 abbrev pub is_policy : List ℕ → Bool

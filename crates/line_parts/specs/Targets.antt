@@ -11,9 +11,10 @@ use Rattle.journal_protocol.specs.Header.{Header}
 use Rattle.lines.specs.Atoms.{IsText}
 use Rattle.vm_types.specs.declared.options.PayloadOptions.{PayloadOptions}
 use Rattle.vm_types.specs.declared.values.Target.{Target}
-use Rattle.line_parts.specs.Fields.{IsOptional, are_named, texts_named}
-use Rattle.line_parts.specs.Values.{HasFlag, IsPair, IsTime, words_without}
-use Rattle.line_parts.specs.Words.{AreThreeTexts, AreTwoTexts, IsOneText, words_after_first, text_at}
+use Rattle.lines.specs.Fields.{IsOptional, are_named, texts_named}
+use Rattle.line_parts.specs.Values.{HasFlag, IsPair, words_without}
+use Rattle.lines.specs.Durations.{IsTime}
+use Rattle.lines.specs.Words.{AreThreeTexts, AreTwoTexts, IsOneText, words_after_first, text_at}
 
 -- texts that are these headers
 abbrev pub AreHeaders : List (List ℕ) → List Header → Type 0

@@ -6,7 +6,7 @@ use Rattle.journal_protocol.specs.FutureKind.{FutureKind}
 use Rattle.journal_protocol.specs.FutureKind.TheVariants.{FirstCompleted, AllCompleted, FirstSucceededOrAllFailed, AllSucceededOrFirstFailed, Unknown}
 use Rattle.await_trees.specs.Tree.{Tree, Forest, leaf, node, none, more, tree_of}
 use Rattle.await_trees.specs.declared.tree.UnresolvedFuture.{UnresolvedFuture}
-use Rattle.line_parts.specs.Words.{IsNumberOf}
+use Rattle.lines.specs.Words.{IsNumberOf}
 
 -- ( and ) and a comma
 abbrev pub opening : ℕ

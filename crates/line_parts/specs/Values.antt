@@ -1,20 +1,19 @@
 -- Values, pairs, and the options after a call's arguments.
-use Rattle.std.specs.Prelude.{◌≡◌, ◌≤◌, ◌-◌, ℕ, Bool, true, not, if◌then◌else◌, List, [], ◌∷◌, length, drop, take, Option, codes, filter, nat_eq}
+use Rattle.std.specs.Prelude.{◌≡◌, ◌-◌, ℕ, Bool, true, not, if◌then◌else◌, List, [], ◌∷◌, length, drop, take, Option, codes, filter, nat_eq}
 use Rattle.std.specs.Borrow.{Bor}
 use Rattle.std.specs.Cmp.Lexicographic.{pointwise}
-use Rattle.std.specs.Duration.{as_nanos, max_nanos}
 use Rattle.std.specs.List.{AllZip}
 use Rattle.std.specs.declared.time.Duration.{Duration}
 use Rattle.lines.specs.Atoms.{IsText}
+use Rattle.lines.specs.Durations.{IsTime}
 use Rattle.lines.specs.Pieces.{AreWordsWithin}
 use Rattle.vm_types.specs.declared.options.PayloadOptions.{PayloadOptions}
 use Rattle.vm_types.specs.declared.values.NonEmptyValue.{NonEmptyValue}
 use Rattle.vm_types.specs.declared.values.NonEmptyValue.TheVariants as value
 use Rattle.vm_types.specs.declared.values.TerminalFailure.{TerminalFailure}
 use Rattle.line_parts.specs.declared.arguments.Extras.{Extras}
-use Rattle.line_parts.specs.Durations.{IsDuration}
-use Rattle.line_parts.specs.Fields.{IsOptional, are_named, texts_named}
-use Rattle.line_parts.specs.Words.{IsNumberOf, IsOneAtom, words_after_first, text_at}
+use Rattle.lines.specs.Fields.{IsOptional, are_named, texts_named}
+use Rattle.lines.specs.Words.{IsNumberOf, IsOneAtom, words_after_first, text_at}
 
 -- two texts in braces
 pub record IsPair (text : List ℕ) (pair : List ℕ × List ℕ) : Type 0 where
@@ -77,10 +76,6 @@ words_without flag words = filter (λ word. not (is_flag flag word)) words
 -- whether this word stands there, which it may once
 abbrev pub HasFlag : List ℕ → List (Bor (List ℕ)) → Bool → Type 0
 HasFlag flag words stands = length (filter (is_flag flag) words) ≡ (if stands then 1 else 0)
-
--- a duration since the epoch
-abbrev pub IsTime : List ℕ → Duration → Type 0
-IsTime text time = IsDuration text (as_nanos time) × (as_nanos time ≤ max_nanos)
 
 -- `[name=T]` alone
 pub record HasName (words : List (Bor (List ℕ))) (name : Option (List ℕ)) : Type 0 where

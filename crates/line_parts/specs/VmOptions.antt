@@ -13,10 +13,10 @@ use Rattle.vm_types.specs.declared.options.JournalReplay.{JournalReplay}
 use Rattle.vm_types.specs.declared.options.JournalReplay.TheVariants as replay
 use Rattle.vm_types.specs.declared.options.NonDeterministicChecksOption.{NonDeterministicChecksOption}
 use Rattle.vm_types.specs.declared.options.NonDeterministicChecksOption.TheVariants as checks
-use Rattle.vm_types.specs.declared.options.SignalDelivery.{SignalDelivery}
-use Rattle.vm_types.specs.declared.options.SignalDelivery.TheVariants as delivery
-use Rattle.line_parts.specs.Fields.{IsSet, are_named, texts_named}
-use Rattle.line_parts.specs.Words.{IsNumberOf}
+use Rattle.journal_protocol.specs.SignalDelivery.{SignalDelivery}
+use Rattle.journal_protocol.specs.SignalDelivery.TheVariants as delivery
+use Rattle.lines.specs.Fields.{IsSet, are_named, texts_named}
+use Rattle.lines.specs.Words.{IsNumberOf}
 
 -- which children the cancel signal cancels too
 abbrev pub cancel_word : ImplicitCancellationOption → List ℕ

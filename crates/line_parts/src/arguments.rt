@@ -2,18 +2,23 @@
 ghost use Rattle.std.specs.Prelude.{◌≡◌, codes, drop, IfErr, IfOk};
 ghost use Rattle.lines.specs.Atoms.{IsText};
 ghost use Rattle.lines.specs.Readings.{Blames};
-ghost use Rattle.line_parts.specs.Fields.{IsOptional, texts_named};
-ghost use Rattle.line_parts.specs.Values.{HasExtras, HasFlag, HasName, HasNow, IsTime, words_without};
-ghost use Rattle.line_parts.specs.Words.{AreThreeTexts, AreTwoTexts, IsEphemeralId, IsHandle, IsOneAtom, IsOneText};
+ghost use Rattle.lines.specs.Fields.{IsOptional, texts_named};
+ghost use Rattle.line_parts.specs.Values.{HasExtras, HasFlag, HasName, HasNow, words_without};
+ghost use Rattle.lines.specs.Durations.{IsTime};
+ghost use Rattle.lines.specs.Words.{AreThreeTexts, AreTwoTexts, IsOneAtom, IsOneText};
+ghost use Rattle.line_parts.specs.Handles.{IsEphemeralId, IsHandle};
 
-use crate::atoms::{duration_of, ephemeral_id_of, handle_of, shared_of, text_of};
-use crate::fields::{are_named, field_of};
-use crate::words::{behind, text_in};
+use crate::handles::{ephemeral_id_of, handle_of};
+use await_trees::NotificationHandle;
 use bytes::Bytes;
+use lines::atoms::{shared_of, text_of};
+use lines::durations::duration_of;
+use lines::fields::{are_named, field_of};
+use lines::words::{behind, text_in};
 use plain::{Fault, Text};
 use std::alloc::{AllocError, Global};
 use std::time::Duration;
-use vm_parts::{EphemeralCompletionId, NotificationHandle, PayloadOptions};
+use vm_types::{EphemeralCompletionId, PayloadOptions};
 
 /// The options after a command's arguments.
 #[derive(Drop)]
@@ -23,7 +28,7 @@ pub struct Extras {
 }
 
 /// Whether a word stands there, which may stand once.
-#[tactic(auto, using(crate::proofs::Missing::twice_blamed))]
+#[tactic(auto, using(crate::proofs::Flags::twice_blamed))]
 fn stands_once(words: &[&[u8]], flag: &str) -> Result<bool, Fault>
     ensures flag { IfOk result (HasFlag flag.now words.now) }
     ensures none { IfErr result (Blames (HasFlag flag.now words.now)) }
@@ -87,7 +92,7 @@ pub fn without_unstable<'a>(
 }
 
 /// `[NAME=T]`, among other words.
-#[tactic(auto, using(crate::proofs::Missing::optional_blamed))]
+#[tactic(auto, using(lines::proofs::Missing::optional_blamed))]
 pub fn optional_text(alloc: Global, words: &[&[u8]], name: &str) -> Result<Option<Text>, Fault>
     ensures value { IfOk result (IsOptional IsText (texts_named name.now words.now)) }
     ensures none { IfErr result (Blames (IsOptional IsText (texts_named name.now words.now))) }
@@ -178,7 +183,7 @@ pub fn ephemeral_id_alone(arguments: &[&[u8]]) -> Result<EphemeralCompletionId, 
 }
 
 /// `T` alone.
-#[tactic(auto, using(crate::proofs::Missing::one_text_blamed))]
+#[tactic(auto, using(lines::proofs::Missing::one_text_blamed))]
 pub fn text_alone(alloc: Global, arguments: &[&[u8]]) -> Result<Text, Fault>
     ensures value { IfOk result (IsOneText arguments.now) }
     ensures none { IfErr result (Blames (IsOneText arguments.now)) }
@@ -191,7 +196,7 @@ pub fn text_alone(alloc: Global, arguments: &[&[u8]]) -> Result<Text, Fault>
 }
 
 /// `T T`, and the words after them.
-#[tactic(auto, using(crate::proofs::Missing::first_of_two, crate::proofs::Missing::second_of_two))]
+#[tactic(auto, using(lines::proofs::Missing::first_of_two, lines::proofs::Missing::second_of_two))]
 pub fn two_texts<'w, 'a>(
     alloc: Global,
     words: &'w [&'a [u8]],
@@ -211,7 +216,7 @@ pub fn two_texts<'w, 'a>(
 }
 
 /// `T T T`, and the words after them.
-#[tactic(auto, using(crate::proofs::Missing::first_of_three, crate::proofs::Missing::others_of_three, crate::proofs::Places::three_texts_are, crate::proofs::Places::drop_two_more))]
+#[tactic(auto, using(lines::proofs::Missing::first_of_three, lines::proofs::Missing::others_of_three, lines::proofs::Places::three_texts_are, lines::proofs::Places::drop_two_more))]
 pub fn three_texts<'w, 'a>(
     alloc: Global,
     words: &'w [&'a [u8]],

@@ -3,8 +3,7 @@
 #![tactic(auto)]
 
 pub mod arguments;
-pub mod atoms;
-pub mod fields;
+pub mod handles;
 pub mod options;
 pub mod policies;
 pub mod report;
@@ -12,4 +11,3 @@ pub mod results;
 pub mod targets;
 pub mod trees;
 pub mod values;
-pub mod words;

@@ -3,16 +3,17 @@ ghost use Rattle.std.specs.Prelude.{◌≡◌, IfErr, IfOk, codes};
 ghost use Rattle.lines.specs.Readings.{Blames};
 ghost use Rattle.vm_types.specs.Options.{default_options};
 ghost use Rattle.vm_types.specs.declared.options.ImplicitCancellationOption.TheVariants as cancellation;
-ghost use Rattle.line_parts.specs.Fields.{IsSet, are_named, texts_named};
-ghost use Rattle.line_parts.specs.Words.{IsNumberOf};
+ghost use Rattle.lines.specs.Fields.{IsSet, are_named, texts_named};
+ghost use Rattle.lines.specs.Words.{IsNumberOf};
 ghost use Rattle.line_parts.specs.VmOptions.{AreOptions, ArePolicies, IsAwaitingPolicy, IsCancel, IsChecks, IsDelivery, IsMismatch, IsReplay, option_names};
 
-use crate::atoms::u64_of;
-use crate::fields::{are_named, field_of};
+use journal_protocol::SignalDelivery;
+use lines::atoms::u64_of;
+use lines::fields::{are_named, field_of};
 use plain::Fault;
-use vm_parts::{
+use vm_types::{
     AwaitingOnPolicy, ImplicitCancellationOption, JournalMismatchRetryBehavior, JournalReplay,
-    NonDeterministicChecksOption, SignalDelivery, VMOptions,
+    NonDeterministicChecksOption, VMOptions,
 };
 
 /// The built-in cancel signal ends awaits, and cancels these children too.
@@ -50,7 +51,7 @@ fn cancellation_of(text: &[u8]) -> Result<ImplicitCancellationOption, Fault>
 }
 
 /// `[cancel=..]`, among other words.
-#[tactic(auto, using(crate::proofs::Missing::set_blamed, crate::proofs::Missing::twice_set))]
+#[tactic(auto, using(lines::proofs::Missing::set_blamed, lines::proofs::Missing::twice_set))]
 fn cancellation_in(words: &[&[u8]]) -> Result<ImplicitCancellationOption, Fault>
     ensures value { IfOk result
         (IsSet IsCancel default_options.implicit_cancellation
@@ -82,7 +83,7 @@ fn checks_of(text: &[u8]) -> Result<NonDeterministicChecksOption, Fault>
 }
 
 /// `[checks=..]`, among other words.
-#[tactic(auto, using(crate::proofs::Missing::set_blamed, crate::proofs::Missing::twice_set))]
+#[tactic(auto, using(lines::proofs::Missing::set_blamed, lines::proofs::Missing::twice_set))]
 fn checks_in(words: &[&[u8]]) -> Result<NonDeterministicChecksOption, Fault>
     ensures value { IfOk result
         (IsSet IsChecks default_options.non_determinism_checks
@@ -117,7 +118,7 @@ fn awaiting_of(text: &[u8]) -> Result<AwaitingOnPolicy, Fault>
 }
 
 /// `[awaiting=..]`, among other words.
-#[tactic(auto, using(crate::proofs::Missing::set_blamed, crate::proofs::Missing::twice_set))]
+#[tactic(auto, using(lines::proofs::Missing::set_blamed, lines::proofs::Missing::twice_set))]
 fn awaiting_in(words: &[&[u8]]) -> Result<AwaitingOnPolicy, Fault>
     ensures value { IfOk result
         (IsSet IsAwaitingPolicy default_options.awaiting_on_policy
@@ -152,7 +153,7 @@ fn mismatch_of(text: &[u8]) -> Result<JournalMismatchRetryBehavior, Fault>
 }
 
 /// `[mismatch=..]`, among other words.
-#[tactic(auto, using(crate::proofs::Missing::set_blamed, crate::proofs::Missing::twice_set))]
+#[tactic(auto, using(lines::proofs::Missing::set_blamed, lines::proofs::Missing::twice_set))]
 fn mismatch_in(words: &[&[u8]]) -> Result<JournalMismatchRetryBehavior, Fault>
     ensures value { IfOk result
         (IsSet IsMismatch default_options.journal_mismatch_retry_behavior
@@ -184,7 +185,7 @@ fn replay_of(text: &[u8]) -> Result<JournalReplay, Fault>
 }
 
 /// `[replay=..]`, among other words.
-#[tactic(auto, using(crate::proofs::Missing::set_blamed, crate::proofs::Missing::twice_set))]
+#[tactic(auto, using(lines::proofs::Missing::set_blamed, lines::proofs::Missing::twice_set))]
 fn replay_in(words: &[&[u8]]) -> Result<JournalReplay, Fault>
     ensures value { IfOk result
         (IsSet IsReplay default_options.journal_replay (texts_named (codes "replay=") words.now)) }
@@ -215,7 +216,7 @@ fn delivery_of(text: &[u8]) -> Result<SignalDelivery, Fault>
 }
 
 /// `[delivery=..]`, among other words.
-#[tactic(auto, using(crate::proofs::Missing::set_blamed, crate::proofs::Missing::twice_set))]
+#[tactic(auto, using(lines::proofs::Missing::set_blamed, lines::proofs::Missing::twice_set))]
 fn delivery_in(words: &[&[u8]]) -> Result<SignalDelivery, Fault>
     ensures value { IfOk result
         (IsSet IsDelivery default_options.signal_delivery
@@ -232,7 +233,7 @@ fn delivery_in(words: &[&[u8]]) -> Result<SignalDelivery, Fault>
 }
 
 /// `[seed=N]`, by default 0.
-#[tactic(auto, using(crate::proofs::Missing::set_blamed, crate::proofs::Missing::twice_set))]
+#[tactic(auto, using(lines::proofs::Missing::set_blamed, lines::proofs::Missing::twice_set))]
 pub fn seed_in(words: &[&[u8]]) -> Result<u64, Fault>
     ensures value { IfOk result (IsSet (IsNumberOf 64) 0 (texts_named (codes "seed=") words.now)) }
     ensures none { IfErr result

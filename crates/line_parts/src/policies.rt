@@ -3,14 +3,16 @@ ghost use Rattle.std.specs.Prelude.{◌≡◌, ◌<◌, ◌==◌, codes, length,
 ghost use Rattle.retries.specs.Policies.{is_pause};
 ghost use Rattle.retries.specs.declared.policy.RetryPolicy.TheVariants as policy;
 ghost use Rattle.lines.specs.Readings.{Blames};
-ghost use Rattle.line_parts.specs.Fields.{IsOptional, IsRequired, IsSet, are_named, texts_named};
+ghost use Rattle.lines.specs.Fields.{IsOptional, IsRequired, IsSet, are_named, texts_named};
 ghost use Rattle.line_parts.specs.Policies.{AreBounds, AreGrowth, IsExponential, IsFixed, IsFraction, IsPolicy, exponential_names, fixed_names, is_slash};
-ghost use Rattle.line_parts.specs.Values.{IsTime, words_without};
-ghost use Rattle.line_parts.specs.Words.{IsNumberOf};
+ghost use Rattle.lines.specs.Durations.{IsTime};
+ghost use Rattle.line_parts.specs.Values.{words_without};
+ghost use Rattle.lines.specs.Words.{IsNumberOf};
 
 use crate::arguments::{optional_duration, without_flag};
-use crate::atoms::{duration_of, u32_of};
-use crate::fields::{are_named, field_of, text_behind};
+use lines::atoms::u32_of;
+use lines::durations::duration_of;
+use lines::fields::{are_named, field_of, text_behind};
 use lines::pieces::words_within;
 use plain::Fault;
 use retries::{Fraction, OnMaxAttempts, RetryPolicy};
@@ -57,7 +59,7 @@ fn fraction_of(text: &[u8]) -> Result<Fraction, Fault>
 }
 
 /// `[attempts=N]`, among other words.
-#[tactic(auto, using(crate::proofs::Missing::optional_blamed))]
+#[tactic(auto, using(lines::proofs::Missing::optional_blamed))]
 fn attempts_in(words: &[&[u8]]) -> Result<Option<u32>, Fault>
     ensures value { IfOk result
         (IsOptional (IsNumberOf 32) (texts_named (codes "attempts=") words.now)) }
@@ -75,7 +77,7 @@ fn attempts_in(words: &[&[u8]]) -> Result<Option<u32>, Fault>
 }
 
 /// `initial=D`, among other words.
-#[tactic(auto, using(crate::proofs::Missing::required_blamed, crate::proofs::Missing::required_twice, crate::proofs::Missing::required_missing))]
+#[tactic(auto, using(lines::proofs::Missing::required_blamed, lines::proofs::Missing::required_twice, lines::proofs::Missing::required_missing))]
 fn initial_in(words: &[&[u8]]) -> Result<Duration, Fault>
     ensures value { IfOk result (IsRequired IsTime (texts_named (codes "initial=") words.now)) }
     ensures none { IfErr result
@@ -89,7 +91,7 @@ fn initial_in(words: &[&[u8]]) -> Result<Duration, Fault>
 }
 
 /// `factor=N/N`, among other words.
-#[tactic(auto, using(crate::proofs::Missing::required_blamed, crate::proofs::Missing::required_twice, crate::proofs::Missing::required_missing))]
+#[tactic(auto, using(lines::proofs::Missing::required_blamed, lines::proofs::Missing::required_twice, lines::proofs::Missing::required_missing))]
 fn factor_in(words: &[&[u8]]) -> Result<Fraction, Fault>
     ensures value { IfOk result (IsRequired IsFraction (texts_named (codes "factor=") words.now)) }
     ensures none { IfErr result
@@ -254,7 +256,7 @@ fn policy_of(alloc: Global, text: &[u8]) -> Result<RetryPolicy, Fault>
 }
 
 /// `[policy=P]`, among other words; by default `infinite`.
-#[tactic(auto, using(crate::proofs::Missing::set_blamed, crate::proofs::Missing::twice_set))]
+#[tactic(auto, using(lines::proofs::Missing::set_blamed, lines::proofs::Missing::twice_set))]
 pub fn policy_in(alloc: Global, words: &[&[u8]]) -> Result<RetryPolicy, Fault>
     ensures value { IfOk result
         (IsSet IsPolicy policy.Infinite (texts_named (codes "policy=") words.now)) }

@@ -3,20 +3,20 @@ ghost use Rattle.std.specs.Prelude.{◌≡◌, [], IfErr, IfOk, codes, string_by
 ghost use Rattle.journal_protocol.specs.ErrorBehavior.TheVariants as behavior;
 ghost use Rattle.lines.specs.Atoms.{IsText};
 ghost use Rattle.lines.specs.Readings.{Blames};
-ghost use Rattle.line_parts.specs.Fields.{IsOptional, IsSet, are_named, texts_named};
+ghost use Rattle.lines.specs.Fields.{IsOptional, IsSet, are_named, texts_named};
 ghost use Rattle.line_parts.specs.Reports.{AreDetails, AreTypeAndName, IsBehavior, IsCommandText, IsCommandAt, IsCommandName, IsError, IsRelated, IsRelatedAlone, IsReport, IsType, delay_or, error_names, reported, stack_or, command_type_name};
-ghost use Rattle.line_parts.specs.Values.{IsTime};
+ghost use Rattle.lines.specs.Durations.{IsTime};
 
 use crate::arguments::optional_duration;
-use crate::atoms::{string_of, text_of};
-use crate::fields::{are_named, field_of, text_behind};
-use crate::words::{behind, string_in, u16_in, u32_in};
 use journal_protocol::{Error, ErrorBehavior};
+use lines::atoms::{string_of, text_of};
+use lines::fields::{are_named, field_of, text_behind};
 use lines::pieces::words_within;
+use lines::words::{behind, string_in, u16_in, u32_in};
 use plain::{Fault, Text};
 use std::alloc::Global;
 use std::time::Duration;
-use vm_parts::{CommandRelationship, CommandType};
+use vm_types::{CommandRelationship, CommandType};
 
 /// The options of an error but the command that it relates to.
 #[derive(Drop)]
@@ -187,7 +187,7 @@ fn relationship_of(alloc: Global, text: &[u8]) -> Result<CommandRelationship, Fa
 }
 
 /// `[rel=R]`, among other words.
-#[tactic(auto, using(crate::proofs::Missing::optional_blamed))]
+#[tactic(auto, using(lines::proofs::Missing::optional_blamed))]
 fn related_in(alloc: Global, words: &[&[u8]]) -> Result<Option<CommandRelationship>, Fault>
     ensures value { IfOk result (IsOptional IsRelated (texts_named (codes "rel=") words.now)) }
     ensures none { IfErr result
@@ -204,7 +204,7 @@ fn related_in(alloc: Global, words: &[&[u8]]) -> Result<Option<CommandRelationsh
 }
 
 /// `[stack=T]`, among other words.
-#[tactic(auto, using(crate::proofs::Missing::set_blamed, crate::proofs::Missing::twice_set))]
+#[tactic(auto, using(lines::proofs::Missing::set_blamed, lines::proofs::Missing::twice_set))]
 fn stack_in(alloc: Global, words: &[&[u8]]) -> Result<Option<String>, Fault>
     ensures value { IfOk result
         (λ stack. IsSet IsText [] (texts_named (codes "stack=") words.now) (stack_or stack [])) }
@@ -222,7 +222,7 @@ fn stack_in(alloc: Global, words: &[&[u8]]) -> Result<Option<String>, Fault>
 }
 
 /// `[behaviour=..]`, among other words.
-#[tactic(auto, using(crate::proofs::Missing::set_blamed, crate::proofs::Missing::twice_set))]
+#[tactic(auto, using(lines::proofs::Missing::set_blamed, lines::proofs::Missing::twice_set))]
 fn behavior_in(words: &[&[u8]]) -> Result<ErrorBehavior, Fault>
     ensures value { IfOk result
         (IsSet IsBehavior behavior.Retry (texts_named (codes "behaviour=") words.now)) }

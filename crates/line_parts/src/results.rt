@@ -1,22 +1,22 @@
 //! The outcome of executing a run, as it is proposed: `H RESULT [policy=P]`.
 ghost use Rattle.std.specs.Prelude.{◌≡◌, IfErr, IfOk};
 ghost use Rattle.lines.specs.Readings.{Blames};
-ghost use Rattle.line_parts.specs.Fields.{are_named};
+ghost use Rattle.lines.specs.Fields.{are_named};
 ghost use Rattle.line_parts.specs.Results.{IsProposal, IsResult, IsRetryable, is_policy, retryable_names, exit_of_value};
 ghost use Rattle.line_parts.specs.Values.{but_last};
 
-use crate::fields::are_named;
 use crate::policies::policy_in;
 use crate::report::error_of;
 use crate::values::value_of;
-use crate::words::{behind, but_first, time_in, u32_in};
+use await_trees::NotificationHandle;
 use journal_protocol::Error;
+use lines::fields::are_named;
+use lines::words::{behind, but_first, time_in, u32_in};
 use plain::Fault;
 use retries::RetryPolicy;
-use runs::RunExitResult;
 use std::alloc::Global;
 use std::time::Duration;
-use vm_parts::{NonEmptyValue, NotificationHandle};
+use vm_types::{NonEmptyValue, RunExitResult};
 
 /// The result of a run, as it is proposed.
 #[derive(Drop)]

@@ -4,11 +4,11 @@ ghost use Rattle.lines.specs.Readings.{Blames};
 ghost use Rattle.line_parts.specs.Targets.{HasKeyAndScope, HasScope, IsCallOf, IsWorkflow, NamesBehind, NamesInvocation};
 
 use crate::arguments::{optional_text, text_alone, three_texts, two_texts};
-use crate::fields::are_named;
 use journal_protocol::{IdempotencyId, WorkflowId};
+use lines::fields::are_named;
 use plain::{Fault, Text};
 use std::alloc::Global;
-use vm_parts::AttachInvocationTarget;
+use vm_types::AttachInvocationTarget;
 
 /// `[scope=T]` alone.
 fn scope_of(alloc: Global, words: &[&[u8]]) -> Result<Option<Text>, Fault>

@@ -5,11 +5,11 @@ ghost use Rattle.line_parts.specs.OpenNodes.{GoesOn, StandsAt, behind_word, is_b
 ghost use Rattle.line_parts.specs.Trees.{IsKind, SpellsClosely, SpellsFuture, kind_name, without_blanks};
 ghost use Rattle.plain.specs.declared.fault.Fault.TheVariants.{Malformed};
 
-use crate::atoms::handle_of;
-use await_trees::{FutureKind, node_over};
+use crate::handles::handle_of;
+use await_trees::{UnresolvedFuture, node_over};
+use journal_protocol::FutureKind;
 use plain::{Fault, Items};
 use std::alloc::{AllocError, Global};
-use vm_parts::UnresolvedFuture;
 
 /// A node whose closing bracket hasn't been read, with its children so far.
 #[derive(Drop)]

@@ -4,11 +4,11 @@ ghost use Rattle.lines.specs.Readings.{Blames};
 ghost use Rattle.line_parts.specs.Values.{ArePairs, HasValue, IsFailure, IsPair, IsValue, IsValueBehind, but_last, is_unstable, last_is};
 
 use crate::arguments::{bytes_alone, two_texts};
-use crate::words::{behind, text_in, u16_in};
 use lines::pieces::words_within;
+use lines::words::{behind, text_in, u16_in};
 use plain::{Fault, Items, Text};
 use std::alloc::Global;
-use vm_parts::{NonEmptyValue, PayloadOptions, TerminalFailure};
+use vm_types::{NonEmptyValue, PayloadOptions, TerminalFailure};
 
 /// `{T T}`.
 #[tactic(auto, using(crate::proofs::Pairs::unbraced_blamed, crate::proofs::Pairs::count_blamed, crate::proofs::Pairs::texts_blamed))]

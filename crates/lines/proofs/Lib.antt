@@ -2,8 +2,15 @@ pub mod Blaming
 pub mod Closing
 pub mod Cutting
 pub mod Determined
+pub mod FirstLines
+pub mod Growing
 pub mod Hexing
+pub mod Missing
+pub mod Naming
 pub mod Numerals
 pub mod Once
+pub mod Places
+pub mod Sames
 pub mod Spelling
+pub mod Timing
 pub mod Wording

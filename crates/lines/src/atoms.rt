@@ -1,13 +1,15 @@
-//! Numbers and bytes as they are written on a line.
-ghost use Rattle.std.specs.Prelude.{◌≡◌, ◌<◌, length, Some, None, if◌then◌else◌, IfSome, IfNone, IfOk, IfErr, IsTrue, MatchOption};
+//! Numbers, texts and bytes as they are written on a line.
+ghost use Rattle.std.specs.Prelude.{◌≡◌, ◌<◌, length, Some, None, if◌then◌else◌, IfSome, IfNone, IfOk, IfErr, IsTrue, MatchOption, string_bytes};
 ghost use Rattle.std.specs.Char.{digit_value, is_digit};
 ghost use Rattle.std.specs.Str.Parse.{digits_value};
-ghost use Rattle.lines.specs.Atoms.{IsNumber, IsAtom, Spells, escaped, first_char, first_hex, hex_byte};
+ghost use Rattle.lines.specs.Atoms.{IsNumber, IsAtom, IsText, Spells, escaped, first_char, first_hex, hex_byte};
 ghost use Rattle.lines.specs.Readings.{Blames};
+ghost use Rattle.lines.specs.Words.{IsNumberOf};
 
 use crate::pieces::between;
+use bytes::Bytes;
 use memchr::memchr2;
-use plain::Fault;
+use plain::{Fault, Text};
 use std::alloc::Global;
 
 /// The number of decimal digits.
@@ -146,4 +148,58 @@ pub fn bytes_of(alloc: Global, text: &[u8]) -> Result<Vec<u8>, Fault>
         return bytes_of_hex(alloc, digits);
     }
     bytes_of_quoted(alloc, between(text, b'"', b'"')?)
+}
+
+/// The bytes of an atom, shared.
+pub fn shared_of(alloc: Global, text: &[u8]) -> Result<Bytes, Fault>
+    ensures value { IfOk result (IsAtom text.now) }
+    ensures none { IfErr result (Blames (IsAtom text.now)) }
+{
+    Ok(Bytes::from_vec(bytes_of(alloc, text)?)?)
+}
+
+/// The text of an atom.
+#[tactic(auto, using(crate::proofs::Blaming::no_atom, crate::proofs::Blaming::not_text))]
+pub fn string_of(alloc: Global, text: &[u8]) -> Result<String, Fault>
+    ensures value { IfOk result (λ string. IsText text.now (string_bytes string)) }
+    ensures none { IfErr result (Blames (IsText text.now)) }
+{
+    match String::from_utf8(bytes_of(alloc, text)?) {
+        Ok(text) => Ok(text),
+        Err(_) => Err(Fault::Malformed),
+    }
+}
+
+/// The text of an atom, as a value.
+pub fn text_of(alloc: Global, text: &[u8]) -> Result<Text, Fault>
+    ensures value { IfOk result (IsText text.now) }
+    ensures none { IfErr result (Blames (IsText text.now)) }
+{
+    Ok(Text::from_string(string_of(alloc, text)?))
+}
+
+/// The number of decimal digits, if it fits sixteen bits.
+pub fn u16_of(text: &[u8]) -> Result<u16, Fault>
+    ensures value { IfOk result (IsNumberOf 16 text.now) }
+    ensures none { IfErr result (Blames (IsNumberOf 16 text.now)) }
+{
+    let number = number_of(text).ok_or(Fault::Malformed)?;
+    u16::try_from(number).map_err(|_| Fault::Malformed)
+}
+
+/// The number of decimal digits, if it fits thirty-two bits.
+pub fn u32_of(text: &[u8]) -> Result<u32, Fault>
+    ensures value { IfOk result (IsNumberOf 32 text.now) }
+    ensures none { IfErr result (Blames (IsNumberOf 32 text.now)) }
+{
+    let number = number_of(text).ok_or(Fault::Malformed)?;
+    u32::try_from(number).map_err(|_| Fault::Malformed)
+}
+
+/// The number of decimal digits, if it fits sixty-four bits.
+pub fn u64_of(text: &[u8]) -> Result<u64, Fault>
+    ensures value { IfOk result (IsNumberOf 64 text.now) }
+    ensures none { IfErr result (Blames (IsNumberOf 64 text.now)) }
+{
+    number_of(text).ok_or(Fault::Malformed)
 }

@@ -4,10 +4,10 @@ use Rattle.std.proofs.lemmas.List.{drop_all}
 use Rattle.std.specs.Cmp.Lexicographic.{bytes_decides, pointwise, pointwise_decides}
 use Rattle.journal_protocol.specs.RawMessage.{RawMessage}
 use Rattle.journal_protocol.specs.Frames.{Malformed, Partial, Whole, next_of}
-use Rattle.invocation_vm.specs.Frames.{Tail, frames_from, frames_of}
-use Rattle.invocation_vm.proofs.Cuts.{frames_of-next}
-use Rattle.vm_model.specs.JournalFrames.{commands_among, is_command_frame}
-use Rattle.vm_store.specs.Entries.{frame_of}
+use Rattle.journal_entries.specs.Frames.{Tail, frames_from, frames_of}
+use Rattle.journal_entries.proofs.Cuts.{frames_of-next}
+use Rattle.journal_entries.specs.JournalFrames.{commands_among, is_command_frame}
+use Rattle.journal_entries.specs.Entries.{frame_of}
 
 -- ---- the frames
 

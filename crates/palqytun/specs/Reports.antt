@@ -6,9 +6,9 @@ use Rattle.journal_protocol.specs.MessageType.{MessageType}
 use Rattle.journal_protocol.specs.MessageType.TheVariants as type
 use Rattle.journal_protocol.specs.RawMessage.{RawMessage}
 use Rattle.journal_protocol.specs.Types.{type_number}
-use Rattle.invocation_vm.specs.Frames.{frames_of}
-use Rattle.vm_model.specs.JournalFrames.{commands_among}
-use Rattle.vm_store.specs.Entries.{frame_of}
+use Rattle.journal_entries.specs.Frames.{frames_of}
+use Rattle.journal_entries.specs.JournalFrames.{commands_among}
+use Rattle.journal_entries.specs.Entries.{frame_of}
 use Rattle.vm_store.specs.declared.types.Report.{Report}
 use Rattle.palqytun.specs.declared.reports.Ending.{Ending}
 use Rattle.palqytun.specs.declared.reports.Ending.TheVariants.{Crashed, Ended, Failed, Suspended}

@@ -2,4 +2,6 @@
 
 pub use flow_handlers::Durable;
 pub use flows::{Context, Exit, Fault, Flow};
-pub use vm_attempt::{Answer, Attempt, Fed, Handler, Progress, Step};
+pub use vm_attempt::Attempt;
+pub use vm_steps::{Fed, Progress};
+pub use vm_types::{Answer, Handler, Step};

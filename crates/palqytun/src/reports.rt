@@ -4,11 +4,11 @@ ghost use Rattle.journal_protocol.specs.Frames.{Malformed, Partial, Whole, next_
 ghost use Rattle.palqytun.specs.Reports.{commands_sent, ending_of, frames_sent, is_sent_among};
 
 use bytes::Bytes;
+use journal_entries::entry::is_command_frame;
 use journal_protocol::{Decoder, MessageType, RawMessage};
 use plain::Fault;
 use std::alloc::AllocError;
 use vm_rounds::Report;
-use vm_store::entry::is_command_frame;
 
 /// How a round's attempt ended.
 #[derive(Clone, Copy, Debug, PartialEq, Eq)]

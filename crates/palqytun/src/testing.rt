@@ -11,16 +11,17 @@ pub use crate::frames::{
 };
 pub use crate::reports::{Ending, commands_sent, ending_of};
 pub use crate::worlds::WorldBuilder;
+use await_trees::NotificationHandle;
 use bytes::Bytes;
-use invocation_vm::{NotificationHandle, RetryPolicy, RunExitResult};
+pub use journal_entries::RoundFault;
 use plain::Items;
+use retries::RetryPolicy;
 use std::alloc::{AllocError, Global};
 use std::test::Fail;
-use vm_attempt::Handler;
 pub use vm_rounds::{
-    Event, Identity, PlacedFault, Report, Round, RoundFault, StoppedRounds, World, play_rounds,
-    run_rounds,
+    Event, Identity, PlacedFault, Report, Round, StoppedRounds, World, play_rounds, run_rounds,
 };
+use vm_types::{Handler, RunExitResult};
 
 fn no_world(fault: RoundFault) -> Fail {
     Fail::new(format_args!("there is no world: {fault}"))

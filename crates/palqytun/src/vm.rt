@@ -1,11 +1,16 @@
 //! The invocation VM, call by call: bytes in, bytes out.
 
-pub use invocation_vm::{
-    AttachInvocationTarget, AwaitResponse, AwaitingOnPolicy, AwakeableHandle,
-    CANCEL_NOTIFICATION_HANDLE, CallHandle, CommandRelationship, CommandType, CoreVM,
-    EphemeralCompletionId, Error, ErrorBehavior, Fraction, HeaderMap, IdempotencyId,
+pub use await_trees::{CANCEL_NOTIFICATION_HANDLE, NotificationHandle, UnresolvedFuture};
+pub use invocation_vm::{CoreVM, VM};
+pub use journal_protocol::{
+    Error, ErrorBehavior, Header, HeaderMap, IdempotencyId, SignalDelivery, Version, WorkflowId,
+};
+pub use plain::{Items, Text};
+pub use retries::{EntryRetryInfo, Fraction, OnMaxAttempts, RetryPolicy};
+pub use vm_types::{
+    AttachInvocationTarget, AwaitResponse, AwaitingOnPolicy, AwakeableHandle, CallHandle,
+    CommandRelationship, CommandType, DeadlineCallHandle, EphemeralCompletionId,
     ImplicitCancellationOption, Input, JournalMismatchRetryBehavior, JournalReplay,
-    NonDeterministicChecksOption, NonEmptyValue, NotificationHandle, OnMaxAttempts, PayloadOptions,
-    ResponseHead, RetryPolicy, RunExitResult, RunHandle, SendHandle, SignalDelivery, State, Target,
-    TerminalFailure, UnresolvedFuture, VM, VMOptions, VMResult, Value, Version, WorkflowId,
+    NonDeterministicChecksOption, NonEmptyValue, PayloadOptions, ResponseHead, RunExitResult,
+    RunHandle, SendHandle, State, Target, TerminalFailure, VMOptions, VMResult, Value,
 };

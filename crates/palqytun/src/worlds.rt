@@ -4,11 +4,13 @@ ghost use Rattle.palqytun.specs.Worlds.{test_identity};
 
 use crate::frames::input;
 use bytes::Bytes;
-use invocation_vm::{VMOptions, Version};
+use journal_entries::RoundFault;
+use journal_protocol::Version;
 use plain::Text;
 use std::alloc::{AllocError, Global};
 use std::marker::Model;
-use vm_rounds::{Identity, RoundFault, World};
+use vm_rounds::{Identity, World};
+use vm_types::VMOptions;
 
 /// A world that a test describes, part by part. Contracts see the world that it will be.
 pub struct WorldBuilder {
@@ -70,8 +72,8 @@ fn test_identity(alloc: Global) -> Result<Identity, AllocError>
 
 impl WorldBuilder {
     ghost use Rattle.palqytun.specs.Worlds.{test_setting, test_world};
-    ghost use Rattle.vm_store.specs.Given.{GivenFaults};
-    ghost use Rattle.vm_store.specs.declared.types.RoundFault.TheVariants as round_fault;
+    ghost use Rattle.journal_entries.specs.Given.{GivenFaults};
+    ghost use Rattle.journal_entries.specs.declared.fault.RoundFault.TheVariants as round_fault;
 
     /// An invocation "test" in version 7 with this input, the options' defaults, no key and no state.
     pub fn new(alloc: Global, bytes: &'static [u8]) -> Result<WorldBuilder, AllocError>

@@ -1,9 +1,6 @@
-//! Rows over the VM's parts: its public types, the state map, policies of retries, and awaits of trees; and the machine of a VM whose
-//! counters end.
+//! Rows over the VM's parts: its public types, the state map, policies of retries, and awaits of trees.
 #![tactic(auto)]
 
-#[cfg(test)]
-mod counters;
 #[cfg(test)]
 mod delays;
 #[cfg(test)]

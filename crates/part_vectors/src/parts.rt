@@ -1,12 +1,10 @@
 // The small public types, when they are copied or shown. Conversions, names and defaults are in their contracts.
 use crate::trees::rows::{expect, texts_of};
+use await_trees::{NotificationHandle, UnresolvedFuture};
 use plain::{Items, Text};
-use runs::RunHandle;
 use std::alloc::{AllocError, Global};
 use std::test::Fail;
-use vm_parts::{
-    CommandType, NonEmptyValue, NotificationHandle, TerminalFailure, UnresolvedFuture, Value,
-};
+use vm_types::{CommandType, NonEmptyValue, RunHandle, TerminalFailure, Value};
 
 fn is_failure(value: &Value, code: u16, text: &str) -> bool {
     match value {

@@ -2,7 +2,7 @@
 use Rattle.std.proofs.Common.{◌≡◌, ◌<◌, ◌+◌, ◌++◌, ℕ, List, [], ◌∷◌, Global, length, take, get_or, string_bytes, sym, subst}
 use Rattle.std.proofs.lemmas.List.{take_more}
 use Rattle.std.specs.declared.string.String.{String}
-use Rattle.line_parts.proofs.Pairing.{zip_push}
+use Rattle.lines.proofs.Growing.{zip_push}
 use Rattle.vm_types.specs.declared.steps.Step.{Step}
 use Rattle.plans.specs.declared.planned.Planned.{Planned}
 use Rattle.plans.specs.Planned.{planned_step}

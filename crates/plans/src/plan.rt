@@ -1,8 +1,7 @@
 //! A plan: a handler with a fixed list of steps, which it makes one after another. Its answers change nothing.
 use crate::planned::Planned;
 use std::alloc::{AllocError, Global};
-use vm_parts::{Answer, Step};
-use vm_steps::Handler;
+use vm_types::{Answer, Handler, Step};
 
 /// Makes these steps, one after another, and then ends.
 #[derive(Debug, Drop)]

@@ -2,14 +2,13 @@
 ghost use Rattle.std.specs.Prelude.{◌≡◌, IfOk};
 ghost use Rattle.plans.specs.Planned.{planned_step};
 
+use await_trees::{NotificationHandle, UnresolvedFuture};
 use bytes::Bytes;
 use journal_protocol::{IdempotencyId, InvocationTarget, WorkflowId};
 use plain::{Text, copy_of};
 use std::alloc::{AllocError, Global};
 use std::time::Duration;
-use vm_parts::{
-    Boxed, NonEmptyValue, NotificationHandle, PayloadOptions, Step, Target, UnresolvedFuture,
-};
+use vm_types::{Boxed, NonEmptyValue, PayloadOptions, Step, Target};
 
 /// A step of a plan: a `Step` that holds nothing in a box, so that it can be copied.
 #[derive(Debug, Drop)]

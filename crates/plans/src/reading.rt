@@ -8,7 +8,7 @@ use plain::Fault;
 use requests::parse::parse;
 use requests::request::{Call, Request};
 use std::alloc::Global;
-use vm_parts::Step;
+use vm_types::Step;
 
 /// The step that a line says. `Malformed` if it says none.
 fn step_of(alloc: Global, line: &str) -> Result<Step, Fault>

@@ -4,8 +4,8 @@ use crate::frame_rows::{bad_lines, expect, frame_rows, parts_of, rows_in_other_f
 use crate::reading::whole_in;
 use bytes::Bytes;
 use frame_lines::entry::{frame_of, print_frame};
-use frame_lines::refusal::{Refusal, RunEnd};
-use frame_lines::run::{Unread, decode, encode, frames_of};
+use frame_runs::refusal::{Refusal, RunEnd};
+use frame_runs::run::{Unread, decode, encode, frames_of};
 use journal_protocol::RawMessage;
 use lines::line::Line;
 use plain::Fault;

@@ -2,7 +2,7 @@
 use Rattle.std.specs.Prelude.{ℕ, List, [], ◌++◌, Option, Some, None, codes}
 use Rattle.std.specs.Fmt.{decimal}
 use Rattle.lines.specs.Atoms.{quoted}
-use Rattle.runs.specs.declared.types.RunHandle.{RunHandle}
+use Rattle.vm_types.specs.declared.runs.RunHandle.{RunHandle}
 use Rattle.vm_types.specs.declared.steps.Answer.{Answer}
 use Rattle.vm_types.specs.declared.steps.Answer.TheVariants as answer
 use Rattle.vm_types.specs.declared.types.AwakeableHandle.{AwakeableHandle}

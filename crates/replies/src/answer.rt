@@ -4,12 +4,10 @@ ghost use Rattle.std.specs.Fmt.{decimal};
 ghost use Rattle.replies.specs.Answers.{answer_text, awakeable_text, deadline_text, handles_text, run_text, taken_text};
 
 use crate::shown::Shown;
+use await_trees::NotificationHandle;
 use lines::line::Line;
-use runs::RunHandle;
 use std::alloc::AllocError;
-use vm_parts::{
-    Answer, AwakeableHandle, CallHandle, DeadlineCallHandle, NotificationHandle, Value,
-};
+use vm_types::{Answer, AwakeableHandle, CallHandle, DeadlineCallHandle, RunHandle, Value};
 
 impl Shown for NotificationHandle {
     ghost text = { λ handle. decimal handle.0 };

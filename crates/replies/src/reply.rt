@@ -7,9 +7,8 @@ use crate::shown::{Shown, labelled, spaced};
 use bytes::Bytes;
 use journal_protocol::{Error, Version};
 use lines::line::Line;
-use runs::RunHandle;
 use std::alloc::AllocError;
-use vm_parts::{Answer, AwaitResponse, EphemeralCompletionId, ResponseHead, State};
+use vm_types::{Answer, AwaitResponse, EphemeralCompletionId, ResponseHead, RunHandle, State};
 
 /// The answer to a line.
 #[derive(Debug, Drop)]

@@ -10,7 +10,7 @@ use journal_protocol::Header;
 use lines::line::Line;
 use plain::Text;
 use std::alloc::AllocError;
-use vm_parts::{Input, TerminalFailure, Value};
+use vm_types::{Input, TerminalFailure, Value};
 
 impl Shown for bool {
     ghost text = { flag_text };

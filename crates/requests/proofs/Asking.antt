@@ -9,10 +9,10 @@ use Rattle.lines.specs.Pieces.{AreWords}
 use Rattle.lines.specs.Readings.{Blames}
 use Rattle.requests.specs.declared.verb.Verb.{Verb}
 use Rattle.line_parts.specs.Trees.{SpellsFuture}
-use Rattle.line_parts.proofs.Places.{word_at}
+use Rattle.lines.proofs.Places.{word_at}
 use Rattle.requests.specs.Lines.{AskNothing, AsksNothing, HasNoWords, HasWords}
 use Rattle.requests.specs.Verbs.{IsAwaited, IsLine, verb_name, verb_named}
-use Rattle.line_parts.specs.Words.{words_after_first, text_at}
+use Rattle.lines.specs.Words.{words_after_first, text_at}
 
 -- no word
 nothing_named : verb_named [] ≡ None

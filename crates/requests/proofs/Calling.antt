@@ -10,11 +10,12 @@ use Rattle.vm_types.specs.declared.steps.Step.TheVariants as step
 use Rattle.vm_types.specs.declared.values.Target.{Target}
 use Rattle.requests.specs.declared.request.Call.TheVariants as call
 use Rattle.requests.specs.declared.verb.Verb.TheVariants as verb
-use Rattle.line_parts.specs.Fields.{IsOptional, are_named, texts_named}
+use Rattle.lines.specs.Fields.{IsOptional, are_named, texts_named}
 use Rattle.line_parts.specs.Targets.{AreCallOptions, AreSendOptions, HasCallOptions, call_names}
-use Rattle.line_parts.specs.Values.{HasFlag, IsTime, words_without}
+use Rattle.line_parts.specs.Values.{HasFlag, words_without}
+use Rattle.lines.specs.Durations.{IsTime}
 use Rattle.requests.specs.Verbs.{HasCallee, IsCall, IsDeadlineCall, IsLine, IsSend, NamesTarget}
-use Rattle.line_parts.specs.Words.{text_at}
+use Rattle.lines.specs.Words.{text_at}
 
 pub is_call : (words rest : List (Bor (List ℕ))) (service handler input : List ℕ) (target : Target) (name : Option (List ℕ)) (options : PayloadOptions) → HasCallee words (service, handler, input)
     → target.service ≡ service → target.handler ≡ handler → rest ≡ drop 3 words → AreCallOptions rest target name options → IsLine verb.Call words (call.Step (step.Call target input name options))

@@ -9,8 +9,8 @@ use Rattle.requests.specs.declared.content_type.ContentType.{ContentType}
 use Rattle.requests.specs.declared.content_type.ContentType.TheVariants.{Absent, Unreadable, Named}
 use Rattle.requests.specs.Lines.{HasNoWords, HasWords, IsContentType, IsMade, MakesNothing}
 use Rattle.line_parts.specs.VmOptions.{AreOptions}
-use Rattle.line_parts.proofs.Missing.{no_text_at, none_at}
-use Rattle.line_parts.proofs.Places.{word_at}
+use Rattle.lines.proofs.Missing.{no_text_at, none_at}
+use Rattle.lines.proofs.Places.{word_at}
 
 pub unnamed_blamed : (text : List ℕ) (fault : Fault) → text ≢ codes "-" → text ≢ codes "!" → Blames (IsText text) fault → Blames (IsContentType text) fault
 unnamed_blamed text fault a b blames = record { nothing = λ bad it is. go bad it is }

@@ -14,7 +14,7 @@ use Rattle.requests.specs.declared.request.Request.{Request}
 use Rattle.requests.specs.declared.request.Request.TheVariants as request
 use Rattle.requests.specs.Verbs.{IsAsked}
 use Rattle.line_parts.specs.VmOptions.{AreOptions}
-use Rattle.line_parts.specs.Words.{text_at}
+use Rattle.lines.specs.Words.{text_at}
 
 -- whether a line without blanks at its ends is empty or a comment
 unfoldable pub says_nothing : List ℕ → Bool

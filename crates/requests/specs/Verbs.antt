@@ -17,8 +17,10 @@ use Rattle.line_parts.specs.Reports.{IsReport}
 use Rattle.line_parts.specs.Results.{IsProposal}
 use Rattle.line_parts.specs.Targets.{AreCallOptions, AreSendOptions, NamesInvocation}
 use Rattle.line_parts.specs.Trees.{SpellsFuture}
-use Rattle.line_parts.specs.Values.{HasExtras, HasName, HasNow, HasValue, IsTime, IsValue}
-use Rattle.line_parts.specs.Words.{IsEphemeralId, IsHandle, IsOneAtom, IsOneText, words_after_first, text_at}
+use Rattle.line_parts.specs.Values.{HasExtras, HasName, HasNow, HasValue, IsValue}
+use Rattle.lines.specs.Durations.{IsTime}
+use Rattle.line_parts.specs.Handles.{IsEphemeralId, IsHandle}
+use Rattle.lines.specs.Words.{IsOneAtom, IsOneText, words_after_first, text_at}
 
 -- the word that names a call
 unfoldable pub verb_name : Verb → List ℕ

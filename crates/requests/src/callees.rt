@@ -2,7 +2,7 @@
 ghost use Rattle.std.specs.Prelude.{◌≡◌, ◌∷◌, IfErr, IfOk, codes, drop};
 ghost use Rattle.lines.specs.Readings.{Blames};
 ghost use Rattle.requests.specs.declared.verb.Verb.TheVariants as verb;
-ghost use Rattle.line_parts.specs.Fields.{are_named, texts_named};
+ghost use Rattle.lines.specs.Fields.{are_named, texts_named};
 ghost use Rattle.line_parts.specs.Targets.{AreCallOptions, AreHeaders, HasCallOptions, call_names};
 ghost use Rattle.requests.specs.Verbs.{HasCallee, IsLine, NamesTarget};
 
@@ -10,12 +10,12 @@ use crate::request::Call;
 use bytes::Bytes;
 use journal_protocol::Header;
 use line_parts::arguments::{optional_duration, optional_text, without_unstable};
-use line_parts::fields::{are_named, text_behind};
 use line_parts::values::pair_of;
-use line_parts::words::{behind, bytes_in, text_in, time_in};
+use lines::fields::{are_named, text_behind};
+use lines::words::{behind, bytes_in, text_in, time_in};
 use plain::{Fault, Items, Text};
 use std::alloc::Global;
-use vm_parts::{Boxed, PayloadOptions, Step, Target};
+use vm_types::{Boxed, PayloadOptions, Step, Target};
 
 /// What is called, and with what.
 #[derive(Drop)]

@@ -11,22 +11,23 @@ use crate::callees::{call_line, call_with_deadline_line, send_line};
 use crate::content_type::ContentType;
 use crate::request::{Call, Request};
 use crate::verb::{Verb, verb_of_word};
+use await_trees::UnresolvedFuture;
 use bytes::Bytes;
 use line_parts::arguments::{
     Extras, bytes_alone, ephemeral_id_alone, extras_of, handle_alone, name_of, now_of, text_alone,
 };
-use line_parts::atoms::string_of;
 use line_parts::options::options_of;
 use line_parts::report::report_of;
 use line_parts::results::{Proposal, proposal_of};
 use line_parts::targets::target_of;
 use line_parts::trees::tree_of_word;
 use line_parts::values::{value_and_payload, value_of};
-use line_parts::words::{behind, bytes_in, text_in, time_in};
+use lines::atoms::string_of;
 use lines::pieces::{Charset, words_in};
+use lines::words::{behind, bytes_in, text_in, time_in};
 use plain::{Fault, Text};
 use std::alloc::{AllocError, Global};
-use vm_parts::{Boxed, Step, UnresolvedFuture, VMOptions};
+use vm_types::{Boxed, Step, VMOptions};
 
 #[tactic(auto, using(lines::proofs::Blaming::first_blamed, lines::proofs::Blaming::second_blamed))]
 fn get_of(alloc: Global, arguments: &[&[u8]]) -> Result<Call, Fault>

@@ -4,9 +4,9 @@ use Rattle.journal_protocol.specs.Version.{Version}
 use Rattle.journal_protocol.specs.Frames.{encoding}
 use Rattle.journal_protocol.specs.Message.TheVariants as message
 use Rattle.vm_model.specs.Calls.{Meaning}
-use Rattle.vm_store.specs.Given.{AreGiven, GivenFaults}
-use Rattle.vm_store.specs.declared.types.RoundFault.{RoundFault}
-use Rattle.vm_store.specs.declared.types.RoundFault.TheVariants as round_fault
+use Rattle.journal_entries.specs.Given.{AreGiven, GivenFaults}
+use Rattle.journal_entries.specs.declared.fault.RoundFault.{RoundFault}
+use Rattle.journal_entries.specs.declared.fault.RoundFault.TheVariants as round_fault
 use Rattle.round_scripts.specs.declared.script.Script.{Script}
 use Rattle.round_reports.specs.Printed.{fault_text}
 use Rattle.round_reports.specs.declared.stop.Stop.{Stop}

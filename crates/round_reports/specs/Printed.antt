@@ -10,8 +10,8 @@ use Rattle.replies.specs.Answers.{answer_text}
 use Rattle.vm_rounds.specs.Inside.{report_view}
 use Rattle.vm_rounds.specs.Rounds.{ReportView}
 use Rattle.vm_store.specs.declared.types.Report.{Report}
-use Rattle.vm_store.specs.declared.types.RoundFault.{RoundFault}
-use Rattle.vm_store.specs.declared.types.RoundFault.TheVariants as round_fault
+use Rattle.journal_entries.specs.declared.fault.RoundFault.{RoundFault}
+use Rattle.journal_entries.specs.declared.fault.RoundFault.TheVariants as round_fault
 
 -- ---- texts one after another
 

@@ -1,19 +1,20 @@
 //! A script that is played: its rounds over its world, and their report.
 ghost use Rattle.std.specs.Prelude.{◌≡◌, [], IfErr, IfOk, OnOk};
-ghost use Rattle.vm_store.specs.Given.{AreGiven};
+ghost use Rattle.journal_entries.specs.Given.{AreGiven};
 ghost use Rattle.round_scripts.specs.Scripts.{IsScriptRead, IsUnreadFor, no_parts};
 ghost use Rattle.round_reports.specs.Runs.{MakeNoWorld, Plays, RoundsEnd, ScriptEnds, first_journal, setting_of};
 
 use crate::report::{report_of, report_of_fault};
 use crate::stop::Stop;
 use bytes::Bytes;
+use journal_entries::RoundFault;
 use journal_protocol::Version;
 use lines::line::Line;
 use round_scripts::given::Given;
 use round_scripts::script::{Script, Unread, script_of};
 use std::alloc::{AllocError, Global};
-use vm_attempt::Handler;
-use vm_rounds::{Round, RoundFault, World, play_rounds};
+use vm_rounds::{Round, World, play_rounds};
+use vm_types::Handler;
 
 /// The report of a script, and what stopped it, if a fault did.
 #[derive(Drop)]

@@ -6,13 +6,14 @@ ghost use Rattle.round_reports.specs.Printed.{AddsSuch, AddsSome, AreRoundTexts,
 
 use bytes::Bytes;
 use frame_lines::entry::{print_frame, print_rest};
+use journal_entries::RoundFault;
 use journal_protocol::{Decoder, Error, RawMessage};
 use lines::line::Line;
 use plain::Fault;
 use replies::Shown;
 use std::alloc::{AllocError, Global};
-use vm_parts::Answer;
-use vm_rounds::{Report, RoundFault, World};
+use vm_rounds::{Report, World};
+use vm_types::Answer;
 
 /// The word by which an answer is called.
 #[tactic(auto, unfolding(crate::specs::Printed::answer_word))]

@@ -15,7 +15,7 @@ use journal_protocol::Version;
 use round_scripts::script::Unread;
 use std::alloc::Global;
 use streams::{Sink, Source};
-use vm_attempt::Handler;
+use vm_types::Handler;
 
 /// Writes the report.
 fn write_report<W: Sink>(played: Played, writer: &mut W) -> RunEnd

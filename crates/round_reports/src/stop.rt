@@ -1,5 +1,6 @@
 //! What stops a script.
-use vm_rounds::{PlacedFault, RoundFault};
+use journal_entries::RoundFault;
+use vm_rounds::PlacedFault;
 
 /// What stops a script.
 #[derive(Clone, Copy, Debug, PartialEq, Eq)]

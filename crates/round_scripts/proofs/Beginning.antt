@@ -8,10 +8,10 @@ use Rattle.std.specs.declared.time.Duration.{Duration}
 use Rattle.plain.specs.declared.fault.Fault.{Fault}
 use Rattle.lines.specs.Atoms.{IsText}
 use Rattle.lines.specs.Readings.{Blames}
-use Rattle.line_parts.specs.Durations.{IsDuration}
-use Rattle.line_parts.specs.Fields.{IsSet, are_named, text_behind, texts_named}
-use Rattle.line_parts.specs.Values.{HasFlag, IsTime, words_without}
-use Rattle.line_parts.specs.Words.{IsNumberOf}
+use Rattle.lines.specs.Durations.{IsDuration, IsTime}
+use Rattle.lines.specs.Fields.{IsSet, are_named, text_behind, texts_named}
+use Rattle.line_parts.specs.Values.{HasFlag, words_without}
+use Rattle.lines.specs.Words.{IsNumberOf}
 use Rattle.round_scripts.specs.Rounds.{AreKeys, IsWholeMilliseconds, SaysRound, round_names}
 
 -- ---- keys

@@ -2,7 +2,7 @@
 use Rattle.std.proofs.Common.{◌≡◌, ◌++◌, ℕ, List, [], ◌∷◌, sym, subst, Global, string_bytes}
 use Rattle.std.specs.declared.string.String.{String}
 use Rattle.lines.specs.Atoms.{IsText}
-use Rattle.line_parts.proofs.Pairing.{zip_push}
+use Rattle.lines.proofs.Growing.{zip_push}
 use Rattle.round_scripts.specs.Rounds.{AreKeys}
 use Rattle.round_scripts.specs.Worlds.{AreStateTexts, IsStateText}
 

@@ -8,8 +8,8 @@ use Rattle.lines.specs.Pieces.{AreWords, outside, place}
 use Rattle.lines.specs.Readings.{Blames}
 use Rattle.frame_lines.specs.FrameLines.{Shows}
 use Rattle.line_parts.specs.Results.{IsProposal}
-use Rattle.line_parts.specs.Words.{IsNumberOf, words_after_first, text_at}
-use Rattle.line_parts.proofs.Places.{word_at}
+use Rattle.lines.specs.Words.{IsNumberOf, words_after_first, text_at}
+use Rattle.lines.proofs.Places.{word_at}
 use Rattle.vm_store.specs.declared.types.Event.{Event}
 use Rattle.vm_store.specs.declared.types.Event.TheVariants as event
 use Rattle.round_scripts.specs.Rounds.{SaysRound}

@@ -6,7 +6,7 @@ use Rattle.plain.specs.declared.fault.Fault.{Fault}
 use Rattle.lines.specs.Atoms.{IsAtom, IsText}
 use Rattle.lines.specs.Pieces.{AreWordsWithin}
 use Rattle.lines.specs.Readings.{Blames}
-use Rattle.line_parts.specs.Fields.{text_behind, texts_named}
+use Rattle.lines.specs.Fields.{text_behind, texts_named}
 use Rattle.line_parts.proofs.Pairs.{within_at, within_length}
 use Rattle.round_scripts.specs.Worlds.{AreStateTexts, IsStateText}
 

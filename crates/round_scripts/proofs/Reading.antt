@@ -1,6 +1,6 @@
 -- A text that is read line by line.
 use Rattle.std.proofs.Common.{◌≡◌, ◌≢◌, ℕ, List, [], ◌∷◌, length, refl, arith}
-use Rattle.scripts.specs.Transcripts.{IsFirstLine}
+use Rattle.lines.specs.Text.{IsFirstLine}
 use Rattle.round_scripts.specs.Scripts.{AddsLine, AreLinesAdded, Parts}
 
 -- What the rest adds to what was said so far, the whole text adds.

@@ -4,7 +4,7 @@ use Rattle.std.specs.Borrow.{Bor}
 use Rattle.plain.specs.declared.fault.Fault.{Fault}
 use Rattle.lines.specs.Atoms.{IsAtom}
 use Rattle.lines.specs.Readings.{Blames}
-use Rattle.line_parts.specs.Fields.{IsSet, are_named, texts_named}
+use Rattle.lines.specs.Fields.{IsSet, are_named, texts_named}
 use Rattle.line_parts.specs.VmOptions.{ArePolicies}
 use Rattle.round_scripts.specs.Worlds.{AreStateTexts, SaysIdentity, SaysWorld, world_names}
 

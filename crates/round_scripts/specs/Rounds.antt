@@ -5,9 +5,10 @@ use Rattle.std.specs.Duration.{as_nanos}
 use Rattle.std.specs.List.{AllZip}
 use Rattle.std.specs.declared.time.Duration.{Duration}
 use Rattle.lines.specs.Atoms.{IsText}
-use Rattle.line_parts.specs.Fields.{IsSet, are_named, texts_named}
-use Rattle.line_parts.specs.Values.{HasFlag, IsTime, words_without}
-use Rattle.line_parts.specs.Words.{IsNumberOf}
+use Rattle.lines.specs.Fields.{IsSet, are_named, texts_named}
+use Rattle.line_parts.specs.Values.{HasFlag, words_without}
+use Rattle.lines.specs.Durations.{IsTime}
+use Rattle.lines.specs.Words.{IsNumberOf}
 use Rattle.vm_store.specs.declared.types.Round.{Round}
 
 -- texts that are these keys

@@ -10,7 +10,7 @@ use Rattle.lines.specs.Pieces.{AreWords, outside, place}
 use Rattle.frame_lines.specs.FrameLines.{Shows}
 use Rattle.requests.specs.Lines.{says_nothing}
 use Rattle.line_parts.specs.Results.{IsProposal}
-use Rattle.line_parts.specs.Words.{IsNumberOf, words_after_first, text_at}
+use Rattle.lines.specs.Words.{IsNumberOf, words_after_first, text_at}
 use Rattle.vm_store.specs.declared.types.Event.{Event}
 use Rattle.vm_store.specs.declared.types.Event.TheVariants as event
 use Rattle.round_scripts.specs.declared.script_line.ScriptLine.{ScriptLine}

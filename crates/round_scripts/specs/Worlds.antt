@@ -6,9 +6,9 @@ use Rattle.std.specs.List.{AllZip}
 use Rattle.std.specs.declared.string.String.{String}
 use Rattle.lines.specs.Atoms.{IsAtom, IsText}
 use Rattle.lines.specs.Pieces.{AreWordsWithin}
-use Rattle.line_parts.specs.Fields.{IsOptional, IsSet, are_named, texts_named}
+use Rattle.lines.specs.Fields.{IsOptional, IsSet, are_named, texts_named}
 use Rattle.line_parts.specs.VmOptions.{ArePolicies}
-use Rattle.line_parts.specs.Words.{IsNumberOf, text_at}
+use Rattle.lines.specs.Words.{IsNumberOf, text_at}
 use Rattle.vm_types.specs.Options.{default_options}
 use Rattle.vm_store.specs.declared.types.Identity.{Identity}
 use Rattle.round_scripts.specs.declared.given.Given.{Given}

@@ -2,19 +2,19 @@
 ghost use Rattle.std.specs.Prelude.{◌≡◌, IfErr, IfOk, codes, string_bytes};
 ghost use Rattle.lines.specs.Atoms.{IsAtom, IsText};
 ghost use Rattle.lines.specs.Readings.{Blames};
-ghost use Rattle.line_parts.specs.Fields.{IsSet, are_named, texts_named};
+ghost use Rattle.lines.specs.Fields.{IsSet, are_named, texts_named};
 ghost use Rattle.round_scripts.specs.Worlds.{AreStateTexts, IsDefault, IsStateText, SaysIdentity, SaysWorld, default_identity, world_names};
 
 use bytes::Bytes;
 use line_parts::arguments::optional_text;
-use line_parts::atoms::{shared_of, string_of, text_of};
-use line_parts::fields::{are_named, field_of, text_behind};
 use line_parts::options::{policies_of, seed_in};
+use lines::atoms::{shared_of, string_of, text_of};
+use lines::fields::{are_named, field_of, text_behind};
 use lines::pieces::words_within;
 use plain::{Fault, Text};
 use std::alloc::{AllocError, Global};
-use vm_parts::VMOptions;
 use vm_rounds::Identity;
+use vm_types::VMOptions;
 
 /// What a world is made of, but for the version of its attempts.
 #[derive(Drop)]
@@ -53,7 +53,7 @@ pub fn default_given(alloc: Global) -> Result<Given, AllocError>
 }
 
 /// `[NAME=B]`, or the default.
-#[tactic(auto, using(line_parts::proofs::Missing::set_blamed, line_parts::proofs::Missing::twice_set))]
+#[tactic(auto, using(lines::proofs::Missing::set_blamed, lines::proofs::Missing::twice_set))]
 fn bytes_or(
     alloc: Global,
     words: &[&[u8]],
@@ -71,7 +71,7 @@ fn bytes_or(
 }
 
 /// `[NAME=T]`, or the default.
-#[tactic(auto, using(line_parts::proofs::Missing::set_blamed, line_parts::proofs::Missing::twice_set))]
+#[tactic(auto, using(lines::proofs::Missing::set_blamed, lines::proofs::Missing::twice_set))]
 fn text_or(alloc: Global, words: &[&[u8]], name: &str, default: &str) -> Result<Text, Fault>
     ensures value { IfOk result (IsSet IsText default.now (texts_named name.now words.now)) }
     ensures none { IfErr result

@@ -1,13 +1,14 @@
 //! The line `round`: with what a round begins.
 ghost use Rattle.std.specs.Prelude.{◌≡◌, IfErr, IfOk, codes};
 ghost use Rattle.lines.specs.Readings.{Blames};
-ghost use Rattle.line_parts.specs.Fields.{IsSet, are_named, texts_named};
-ghost use Rattle.line_parts.specs.Words.{IsNumberOf};
+ghost use Rattle.lines.specs.Fields.{IsSet, are_named, texts_named};
+ghost use Rattle.lines.specs.Words.{IsNumberOf};
 ghost use Rattle.round_scripts.specs.Rounds.{AreKeys, IsWholeMilliseconds, SaysRound, round_names};
 
 use line_parts::arguments::without_flag;
-use line_parts::atoms::{duration_of, text_of, u32_of};
-use line_parts::fields::{are_named, field_of, text_behind};
+use lines::atoms::{text_of, u32_of};
+use lines::durations::duration_of;
+use lines::fields::{are_named, field_of, text_behind};
 use plain::{Fault, Items, Text};
 use std::alloc::Global;
 use vm_rounds::Round;
@@ -28,7 +29,7 @@ fn keys_in(alloc: Global, words: &[&[u8]]) -> Result<Items<Text>, Fault>
 }
 
 /// `[retry=N]`, by default 0.
-#[tactic(auto, using(line_parts::proofs::Missing::set_blamed, line_parts::proofs::Missing::twice_set))]
+#[tactic(auto, using(lines::proofs::Missing::set_blamed, lines::proofs::Missing::twice_set))]
 fn retry_count_in(words: &[&[u8]]) -> Result<u32, Fault>
     ensures value { IfOk result (IsSet (IsNumberOf 32) 0 (texts_named (codes "retry=") words.now)) }
     ensures none { IfErr result
@@ -51,7 +52,7 @@ fn milliseconds_of(text: &[u8]) -> Result<u64, Fault>
 }
 
 /// `[duration=D]` in whole milliseconds, rounded down; by default 0.
-#[tactic(auto, using(line_parts::proofs::Missing::set_blamed, line_parts::proofs::Missing::twice_set))]
+#[tactic(auto, using(lines::proofs::Missing::set_blamed, lines::proofs::Missing::twice_set))]
 fn milliseconds_in(words: &[&[u8]]) -> Result<u64, Fault>
     ensures value { IfOk result
         (IsSet IsWholeMilliseconds 0 (texts_named (codes "duration=") words.now)) }

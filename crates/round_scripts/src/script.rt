@@ -8,8 +8,8 @@ use crate::given::{Given, default_given};
 use crate::parse::line_of;
 use crate::script_line::ScriptLine;
 use bytes::Bytes;
+use lines::text::first_line;
 use plain::Fault;
-use scripts::run::first_line;
 use std::alloc::{AllocError, Global};
 use vm_rounds::{Event, Round};
 

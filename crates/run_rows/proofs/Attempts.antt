@@ -33,13 +33,13 @@ use Rattle.vm_model.specs.Deliveries.{HasNoTwo}
 use Rattle.vm_model.specs.Histories.{Handed, History, Made}
 use Rattle.vm_model.proofs.Once.{run_once}
 use Rattle.vm_attempt.proofs.Replayed.{tail_same}
-use Rattle.vm_model.specs.Journal.{Entry, Recorded, Notified, input_read_from, stored_form}
+use Rattle.journal_entries.specs.Journal.{Entry, Recorded, Notified, input_read_from, stored_form}
 use Rattle.vm_model.specs.Moves.{Point, after, longer, moved, next, start as began, supplied}
 use Rattle.vm_attempt.specs.Blames.{IsHonest}
 use Rattle.vm_attempt.proofs.Honest.{honestly_fed}
 use Rattle.vm_steps.specs.Heard.{Heard}
 use Rattle.vm_attempt.specs.Honest.{FeedsHonestly, frame_bytes, honest_frames}
-use Rattle.vm_model.specs.JournalFrames.{setup_with}
+use Rattle.vm_model.specs.Setups.{setup_with}
 use Rattle.vm_model.specs.Fixed.{fixed_by}
 
 abbrev first : Start

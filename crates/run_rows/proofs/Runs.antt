@@ -1,6 +1,7 @@
 -- Runs of some handlers, computed.
 use Rattle.std.proofs.Common.{◌≡◌, ℕ, suc, true, false, List, [], ◌∷◌, ◌++◌, Option, Some, None, refl, ap, ◌∙◌}
 use Rattle.std.specs.Prelude.{◌||◌}
+use Rattle.std.proofs.lemmas.Option.{same_Some}
 use Rattle.std.specs.Prelude.{codes, option_map}
 use Rattle.std.specs.Str.{chars, is_utf8}
 use Rattle.journal_protocol.specs.InputCommand.{InputCommand}
@@ -37,11 +38,12 @@ use Rattle.vm_types.specs.CommandTypes.{message_type}
 use Rattle.own_bytes.specs.Bytes.{bytes, list, option, read_byte, read_bytes, read_flag, read_items, read_list, read_option, read_pair, read_text, read_u16, read_u32, read_u64, u16s, u32s, u64s}
 use Rattle.await_trees.specs.Outcomes.{awake, is_done}
 use Rattle.await_trees.proofs.TreeOf.{tree_of-Single}
-use Rattle.vm_model.specs.Calls.{Derived, Setup, Meaning, counted, is_awake, is_cancelled_in, leaf_in}
+use Rattle.vm_model.specs.Calls.Move.{Ends}
+use Rattle.vm_model.specs.Calls.{Derived, Setup, Meaning, call_of, counted, is_awake, is_cancelled_in, leaf_in}
 use Rattle.vm_model.specs.Histories.{IsAwaiting}
 use Rattle.vm_model.proofs.Waking.{waits_next, wakes_next}
-use Rattle.vm_model.specs.Journal.{stored_form}
-use Rattle.vm_model.specs.Moves.{Point, after, and_then, arrival_used, next, start, told_input, uses_arrival}
+use Rattle.journal_entries.specs.Journal.{stored_form}
+use Rattle.vm_model.specs.Moves.{Point, after, and_then, arrival_used, move_at, next, start, told_input, uses_arrival}
 
 setup : Setup
 setup = record { version = V7; options = default_options; identity = record { id = codes "abc"; debug_id = codes "abc"; key = []; random_seed = 0; scope = None; limit_key = None; idempotency_key = None } }
@@ -105,6 +107,26 @@ asleep = point_in (after setup sleeper 1 (start setup input (void 1 ∷ []) (sle
 told_two : told_by sleeper 5 (void 1 ∷ []) (slept ∷ done ∷ []) ≡ Some (told ∷ answer.Handle (handle 17) ∷ answer.Awake ∷ answer.Taken (Some value.Void) ∷ answer.Unit ∷ [], [])
 unfolding told_by point_in asleep slept done setup sleeper void told handle is_utf8 chars header_equal message_in body_as sleep_body output_body read_value bytes read_byte read_bytes read_text read_pair read_u16 read_u32 read_u64 u16s u32s u64s
 told_two = ap (option_map (λ p. (p.answers, p.left))) (awaits_one sleeper (handle 17) asleep (void 1) [] 2 refl refl refl refl refl refl)
+
+-- the point of such a run
+abbrev IsThere : Option Point → List Answer → Type 0
+IsThere o answers = (p : Point) × (o ≡ Some p) × (p.answers ≡ answers) × (p.left ≡ [])
+
+abbrev shown : Point → List Answer × List RawMessage
+shown p = (p.answers, p.left)
+
+is_there : (o : Option Point) (answers : List Answer) → option_map shown o ≡ Some (answers, []) → IsThere o answers
+is_there None answers h = absurd (let z : None ≡ Some (answers, []) = h in cc)
+is_there (Some p) answers h =
+    let same : shown p ≡ (answers, []) = same_Some (shown p) (answers, []) h in
+    (p, refl, ap (λ (x : List Answer × List RawMessage). x.0) same, ap (λ (x : List Answer × List RawMessage). x.1) same)
+
+-- there the handler ends: a journal on which it has finished
+ended : (p : Point) × (after setup sleeper 5 (start setup input (void 1 ∷ []) (slept ∷ done ∷ [])) ≡ Some p) × (p.left ≡ []) × (move_at setup sleeper p ≡ Ends)
+unfolding told_by sleeper
+ended =
+    let x = is_there (after setup sleeper 5 (start setup input (void 1 ∷ []) (slept ∷ done ∷ []))) (told ∷ answer.Handle (handle 17) ∷ answer.Awake ∷ answer.Taken (Some value.Void) ∷ answer.Unit ∷ []) told_two in
+    (x.0, x.1, x.3, ap (λ answers. call_of setup (sleeper answers) x.0.derived) x.2)
 
 cleared : RawMessage
 cleared = stored_form (message.ClearState (record { name = []; key = codes "k" }))

@@ -13,10 +13,11 @@ ghost use Rattle.runner.specs.declared.run_end.Refusal.TheVariants as refusal;
 use crate::run_end::{AttemptEnd, Refusal, RunEnd};
 use bytes::Bytes;
 use handlers::named::Named;
-use invocation_vm::VMOptions;
 use std::alloc::{AllocError, Global};
 use streams::{Sink, Source};
-use vm_attempt::{Attempt, ContentType, Handler, Progress};
+use vm_attempt::{Attempt, ContentType};
+use vm_steps::Progress;
+use vm_types::{Handler, VMOptions};
 
 /// Makes a step. Returns how the attempt ends, if it is the last one.
 fn step_of<H: Handler>(attempt: &mut Attempt<H>) -> Option<AttemptEnd>

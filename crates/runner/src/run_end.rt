@@ -2,7 +2,7 @@
 ghost use Rattle.std.specs.Prelude.{◌≡◌};
 ghost use Rattle.runner.specs.Statuses.{attempt_status, runner_refusal_status};
 
-use invocation_vm::Error;
+use journal_protocol::Error;
 use run_ends::exit_status::{ExitStatus, HasStatus};
 
 /// How an attempt ends that is driven until a step gives its handler no answer.

@@ -8,8 +8,8 @@ use Rattle.std.proofs.lemmas.Bool.{cases_lt}
 use Rattle.std.proofs.lemmas.List.{take_more}
 use Rattle.std.proofs.lemmas.List.Folds.{list_any-append}
 use Rattle.await_trees.specs.declared.handle.NotificationHandle.{NotificationHandle}
-use Rattle.vm_parts.specs.declared.run_state.PendingRun.{PendingRun}
-use Rattle.vm_parts.specs.declared.run_state.RunExecution.{RunExecution}
+use Rattle.runs.specs.declared.pending.PendingRun.{PendingRun}
+use Rattle.runs.specs.declared.pending.RunExecution.{RunExecution}
 use Rattle.std.specs.List.Sorted.{IsStrictlySortedBy}
 use Rattle.std.specs.Map.{keys_of, lookup, remove_entry, set_value, values_of}
 use Rattle.std.specs.BTreeMap.{is_at}

@@ -2,9 +2,9 @@
 -- calls.
 use Rattle.std.specs.Prelude.{ℕ, min, ◌==◌, ◌&&◌, Bool, true, false, List, Option, Some, None}
 use Rattle.std.specs.List.{list_any}
-use Rattle.vm_parts.specs.declared.run_state.PendingRun.{PendingRun}
-use Rattle.vm_parts.specs.declared.run_state.RunExecution.{RunExecution}
-use Rattle.vm_parts.specs.declared.run_state.RunExecution.TheVariants.{Waiting, Executing}
+use Rattle.runs.specs.declared.pending.PendingRun.{PendingRun}
+use Rattle.runs.specs.declared.pending.RunExecution.{RunExecution}
+use Rattle.runs.specs.declared.pending.RunExecution.TheVariants.{Waiting, Executing}
 use Rattle.await_trees.specs.declared.handle.NotificationHandle.{NotificationHandle}
 
 -- a run that was just called

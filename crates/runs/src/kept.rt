@@ -2,23 +2,13 @@
 ghost use Rattle.std.specs.Prelude.{◌≡◌, [], ◌∷◌, ◌++◌, OnOk, OnErr, find, position, true};
 ghost use Rattle.std.specs.Option.{option_map};
 ghost use Rattle.runs.specs.Firsts.{without_first};
-ghost use Rattle.runs.specs.Kept.{completion_result, is_for, result_of};
+ghost use Rattle.runs.specs.Kept.{is_for, result_of};
 
 use crate::ordered_proposals::OrderedProposals;
-use journal_protocol::{NotificationResult, ValueOrFailure};
+use journal_entries::KeptProposal;
+use journal_protocol::ValueOrFailure;
 use std::alloc::{AllocError, Global};
 use std::marker::Model;
-use vm_parts::KeptProposal;
-
-/// A proposed result, as the run's completion brings it.
-pub fn completion_result(proposed: ValueOrFailure) -> NotificationResult
-    ensures { result ≡ completion_result proposed }
-{
-    match proposed {
-        ValueOrFailure::Value(value) => NotificationResult::Value(value),
-        ValueOrFailure::Failure(failure) => NotificationResult::Failure(failure),
-    }
-}
 
 /// The proposals that were made after one whose id was kept already: in a machine there are none. Contracts see their list.
 #[derive(Drop)]
@@ -28,7 +18,7 @@ struct LateProposals {
 
 impl Model for LateProposals {
     ghost use Rattle.std.specs.Prelude.{List};
-    ghost use Rattle.vm_parts.specs.declared.run_state.KeptProposal.{KeptProposal};
+    ghost use Rattle.journal_entries.specs.declared.proposals.KeptProposal.{KeptProposal};
 
     ghost Value = { List KeptProposal };
 
@@ -90,7 +80,7 @@ pub struct KeptProposals {
 
 impl Model for KeptProposals {
     ghost use Rattle.std.specs.Prelude.{◌++◌, List};
-    ghost use Rattle.vm_parts.specs.declared.run_state.KeptProposal.{KeptProposal};
+    ghost use Rattle.journal_entries.specs.declared.proposals.KeptProposal.{KeptProposal};
 
     ghost Value = { List KeptProposal };
 

@@ -7,11 +7,11 @@ ghost use Rattle.std.specs.Option.{option_map};
 ghost use Rattle.runs.specs.Firsts.{without_first};
 ghost use Rattle.runs.specs.Kept.{AtNumbers, is_for, result_of};
 
+use journal_entries::KeptProposal;
 use journal_protocol::ValueOrFailure;
 use std::alloc::{AllocError, Global};
 use std::collections::BTreeMap;
 use std::marker::Model;
-use vm_parts::KeptProposal;
 
 /// Contracts see the list of the proposals. A call takes a time that grows with the logarithm of their number.
 #[derive(Drop)]
@@ -27,7 +27,7 @@ impl Model for OrderedProposals {
     ghost use Rattle.std.specs.List.Sorted.{IsStrictlySortedBy};
     ghost use Rattle.std.specs.Map.{keys_of, values_of};
     ghost use Rattle.std.specs.Ordering.{nat_cmp};
-    ghost use Rattle.vm_parts.specs.declared.run_state.KeptProposal.{KeptProposal};
+    ghost use Rattle.journal_entries.specs.declared.proposals.KeptProposal.{KeptProposal};
     ghost use Rattle.runs.specs.Kept.{AtNumbers};
 
     ghost Value = { List KeptProposal };

@@ -5,10 +5,11 @@ ghost use Rattle.std.specs.Option.{option_map};
 ghost use Rattle.runs.specs.Firsts.{with_first, without_first};
 ghost use Rattle.runs.specs.Pending.{executes, handle_of, has_handle, run_info, is_executing, is_executing_in, lesser_handle, may_execute, run_started, is_waiting_run};
 
+use crate::pending::{PendingRun, RunExecution};
+use await_trees::NotificationHandle;
 use std::alloc::{AllocError, Global};
 use std::collections::BTreeMap;
 use std::marker::Model;
-use vm_parts::{NotificationHandle, PendingRun, RunExecution};
 
 /// Contracts see the list of the runs. A call takes a time that grows with the logarithm of their number, for each handle that
 /// it is given.
@@ -23,7 +24,7 @@ impl Model for OrderedRuns {
     ghost use Rattle.std.specs.List.Sorted.{IsStrictlySortedBy};
     ghost use Rattle.std.specs.Map.{keys_of, values_of};
     ghost use Rattle.std.specs.Ordering.{nat_cmp};
-    ghost use Rattle.vm_parts.specs.declared.run_state.PendingRun.{PendingRun};
+    ghost use Rattle.runs.specs.declared.pending.PendingRun.{PendingRun};
 
     ghost Value = { List PendingRun };
 

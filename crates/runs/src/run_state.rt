@@ -6,10 +6,11 @@ ghost use Rattle.runs.specs.Firsts.{with_first, without_first};
 ghost use Rattle.runs.specs.Pending.{handle_of, has_handle, run_info, is_executing, is_executing_in, is_one_of, may_execute, run_started, to_execute};
 
 use crate::ordered_runs::OrderedRuns;
+use crate::pending::{PendingRun, RunExecution};
+use await_trees::NotificationHandle;
 use plain::Text;
 use std::alloc::{AllocError, Global};
 use std::marker::Model;
-use vm_parts::{NotificationHandle, PendingRun, RunExecution};
 
 /// The runs that were called after one whose handle isn't above all handles before it: in a machine there are none, since
 /// handles rise. Contracts see their list.
@@ -20,7 +21,7 @@ struct LateRuns {
 
 impl Model for LateRuns {
     ghost use Rattle.std.specs.Prelude.{List};
-    ghost use Rattle.vm_parts.specs.declared.run_state.PendingRun.{PendingRun};
+    ghost use Rattle.runs.specs.declared.pending.PendingRun.{PendingRun};
 
     ghost Value = { List PendingRun };
 
@@ -124,7 +125,7 @@ pub struct RunState {
 
 impl Model for RunState {
     ghost use Rattle.std.specs.Prelude.{◌++◌, List};
-    ghost use Rattle.vm_parts.specs.declared.run_state.PendingRun.{PendingRun};
+    ghost use Rattle.runs.specs.declared.pending.PendingRun.{PendingRun};
 
     ghost Value = { List PendingRun };
 

@@ -5,7 +5,7 @@ ghost use Rattle.journal_protocol.specs.ErrorBehavior.TheVariants as behavior;
 ghost use Rattle.retries.specs.Policies.{in_nanos};
 ghost use Rattle.runs.specs.Settling.{SettlesRun, FailsAs, count_with, nanos_with, run_as_related, as_terminal_failure};
 
-use crate::types::RunExitResult;
+use crate::pending::PendingRun;
 use journal_protocol::{
     Error, ErrorBehavior, Failure, MessageType, RelatedCommand, ValueOrFailure,
 };
@@ -13,7 +13,7 @@ use plain::{Items, Text};
 use retries::{EntryRetryInfo, NextRetry, RetryPolicy};
 use std::alloc::{AllocError, Global};
 use std::time::Duration;
-use vm_parts::{PendingRun, StartInfo};
+use vm_types::RunExitResult;
 use vm_types::values::write_failure;
 
 /// What becomes of a run's result.
@@ -69,21 +69,15 @@ fn terminal(alloc: Global, error: &Error) -> Result<Failure, AllocError>
     })
 }
 
-/// How often and for how long the run has been tried, with an attempt that failed after this duration. What Start says counts only
-/// if no command was written after the recorded ones.
-fn tried(start: &StartInfo, wrote_command: bool, attempt_duration: Duration) -> EntryRetryInfo
-    ensures count { result.retry_count ≡ count_with start.now wrote_command }
+/// How often and for how long the run has been tried, with an attempt that failed after this duration.
+fn tried(earlier: EntryRetryInfo, attempt_duration: Duration) -> EntryRetryInfo
+    ensures count { result.retry_count ≡ count_with earlier.retry_count }
     ensures nanos { as_nanos result.retry_loop_duration
-        ≡ nanos_with start.now wrote_command attempt_duration }
+        ≡ nanos_with (as_nanos earlier.retry_loop_duration) attempt_duration }
 {
-    let (count, lasted) = if wrote_command || start.retry_count == 0 {
-        (0, Duration::ZERO)
-    } else {
-        (start.retry_count, Duration::from_millis(start.duration))
-    };
     EntryRetryInfo {
-        retry_count: count.saturating_add(1),
-        retry_loop_duration: lasted.saturating_add(attempt_duration),
+        retry_count: earlier.retry_count.saturating_add(1),
+        retry_loop_duration: earlier.retry_loop_duration.saturating_add(attempt_duration),
     }
 }
 
@@ -108,17 +102,17 @@ fn settle_failure(
     }
 }
 
-/// What becomes of a run's result. A failure that may be retried is decided by the policy, by all the run's failures. It takes memory
-/// only if such a failure becomes the run's result.
+/// What becomes of a run's result. A failure that may be retried is decided by the policy, by all the run's failures: those of
+/// earlier attempts, and this one. It takes memory only if such a failure becomes the run's result.
 pub fn settle(
     alloc: Global,
     run: PendingRun,
     exit: RunExitResult,
     policy: &RetryPolicy,
-    start: &StartInfo,
-    wrote_command: bool,
+    earlier: EntryRetryInfo,
 ) -> Result<Settlement, AllocError>
-    ensures { IfOk result (SettlesRun run exit policy.now start.now wrote_command) }
+    ensures { IfOk result (SettlesRun run exit policy.now earlier.retry_count
+        (as_nanos earlier.retry_loop_duration)) }
 {
     match exit {
         RunExitResult::Success(value) => {
@@ -136,7 +130,7 @@ pub fn settle(
             alloc,
             run,
             error,
-            policy.next_retry(tried(start, wrote_command, attempt_duration)),
+            policy.next_retry(tried(earlier, attempt_duration)),
         ),
     }
 }

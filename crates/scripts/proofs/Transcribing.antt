@@ -2,7 +2,8 @@
 use Rattle.std.proofs.Common.{◌≡◌, ◌≢◌, ◌++◌, ℕ, List, [], ◌∷◌, Option, Some, None, Global, ap, refl, sym, ◌∙◌, subst, append_assoc}
 use Rattle.std.specs.Io.KnownBytes.{Appends}
 use Rattle.invocation_vm.specs.declared.core_vm.CoreVM.{CoreVM}
-use Rattle.scripts.specs.Transcripts.{Transcribes, IsFirstLine, AreFirstLines, AreAnswered, TranscriptIsWritten}
+use Rattle.scripts.specs.Transcripts.{Transcribes, AreAnswered, TranscriptIsWritten}
+use Rattle.lines.specs.Text.{IsFirstLine, AreFirstLines}
 
 -- more is written
 appends_more : (held now then : Option (List ℕ)) (xs ys : List ℕ) → Appends held now xs → Appends now then ys → Appends held then (xs ++ ys)

@@ -1,5 +1,5 @@
 -- What a line of the script does, and what is printed for it.
-use Rattle.std.specs.Prelude.{◌≡◌, ◌≢◌, ◌⊎◌, ℕ, List, [], ◌∷◌, ◌++◌, Option, All}
+use Rattle.std.specs.Prelude.{◌≡◌, ◌⊎◌, ℕ, List, [], ◌∷◌, ◌++◌, Option}
 use Rattle.std.proofs.Common.{Global}
 use Rattle.std.specs.Io.KnownBytes.{Appends}
 use Rattle.streams.specs.Streams.{AppendsSome}
@@ -8,6 +8,7 @@ use Rattle.requests.specs.declared.request.Request.{Request}
 use Rattle.replies.specs.declared.reply.Reply.{Reply}
 use Rattle.requests.specs.Lines.{IsRequestLine}
 use Rattle.replies.specs.Replies.{reply_text}
+use Rattle.lines.specs.Text.{AreFirstLines, IsFirstLine}
 use Rattle.scripts.specs.Performed.{Performed}
 
 -- what the line asks for was done, and the text of its reply is what is printed
@@ -25,17 +26,6 @@ abbrev pub IsUnanswered : Global → Option CoreVM → Option CoreVM → List �
 IsUnanswered alloc old new line = (new ≡ old)
     ⊎ ((request : Request) × (reply : Reply) × IsRequestLine line request
     × Performed alloc request old reply new)
-
--- the script's first line, without its end, and what follows it; the last line may have no end
-abbrev pub IsFirstLine : List ℕ → List ℕ → List ℕ → Type 0
-IsFirstLine script line rest =
-    All (λ b. b ≢ 10) line × ((script ≡ line ++ 10 ∷ rest) ⊎ ((script ≡ line) × (rest ≡ [])))
-
--- the script is these lines, one after another, and then this rest
-abbrev pub AreFirstLines : List (List ℕ) → List ℕ → List ℕ → Type 0
-AreFirstLines [] script rest = script ≡ rest
-AreFirstLines (line ∷ lines) script rest = (script ≢ [])
-    × ((behind : List ℕ) × IsFirstLine script line behind × AreFirstLines lines behind rest)
 
 -- the lines are answered one after another, from one VM to the next, and each answer has an end
 abbrev pub AreAnswered : Global → List (List ℕ) → Option CoreVM → Option CoreVM → List ℕ → Type 0

@@ -11,18 +11,20 @@ ghost use Rattle.requests.specs.ContentTypes.{header_under};
 ghost use Rattle.replies.specs.declared.reply.Reply.TheVariants as reply;
 ghost use Rattle.scripts.specs.Performed.{VmIsMade, Performed};
 
+use await_trees::NotificationHandle;
 use bytes::Bytes;
-use invocation_vm::{
-    AwaitResponse, AwakeableHandle, CoreVM, EphemeralCompletionId, Error, Input,
-    NotificationHandle, ResponseHead, RunHandle, VM, VMOptions, VMResult, Value,
-};
+use invocation_vm::{CoreVM, VM};
+use journal_protocol::Error;
 use replies::Reply;
 use requests::content_type::ContentType;
 use requests::request::{Call, Request};
 use std::alloc::{AllocError, Global};
 use vm_asks::asks::{AnswerKind, command_answer};
 use vm_asks::{Ask, Command};
-use vm_parts::{Answer, Step};
+use vm_types::{
+    Answer, AwaitResponse, AwakeableHandle, EphemeralCompletionId, Input, ResponseHead, RunHandle,
+    Step, VMOptions, VMResult, Value,
+};
 
 /// The answer of a call that has no result, and whose only error is out of memory.
 pub fn fed(given: Result<(), AllocError>) -> Reply

@@ -1,14 +1,14 @@
 //! A run of the program: what a reader gives is a script, and its answers go to a writer.
-ghost use Rattle.std.specs.Prelude.{◌≡◌, ◌<◌, ◌++◌, ◌∷◌, [], ℕ, List, length, IfOk, OnErr, None};
+ghost use Rattle.std.specs.Prelude.{◌≡◌, ◌++◌, ◌∷◌, [], ℕ, List, IfOk, OnErr, None};
 ghost use Rattle.std.specs.Io.KnownBytes.{IsAtEnd};
 ghost use Rattle.scripts.specs.Runs.{EndsScript, IsRun, IsRunEnd};
-ghost use Rattle.scripts.specs.Transcripts.{IsFirstLine, IsUnanswered, Transcribes};
+ghost use Rattle.scripts.specs.Transcripts.{IsUnanswered, Transcribes};
 
 use crate::perform::perform;
 use crate::run_end::RunEnd;
 use invocation_vm::CoreVM;
 use lines::line::Line;
-use memchr::memchr;
+use lines::text::first_line;
 use replies::Shown;
 use requests::parse::parse;
 use std::alloc::{AllocError, Global};
@@ -87,19 +87,6 @@ pub fn answer(alloc: Global, vm: &mut Option<CoreVM>, line: &[u8]) -> Result<Lin
     room.answer(alloc, vm, line)?;
     let Room { answer, .. } = room;
     Ok(answer)
-}
-
-/// The first line, without its end, and what follows it.
-#[tactic(auto, using(crate::proofs::FirstLines::ends_at, crate::proofs::FirstLines::never_ends))]
-pub fn first_line(script: &[u8]) -> (&[u8], &[u8])
-    requires { 0 < length script.now }
-    ensures shorter { length result.1.now < length script.now }
-    ensures first { IsFirstLine script.now result.0.now result.1.now }
-{
-    match memchr(b'\n', script) {
-        Some(at) => (&script[..at], &script[at + 1..]),
-        None => (script, &script[script.len()..]),
-    }
 }
 
 /// Answers the lines one after another, and writes each answer at once. The last line may have no end.

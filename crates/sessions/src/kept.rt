@@ -8,10 +8,10 @@ ghost use Rattle.vm_types.specs.declared.steps.Answer.TheVariants as answer;
 use crate::kind::Kind;
 use crate::parts::{in_taken, part_of};
 use crate::replied::{Replied, numbered, tell, tell_response, tell_taken};
-use invocation_vm::{NotificationHandle, VMResult};
+use await_trees::NotificationHandle;
 use replies::Reply;
 use std::mem::{forget, replace};
-use vm_parts::{Answer, AwaitResponse, Value};
+use vm_types::{Answer, AwaitResponse, VMResult, Value};
 
 /// Whether a reply may own memory: `false` only if it is known to be of numbers alone.
 fn may_hold_memory(reply: &Reply) -> bool {

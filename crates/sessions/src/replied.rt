@@ -6,7 +6,7 @@ use crate::kind::Kind;
 use crate::status::Status;
 use journal_protocol::{Error, Version};
 use replies::Reply;
-use vm_parts::{Answer, AwaitResponse, State, Value};
+use vm_types::{Answer, AwaitResponse, State, Value};
 
 /// What C is given at once of a reply: how the call ended, what the reply is, the numbers in it, how many keys or pairs it has, and the
 /// length of its first part.

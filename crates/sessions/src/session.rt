@@ -20,7 +20,7 @@ use requests::content_type::ContentType;
 use scripts::perform::make_anew;
 use scripts::run::answer;
 use std::alloc::Global;
-use vm_parts::VMOptions;
+use vm_types::VMOptions;
 
 /// One VM, if it was made, the answer to the last line, and the reply to the last call.
 #[derive(Drop)]
@@ -63,10 +63,7 @@ fn drain_vm(vm: &mut CoreVM, out: &mut [u8]) -> (Status, usize)
     if out.len() < len {
         return (Status::NoRoom, len);
     }
-    let Ok(output) = vm.waiting_output() else {
-        return (Status::NoMemory, len);
-    };
-    out[..len].copy_from_slice(output.as_slice());
+    out[..len].copy_from_slice(vm.waiting_bytes());
     vm.clear_output();
     (Status::Done, len)
 }

@@ -13,7 +13,7 @@ use invocation_vm::CoreVM;
 use replies::Reply;
 use requests::content_type::ContentType;
 use std::alloc::Global;
-use vm_parts::VMOptions;
+use vm_types::VMOptions;
 
 /// A call of a VM, with what C gave for it.
 pub trait VmCall: Drop {

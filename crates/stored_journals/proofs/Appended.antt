@@ -10,16 +10,16 @@ use Rattle.journal_protocol.specs.Notification.{Notification}
 use Rattle.journal_protocol.specs.NotificationId.{NotificationId}
 use Rattle.journal_protocol.specs.NotificationId.TheVariants.{CompletionId, SignalId, SignalName}
 use Rattle.journal_protocol.specs.NotificationResult.{NotificationResult}
-use Rattle.vm_model.specs.Journal.{read_before}
-use Rattle.vm_model.specs.JournalFrames.{is_notification, notified_by}
-use Rattle.vm_store.specs.declared.completions.Completes.{Completes}
-use Rattle.vm_store.specs.declared.completions.Completes.TheVariants as completes
-use Rattle.vm_store.specs.declared.types.RoundFault.{RoundFault}
-use Rattle.vm_store.specs.declared.types.RoundFault.TheVariants as round_fault
-use Rattle.vm_store.specs.Arrivals.{arrival_fault, completes_among, completes_by, completion_fault, completes_id, is_invocation_id, is_of, most_entries, note_fault, stored_proposal_fault, proposed_fault, read_fault, room_fault}
-use Rattle.vm_store.specs.Entries.{frame_in, note_in, note_of as note_by, notes_in, read_from, said_at, said_by, said_in}
-use Rattle.vm_store.specs.Given.{as_given, frame_fault, framed_fault, given_fault as fault_given, given_note_fault as note_given, noted_fault as noted_given, place_fault}
-use Rattle.vm_store.proofs.Framing.{note_no_command, notes_append}
+use Rattle.journal_entries.specs.Journal.{read_before}
+use Rattle.journal_entries.specs.JournalFrames.{is_notification, notified_by}
+use Rattle.journal_entries.specs.declared.completions.Completes.{Completes}
+use Rattle.journal_entries.specs.declared.completions.Completes.TheVariants as completes
+use Rattle.journal_entries.specs.declared.fault.RoundFault.{RoundFault}
+use Rattle.journal_entries.specs.declared.fault.RoundFault.TheVariants as round_fault
+use Rattle.journal_entries.specs.Arrivals.{arrival_fault, completes_among, completes_by, completion_fault, completes_id, is_invocation_id, is_of, most_entries, note_fault, stored_proposal_fault, proposed_fault, read_fault, room_fault}
+use Rattle.journal_entries.specs.Entries.{frame_in, note_in, note_of as note_by, notes_in, read_from, said_at, said_by, said_in}
+use Rattle.journal_entries.specs.Given.{as_given, frame_fault, framed_fault, given_fault as fault_given, given_note_fault as note_given, noted_fault as noted_given, place_fault}
+use Rattle.journal_entries.proofs.Framing.{note_no_command, notes_append}
 use Rattle.stored_journals.specs.declared.frames.Part.{Part}
 use Rattle.stored_journals.specs.Ids.{Seen, known_now}
 use Rattle.stored_journals.specs.Journals.{Appends, Holds, JournalView, arriving_fault, completes_read, done_read, loaded_fault, loaded_note_fault, known_fault, known_given, note_of_part, optional_note_fault, proposing_fault, room_at, command_of_part}
@@ -115,7 +115,7 @@ module _ (view : JournalView) (journal : List (List ℕ)) (h : Holds view journa
   pub proposing_is : (id : ℕ) → proposing_fault id view ≡ stored_proposal_fault id journal
   proposing_is id = λ i. proposed_fault ((h.ids id).kind i) ((h.ids id).done i) (room_is i)
 
-  may_is : (b : Bool) (raw : RawMessage) (read : Part) → command_of_part read ≡ said_by raw → note_of_part read ≡ note_by raw → by.may_be_loaded b raw read ≡ Rattle.vm_store.specs.Given.may_be_given b raw
+  may_is : (b : Bool) (raw : RawMessage) (read : Part) → command_of_part read ≡ said_by raw → note_of_part read ≡ note_by raw → by.may_be_loaded b raw read ≡ Rattle.journal_entries.specs.Given.may_be_given b raw
   may_is true raw read said note = refl
   may_is false raw read said note = λ i. is_some (said i) || is_some (note i)
 

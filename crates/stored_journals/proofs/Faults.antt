@@ -2,9 +2,9 @@
 use Rattle.std.proofs.Common.{◌≡◌, ◌⊎◌, inl, inr, ⊎_elim, ℕ, List, ◌++◌, [], take, Result, Ok, Err}
 use Rattle.std.specs.Prelude.{IfErr}
 use Rattle.journal_protocol.specs.Version.{Version}
-use Rattle.vm_store.specs.declared.types.RoundFault.{RoundFault}
-use Rattle.vm_store.specs.declared.types.RoundFault.TheVariants as round_fault
-use Rattle.vm_store.specs.Storing.{FirstFault, written_from}
+use Rattle.journal_entries.specs.declared.fault.RoundFault.{RoundFault}
+use Rattle.journal_entries.specs.declared.fault.RoundFault.TheVariants as round_fault
+use Rattle.journal_entries.specs.Storing.{FirstFault, written_from}
 use Rattle.stored_journals.specs.Journals.{Holds, JournalView}
 use Rattle.stored_journals.specs.Stored.{IsStoringFault}
 

@@ -9,8 +9,8 @@ use Rattle.std.specs.BTreeMap.{BTreeMap, InsertsAll, IsOrdered, get, is_at}
 use Rattle.std.proofs.lemmas.Bool.Decides.{nat_tests}
 use Rattle.std.proofs.lemmas.Map.Made.{update_all_distinct}
 use Rattle.std.proofs.lemmas.Map.Keys.{IsDistinct-from_sorted}
-use Rattle.vm_store.specs.declared.completions.Completes.{Completes}
-use Rattle.vm_store.specs.Arrivals.{if_same}
+use Rattle.journal_entries.specs.declared.completions.Completes.{Completes}
+use Rattle.journal_entries.specs.Arrivals.{if_same}
 use Rattle.stored_journals.specs.declared.known.Known.{Known}
 use Rattle.stored_journals.specs.Ids.{Changes, Seen, known_kept, known_now}
 use Rattle.stored_journals.specs.Known.{IsKnownAs, carried_as, as_completed, nothing_known}

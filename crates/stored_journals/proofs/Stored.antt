@@ -10,18 +10,18 @@ use Rattle.journal_protocol.specs.Frames.{IsWhole, encoding}
 use Rattle.journal_protocol.specs.Bodies.{message_in, notification_in}
 use Rattle.journal_protocol.proofs.Facts.{read_back, whole_shorter}
 use Rattle.journal_protocol.specs.Notification.{Notification}
-use Rattle.vm_parts.specs.declared.run_state.KeptProposal.{KeptProposal}
-use Rattle.vm_machine.specs.Inputs.{acknowledged_completion}
-use Rattle.vm_model.specs.Journal.{stored_form}
-use Rattle.vm_model.specs.JournalFrames.{is_command_frame}
-use Rattle.vm_store.specs.declared.storing.Written.{Written}
-use Rattle.vm_store.specs.declared.storing.Written.TheVariants.{Command, Proposal}
-use Rattle.vm_store.specs.declared.types.RoundFault.{RoundFault}
-use Rattle.vm_store.specs.Entries.{frame_of, note_in, note_of as note_by, read_from, said_at, said_by}
-use Rattle.vm_store.specs.NextFrames.{HasFault, NextFaults, StoresItem, StoresOne, StoresRaw}
-use Rattle.vm_store.specs.Storing.{FirstFault, Stores, completion_message, proposal_of, stored_as, storing_fault, written_as, written_from}
-use Rattle.vm_store.proofs.Framing.{frame_back}
-use Rattle.vm_store.proofs.Scanned.{Stands, stands_done, stands_fault, stands_first, stands_over, then_next}
+use Rattle.journal_entries.specs.declared.proposals.KeptProposal.{KeptProposal}
+use Rattle.journal_entries.specs.Proposals.{acknowledged_completion}
+use Rattle.journal_entries.specs.Journal.{stored_form}
+use Rattle.journal_entries.specs.JournalFrames.{is_command_frame}
+use Rattle.journal_entries.specs.declared.storing.Written.{Written}
+use Rattle.journal_entries.specs.declared.storing.Written.TheVariants.{Command, Proposal}
+use Rattle.journal_entries.specs.declared.fault.RoundFault.{RoundFault}
+use Rattle.journal_entries.specs.Entries.{frame_of, note_in, note_of as note_by, read_from, said_at, said_by}
+use Rattle.journal_entries.specs.NextFrames.{HasFault, NextFaults, StoresItem, StoresOne, StoresRaw}
+use Rattle.journal_entries.specs.Storing.{FirstFault, Stores, completion_message, proposal_of, stored_as, storing_fault, written_as, written_from}
+use Rattle.journal_entries.proofs.Framing.{frame_back}
+use Rattle.journal_entries.proofs.Scanned.{Stands, stands_done, stands_fault, stands_first, stands_over, then_next}
 use Rattle.stored_journals.specs.Journals.{Appends, Holds, IsSameKept, JournalView}
 use Rattle.stored_journals.specs.Stored.{NextFaultsBy, StoresBy, StoresOneBy, StoresRawBy, fits_in, storing_by}
 use Rattle.stored_journals.proofs.Appended.{appended, proposing_is, room_is}

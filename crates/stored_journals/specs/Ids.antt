@@ -4,7 +4,7 @@ use Rattle.std.specs.Option.{unwrap_or}
 use Rattle.std.specs.Ordering.{nat_cmp}
 use Rattle.std.specs.Map.{lookup}
 use Rattle.std.specs.BTreeMap.{is_at}
-use Rattle.vm_store.specs.declared.completions.Completes.{Completes}
+use Rattle.journal_entries.specs.declared.completions.Completes.{Completes}
 use Rattle.stored_journals.specs.declared.known.Known.{Known}
 use Rattle.stored_journals.specs.Known.{IsKnownAs, nothing_known}
 

@@ -7,13 +7,13 @@ use Rattle.journal_protocol.specs.Notification.{Notification}
 use Rattle.journal_protocol.specs.NotificationId.{NotificationId}
 use Rattle.journal_protocol.specs.NotificationId.TheVariants.{CompletionId, SignalId, SignalName}
 use Rattle.journal_protocol.specs.NotificationResult.{NotificationResult}
-use Rattle.vm_model.specs.Journal.{input_read_from}
-use Rattle.vm_store.specs.declared.completions.Completes.{Completes}
-use Rattle.vm_store.specs.declared.types.RoundFault.{RoundFault}
-use Rattle.vm_store.specs.declared.types.RoundFault.TheVariants as round_fault
-use Rattle.vm_store.specs.Arrivals.{completes_by, completion_fault, is_of, most_entries, proposed_fault}
-use Rattle.vm_store.specs.Entries.{note_of as note_by, said_by}
-use Rattle.vm_store.specs.Given.{as_given, frame_fault, place_fault}
+use Rattle.journal_entries.specs.Journal.{input_read_from}
+use Rattle.journal_entries.specs.declared.completions.Completes.{Completes}
+use Rattle.journal_entries.specs.declared.fault.RoundFault.{RoundFault}
+use Rattle.journal_entries.specs.declared.fault.RoundFault.TheVariants as round_fault
+use Rattle.journal_entries.specs.Arrivals.{completes_by, completion_fault, is_of, most_entries, proposed_fault}
+use Rattle.journal_entries.specs.Entries.{note_of as note_by, said_by}
+use Rattle.journal_entries.specs.Given.{as_given, frame_fault, place_fault}
 use Rattle.stored_journals.specs.declared.known.Known.{Known}
 use Rattle.stored_journals.specs.declared.frames.Part.{Part}
 use Rattle.stored_journals.specs.declared.frames.Part.TheVariants as part

@@ -1,10 +1,10 @@
 -- What a journal says of a completion id: what completes it, if a command carries it, and whether
 -- it was completed.
 use Rattle.std.specs.Prelude.{◌≡◌, ℕ, ◌==◌, Bool, true, false, List, Option, Some, None}
-use Rattle.vm_store.specs.declared.completions.Completes.{Completes}
-use Rattle.vm_store.specs.declared.completions.Completes.TheVariants as completes
-use Rattle.vm_store.specs.Arrivals.{completes_among, if_same, completes_id}
-use Rattle.vm_store.specs.Entries.{notes_in, said_in}
+use Rattle.journal_entries.specs.declared.completions.Completes.{Completes}
+use Rattle.journal_entries.specs.declared.completions.Completes.TheVariants as completes
+use Rattle.journal_entries.specs.Arrivals.{completes_among, if_same, completes_id}
+use Rattle.journal_entries.specs.Entries.{notes_in, said_in}
 use Rattle.stored_journals.specs.declared.known.Known.{Known}
 
 -- this is what completes an id, and whether it was completed

@@ -3,13 +3,13 @@ use Rattle.std.specs.Prelude.{◌≡◌, ◌⊎◌, ℕ, ◌<◌, ◌^◌, Bool,
 use Rattle.journal_protocol.specs.Version.{Version}
 use Rattle.journal_protocol.specs.RawMessage.{RawMessage}
 use Rattle.journal_protocol.specs.Frames.{Whole, Partial, Malformed, next_of}
-use Rattle.vm_store.specs.declared.storing.Written.{Written}
-use Rattle.vm_store.specs.declared.storing.Written.TheVariants.{Command, Proposal}
-use Rattle.vm_store.specs.declared.types.RoundFault.{RoundFault}
-use Rattle.vm_store.specs.declared.types.RoundFault.TheVariants as round_fault
-use Rattle.vm_store.specs.Entries.{note_in, said_at}
-use Rattle.vm_store.specs.NextFrames.{IsWholeItem}
-use Rattle.vm_store.specs.Storing.{FirstFault, Stores, stored_as, waits_behind, written_as, written_from}
+use Rattle.journal_entries.specs.declared.storing.Written.{Written}
+use Rattle.journal_entries.specs.declared.storing.Written.TheVariants.{Command, Proposal}
+use Rattle.journal_entries.specs.declared.fault.RoundFault.{RoundFault}
+use Rattle.journal_entries.specs.declared.fault.RoundFault.TheVariants as round_fault
+use Rattle.journal_entries.specs.Entries.{note_in, said_at}
+use Rattle.journal_entries.specs.NextFrames.{IsWholeItem}
+use Rattle.journal_entries.specs.Storing.{FirstFault, Stores, stored_as, waits_behind, written_as, written_from}
 use Rattle.stored_journals.specs.Journals.{Appends, Holds, JournalView, proposing_fault, room_at}
 
 -- a command's body is not too long

@@ -1,12 +1,12 @@
 //! The completion ids that a command carries.
 ghost use Rattle.std.specs.Prelude.{◌≡◌, ℕ, Option};
-ghost use Rattle.vm_store.specs.declared.completions.Completes.{Completes};
-ghost use Rattle.vm_store.specs.declared.completions.Completes.TheVariants as completes;
-ghost use Rattle.vm_store.specs.Arrivals.{completes_by};
+ghost use Rattle.journal_entries.specs.declared.completions.Completes.{Completes};
+ghost use Rattle.journal_entries.specs.declared.completions.Completes.TheVariants as completes;
+ghost use Rattle.journal_entries.specs.Arrivals.{completes_by};
 ghost use Rattle.stored_journals.specs.Known.{with_called, with_result_id};
 
+use journal_entries::completions::Completes;
 use journal_protocol::Message;
-use vm_store::completions::Completes;
 
 /// The completion ids of a command.
 pub(crate) struct Carried {

@@ -1,13 +1,13 @@
 //! Frames, as a journal reads them.
 ghost use Rattle.std.specs.Prelude.{◌≡◌, IfOk, None, true};
-ghost use Rattle.vm_model.specs.JournalFrames.{is_command_frame, is_notification};
-ghost use Rattle.vm_store.specs.Entries.{note_of as note_by, said_by};
+ghost use Rattle.journal_entries.specs.JournalFrames.{is_command_frame, is_notification};
+ghost use Rattle.journal_entries.specs.Entries.{note_of as note_by, said_by};
 ghost use Rattle.stored_journals.specs.Journals.{note_of_part, command_of_part};
 
+use journal_entries::entry::{is_command_frame, is_notification};
 use journal_protocol::{Message, Notification, RawMessage};
 use plain::Fault;
 use std::alloc::{AllocError, Global};
-use vm_store::entry::{is_command_frame, is_notification};
 
 /// What a frame is to a journal.
 pub(crate) enum Part {
@@ -57,7 +57,7 @@ fn note_part(alloc: Global, raw: &RawMessage) -> Result<Part, AllocError>
 }
 
 /// What a frame is to a journal.
-#[tactic(auto, using(vm_store::proofs::Framing::command_no_note, vm_store::proofs::Framing::note_no_command))]
+#[tactic(auto, using(journal_entries::proofs::Framing::command_no_note, journal_entries::proofs::Framing::note_no_command))]
 pub(crate) fn part_of(alloc: Global, raw: &RawMessage) -> Result<Part, AllocError>
     ensures said { IfOk result (λ part. command_of_part part ≡ said_by raw.now) }
     ensures note { IfOk result (λ part. note_of_part part ≡ note_by raw.now) }

@@ -1,15 +1,15 @@
 //! The ids that a journal's commands carry, each with what is known of it.
 ghost use Rattle.std.specs.Prelude.{◌≡◌, ◌||◌, OnOk, [], ℕ};
-ghost use Rattle.vm_store.specs.Arrivals.{is_of};
+ghost use Rattle.journal_entries.specs.Arrivals.{is_of};
 ghost use Rattle.stored_journals.specs.Ids.{Changes, SaysWith, known_kept, known_now};
 ghost use Rattle.stored_journals.specs.Known.{carried_as, as_completed, with_called, with_result_id};
 
 use crate::known::Known;
+use journal_entries::completions::Completes;
 use journal_protocol::NotificationId;
 use std::alloc::{AllocError, Global};
 use std::collections::BTreeMap;
 use std::marker::Model;
-use vm_store::completions::Completes;
 
 /// What is known of each id, and how it was at the last commit.
 #[derive(Drop)]

@@ -1,19 +1,19 @@
 //! `StoredJournal`: what a journal's only writer knows of it.
 ghost use Rattle.std.specs.Prelude.{◌≡◌, ◌⊎◌, ◌<◌, ◌≤◌, ◌==◌, ℕ, List, [], IfOk, IfErr, OnOk, None, Some};
-ghost use Rattle.vm_store.specs.Arrivals.{arrival_fault, most_entries};
-ghost use Rattle.vm_store.specs.Given.{frame_fault, given_fault as fault_given};
-ghost use Rattle.vm_store.specs.declared.types.RoundFault.TheVariants as round_fault;
+ghost use Rattle.journal_entries.specs.Arrivals.{arrival_fault, most_entries};
+ghost use Rattle.journal_entries.specs.Given.{frame_fault, given_fault as fault_given};
+ghost use Rattle.journal_entries.specs.declared.fault.RoundFault.TheVariants as round_fault;
 ghost use Rattle.stored_journals.specs.Journals.{Appends, Enters, Holds, IsFault, IsSameKept, Kept, Loads, arriving_fault, loaded_fault, loaded_note_fault, may_be_loaded, note_of_part, optional_note_fault, proposing_fault, room_at, command_of_part};
 
 use crate::carried::{Carried, ids_in};
 use crate::frames::{Part, part_of};
 use crate::ids::Ids;
 use bytes::Bytes;
+use journal_entries::RoundFault;
+use journal_entries::entry::{frame_in, is_input, note_in};
 use journal_protocol::{Message, Notification, NotificationId, RawMessage};
 use std::alloc::{AllocError, Global};
 use std::marker::Model;
-use vm_store::entry::{frame_in, is_input, note_in};
-use vm_store::types::RoundFault;
 
 /// A stored journal, without its entries.
 #[derive(Drop)]

@@ -1,11 +1,11 @@
 //! What a journal says of a completion id.
 ghost use Rattle.std.specs.Prelude.{◌≡◌, None, Some, false, true};
-ghost use Rattle.vm_store.specs.Arrivals.{completion_fault, is_invocation_id, proposed_fault};
-ghost use Rattle.vm_store.specs.Given.{as_given};
+ghost use Rattle.journal_entries.specs.Arrivals.{completion_fault, is_invocation_id, proposed_fault};
+ghost use Rattle.journal_entries.specs.Given.{as_given};
 
+use journal_entries::RoundFault;
+use journal_entries::completions::{Completes, is_invocation_id};
 use journal_protocol::NotificationResult;
-use vm_store::completions::{Completes, is_invocation_id};
-use vm_store::types::RoundFault;
 
 /// What a journal says of an id.
 #[derive(Clone, Copy)]

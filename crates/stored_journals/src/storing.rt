@@ -3,26 +3,24 @@ ghost use Rattle.std.specs.Prelude.{◌≡◌, ◌⊎◌, ◌∷◌, ◌++◌, �
 ghost use Rattle.journal_protocol.specs.Versions.{is_from_v7};
 ghost use Rattle.journal_protocol.specs.Frames.{IsWhole, encoding};
 ghost use Rattle.journal_protocol.specs.Message.TheVariants as message;
-ghost use Rattle.vm_machine.specs.Inputs.{acknowledged_completion};
-ghost use Rattle.vm_store.specs.Entries.{frame_of, note_in, note_of as note_by, said_at, said_by};
-ghost use Rattle.vm_store.specs.Storing.{acknowledgement, answer_to, completion_message, proposal_of, written_as};
-ghost use Rattle.vm_store.specs.declared.storing.Written.TheVariants as written;
-ghost use Rattle.vm_store.specs.declared.types.RoundFault.TheVariants as round_fault;
+ghost use Rattle.journal_entries.specs.Proposals.{acknowledged_completion};
+ghost use Rattle.journal_entries.specs.Entries.{frame_of, note_in, note_of as note_by, said_at, said_by};
+ghost use Rattle.journal_entries.specs.Storing.{acknowledgement, answer_to, completion_message, proposal_of, written_as};
+ghost use Rattle.journal_entries.specs.declared.storing.Written.TheVariants as written;
+ghost use Rattle.journal_entries.specs.declared.fault.RoundFault.TheVariants as round_fault;
 ghost use Rattle.stored_journals.specs.Journals.{Appends, IsSameKept};
 ghost use Rattle.stored_journals.specs.Stored.{FaultsBy, IsStoringFault, NextFaultsBy, StoresBy, StoresNext, StoresOneBy, StoresRawBy, fits_in, storing_by};
 
 use crate::frames::part_of;
 use crate::journal::StoredJournal;
 use bytes::{Bytes, BytesMut};
+use journal_entries::entry::frame_bytes;
+use journal_entries::storing::{Written, answer_bytes, next_written, written_as};
+use journal_entries::{KeptProposal, RoundFault, completion_result};
 use journal_protocol::{
     Decoder, Encoder, Message, Notification, NotificationId, RawMessage, Version,
 };
-use runs::completion_result;
 use std::alloc::{AllocError, Global};
-use vm_parts::KeptProposal;
-use vm_store::entry::frame_bytes;
-use vm_store::storing::{Written, answer_bytes, next_written, written_as};
-use vm_store::types::RoundFault;
 
 /// The completion with the proposed result.
 fn completion_of(proposal: KeptProposal) -> Notification

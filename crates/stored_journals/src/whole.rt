@@ -1,18 +1,18 @@
 //! `WholeJournal`: a stored journal with its entries, for who keeps both in memory.
 ghost use Rattle.std.specs.Prelude.{◌≡◌, ◌≢◌, ◌⊎◌, ◌∷◌, ◌++◌, [], take, None, Some, IfOk, IfErr, OnErr, OnOk};
-ghost use Rattle.vm_store.specs.Arrivals.{arrival_fault};
-ghost use Rattle.vm_store.specs.Given.{AreGiven, GivenFaults};
-ghost use Rattle.vm_store.specs.Storing.{FirstFault, Stores, written_from};
-ghost use Rattle.vm_store.specs.declared.types.RoundFault.TheVariants as round_fault;
+ghost use Rattle.journal_entries.specs.Arrivals.{arrival_fault};
+ghost use Rattle.journal_entries.specs.Given.{AreGiven, GivenFaults};
+ghost use Rattle.journal_entries.specs.Storing.{FirstFault, Stores, written_from};
+ghost use Rattle.journal_entries.specs.declared.fault.RoundFault.TheVariants as round_fault;
 ghost use Rattle.stored_journals.specs.Journals.{Holds};
 
 use crate::journal::StoredJournal;
 use crate::storing::store_from;
 use bytes::{Bytes, BytesMut};
+use journal_entries::RoundFault;
 use journal_protocol::{Decoder, Version};
 use std::alloc::Global;
 use std::marker::Model;
-use vm_store::types::RoundFault;
 
 /// A stored journal with its entries, one frame each. What is asked of an id takes time that grows with the logarithm of the journal.
 #[derive(Drop)]

@@ -1,11 +1,11 @@
 // A journal that is loaded, and what comes to it.
 use bytes::{Bytes, BytesMut};
+use journal_entries::RoundFault;
 use journal_protocol::{Decoder, Version};
 use std::alloc::Global;
 use std::test::Fail;
 use stored_journals::{StoredJournal, store_from};
 use vectors::frames::{COMPLETION_1, COMPLETION_9, INPUT_TILL, SIGNAL_17, SLEEP_TO_1000};
-use vm_store::types::RoundFault;
 
 /// A run with the name "a", completed under id 2.
 const RUN_2: &[u8] = b"\0\x1a\0\0\0\0\0\0\0\x0d\

@@ -4,7 +4,7 @@ use Rattle.std.specs.Prelude.{◌≡◌, ◌⊎◌, ℕ, Bool, List, [], ◌∷�
 use Rattle.await_trees.specs.declared.tree.UnresolvedFuture.TheVariants.{Single}
 use Rattle.vm_types.specs.declared.steps.Answer.TheVariants as answer
 use Rattle.retries.specs.declared.policy.RetryPolicy.{RetryPolicy}
-use Rattle.runs.specs.declared.types.RunExitResult.TheVariants as exit
+use Rattle.vm_types.specs.declared.runs.RunExitResult.TheVariants as exit
 use Rattle.journal_protocol.specs.Error.{Error}
 use Rattle.vm_types.specs.declared.command_type.CommandRelationship.{CommandRelationship}
 use Rattle.std.specs.declared.time.Duration.{Duration}

@@ -1,11 +1,11 @@
 //! Awaits, and the takes of results.
 
 use crate::nodes::{Node, future_of};
-use invocation_vm::{CoreVM, NotificationHandle, VM};
+use await_trees::{NotificationHandle, UnresolvedFuture};
+use invocation_vm::{CoreVM, VM};
 use replies::Reply;
 use sessions::{Replied, Status, VmCall, keep_awaited, keep_taken};
 use std::alloc::Global;
-use vm_parts::UnresolvedFuture;
 
 /// A handle is awaited.
 #[derive(Clone, Copy)]

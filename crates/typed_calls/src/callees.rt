@@ -10,11 +10,11 @@ use crate::given::{
 };
 use crate::values::payload;
 use bytes::Bytes;
-use invocation_vm::{CoreVM, VM, VMResult};
+use invocation_vm::{CoreVM, VM};
 use replies::Reply;
 use sessions::{Replied, Status, VmCall, keep};
 use std::alloc::Global;
-use vm_parts::{Answer, CallHandle, DeadlineCallHandle, SendHandle, Target};
+use vm_types::{Answer, CallHandle, DeadlineCallHandle, SendHandle, Target, VMResult};
 
 /// Which handler is called, and how.
 #[repr(C)]

@@ -4,11 +4,12 @@ ghost use Rattle.typed_calls.specs.Given.{Misfits, CannotCopy};
 ghost use Rattle.typed_calls.specs.Invocations.{idempotency_of, invocation_of, texts_of_idempotency, texts_of_invocation, texts_of_workflow, workflow_of};
 
 use crate::given::{Lent, MayLend, optional_text, text_of};
-use invocation_vm::{CoreVM, IdempotencyId, VM, WorkflowId};
+use invocation_vm::{CoreVM, VM};
+use journal_protocol::{IdempotencyId, WorkflowId};
 use replies::Reply;
 use sessions::{Replied, Status, VmCall, keep_handle};
 use std::alloc::Global;
-use vm_parts::AttachInvocationTarget;
+use vm_types::AttachInvocationTarget;
 
 /// Which invocation is meant.
 #[repr(C)]

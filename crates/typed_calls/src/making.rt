@@ -6,13 +6,14 @@ ghost use Rattle.typed_calls.specs.Given.{CannotCopy, lent_texts};
 ghost use Rattle.typed_calls.specs.Making.{AreOptionsOf, IsFoundOf, MakesAsGiven, NamesNoOption, awaiting_at, cancellation_at, checks_at, delivery_at, mismatch_at, replay_at};
 
 use crate::given::{MayLend, string_of};
+use journal_protocol::SignalDelivery;
 use requests::content_type::ContentType;
 use sessions::vm_call::make;
 use sessions::{Replied, Status, Vm, tell_status};
 use std::alloc::Global;
-use vm_parts::{
+use vm_types::{
     AwaitingOnPolicy, ImplicitCancellationOption, JournalMismatchRetryBehavior, JournalReplay,
-    NonDeterministicChecksOption, SignalDelivery, VMOptions,
+    NonDeterministicChecksOption, VMOptions,
 };
 
 /// What a VM is asked to do in another way. Each is 0 by default.

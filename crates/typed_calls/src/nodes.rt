@@ -3,11 +3,11 @@ ghost use Rattle.std.specs.Prelude.{◌≡◌, ◌≢◌, ◌++◌, ◌∷◌, [
 ghost use Rattle.await_trees.specs.Tree.{tree_of};
 ghost use Rattle.typed_calls.specs.Nodes.{CantStand, FailsAsTree, kind_at, node_code, nodes_of, row_of};
 
-use await_trees::{FutureKind, node_over};
+use await_trees::{NotificationHandle, UnresolvedFuture, node_over};
+use journal_protocol::FutureKind;
 use plain::Items;
 use sessions::Status;
 use std::alloc::Global;
-use vm_parts::{NotificationHandle, UnresolvedFuture};
 
 /// A node of a tree that is awaited: a handle, or a node over as many of the trees that stand in front of it.
 #[repr(C)]

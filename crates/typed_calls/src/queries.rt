@@ -1,11 +1,12 @@
 //! What is asked of a VM beside the handler's calls: its head, state and output, and the handler's input.
 
-use invocation_vm::{CoreVM, NotificationHandle, VM};
+use await_trees::NotificationHandle;
+use invocation_vm::{CoreVM, VM};
 use replies::Reply;
 use scripts::perform::{fed, head, input, output, ready};
 use sessions::{Replied, Status, VmCall, keep};
 use std::alloc::Global;
-use vm_parts::Answer;
+use vm_types::Answer;
 
 /// The head of the response.
 #[derive(Clone, Copy)]

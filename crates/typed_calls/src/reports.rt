@@ -4,12 +4,14 @@ ghost use Rattle.typed_calls.specs.Given.{Misfits, optional_of, lent_texts};
 ghost use Rattle.typed_calls.specs.Reports.{IsErrorOf, IsRelatedOf, NamesNoCommand, behavior_at, texts_of_error, command_type_at};
 
 use crate::given::{Lent, MayLend, optional_span, optional_text, two_strings};
-use invocation_vm::{CommandRelationship, CommandType, CoreVM, Error, ErrorBehavior, VM};
+use invocation_vm::{CoreVM, VM};
+use journal_protocol::{Error, ErrorBehavior};
 use plain::Text;
 use replies::Reply;
 use scripts::perform::fed;
 use sessions::{Replied, Status, VmCall, keep};
 use std::alloc::Global;
+use vm_types::{CommandRelationship, CommandType};
 
 /// An error. Its texts are UTF-8.
 #[repr(C)]

@@ -6,13 +6,13 @@ use crate::given::{Lent, span_of, string_of};
 use crate::policies::{GivenPolicy, policy_of};
 use crate::reports::{GivenError, error_of};
 use crate::values::{GivenValue, given_value};
-use invocation_vm::{CoreVM, NotificationHandle, VM};
+use await_trees::NotificationHandle;
+use invocation_vm::{CoreVM, VM};
 use replies::Reply;
-use runs::RunExitResult;
 use scripts::perform::ran;
 use sessions::{Replied, Status, VmCall, keep, keep_ended};
 use std::alloc::Global;
-use vm_parts::NonEmptyValue;
+use vm_types::{NonEmptyValue, RunExitResult};
 
 /// A run is called.
 #[derive(Clone, Copy)]

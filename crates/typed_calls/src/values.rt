@@ -6,7 +6,7 @@ ghost use Rattle.typed_calls.specs.Values.{given_failure, texts_of_failure, text
 use crate::given::{Lent, Pair, bytes_of, pairs_of, text_of};
 use sessions::Status;
 use std::alloc::Global;
-use vm_parts::{NonEmptyValue, PayloadOptions, TerminalFailure};
+use vm_types::{NonEmptyValue, PayloadOptions, TerminalFailure};
 
 /// A result: bytes, or a failure.
 #[repr(C)]

@@ -1,3 +1,4 @@
 pub mod GivenIds
 pub mod TrackedCommands
 mod AskedCommands
+pub mod Numbering

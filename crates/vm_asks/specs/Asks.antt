@@ -1,9 +1,11 @@
 -- What each step of a handler asks of the machine: one table over steps. A command is given without
 -- its numbers.
-use Rattle.std.specs.Prelude.{ℕ, zero, suc, ◌+◌, ◌<◌, ◌≤◌, ◌^◌, ◌/◌, Bool, true, false, ◌&&◌, not, nat_lt, min, if◌then◌else◌, List, [], ◌∷◌, Option, Some, None, refl}
+use Rattle.std.specs.Prelude.{ℕ, zero, suc, ◌+◌, ◌<◌, ◌≤◌, ◌^◌, ◌/◌, Bool, true, false, ◌&&◌, not, nat_lt, min, if◌then◌else◌, List, [], ◌∷◌, Option, Some, None, refl, length}
 use Rattle.std.specs.Duration.{as_nanos}
 use Rattle.std.specs.Option.{option_or}
 use Rattle.std.specs.declared.time.Duration.{Duration}
+use Rattle.vm_parts.specs.declared.context.Counters.{Counters}
+use Rattle.vm_parts.specs.Counting.{missing_number, missing_indexes}
 use Rattle.journal_protocol.specs.CallRequest.{CallRequest}
 use Rattle.journal_protocol.specs.NamedFault.{NamedFault}
 use Rattle.journal_protocol.specs.NamedFault.TheVariants as fault
@@ -388,3 +390,9 @@ AnswerTakes other handles = Unit {0}
 abbrev pub AnswerFits : Ask → Type 0
 AnswerFits (ask.Commands kind first second) = AnswerTakes kind (all_ids first (second ∷ []))
 AnswerFits a = Unit {0}
+
+-- the first kind of number of which a command and those after it need more than are left
+abbrev pub missing_for : Command → List Command → Counters → Option NamedFault
+missing_for c cs k =
+    option_or (missing_number (all_ids c cs) 0 (all_ids c cs) k)
+    (missing_indexes (suc (length cs)) k)

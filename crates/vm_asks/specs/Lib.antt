@@ -1,6 +1,6 @@
 pub mod Asks
-pub mod Carried
 pub mod GivenIds
 pub mod Requests
 pub mod StateReads
 pub mod TrackedCommands
+pub mod Awakeables

@@ -8,7 +8,7 @@ use Rattle.journal_protocol.specs.MessageType.TheVariants as type
 use Rattle.journal_protocol.specs.Frames.{type_of}
 use Rattle.vm_parts.specs.declared.context.StateMap.{StateMap}
 use Rattle.vm_types.specs.declared.options.ImplicitCancellationOption.{ImplicitCancellationOption}
-use Rattle.vm_parts.specs.declared.run_state.TrackedCall.{TrackedCall}
+use Rattle.vm_parts.specs.declared.tracked_call.TrackedCall.{TrackedCall}
 use Rattle.vm_types.specs.Options.{cancels_calls, cancels_sends}
 use Rattle.vm_parts.specs.States.{state_set, state_cleared, all_cleared}
 use Rattle.vm_parts.specs.Tracked.{with_call}

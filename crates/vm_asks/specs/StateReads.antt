@@ -91,6 +91,11 @@ result_in (message.GetEagerStateKeys c) = result_or fault.EmptyGetEagerStateKeys
     c.value
 result_in m = Ok None
 
+-- what a read's own command brings
+abbrev pub own_result : Result (Option NotificationResult) NamedFault → Option NotificationResult
+own_result (Ok result) = result
+own_result (Err name) = None
+
 -- ---- a recorded read
 
 -- a recorded command that has to be header-equal to this form, but for its result: what it brings,

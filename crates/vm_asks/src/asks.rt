@@ -8,6 +8,7 @@ ghost use Rattle.vm_asks.specs.Requests.{ids_of};
 use crate::command::Command;
 use crate::request;
 use crate::state_read::StateRead;
+use await_trees::{NotificationHandle, UnresolvedFuture};
 use bytes::Bytes;
 use journal_protocol::{
     CallCommand, CallRequest, ClearAllStateCommand, ClearStateCommand, CompleteAwakeableCommand,
@@ -18,11 +19,12 @@ use journal_protocol::{
 use plain::Text;
 use std::alloc::Global;
 use std::time::Duration;
-use vm_parts::{
-    Answer, AttachInvocationTarget, CallHandle, DeadlineCallHandle, NonEmptyValue,
-    NotificationHandle, PayloadOptions, SendHandle, StateKey, Step, Target, UnresolvedFuture,
-};
+use vm_parts::StateKey;
 use vm_types::values::write_value;
+use vm_types::{
+    Answer, AttachInvocationTarget, CallHandle, DeadlineCallHandle, NonEmptyValue, PayloadOptions,
+    SendHandle, Step, Target,
+};
 
 /// What a step asks for.
 #[derive(Drop)]

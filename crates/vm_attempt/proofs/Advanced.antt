@@ -25,26 +25,27 @@ use Rattle.vm_machine.specs.declared.phase.Phase.{Phase}
 use Rattle.vm_machine.specs.declared.phase.Phase.TheVariants.{WaitingStart, WaitingReplayEntries, Replaying, Processing, Closed}
 use Rattle.vm_machine.specs.Commands.{entered, phase_after, popped, popped_from}
 use Rattle.vm_machine.specs.Inputs.{coverage_of, input_at, input_by, input_counted, input_numbered, input_past, input_read, input_step}
-use Rattle.vm_machine.specs.Skips.{counters_past, skipped, skips_replay}
+use Rattle.vm_machine.specs.Skips.{counters_past, skipped}
+use Rattle.vm_types.specs.Options.{skips_replay}
 use Rattle.vm_machine.proofs.Skipping.{input_is}
-use Rattle.vm_asks.specs.Carried.{past_all}
+use Rattle.journal_entries.specs.Carried.{past_all}
 use Rattle.vm_parts.specs.declared.context.Counters.{Counters}
 use Rattle.vm_types.specs.declared.options.JournalReplay.TheVariants.{Enabled}
-use Rattle.vm_types.specs.declared.options.SignalDelivery.TheVariants.{Queued}
+use Rattle.journal_protocol.specs.SignalDelivery.TheVariants.{Queued}
 use Rattle.vm_model.specs.Deliveries.{HasNoTwo}
 use Rattle.vm_machine.specs.Making.{fresh}
 use Rattle.vm_machine.specs.Outcomes.{IsStarved, Outcome, Done, Failed, ◌>>>◌, about_last, called, called_at, settled, ruled, failed}
 use Rattle.vm_machine.specs.Phases.{is_closed, is_running}
-use Rattle.invocation_vm.specs.Frames.{Rest, frames_of}
+use Rattle.journal_entries.specs.Frames.{Rest, frames_of}
 use Rattle.invocation_vm.specs.Making.{Makes, made}
 use Rattle.invocation_vm.specs.Views.{View, left_by}
 use Rattle.vm_model.specs.Calls.{Meaning, Setup, identity_of}
-use Rattle.vm_model.specs.Journal.{input_read_from}
+use Rattle.journal_entries.specs.Journal.{input_read_from}
 use Rattle.vm_model.specs.Moves.{longer, start, told_input}
 use Rattle.vm_model.proofs.Compared.{after_answers, attempt_is_told}
 use Rattle.vm_model.proofs.Runs.{made_after}
 use Rattle.std.specs.List.{AllByRecursion}
-use Rattle.vm_parts.specs.declared.run_state.KeptProposal.{KeptProposal}
+use Rattle.journal_entries.specs.declared.proposals.KeptProposal.{KeptProposal}
 use Rattle.journal_protocol.specs.Versions.{is_from_v7}
 use Rattle.vm_attempt.specs.Arrivals.{arriving, kept_after}
 use Rattle.vm_steps.specs.Heard.{acknowledged_from}
@@ -54,7 +55,7 @@ use Rattle.vm_steps.specs.Heard.{Heard}
 use Rattle.vm_steps.specs.declared.progress.Progress.{Progress}
 use Rattle.vm_steps.specs.declared.progress.Progress.TheVariants as progress
 use Rattle.vm_attempt.specs.Agreement.{Agrees, Aside}
-use Rattle.vm_model.specs.JournalFrames.{commands_among, notifications_among, AcknowledgesNothing}
+use Rattle.journal_entries.specs.JournalFrames.{commands_among, notifications_among, AcknowledgesNothing}
 use Rattle.vm_attempt.specs.Journals.{BeginsOrFails, HasAll, StillWaits, machine_fed, with_missing, setup_for}
 use Rattle.vm_steps.specs.Record.{Record, heard}
 use Rattle.vm_steps.specs.Stepping.{Advances, MakesStep, IfWaits, IsReplaying, LacksMemory, InputIsRead, StepAt, StepDoes, StepFrom, StepUnless, fresh_record}

@@ -1,6 +1,6 @@
 -- How often a run can still be handed out to be executed: once for each pending run of its handle that waits, and once where the handle
 -- isn't given yet. No call of a machine adds to that.
-use Rattle.std.proofs.Common.{◌≡◌, ℕ, suc, ◌+◌, ◌≤◌, ◌&&◌, Bool, true, false, cond, List, [], ◌∷◌, ◌++◌, Some, None, refl, sym, subst, arith}
+use Rattle.std.proofs.Common.{◌≡◌, ◌⊎◌, inl, inr, ap, ℕ, suc, ◌+◌, ◌≤◌, ◌&&◌, Bool, true, false, cond, List, [], ◌∷◌, ◌++◌, Some, None, refl, sym, subst, arith}
 use Rattle.std.specs.Prelude.{◌==◌, if◌then◌else◌, find, nat_le}
 use Rattle.std.proofs.lemmas.Bool.{eq-eqb}
 use Rattle.std.proofs.lemmas.Bool.Decides.{nat_tests}
@@ -10,7 +10,7 @@ use Rattle.journal_protocol.specs.Message.{Message}
 use Rattle.journal_protocol.specs.Message.TheVariants as message
 use Rattle.runs.specs.Firsts.{with_first, without_first}
 use Rattle.runs.specs.Pending.{handle_of, has_handle, is_one_of, may_execute, run_started, to_execute, is_waiting_run}
-use Rattle.vm_parts.specs.declared.run_state.PendingRun.{PendingRun}
+use Rattle.runs.specs.declared.pending.PendingRun.{PendingRun}
 use Rattle.vm_parts.specs.Counting.{next_index}
 use Rattle.vm_machine.specs.declared.machine.Machine.{Machine}
 use Rattle.vm_awaits.specs.Awaits.{executed}
@@ -139,6 +139,21 @@ executed_fewer any v handle = omega (arith, starts_fewer handle any v.runs)
 -- the run that is executed is handed out
 pub executed_once : (any : List ℕ) (v : Machine) (run : PendingRun) → find (may_execute any) v.runs ≡ Some run → HandsOut (handle_of run) v (executed any v)
 executed_once any v run found = omega (arith, starts_one any v.runs run found)
+
+-- one of these runs has this handle
+abbrev pub HasRunOf : NotificationHandle → List PendingRun → Type 0
+HasRunOf handle [] = ⊥
+HasRunOf handle (run ∷ runs) = (handle_of run ≡ handle) ⊎ HasRunOf handle runs
+
+-- the run that is executed stays one of them
+pub started_has : (any : List ℕ) (runs : List PendingRun) (run : PendingRun) → find (may_execute any) runs ≡ Some run → HasRunOf (handle_of run) (with_first (may_execute any) run_started runs)
+started_has any [] run found = absurd (cc)
+started_has any (x ∷ runs) run found = by_test (may_execute any x) found (started_has any runs run)
+  where
+    by_test : (b : Bool) → cond b (Some x) (find (may_execute any) runs) ≡ Some run → (find (may_execute any) runs ≡ Some run → HasRunOf (handle_of run) (with_first (may_execute any) run_started runs))
+        → HasRunOf (handle_of run) (if b then run_started x ∷ runs else x ∷ with_first (may_execute any) run_started runs)
+    by_test true is more = inl (ap handle_of (same_Some x run is))
+    by_test false is more = inr (more is)
 
 -- ---- a run's result is reported
 

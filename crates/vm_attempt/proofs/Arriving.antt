@@ -3,7 +3,7 @@ use Rattle.std.specs.List.{find}
 use Rattle.std.specs.Option.{option_map}
 use Rattle.runs.specs.Firsts.{without_first}
 use Rattle.runs.specs.Kept.{is_for}
-use Rattle.vm_parts.specs.declared.run_state.KeptProposal.{KeptProposal}
+use Rattle.journal_entries.specs.declared.proposals.KeptProposal.{KeptProposal}
 use Rattle.journal_protocol.specs.ProposeRunCompletionAck.{ProposeRunCompletionAck}
 use Rattle.std.proofs.Common.{◌≡◌, ◌⊎◌, ℕ, Bool, true, false, cond, List, [], ◌∷◌, ◌++◌, Option, Some, None, refl, sym, ap, ◌∙◌, subst, inl, inr, ⊎_elim, append_assoc, append-nil}
 use Rattle.std.specs.Prelude.{◌==◌, ◌&&◌, if◌then◌else◌, is_some, nat_le, nat_lt, IsSome}
@@ -21,7 +21,8 @@ use Rattle.vm_parts.specs.declared.context.StateMap.{StateMap}
 use Rattle.vm_machine.specs.declared.machine.Machine.{Machine}
 use Rattle.vm_machine.specs.declared.phase.Phase.{Phase}
 use Rattle.vm_machine.specs.declared.phase.Phase.TheVariants.{WaitingStart, WaitingReplayEntries, Replaying, Processing, Closed}
-use Rattle.vm_machine.specs.Inputs.{entry_step, message_step, notification_step, queued, start_step, acknowledged, acknowledged_by, acknowledgement_step, acknowledged_completion}
+use Rattle.vm_machine.specs.Inputs.{entry_step, message_step, notification_step, queued, start_step, acknowledged, acknowledged_by, acknowledgement_step}
+use Rattle.journal_entries.specs.Proposals.{acknowledged_completion}
 use Rattle.vm_machine.specs.Outcomes.{Outcome, called, called_at, refused, settled}
 use Rattle.vm_machine.specs.Phases.{is_closed, is_processing, is_running}
 use Rattle.invocation_vm.specs.Views.{all_received, left_by, received}
@@ -29,7 +30,7 @@ use Rattle.vm_model.specs.Calls.{Setup, identity_of}
 use Rattle.vm_model.specs.Moves.{Point, later}
 use Rattle.vm_attempt.specs.Agreement.{Agrees, Aside, machine_at}
 use Rattle.vm_attempt.specs.Arrivals.{arriving, arrival_of, kept_after, kept_behind, acknowledged_as, unacknowledged}
-use Rattle.vm_model.specs.JournalFrames.{is_acknowledgement, is_ephemeral, is_notification, notifications_among, notified_by}
+use Rattle.journal_entries.specs.JournalFrames.{is_acknowledgement, is_ephemeral, is_notification, notifications_among, notified_by}
 use Rattle.vm_attempt.proofs.Requesting.{runs_at}
 
 -- a machine that has failed stays as it is

@@ -14,10 +14,10 @@ use Rattle.vm_machine.specs.declared.machine.Machine.{Machine}
 use Rattle.vm_machine.specs.declared.phase.Phase.TheVariants.{Replaying}
 use Rattle.vm_machine.specs.Commands.{entered, phase_after, popped}
 use Rattle.vm_machine.specs.Inputs.{input_by, input_read, input_step}
-use Rattle.vm_machine.specs.Skips.{skips_replay}
+use Rattle.vm_types.specs.Options.{skips_replay}
 use Rattle.vm_machine.specs.Outcomes.{Done, Failed, ◌>>>◌, about_last}
 use Rattle.vm_model.specs.Calls.{Setup, identity_of}
-use Rattle.vm_model.specs.Journal.{input_read_from}
+use Rattle.journal_entries.specs.Journal.{input_read_from}
 use Rattle.vm_model.specs.Moves.{told_input}
 use Rattle.vm_attempt.specs.Agreement.{Aside}
 use Rattle.vm_attempt.specs.Journals.{BeginsOrFails, machine_fed}

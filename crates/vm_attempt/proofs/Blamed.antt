@@ -16,7 +16,7 @@ use Rattle.vm_machine.specs.declared.phase.Phase.TheVariants.{WaitingStart, Wait
 use Rattle.vm_machine.specs.Inputs.{close_step, closed_at, malformed_step}
 use Rattle.vm_machine.specs.Outcomes.{IsStarved, called, called_at, ruled, ruled_by, settled}
 use Rattle.vm_machine.specs.Making.{fresh}
-use Rattle.invocation_vm.specs.Frames.{Tail, Rest, Garbage, frames_of}
+use Rattle.journal_entries.specs.Frames.{Tail, Rest, Garbage, frames_of}
 use Rattle.invocation_vm.specs.Making.{Makes, made}
 use Rattle.invocation_vm.specs.Views.{StarvesAmong, View, after_closing, after_input, all_received, messages_in_bytes, consumed, left_by, left_over, spoiled}
 use Rattle.vm_model.specs.Calls.{Meaning}
@@ -165,7 +165,7 @@ closed_blame fixed fed said answers e (NoFrame x y) = NoFrame x y
 closed_blame fixed fed said answers e (ClosedEarly x y z) = ClosedEarly refl y z
 closed_blame fixed fed said answers e (NoInput x) = NoInput x
 closed_blame fixed fed said answers e (NoSkip x) = NoSkip x
-closed_blame fixed fed said answers e (Call x) = Call x
+closed_blame fixed fed said answers e (Call fails x) = Call fails x
 closed_blame fixed fed said answers e (RunResult x) = RunResult x
 
 pub closing_at : (v : View) → v.machine.failure ≡ None → (ph : Phase) → v.machine.phase ≡ ph → left_by (settled (closed_at ph (record v.machine { input_closed = true }))) ≡ (after_closing v).machine

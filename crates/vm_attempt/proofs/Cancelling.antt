@@ -1,6 +1,6 @@
 -- A whole await, in a machine that agrees with a point: its outcome, and the cancel signals that a
 -- cancelled one sends.
-use Rattle.std.proofs.Common.{◌≡◌, ◌⊎◌, ℕ, ◌+◌, Bool, true, false, List, [], ◌∷◌, ◌++◌, Option, Some, None, refl, sym, ap, ◌∙◌, subst, inl, inr, ⊎_elim, append-nil, Ok, Err, Result}
+use Rattle.std.proofs.Common.{◌≡◌, ◌⊎◌, ℕ, Bool, true, false, List, [], ◌∷◌, ◌++◌, Option, Some, None, refl, sym, ap, ◌∙◌, subst, inl, inr, ⊎_elim, append-nil, Ok, Err, Result}
 use Rattle.std.specs.Prelude.{◌&&◌, is_some}
 use Rattle.await_trees.specs.declared.handle.NotificationHandle.{NotificationHandle}
 use Rattle.await_trees.specs.declared.tree.UnresolvedFuture.{UnresolvedFuture}
@@ -12,8 +12,8 @@ use Rattle.journal_protocol.specs.NotificationId.{NotificationId}
 use Rattle.journal_protocol.specs.NotificationResult.{NotificationResult}
 use Rattle.vm_parts.specs.Counting.{missing_number}
 use Rattle.vm_parts.specs.declared.context.StateMap.{StateMap}
-use Rattle.vm_types.specs.declared.options.SignalDelivery.TheVariants.{Queued}
-use Rattle.vm_parts.specs.declared.run_state.TrackedCall.{TrackedCall}
+use Rattle.journal_protocol.specs.SignalDelivery.TheVariants.{Queued}
+use Rattle.vm_parts.specs.declared.tracked_call.TrackedCall.{TrackedCall}
 use Rattle.vm_types.specs.declared.steps.Answer.TheVariants as answer
 use Rattle.vm_types.specs.declared.steps.Step.TheVariants as step
 use Rattle.vm_types.specs.declared.types.AwaitResponse.{AwaitResponse}

@@ -7,7 +7,7 @@ use Rattle.vm_types.specs.declared.steps.Answer.{Answer}
 use Rattle.await_trees.specs.declared.tree.UnresolvedFuture.{UnresolvedFuture}
 use Rattle.vm_machine.specs.declared.phase.Phase.TheVariants.{Closed, Processing}
 use Rattle.vm_machine.specs.Phases.{is_running}
-use Rattle.invocation_vm.specs.Frames.{Rest}
+use Rattle.journal_entries.specs.Frames.{Rest}
 use Rattle.invocation_vm.specs.Making.{made}
 use Rattle.invocation_vm.specs.Views.{View}
 use Rattle.vm_steps.specs.Heard.{Heard}
@@ -16,21 +16,21 @@ use Rattle.vm_steps.specs.declared.progress.Reply.{Reply}
 use Rattle.vm_steps.specs.declared.progress.Reply.TheVariants as reply
 use Rattle.vm_steps.specs.Record.{Record, heard}
 use Rattle.vm_steps.specs.Stepping.{MakesStep, CloseDoes, FeedDoes, StepDoes, Takes, step_asked, fresh_record, future_in, replied}
-use Rattle.vm_asks.specs.Carried.{AreBelow, all_carried}
+use Rattle.journal_entries.specs.Carried.{AreBelow, all_carried}
 use Rattle.vm_machine.specs.declared.machine.Machine.{Machine}
 use Rattle.vm_machine.specs.Inputs.{coverage_of, input_step}
 use Rattle.vm_machine.specs.Making.{fresh}
 use Rattle.vm_machine.specs.Outcomes.{Done}
-use Rattle.vm_machine.specs.Skips.{skips_replay}
+use Rattle.vm_types.specs.Options.{skips_replay}
 use Rattle.vm_machine.proofs.Skipping.{ReadsInput, input_is, left_alike, reads_fresh}
 use Rattle.vm_types.specs.declared.steps.Answer.TheVariants as answer
 use Rattle.vm_types.specs.declared.values.Input.{Input}
 use Rattle.journal_protocol.specs.Bodies.{input_in}
 use Rattle.vm_attempt.specs.Arrivals.{kept_after}
-use Rattle.vm_model.specs.JournalFrames.{AcknowledgesNothing}
+use Rattle.journal_entries.specs.JournalFrames.{AcknowledgesNothing}
 use Rattle.vm_attempt.specs.Journals.{HasAll, StillWaits, setup_for}
 use Rattle.vm_attempt.specs.Told.{Begun, JournalCame, Comes, HasCome, IsLive, Journal, Wrote, bytes_fed, commands_of, frames_fed}
-use Rattle.invocation_vm.specs.Frames.{frames_of}
+use Rattle.journal_entries.specs.Frames.{frames_of}
 use Rattle.std.specs.Prelude.{if◌then◌else◌}
 use Rattle.std.specs.List.{AllByRecursion}
 use Rattle.vm_attempt.proofs.Advanced.{made_new, steps_keep}

@@ -14,7 +14,8 @@ use Rattle.vm_parts.specs.declared.context.StateMap.{StateMap}
 use Rattle.vm_machine.specs.declared.machine.Machine.{Machine}
 use Rattle.vm_machine.specs.declared.phase.Phase.{Phase}
 use Rattle.vm_machine.specs.declared.phase.Phase.TheVariants.{WaitingStart, WaitingReplayEntries, Replaying}
-use Rattle.vm_machine.specs.Inputs.{acknowledgement_step, counted_entry, coverage_of, entries_in, entry_step, start_info_of, message_step, notification_step, queued, start_step, start_received, started_with}
+use Rattle.vm_machine.specs.Inputs.{acknowledgement_step, counted_entry, coverage_of, entries_in, entry_step, message_step, notification_step, queued, start_step, start_received, started_with}
+use Rattle.vm_parts.specs.Starts.{start_info_of}
 use Rattle.vm_machine.specs.Making.{fresh}
 use Rattle.journal_protocol.specs.Start.{Start}
 use Rattle.journal_protocol.specs.Version.{Version}
@@ -24,7 +25,8 @@ use Rattle.vm_machine.specs.Outcomes.{Outcome, Done, refused, settled}
 use Rattle.invocation_vm.specs.Views.{all_received, left_by, received}
 use Rattle.vm_model.specs.Calls.{Setup}
 use Rattle.vm_attempt.specs.Agreement.{Aside}
-use Rattle.vm_model.specs.JournalFrames.{AcknowledgesNothing, commands_among, is_acknowledgement, is_command_frame, is_ephemeral, is_notification, notifications_among, notified_by, setup_with}
+use Rattle.journal_entries.specs.JournalFrames.{AcknowledgesNothing, commands_among, is_acknowledgement, is_command_frame, is_ephemeral, is_notification, notifications_among, notified_by}
+use Rattle.vm_model.specs.Setups.{setup_with}
 use Rattle.vm_attempt.specs.Journals.{HasAll, HasStarted, StartCame, Started, StillWaits, TakenIn, aside_for, machine_fed, with_missing, phase_missing, waiting_machine}
 use Rattle.vm_attempt.proofs.Arriving.{behind_one, failed_stays, live_receives, some_failure, unknown_fails, unknown_step}
 

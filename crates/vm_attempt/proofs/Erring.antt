@@ -21,9 +21,10 @@ use Rattle.vm_machine.specs.declared.phase.Phase.{Phase}
 use Rattle.vm_machine.specs.declared.phase.Phase.TheVariants.{WaitingStart, WaitingReplayEntries, Replaying, Processing, Closed}
 use Rattle.vm_machine.specs.Commands.{entered, phase_after, popped, popped_from}
 use Rattle.vm_machine.specs.Inputs.{coverage_of, input_at, input_by, input_counted, input_numbered, input_past, input_read, input_step}
-use Rattle.vm_machine.specs.Skips.{counters_past, skipped, skips_replay}
+use Rattle.vm_machine.specs.Skips.{counters_past, skipped}
+use Rattle.vm_types.specs.Options.{skips_replay}
 use Rattle.vm_machine.proofs.Skipping.{counted_is, past_handle, popped_input}
-use Rattle.vm_asks.specs.Carried.{past_all}
+use Rattle.journal_entries.specs.Carried.{past_all}
 use Rattle.vm_parts.specs.declared.context.Counters.{Counters}
 use Rattle.vm_parts.specs.Counting.{fresh_counters}
 use Rattle.vm_types.specs.declared.options.JournalReplay.{JournalReplay}
@@ -43,7 +44,7 @@ use Rattle.vm_steps.specs.declared.progress.Reply.TheVariants as reply
 use Rattle.vm_attempt.specs.Agreement.{IsCutShort, CallRefused}
 use Rattle.vm_attempt.specs.Blames.{Blame, BlamedAt, CannotSkip, IfError, IsBlamed, LacksInput, RefusedCall, first_input, no_input_fault, skip_fault, the_input}
 use Rattle.vm_attempt.specs.Blames.Blame.{Memory, NoInput, NoSkip, Call}
-use Rattle.vm_model.specs.JournalFrames.{commands_among, notifications_among}
+use Rattle.journal_entries.specs.JournalFrames.{commands_among, notifications_among}
 use Rattle.vm_attempt.specs.Journals.{HasAll, StillWaits, machine_fed, with_missing, setup_for}
 use Rattle.vm_steps.specs.Record.{Record, Said, all_said, heard}
 use Rattle.vm_steps.specs.Stepping.{Advances, MakesStep, LacksMemory, InputIsRead, StepAt, StepDoes, StepFrom, StepUnless, step_asked, future_in, progress_of}
@@ -315,8 +316,8 @@ module _ (fixed : Fixed) (r : Record) (under : Premises fixed (heard fixed.versi
       (λ (x : IsCutShort (setup_for fixed k.journal.start) fixed.handler (start_state k.journal) k.at r.vm.machine e w.machine). inl x.error)
       (agreeing_follows (setup_for fixed k.journal.start) fixed.handler (start_state k.journal) k.written r.vm.machine k.at (Failed e w.machine) (λ future _. (under.queues, under.once k.journal k.moves k.written k.at k.run)) (k.rests live) (k.agrees live) (subst (λ q. Performs q r.vm.machine (Failed e w.machine)) same does) (tt {0}))
 
-asks_blamed : (fixed : Fixed) (old : Record) (result : Result Progress Error) (new : Record) → (Premises fixed (heard fixed.version old) → HandlerRuns fixed (heard fixed.version old) old.answers old.waiting old.taken old.vm) → IsLive old.vm.machine → MakesStep fixed.handler old result new → IsBlamed fixed new
-asks_blamed fixed old result new runs live (x, w, does, is, made) = subst (IsBlamed fixed) (sym is) (by_reply x (step_leaves (step_asked fixed.handler old) old.vm.machine live x w.machine does.0.0) does.0.0)
+asks_blamed : (fixed : Fixed) (old : Record) (result : Result Progress Error) (new : Record) → (Premises fixed (heard fixed.version old) → HandlerRuns fixed (heard fixed.version old) old.answers old.waiting old.taken old.vm) → (old.vm.machine.version ≡ fixed.version) × (old.vm.machine.options ≡ fixed.options) → IsLive old.vm.machine → MakesStep fixed.handler old result new → IsBlamed fixed new
+asks_blamed fixed old result new runs made_for live (x, w, does, is, made) = subst (IsBlamed fixed) (sym is) (by_reply x (step_leaves (step_asked fixed.handler old) old.vm.machine live x w.machine does.0.0) does.0.0)
   where
     -- a VM whose handler runs
     running : (answers : List Answer) → w.machine.failure ≡ old.vm.machine.failure → is_running w.machine.phase ≡ true → BlamedAt fixed old.over (heard fixed.version old) (all_said old) answers w.machine
@@ -331,7 +332,7 @@ asks_blamed fixed old result new runs live (x, w, does, is, made) = subst (IsBla
     by_reply (Err e) h d =
         error_blamed fixed old.over (heard fixed.version old) (all_said old) old.answers w.machine e h.1
         (⊎_elim
-        (λ (y : Performs (step_asked fixed.handler old) old.vm.machine (Failed e w.machine)). Call (λ p. call_refused fixed old p (runs p) live w e y))
+        (λ (y : Performs (step_asked fixed.handler old) old.vm.machine (Failed e w.machine)). Call (record { waiting = old.waiting; machine = old.vm.machine; left = w.machine; live = live; made_for = made_for; fails = y }) (λ p. call_refused fixed old p (runs p) live w e y))
         (λ (y : IsStarved old.vm.machine e w.machine). Memory y.error)
         d)
 
@@ -348,8 +349,15 @@ advances_blamed fixed old result new k u b live =
     (λ (y : BeforeInput fixed (heard fixed.version old) old.answers old.waiting old.taken old.vm). reads_blamed fixed old result new y live x.1)
     (λ (y : JournalCame fixed (heard fixed.version old) old.answers old.taken old.vm). absurd (y.answered x.0))
     k)
-    (λ (x : (old.answers ≢ []) × MakesStep fixed.handler old result new). asks_blamed fixed old result new (λ p. runs_of fixed old (u p) x.0) live x.1)
+    (λ (x : (old.answers ≢ []) × MakesStep fixed.handler old result new). asks_blamed fixed old result new (λ p. runs_of fixed old (u p) x.0) (made_for_of x.0) live x.1)
     o)
+  where
+    made_for_of : old.answers ≢ [] → (old.vm.machine.version ≡ fixed.version) × (old.vm.machine.options ≡ fixed.options)
+    made_for_of some =
+        ⊎_elim
+        (λ (y : BeforeInput fixed (heard fixed.version old) old.answers old.waiting old.taken old.vm). absurd (some y.answers))
+        (λ (y : JournalCame fixed (heard fixed.version old) old.answers old.taken old.vm). y.made_for live)
+        k
 
 step_at : (fixed : Fixed) (old : Record) (result : Result Progress Error) (new : Record) → HasCome fixed old → IsKeptUnder fixed old → IsBlamed fixed old → old.vm.machine.failure ≡ None → (ph : Phase) → old.vm.machine.phase ≡ ph → StepAt ph fixed.handler old result new → IsBlamed fixed new
 step_at fixed old result new k u b live WaitingStart at d = subst (IsBlamed fixed) (sym d.1) b

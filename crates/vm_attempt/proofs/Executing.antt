@@ -17,7 +17,7 @@ use Rattle.vm_machine.specs.Inputs.{input_step}
 use Rattle.vm_machine.specs.Making.{fresh}
 use Rattle.vm_machine.specs.Outcomes.{Failed, IsStarved, Outcome, called, settled}
 use Rattle.vm_machine.specs.Phases.{is_running}
-use Rattle.invocation_vm.specs.Frames.{Garbage, Rest, Tail, frames_of}
+use Rattle.journal_entries.specs.Frames.{Garbage, Rest, Tail, frames_of}
 use Rattle.invocation_vm.specs.Making.{made}
 use Rattle.invocation_vm.specs.Views.{StarvesAmong, View, after_closing, after_input, all_received, messages_in_bytes, consumed, has_failed, left_by, left_over, received, spoiled}
 use Rattle.vm_model.specs.Calls.{Meaning}
@@ -25,7 +25,7 @@ use Rattle.vm_attempt.specs.Blames.{fault_among}
 use Rattle.vm_model.specs.Fixed.{Fixed}
 use Rattle.vm_attempt.specs.Courses.{OneCall, Leads}
 use Rattle.vm_attempt.specs.Courses.OneCall.{Closing, Feeding, Stepping, Taking, Telling}
-use Rattle.vm_model.specs.JournalFrames.{is_acknowledgement, is_command_frame, is_notification}
+use Rattle.journal_entries.specs.JournalFrames.{is_acknowledgement, is_command_frame, is_notification}
 use Rattle.vm_steps.specs.declared.progress.Progress.{Progress}
 use Rattle.vm_steps.specs.declared.progress.Progress.TheVariants as progress
 use Rattle.vm_steps.specs.declared.progress.Reply.{Reply}
@@ -34,7 +34,7 @@ use Rattle.vm_steps.specs.Record.{Record}
 use Rattle.vm_steps.specs.Stepping.{Advances, MakesStep, CloseDoes, InputIsClosed, FeedDoes, FeedsPiece, LacksMemory, InputIsRead, StepAt, StepDoes, StepFrom, StepUnless, Takes, fresh_record, future_in, with_piece_kept, progress_of, replied, step_asked, output_taken, with_vm}
 use Rattle.vm_attempt.specs.Told.{IsLive}
 use Rattle.vm_attempt.proofs.Advanced.{done_of}
-use Rattle.vm_attempt.proofs.Ahead.{HandsOut, LivesOn, ahead, fewer_equal, fewer_same, fewer_then}
+use Rattle.vm_attempt.proofs.Ahead.{HandsOut, HasRunOf, LivesOn, ahead, fewer_equal, fewer_same, fewer_then}
 use Rattle.vm_attempt.proofs.Arriving.{failed_receives}
 use Rattle.vm_attempt.proofs.Blamed.{closing_at, closing_not, none_some, spoils, spoils_not}
 use Rattle.vm_attempt.proofs.Blaming.{Fits, message_fits}
@@ -118,7 +118,7 @@ closing_lives v = by_failure v.machine.failure refl v.machine.phase refl
 -- ---- the calls of an attempt
 
 -- what is answered once the attempt is over executes no run
-abbrev ExecutesNone : Option Progress → Type 0
+abbrev pub ExecutesNone : Option Progress → Type 0
 ExecutesNone None = Unit {0}
 ExecutesNone (Some progress.NotReady) = Unit {0}
 ExecutesNone (Some progress.Stepped) = Unit {0}
@@ -128,9 +128,9 @@ ExecutesNone (Some progress.Suspended) = Unit {0}
 ExecutesNone (Some progress.Ended) = Unit {0}
 
 -- what each call keeps
-record Keeps (old new : Record) : Type 0 where
-  over : ExecutesNone old.over → ExecutesNone new.over
-  lives : LivesOn old.vm.machine new.vm.machine
+pub record Keeps (old new : Record) : Type 0 where
+  pub over : ExecutesNone old.over → ExecutesNone new.over
+  pub lives : LivesOn old.vm.machine new.vm.machine
 
 keeps_same : (r : Record) → Keeps r r
 keeps_same r = record { over = λ o. o; lives = lives_same r.vm.machine }
@@ -199,9 +199,9 @@ asks_keep m old result new live (x, w, does, is, made) = subst (Keeps old) (sym 
     by_reply (Err e) h = keeps_going old _ refl (failed_lives e old.vm.machine w.machine h.1)
 
 -- what a step did, and that it handed out the run that it answers
-record Hands (old : Record) (result : Result Progress Error) (new : Record) : Type 0 where
-  keeps : Keeps old new
-  out : (handle : NotificationHandle) → result ≡ Ok (progress.ExecuteRun handle) → ExecutesNone old.over → (old.vm.machine.failure ≡ None) × HandsOut handle old.vm.machine new.vm.machine
+pub record Hands (old : Record) (result : Result Progress Error) (new : Record) : Type 0 where
+  pub keeps : Keeps old new
+  pub out : (handle : NotificationHandle) → result ≡ Ok (progress.ExecuteRun handle) → ExecutesNone old.over → (old.vm.machine.failure ≡ None) × HandsOut handle old.vm.machine new.vm.machine × HasRunOf handle new.vm.machine.runs × (new.vm.machine.failure ≡ None)
 
 -- an answer by which no run is executed
 hands_none : (old : Record) (made : Result Progress Error) (result : Result Progress Error) (new : Record) → ((handle : NotificationHandle) → made ≢ Ok (progress.ExecuteRun handle)) → result ≡ made → Keeps old new → Hands old result new
@@ -229,13 +229,16 @@ reads_hand old (Err e) new live does = record { keeps = reads_keep old (Err e) n
 asks_hand : (m : Meaning) (old : Record) (result : Result Progress Error) (new : Record) → IsLive old.vm.machine → MakesStep m old result new → Hands old result new
 asks_hand m old result new live (x, w, does, is, made) = record {
   keeps = asks_keep m old result new live (x, w, does, is, made);
-  out = λ handle executes _. (live.failure, subst (λ (r : Record). HandsOut handle old.vm.machine r.vm.machine) (sym is) (by_reply x handle (sym made ∙ executes) (step_leaves (step_asked m old) old.vm.machine live x w.machine does.0.0)));
+  out = λ handle executes _.
+      let h = subst (λ (r : Record). HandsOut handle old.vm.machine r.vm.machine × HasRunOf handle r.vm.machine.runs × (r.vm.machine.failure ≡ None)) (sym is) (by_reply x handle (sym made ∙ executes) (step_leaves (step_asked m old) old.vm.machine live x w.machine does.0.0)) in
+      (live.failure, h.0, h.1, h.2);
 }
   where
-    by_reply : (x : Result Reply Error) (handle : NotificationHandle) → progress_of x ≡ Ok (progress.ExecuteRun handle) → IsLeft old.vm.machine x w.machine → HandsOut handle old.vm.machine (replied old (future_in (step_asked m old)) x w).vm.machine
+    by_reply : (x : Result Reply Error) (handle : NotificationHandle) → progress_of x ≡ Ok (progress.ExecuteRun handle) → IsLeft old.vm.machine x w.machine
+        → HandsOut handle old.vm.machine (replied old (future_in (step_asked m old)) x w).vm.machine × HasRunOf handle (replied old (future_in (step_asked m old)) x w).vm.machine.runs × ((replied old (future_in (step_asked m old)) x w).vm.machine.failure ≡ None)
     by_reply (Ok (reply.Answer a)) handle e h = absurd (cc)
     by_reply (Ok (reply.Waiting input run)) handle e h = absurd (cc)
-    by_reply (Ok (reply.Execute run)) handle e h = subst (λ n. HandsOut n old.vm.machine w.machine) (let same : run ≡ handle = cc in same) h.left.1
+    by_reply (Ok (reply.Execute run)) handle e h = subst (λ n. HandsOut n old.vm.machine w.machine × HasRunOf n w.machine.runs × (w.machine.failure ≡ None)) (let same : run ≡ handle = cc in same) (h.left.1, h.left.2, h.failure ∙ live.failure)
     by_reply (Ok reply.Suspended) handle e h = absurd (cc)
     by_reply (Ok reply.Ended) handle e h = absurd (cc)
     by_reply (Err d) handle e h = absurd (cc)
@@ -273,7 +276,7 @@ hands_unless None (Some made) m old result new is at d = record {
 }
 hands_unless None None m old result new is at d = hands_at old.vm.machine.phase m old result new is refl d
 
-step_hands : (m : Meaning) (old : Record) (result : Result Progress Error) (new : Record) → StepDoes m old result new → Hands old result new
+pub step_hands : (m : Meaning) (old : Record) (result : Result Progress Error) (new : Record) → StepDoes m old result new → Hands old result new
 step_hands m old result new does = by_test old.starved does
   where
     by_test : (b : Bool) → StepFrom b m old result new → Hands old result new
@@ -282,7 +285,7 @@ step_hands m old result new does = by_test old.starved does
 
 -- ---- one call after another
 
-call_keeps : (m : Meaning) (old new : Record) → OneCall m old new → Keeps old new
+pub call_keeps : (m : Meaning) (old new : Record) → OneCall m old new → Keeps old new
 call_keeps m old new (Feeding piece result does) = feed_keeps piece old result new does
 call_keeps m old new (Closing result does) = close_keeps old result new does
 call_keeps m old new (Stepping result does) = (step_hands m old result new does).keeps

@@ -19,11 +19,11 @@ use Rattle.journal_protocol.specs.ValueOrFailure.{ValueOrFailure}
 use Rattle.retries.specs.declared.policy.RetryPolicy.{RetryPolicy}
 use Rattle.runs.specs.declared.settling.Settlement.{Settlement}
 use Rattle.runs.specs.declared.settling.Settlement.TheVariants as settlement
-use Rattle.runs.specs.declared.types.RunExitResult.{RunExitResult}
+use Rattle.vm_types.specs.declared.runs.RunExitResult.{RunExitResult}
 use Rattle.runs.specs.Firsts.{without_first}
 use Rattle.runs.specs.Pending.{has_handle}
-use Rattle.vm_parts.specs.declared.run_state.KeptProposal.{KeptProposal}
-use Rattle.vm_parts.specs.declared.run_state.PendingRun.{PendingRun}
+use Rattle.journal_entries.specs.declared.proposals.KeptProposal.{KeptProposal}
+use Rattle.runs.specs.declared.pending.PendingRun.{PendingRun}
 use Rattle.vm_types.specs.declared.steps.Answer.{Answer}
 use Rattle.vm_parts.specs.Outboxes.{WholeFrames}
 use Rattle.vm_machine.specs.declared.machine.Machine.{Machine}
@@ -41,7 +41,7 @@ use Rattle.invocation_vm.proofs.Failing.{first_proposed}
 use Rattle.vm_model.specs.Calls.{Setup}
 use Rattle.vm_model.specs.Histories.{Handed, IsPrefix, Made}
 use Rattle.vm_model.specs.Moves.{Point, start}
-use Rattle.vm_model.specs.Journal.{stored_form}
+use Rattle.journal_entries.specs.Journal.{stored_form}
 use Rattle.vm_steps.specs.declared.progress.Progress.{Progress}
 use Rattle.vm_attempt.specs.Arrivals.{AllFound, arriving}
 use Rattle.vm_attempt.specs.Blames.{Blame, BlamedAt, IsBlamed, IsHonest, IsLate, IsOwnError, LateBy}
@@ -50,7 +50,7 @@ use Rattle.vm_steps.specs.Heard.{Heard, acknowledged_from, proposals_among, prop
 use Rattle.vm_attempt.specs.Journals.{HasAll, StillWaits, setup_for}
 use Rattle.vm_steps.specs.Record.{Record, Said, all_heard, all_said, heard}
 use Rattle.vm_steps.specs.Stepping.{FinishDoes, CompletesRun, ReportsRunResult, TellsUnless, newly_proposed, failed_run_noted, noted_at, with_vm}
-use Rattle.vm_attempt.specs.Told.{BeforeInput, Begun, JournalCame, Comes, HasCome, InReplay, IsKept, IsKeptInReplay, IsKeptUnder, IsLive, Journal, Premises, Quiet, ReplayPremises, HandlerRuns, StillSleeps, Wrote, arrivals, frames_fed, start_state}
+use Rattle.vm_attempt.specs.Told.{BeforeInput, Begun, JournalCame, Comes, HasCome, InReplay, IsKept, IsKeptInReplay, IsKeptUnder, IsLive, Journal, Premises, Quiet, ReplayPremises, HandlerRuns, StillSleeps, Wrote, arrivals, frames_fed, start_state, ProvesHistory}
 use Rattle.vm_attempt.proofs.Advanced.{done_of}
 use Rattle.vm_attempt.proofs.Ahead.{Fewer, LivesOn, ended_fewer, fewer_same}
 use Rattle.vm_attempt.proofs.Blamed.{alive_blamed, none_some, over_blamed}
@@ -284,6 +284,40 @@ module _ (handle : NotificationHandle) (exit : RunExitResult) (policy : RetryPol
         is = is ∙ ap (with_vm w) (noted_live handle old live);
       }))
 
+  -- The run that is noted and the failure stay; or the VM hadn't failed, the report is answered by an error, which is its failure now,
+  -- and this run is noted.
+  abbrev pub FailsNow : Result Unit Error → Record → Type 0
+  FailsNow result new = (e : Error) × (old.vm.machine.failure ≡ None) × (result ≡ Err e) × (new.failed_by ≡ Some handle) × (new.vm.machine.failure ≡ Some e)
+
+  abbrev pub Stays : Record → Type 0
+  Stays new = (new.failed_by ≡ old.failed_by) × ((e : Error) → old.vm.machine.failure ≡ Some e → new.vm.machine.failure ≡ Some e)
+
+  stays_same : (new : Record) → new ≡ old → Stays new
+  stays_same new is = (ap (λ (r : Record). r.failed_by) is, λ e some. ap (λ (r : Record). r.vm.machine.failure) is ∙ some)
+
+  fails_by : (f : Option Error) → old.vm.machine.failure ≡ f → (result : Result Unit Error) (new : Record) → CompletesRun handle exit policy old result new → Stays new ⊎ FailsNow result new
+  fails_by (Some e) dead (Ok t) new (w, does, is) =
+      let first = first_proposed handle exit policy (Ok t) e old.vm w dead does in
+      absurd (⊎_elim (λ (x : Ok t ≡ Err e). let z : ⊥ = cc in z) (λ (x : Ok t ≡ Err no_memory). let z : ⊥ = cc in z) first.0)
+  fails_by (Some e) dead (Err d) new (w, does, is) =
+      let first = first_proposed handle exit policy (Err d) e old.vm w dead does in
+      inl (stays_same new (is ∙ λ i. with_vm (first.1 i) (noted_dead handle old e dead i)))
+  fails_by None live (Ok t) new (w, does, is) = inl (ap (λ (r : Record). r.failed_by) is, λ e some. none_some e (sym live ∙ some))
+  fails_by None live (Err e) new (w, does, is) =
+      let fails = ⊎_elim
+      (λ (x : CalledBy (Proposes handle exit policy old.vm.machine) old.vm.machine (Failed e w.machine)). tells_err handle exit policy old.vm.machine e w.machine live x)
+      (λ (x : IsStarved old.vm.machine e w.machine). starves handle exit policy old.vm.machine e w.machine live x)
+      does.0 in
+      let same : new ≡ with_vm w (noting handle old) = is ∙ ap (with_vm w) (noted_live handle old live) in
+      inr (e, live, refl, ap (λ (r : Record). r.failed_by) same, ap (λ (r : Record). r.vm.machine.failure) same ∙ fails.failure)
+
+  pub finish_fails : (result : Result Unit Error) (new : Record) → FinishDoes old.starved handle exit policy old result new → Stays new ⊎ FailsNow result new
+  finish_fails result new does = by_test old.starved does
+    where
+      by_test : (b : Bool) → FinishDoes b handle exit policy old result new → Stays new ⊎ FailsNow result new
+      by_test true d = inl (stays_same new d.1)
+      by_test false d = fails_by old.vm.machine.failure refl result new d
+
   finish_cases : (result : Result Unit Error) (new : Record) → FinishDoes old.starved handle exit policy old result new → Cases handle exit policy old new
   finish_cases result new does = by_test old.starved does
     where
@@ -391,6 +425,14 @@ module _ (fixed : Fixed) (fed : Heard) (answers : List Answer) (waiting : Option
       once = λ j n made q run. p.once (journal_as fed more j) n made q (run_with (setup_for fixed j.start) j n made q run);
     }
 
+    -- so were the premises of replay
+    replays_less : ReplayPremises fixed (and_proposed fed more) → ReplayPremises fixed fed
+    replays_less p = record {
+      replays = p.replays;
+      queues = p.queues;
+      once = λ j n made q run some. p.once (journal_as fed more j) n made q (run_with (setup_for fixed j.start) j n made q run) some;
+    }
+
     runs_proposes : HandlerRuns fixed fed answers waiting taken vm → HandlerRuns fixed (and_proposed fed more) answers waiting taken after
     runs_proposes k = record {
       journal = journal_as fed more k.journal;
@@ -495,15 +537,30 @@ module _ (fixed : Fixed) (handle : NotificationHandle) (exit : RunExitResult) (p
 
   -- ---- replay
 
+  -- what was shown of the journal is so with a proposal more
+  proposes_proves : (p : ProposesOne handle old new) → IsKeptInReplay fixed old → ReplayPremises fixed (heard fixed.version new) → ProvesHistory fixed (heard fixed.version new)
+  proposes_proves p u q =
+      let same : heard fixed.version new ≡ and_proposed (heard fixed.version old) (further p) = ap (heard fixed.version) p.is ∙ heard_is p in
+      let here : ReplayPremises fixed (and_proposed (heard fixed.version old) (further p)) = subst (ReplayPremises fixed) same q in
+      let before = replays_less fixed (heard fixed.version old) old.answers old.waiting old.taken old.vm (is_live p) p.phase handle p.id p.result (further p) (has_come p) here in
+      subst (ProvesHistory fixed) (sym same)
+      (⊎_elim
+      (λ (b : BeforeInput fixed (heard fixed.version old) old.answers old.waiting old.taken old.vm). absurd ((has_come p).answered b.answers))
+      (λ (k : InReplay fixed (heard fixed.version old) old.answers old.waiting old.taken old.vm).
+      let h = k.proves p.live p.phase in
+      record { journal = journal_as (heard fixed.version old) (further p) h.journal; history = h.history })
+      (u before))
+
   -- a result is proposed only if no recorded command is left
-  proposes_in_replay : ProposesOne handle old new → IsKeptInReplay fixed new
-  proposes_in_replay p q =
+  proposes_in_replay : IsKeptInReplay fixed old → ProposesOne handle old new → IsKeptInReplay fixed new
+  proposes_in_replay u p q =
       ⊎_elim
       (λ (b : BeforeInput fixed (heard fixed.version new) new.answers new.waiting new.taken new.vm). inl b)
       (λ (c : JournalCame fixed (heard fixed.version new) new.answers new.taken new.vm).
       inr (record {
         came = c;
         run = λ alive at. absurd (let z : Processing ≡ Replaying = sym p.phase ∙ ap (λ (w : Machine). w.phase) (sym (machine_is p)) ∙ ap (λ (r : Record). r.vm.machine.phase) (sym p.is) ∙ at in cc);
+        proves = λ alive at. proposes_proves p u q;
       }))
       (proposes_comes p)
 
@@ -592,7 +649,7 @@ module _ (fixed : Fixed) (handle : NotificationHandle) (exit : RunExitResult) (p
   finish_under u = by_case (IsKeptUnder fixed) u (proposes_under fixed handle exit policy old new came u) (fails_under fixed handle exit policy old new came u)
 
   pub finish_in_replay : IsKeptInReplay fixed old → IsKeptInReplay fixed new
-  finish_in_replay u = by_case (IsKeptInReplay fixed) u (proposes_in_replay fixed handle exit policy old new came) (fails_in_replay fixed handle exit policy old new came u)
+  finish_in_replay u = by_case (IsKeptInReplay fixed) u (proposes_in_replay fixed handle exit policy old new came u) (fails_in_replay fixed handle exit policy old new came u)
 
   pub finish_blames : IsBlamed fixed old → IsBlamed fixed new
   finish_blames b = by_case (IsBlamed fixed) b (proposes_blames fixed handle exit policy old new came b) (fails_blames fixed handle exit policy old new came b)

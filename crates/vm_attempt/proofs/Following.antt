@@ -16,9 +16,9 @@ use Rattle.vm_types.specs.declared.values.Value.{Value}
 use Rattle.vm_parts.specs.Counting.{missing_signals}
 use Rattle.vm_parts.specs.Deliveries.{id_at, present_result_for, taken_by, unmapped}
 use Rattle.journal_protocol.specs.NotificationId.TheVariants.{SignalId, SignalName}
-use Rattle.vm_parts.specs.Tracked.{id_of_value, id_noted}
-use Rattle.vm_types.specs.Values.{value_of}
-use Rattle.vm_parts.specs.declared.run_state.TrackedCall.{TrackedCall}
+use Rattle.vm_parts.specs.Tracked.{id_noted}
+use Rattle.vm_types.specs.Values.{id_of_value, value_of}
+use Rattle.vm_parts.specs.declared.tracked_call.TrackedCall.{TrackedCall}
 use Rattle.vm_machine.specs.declared.machine.Machine.{Machine}
 use Rattle.journal_protocol.specs.Version.{Version}
 use Rattle.await_trees.specs.declared.tree.UnresolvedFuture.{UnresolvedFuture}
@@ -31,14 +31,15 @@ use Rattle.vm_machine.specs.Commands.{phase_after}
 use Rattle.vm_machine.specs.Inputs.{end_at}
 use Rattle.vm_machine.specs.Outcomes.{Outcome, Done, called, refused, ruled}
 use Rattle.vm_machine.specs.Phases.{state_fault}
-use Rattle.vm_machine.specs.Signals.{awakeable_counted, awakeable_id, awakeable_step, signal_counted, signal_step}
-use Rattle.vm_machine.specs.Skips.{skips_replay}
+use Rattle.vm_machine.specs.Signals.{awakeable_counted, awakeable_step, signal_counted, signal_step}
+use Rattle.vm_asks.specs.Awakeables.{awakeable_id}
+use Rattle.vm_types.specs.Options.{skips_replay}
 use Rattle.vm_model.specs.Calls.{Setup, Meaning, Derived, Move, asked, awakeable_made, call_of, making_awakeable, has_result_in, identity_of, ready_in, take_of_result, signal_made, taking, take_noting_id, take_of_value}
 use Rattle.vm_model.specs.Calls.Usage.{Taken}
 use Rattle.vm_model.specs.Calls.Move.{Ends}
 use Rattle.vm_model.specs.Refusals.{IsRefusedFor}
 use Rattle.vm_model.specs.Deliveries.{HasNoTwo}
-use Rattle.vm_types.specs.declared.options.SignalDelivery.TheVariants.{Queued}
+use Rattle.journal_protocol.specs.SignalDelivery.TheVariants.{Queued}
 use Rattle.vm_model.specs.Histories.{IsAwaiting}
 use Rattle.vm_model.specs.Moves.{Point, move_at}
 use Rattle.vm_steps.specs.declared.progress.Reply.{Reply}

@@ -14,16 +14,17 @@ use Rattle.journal_protocol.specs.Bodies.{ephemeral_notification_in, acknowledge
 use Rattle.vm_machine.specs.Ephemerals.{completed_by, result_comes}
 use Rattle.journal_protocol.specs.Notification.{Notification}
 use Rattle.runs.specs.Kept.{is_for}
-use Rattle.vm_asks.specs.Carried.{AreBelow, AreFrom, AreGreater, all_carried}
+use Rattle.journal_entries.specs.Carried.{AreBelow, AreFrom, AreGreater, all_carried}
 use Rattle.vm_parts.specs.declared.context.Counters.{Counters}
-use Rattle.vm_parts.specs.declared.run_state.KeptProposal.{KeptProposal}
+use Rattle.journal_entries.specs.declared.proposals.KeptProposal.{KeptProposal}
 use Rattle.vm_machine.specs.declared.machine.Machine.{Machine}
 use Rattle.vm_machine.specs.declared.phase.Phase.{Phase}
 use Rattle.vm_machine.specs.declared.phase.Phase.TheVariants.{WaitingStart, WaitingReplayEntries, Replaying, Processing, Closed}
-use Rattle.vm_machine.specs.Inputs.{acknowledged, acknowledged_by, coverage_of, counted_entry, entries_in, start_info_of, queued, start_received, started_with}
+use Rattle.vm_machine.specs.Inputs.{acknowledged, acknowledged_by, coverage_of, counted_entry, entries_in, queued, start_received, started_with}
+use Rattle.vm_parts.specs.Starts.{start_info_of}
 use Rattle.vm_machine.specs.Outcomes.{Done, Failed, Outcome, refused, settled}
 use Rattle.invocation_vm.specs.Views.{all_received, left_by, received}
-use Rattle.vm_model.specs.JournalFrames.{is_acknowledgement, is_command_frame, is_ephemeral, is_notification}
+use Rattle.journal_entries.specs.JournalFrames.{is_acknowledgement, is_command_frame, is_ephemeral, is_notification}
 use Rattle.vm_attempt.specs.Told.{IsLive, NumbersOn, commands_of}
 use Rattle.vm_attempt.proofs.Arriving.{failed_receives, unknown_step}
 use Rattle.vm_attempt.proofs.Entries.{message_by, receives_by}

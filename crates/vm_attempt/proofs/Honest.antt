@@ -16,8 +16,8 @@ use Rattle.journal_protocol.specs.Frames.{IsWhole}
 use Rattle.journal_protocol.specs.Types.{type_number}
 use Rattle.vm_machine.specs.declared.phase.Phase.{Phase}
 use Rattle.vm_machine.specs.declared.phase.Phase.TheVariants.{WaitingStart, WaitingReplayEntries, Replaying, Processing, Closed}
-use Rattle.invocation_vm.specs.Frames.{Tail, Rest, Garbage, frames_of, frames_joined}
-use Rattle.invocation_vm.proofs.Cuts.{frames_of-append}
+use Rattle.journal_entries.specs.Frames.{Tail, Rest, Garbage, frames_of, frames_joined}
+use Rattle.journal_entries.proofs.Cuts.{frames_of-append}
 use Rattle.vm_machine.specs.Inputs.{coverage_of, entries_in}
 use Rattle.vm_model.specs.Histories.{Handed, History, Made}
 use Rattle.vm_model.specs.Moves.{Point, later, start as first_point}
@@ -25,11 +25,11 @@ use Rattle.vm_model.specs.Carried.{AreOfTheirKind}
 use Rattle.vm_model.proofs.RightKinds.{fewer_kinds}
 use Rattle.vm_model.proofs.Runs.{made_later}
 use Rattle.journal_protocol.specs.InputCommand.{InputCommand}
-use Rattle.vm_model.specs.Journal.{Entry, Recorded, Notified, commands_in, input_read_from, notifications_in, stored_form}
+use Rattle.journal_entries.specs.Journal.{Entry, Recorded, Notified, commands_in, input_read_from, notifications_in, stored_form}
 use Rattle.vm_steps.specs.Heard.{Heard}
 use Rattle.vm_attempt.specs.Blames.{Began, IsHonest, Place, fault_by, phase_fault, notification_fault, refused_start, start_fault}
 use Rattle.vm_attempt.specs.Honest.{FeedsHonestly, CanBeFed, entry_frame, frame_bytes, notification_frame}
-use Rattle.vm_model.specs.JournalFrames.{AcknowledgesNothing, is_acknowledgement, as_entries, is_notification, recorded_by, told_by}
+use Rattle.journal_entries.specs.JournalFrames.{AcknowledgesNothing, is_acknowledgement, as_entries, is_notification, recorded_by, told_by}
 use Rattle.vm_attempt.specs.Journals.{setup_for}
 use Rattle.vm_attempt.specs.Told.{AreRightlyKinded, Journal, NoneHasTwo, arrivals, begun, bytes_fed, frames_fed, start_state}
 use Rattle.std.specs.Prelude.{IsSome}
@@ -37,7 +37,7 @@ use Rattle.std.specs.List.{find}
 use Rattle.journal_protocol.specs.ProposeRunCompletionAck.{ProposeRunCompletionAck}
 use Rattle.runs.specs.Kept.{is_for}
 use Rattle.vm_model.specs.Histories.{after_head}
-use Rattle.vm_parts.specs.declared.run_state.KeptProposal.{KeptProposal}
+use Rattle.journal_entries.specs.declared.proposals.KeptProposal.{KeptProposal}
 use Rattle.vm_attempt.specs.Arrivals.{AllFound, FindsProposal, IsOfKept, arriving, kept_after, kept_behind}
 use Rattle.vm_attempt.specs.Blames.{kept_fault, acknowledgement_body_fault}
 use Rattle.vm_attempt.specs.Honest.{Further, further_frame, further_message}

@@ -13,18 +13,19 @@ use Rattle.vm_machine.specs.declared.phase.Phase.TheVariants.{WaitingStart, Wait
 use Rattle.journal_protocol.specs.Types.{type_number}
 use Rattle.std.specs.Prelude.{◌==◌}
 use Rattle.std.proofs.Common.{Global}
-use Rattle.vm_machine.specs.Inputs.{close_step, closed_at, coverage_of, start_info_of, malformed_step}
+use Rattle.vm_machine.specs.Inputs.{close_step, closed_at, coverage_of, malformed_step}
+use Rattle.vm_parts.specs.Starts.{start_info_of}
 use Rattle.vm_machine.specs.Making.{fresh}
 use Rattle.vm_machine.specs.Outcomes.{called, called_at, settled}
 use Rattle.vm_machine.specs.Phases.{is_running}
-use Rattle.invocation_vm.specs.Frames.{Tail, Rest, Garbage, frames_of}
+use Rattle.journal_entries.specs.Frames.{Tail, Rest, Garbage, frames_of}
 use Rattle.invocation_vm.specs.Views.{StarvesAmong, messages_in_bytes, View, after_closing, after_input, all_received, consumed, has_failed, left_by, left_over, received, spoiled}
 use Rattle.invocation_vm.proofs.Feeds.{among_failed, among_output}
-use Rattle.invocation_vm.proofs.Cuts.{frames_of-append}
+use Rattle.journal_entries.proofs.Cuts.{frames_of-append}
 use Rattle.vm_steps.specs.Heard.{Heard, and_piece, with_pieces}
 use Rattle.vm_steps.specs.declared.progress.Fed.{Fed}
 use Rattle.vm_attempt.specs.Agreement.{Aside}
-use Rattle.vm_model.specs.JournalFrames.{is_command_frame, is_ephemeral, is_notification, is_acknowledgement}
+use Rattle.journal_entries.specs.JournalFrames.{is_command_frame, is_ephemeral, is_notification, is_acknowledgement}
 use Rattle.vm_attempt.specs.Journals.{HasAll, StillWaits, setup_for}
 use Rattle.vm_steps.specs.Record.{Record, heard}
 use Rattle.vm_steps.specs.Stepping.{CloseDoes, InputIsClosed, FeedDoes, FeedsPiece, Takes, emptied, with_piece_kept, kept_at, with_vm}

@@ -10,7 +10,7 @@ use Rattle.vm_machine.specs.declared.machine.Machine.{Machine}
 use Rattle.vm_machine.specs.declared.phase.Phase.TheVariants.{Processing, Closed}
 use Rattle.vm_model.specs.Moves.{Point, later}
 use Rattle.vm_machine.specs.Phases.{is_running}
-use Rattle.invocation_vm.specs.Frames.{frames_of}
+use Rattle.journal_entries.specs.Frames.{frames_of}
 use Rattle.invocation_vm.specs.Views.{View, after_input, all_received}
 use Rattle.vm_model.specs.Calls.{Setup}
 use Rattle.vm_steps.specs.Heard.{Heard, and_piece, with_pieces}

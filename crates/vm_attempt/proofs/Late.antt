@@ -1,5 +1,5 @@
 -- What comes to an attempt that is over: its VM ignores notifications, and fails by any other frame.
-use Rattle.vm_parts.specs.declared.run_state.KeptProposal.{KeptProposal}
+use Rattle.journal_entries.specs.declared.proposals.KeptProposal.{KeptProposal}
 use Rattle.std.proofs.Common.{◌≡◌, ◌≢◌, ℕ, ◌+◌, ◌≤◌, Bool, true, false, List, [], ◌∷◌, ◌++◌, length, Option, Some, None, Result, Ok, Err, refl, sym, ap, ◌∙◌, subst, inr, ⊎_elim, append_assoc, append-nil, length-append, arith}
 use Rattle.std.specs.Prelude.{◌⊎◌, ◌==◌, if◌then◌else◌, is_some, unwrap_or}
 use Rattle.std.proofs.lemmas.Option.{same_Some}
@@ -17,7 +17,7 @@ use Rattle.vm_machine.specs.declared.phase.Phase.{Phase}
 use Rattle.vm_machine.specs.declared.phase.Phase.TheVariants.{WaitingStart, WaitingReplayEntries, Replaying, Processing, Closed}
 use Rattle.vm_machine.specs.Outcomes.{IsStarved, ruled_by}
 use Rattle.vm_machine.specs.Phases.{is_running}
-use Rattle.invocation_vm.specs.Frames.{Tail, Rest, Garbage, frames_of}
+use Rattle.journal_entries.specs.Frames.{Tail, Rest, Garbage, frames_of}
 use Rattle.invocation_vm.specs.Views.{StarvesAmong, View, after_closing, after_input, all_received, messages_in_bytes, consumed, left_over}
 use Rattle.vm_steps.specs.Heard.{Heard, and_piece, with_pieces}
 use Rattle.vm_steps.specs.declared.progress.Fed.{Fed}
@@ -26,7 +26,7 @@ use Rattle.vm_steps.specs.declared.progress.Reply.{Reply}
 use Rattle.vm_steps.specs.declared.progress.Reply.TheVariants as reply
 use Rattle.vm_attempt.specs.Blames.{BadFrame, Began, BehindEnd, Blame, FailsAt, IfError, IsBlamed, IsLate, LateBy, fault_by, fault_among, unknown_fault}
 use Rattle.vm_attempt.specs.Blames.Blame.{Memory, Frame, NoFrame}
-use Rattle.vm_model.specs.JournalFrames.{is_command_frame, is_ephemeral, is_notification, is_acknowledgement}
+use Rattle.journal_entries.specs.JournalFrames.{is_command_frame, is_ephemeral, is_notification, is_acknowledgement}
 use Rattle.vm_steps.specs.Record.{Record, Said, heard, all_heard, all_said}
 use Rattle.vm_steps.specs.Stepping.{Advances, MakesStep, CloseDoes, InputIsClosed, FeedDoes, FeedsPiece, LacksMemory, InputIsRead, StepAt, StepDoes, StepFrom, StepUnless, Takes, fed_now, future_in, with_piece_kept, kept_at, replied, step_asked, output_taken, with_vm}
 use Rattle.vm_attempt.specs.Told.{BeforeInput, JournalCame, HasCome, IsKeptUnder, IsLive, bytes_fed, frames_fed}

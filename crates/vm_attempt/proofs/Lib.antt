@@ -26,6 +26,7 @@ pub mod Staying
 pub mod Stepped
 pub mod Advanced
 pub mod Coming
+pub mod Proving
 pub mod InReplay
 pub mod Freshly
 pub mod Steady
@@ -40,3 +41,5 @@ pub mod Erring
 pub mod Late
 pub mod Sleeping
 pub mod Executing
+pub mod Failing
+pub mod Ending

@@ -32,50 +32,49 @@ use Rattle.vm_types.specs.declared.types.AwaitResponse.{AwaitResponse}
 use Rattle.vm_types.specs.declared.types.AwaitResponse.TheVariants.{AnyCompleted, CancelSignalReceived, EphemeralNotificationReady, ExecuteRun, WaitingExternalProgress}
 use Rattle.vm_types.specs.declared.types.AwakeableHandle.{AwakeableHandle}
 use Rattle.vm_types.specs.declared.values.Value.{Value}
-use Rattle.vm_types.specs.Options.{ends_awaits}
-use Rattle.vm_types.specs.Values.{value_of}
+use Rattle.vm_types.specs.Options.{ends_awaits, ignores_payloads, skips_replay}
+use Rattle.vm_types.specs.Values.{value_of, id_of_value}
 use Rattle.vm_parts.specs.declared.context.Known.{Known}
 use Rattle.vm_parts.specs.declared.context.Known.TheVariants.{Unknown, Empty, Value as Given}
 use Rattle.vm_parts.specs.declared.context.StateMap.{StateMap}
-use Rattle.vm_parts.specs.declared.run_state.PendingRun.{PendingRun}
-use Rattle.vm_parts.specs.declared.run_state.TrackedCall.{TrackedCall}
+use Rattle.runs.specs.declared.pending.PendingRun.{PendingRun}
+use Rattle.vm_parts.specs.declared.tracked_call.TrackedCall.{TrackedCall}
 use Rattle.vm_parts.specs.Counting.{missing_number, missing_signals}
 use Rattle.vm_parts.specs.Deliveries.{id_at, present_result_for, taken_by}
 use Rattle.vm_parts.specs.States.{value_known, known_keys}
-use Rattle.vm_parts.specs.Tracked.{id_of_result, id_of_value, invocation_ids, id_noted, unresolved_handles, with_next_id}
+use Rattle.vm_parts.specs.Tracked.{id_of_result, invocation_ids, id_noted, unresolved_handles, with_next_id}
 use Rattle.vm_asks.specs.declared.asks.Ask.{Ask}
 use Rattle.vm_asks.specs.declared.asks.AnswerKind.{AnswerKind}
 use Rattle.vm_asks.specs.declared.command.Command.{Command}
 use Rattle.vm_asks.specs.declared.asks.Ask.TheVariants as ask
 use Rattle.vm_asks.specs.declared.state_read.StateRead.{StateRead}
 use Rattle.vm_asks.specs.declared.state_read.StateRead.TheVariants as reads
-use Rattle.vm_asks.specs.Asks.{any_refusal, ask_of, cancel_invocation_command}
-use Rattle.vm_asks.specs.Carried.{AreFrom, all_carried, carried, read_carried}
+use Rattle.vm_asks.specs.Asks.{any_refusal, ask_of, cancel_invocation_command, missing_for}
+use Rattle.journal_entries.specs.Carried.{AreFrom, all_carried, carried, read_carried}
 use Rattle.vm_asks.specs.Requests.{ids_of, name_of, shown_type, with_ids}
-use Rattle.vm_asks.specs.StateReads.{eager_type, keys_form, lazy_type, name_read, own_form, recorded_as, recorded_type, result_in, value_form}
+use Rattle.vm_asks.specs.StateReads.{eager_type, keys_form, lazy_type, name_read, own_form, recorded_as, recorded_type, result_in, value_form, own_result}
 use Rattle.vm_parts.specs.Ephemerals.{any_in_flight}
 use Rattle.vm_machine.specs.declared.machine.Machine.{Machine}
 use Rattle.vm_machine.specs.declared.phase.Phase.{Phase}
 use Rattle.vm_machine.specs.declared.phase.Phase.TheVariants.{WaitingStart, WaitingReplayEntries, Replaying, Processing, Closed}
-use Rattle.vm_machine.specs.Commands.{CanBeRead, about_next, carried_out, commanded, commanded_unless, compared, command_if_counted, entered, handed_out, ignores_payloads, issued, phase_after, popped, popped_from, prepared, replayed, written}
+use Rattle.vm_machine.specs.Commands.{CanBeRead, about_next, carried_out, commanded, commanded_unless, compared, command_if_counted, entered, handed_out, issued, phase_after, popped, popped_from, prepared, replayed, written}
 use Rattle.vm_machine.specs.Inputs.{end_at, end_step}
 use Rattle.vm_machine.specs.Outcomes.{CalledBy, Does, DoesBy, IsStarved, Outcome, Done, Failed, ◌>>>◌, about_last, called, called_at, failed, refused, ruled, settled}
 use Rattle.vm_machine.specs.Phases.{is_closed, is_processing, is_replaying, is_running, state_fault}
-use Rattle.vm_machine.specs.Reads.{own_result, read_back as read_again, read_counted, read_numbered, read_popped, read_step, read_written, with_read_ready}
+use Rattle.vm_machine.specs.Reads.{read_back as read_again, read_counted, read_numbered, read_popped, read_step, read_written, with_read_ready}
 use Rattle.vm_machine.specs.Signals.{awakeable_counted, awakeable_step, name_handed_out, signal_counted, signal_handed_out, signal_step}
-use Rattle.vm_machine.specs.Several.{BehindFirst, MakesAll, MakesOne, commanded_before, foreseen, foreseen_unless, missing_for, numbers_left}
-use Rattle.vm_machine.specs.Skips.{skips_replay}
+use Rattle.vm_machine.specs.Several.{BehindFirst, MakesAll, MakesOne, commanded_before, foreseen, foreseen_unless, numbers_left}
 use Rattle.vm_machine.specs.Takes.{result_taken, take_step, taken_at, value_noted, value_taken}
 use Rattle.vm_machine.proofs.Calling.{answers_first, called_from}
 use Rattle.vm_awaits.specs.Awaits.{Awaits, AwaitsAt, AwaitsBy, Behind, AwaitCompletes, EndsBy, Gathers, ReadsId, StaysPending, Tries, executed, next_id_known, is_cancelled, or_cancelled, pending_in_replay, pending_on, result_at, said_waiting, says_so, suspended, waiting, waits_by, waits_on, with_used}
 use Rattle.vm_awaits.specs.Cancels.{AwaitsWhole, Cancels, FinishesIf, Onward, SendsCancel, cancel_taken, sends_cancels}
 use Rattle.vm_awaits.proofs.Cancelling.{read_known, woken_used}
 use Rattle.invocation_vm.specs.Calls.{new_awakeable_step}
-use Rattle.vm_model.specs.Journal.{stored_form}
+use Rattle.journal_entries.specs.Journal.{stored_form}
 use Rattle.vm_steps.specs.declared.progress.Reply.{Reply}
 use Rattle.vm_steps.specs.Steps.{AllCarried, Awaited, IsReadable, Performs, PerformsBy, ReadsBack, mapped}
 use Rattle.std.specs.Prelude.{OnOk}
-use Rattle.vm_model.specs.JournalFrames.{is_command_frame}
+use Rattle.journal_entries.specs.JournalFrames.{is_command_frame}
 use Rattle.vm_attempt.specs.Told.{commands_of}
 use Rattle.vm_attempt.proofs.Quiet.{commands_append, map_append}
 

@@ -14,13 +14,13 @@ use Rattle.vm_asks.specs.declared.asks.Ask.TheVariants as ask
 use Rattle.vm_asks.specs.declared.command.Command.{Command}
 use Rattle.vm_asks.specs.Asks.{EachIs, ask_of}
 use Rattle.vm_asks.specs.Requests.{with_ids}
-use Rattle.vm_machine.proofs.Numbering.{same_type}
+use Rattle.vm_asks.proofs.Numbering.{same_type}
 use Rattle.vm_model.specs.Calls.{Setup, Derived, demand_of}
-use Rattle.vm_model.specs.Journal.{stored_form}
+use Rattle.journal_entries.specs.Journal.{stored_form}
 use Rattle.vm_model.specs.Moves.{found}
 use Rattle.vm_model.proofs.Standing.{command_stands}
 use Rattle.std.specs.Prelude.{List, [], ◌∷◌, Option, Some, None, Ok}
-use Rattle.vm_machine.specs.Commands.{ignores_payloads}
+use Rattle.vm_types.specs.Options.{ignores_payloads}
 use Rattle.vm_asks.specs.declared.state_read.StateRead.{StateRead}
 use Rattle.vm_asks.specs.declared.state_read.StateRead.TheVariants as reads
 use Rattle.vm_asks.specs.StateReads.{keys_form, own_form, value_form}

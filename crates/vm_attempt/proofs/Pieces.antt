@@ -11,21 +11,22 @@ use Rattle.vm_machine.specs.declared.machine.Machine.{Machine}
 use Rattle.vm_machine.specs.Inputs.{coverage_of}
 use Rattle.vm_machine.specs.Making.{fresh}
 use Rattle.vm_machine.specs.Phases.{is_running}
-use Rattle.invocation_vm.specs.Frames.{Tail, Rest, Garbage, frames_of, frames_joined}
+use Rattle.journal_entries.specs.Frames.{Tail, Rest, Garbage, frames_of, frames_joined}
 use Rattle.invocation_vm.specs.Views.{View, after_input, all_received, consumed, left_over}
-use Rattle.invocation_vm.proofs.Cuts.{frames_of-append, spoiled_fails}
+use Rattle.invocation_vm.proofs.Cuts.{spoiled_fails}
+use Rattle.journal_entries.proofs.Cuts.{frames_of-append}
 use Rattle.vm_model.specs.Calls.{Setup, Meaning}
 use Rattle.std.proofs.Common.{Global}
 use Rattle.vm_model.specs.Histories.{Made, Knowledge, Handed}
 use Rattle.vm_model.specs.Moves.{Point, later, start}
 use Rattle.vm_model.proofs.Runs.{made_later}
 use Rattle.vm_steps.specs.Heard.{Heard, and_piece, with_pieces}
-use Rattle.vm_parts.specs.declared.run_state.KeptProposal.{KeptProposal}
+use Rattle.journal_entries.specs.declared.proposals.KeptProposal.{KeptProposal}
 use Rattle.std.specs.List.{AllByRecursion}
 use Rattle.vm_steps.specs.declared.progress.Fed.{Fed}
 use Rattle.vm_attempt.specs.Agreement.{Agrees, Aside}
 use Rattle.vm_attempt.specs.Arrivals.{AllFound, arriving, kept_after}
-use Rattle.vm_model.specs.JournalFrames.{AcknowledgesNothing, commands_among, notifications_among}
+use Rattle.journal_entries.specs.JournalFrames.{AcknowledgesNothing, commands_among, notifications_among}
 use Rattle.vm_attempt.specs.Journals.{HasAll, StartedWith, StillWaits, aside_for, setup_for, waiting_machine}
 use Rattle.vm_attempt.specs.Told.{BeforeInput, Begun, Comes, IsLive, Journal, KeepsProposals, HandlerRuns, StillAwaits, arrivals, bytes_fed, bytes_in, frames_fed, start_state}
 use Rattle.vm_attempt.proofs.Arriving.{frames_come}

@@ -1,7 +1,7 @@
 -- In which phase each frame of an attempt comes.
 use Rattle.std.specs.List.{find}
 use Rattle.runs.specs.Kept.{is_for}
-use Rattle.vm_parts.specs.declared.run_state.KeptProposal.{KeptProposal}
+use Rattle.journal_entries.specs.declared.proposals.KeptProposal.{KeptProposal}
 use Rattle.journal_protocol.specs.ProposeRunCompletionAck.{ProposeRunCompletionAck}
 use Rattle.std.proofs.Common.{inl, inr, ◌≡◌, ◌≢◌, ℕ, zero, suc, ◌+◌, ◌-◌, ◌<◌, ◌≤◌, Bool, true, false, List, [], ◌∷◌, ◌++◌, length, Option, Some, None, refl, sym, ap, ◌∙◌, subst, ⊎_elim, append_assoc, append-nil, arith, length-append, Global}
 use Rattle.std.specs.Prelude.{◌==◌, if◌then◌else◌, nat_le}
@@ -23,13 +23,14 @@ use Rattle.vm_types.specs.declared.options.VMOptions.{VMOptions}
 use Rattle.vm_machine.specs.declared.machine.Machine.{Machine}
 use Rattle.vm_machine.specs.declared.phase.Phase.{Phase}
 use Rattle.vm_machine.specs.declared.phase.Phase.TheVariants.{WaitingStart, WaitingReplayEntries, Replaying, Processing, Closed}
-use Rattle.vm_machine.specs.Inputs.{counted_entry, coverage_of, entries_in, start_info_of, queued, start_received, started_with, acknowledged, acknowledged_by}
+use Rattle.vm_machine.specs.Inputs.{counted_entry, coverage_of, entries_in, queued, start_received, started_with, acknowledged, acknowledged_by}
+use Rattle.vm_parts.specs.Starts.{start_info_of}
 use Rattle.vm_machine.specs.Making.{fresh}
 use Rattle.vm_machine.specs.Outcomes.{Done, refused, ruled, ruled_by, settled}
 use Rattle.vm_machine.specs.Phases.{is_running}
 use Rattle.invocation_vm.specs.Views.{all_received, left_by, received}
 use Rattle.vm_steps.specs.Heard.{Heard, with_pieces}
-use Rattle.vm_model.specs.JournalFrames.{is_command_frame, is_ephemeral, is_notification, is_acknowledgement}
+use Rattle.journal_entries.specs.JournalFrames.{is_command_frame, is_ephemeral, is_notification, is_acknowledgement}
 use Rattle.vm_attempt.specs.Journals.{HasAll, StillWaits, setup_for}
 use Rattle.vm_steps.specs.Record.{Record, heard}
 use Rattle.vm_steps.specs.declared.progress.Fed.{Fed}

@@ -19,17 +19,19 @@ use Rattle.vm_machine.specs.Ephemerals.{completed_by, result_comes}
 use Rattle.journal_protocol.specs.Notification.{Notification}
 use Rattle.runs.specs.Firsts.{without_first}
 use Rattle.runs.specs.Kept.{is_for}
-use Rattle.vm_parts.specs.declared.run_state.KeptProposal.{KeptProposal}
+use Rattle.journal_entries.specs.declared.proposals.KeptProposal.{KeptProposal}
 use Rattle.vm_machine.specs.declared.machine.Machine.{Machine}
 use Rattle.vm_machine.specs.declared.phase.Phase.{Phase}
 use Rattle.vm_machine.specs.declared.phase.Phase.TheVariants.{WaitingStart, WaitingReplayEntries, Replaying, Processing, Closed}
-use Rattle.vm_machine.specs.Inputs.{acknowledged, acknowledged_by, acknowledgement_step, acknowledged_completion, counted_entry, coverage_of, entries_in, entry_step, start_info_of, start_received, started_with, message_step, notification_step, queued, start_step}
+use Rattle.vm_machine.specs.Inputs.{acknowledged, acknowledged_by, acknowledgement_step, counted_entry, coverage_of, entries_in, entry_step, start_received, started_with, message_step, notification_step, queued, start_step}
+use Rattle.journal_entries.specs.Proposals.{acknowledged_completion}
+use Rattle.vm_parts.specs.Starts.{start_info_of}
 use Rattle.vm_machine.specs.Outcomes.{Done, Failed, Outcome, refused, ruled, settled}
 use Rattle.vm_machine.specs.Phases.{is_running}
 use Rattle.invocation_vm.specs.Views.{all_received, left_by, received}
 use Rattle.vm_attempt.specs.Arrivals.{AllFound, FindsProposal, IsOfKept, arriving, arrival_of, kept_after, kept_behind, acknowledged_as, unacknowledged}
 use Rattle.vm_attempt.specs.Blames.{fault_among}
-use Rattle.vm_model.specs.JournalFrames.{AcknowledgesNothing, is_acknowledgement, is_command_frame, is_ephemeral, is_notification, notifications_among, notified_by}
+use Rattle.journal_entries.specs.JournalFrames.{AcknowledgesNothing, is_acknowledgement, is_command_frame, is_ephemeral, is_notification, notifications_among, notified_by}
 use Rattle.vm_attempt.proofs.Arriving.{failed_receives, failed_stays, live_receives, unknown_dead, unknown_step}
 use Rattle.vm_attempt.proofs.Blaming.{one_comes as one_fits}
 use Rattle.vm_attempt.proofs.Entries.{message_by, receives_by}

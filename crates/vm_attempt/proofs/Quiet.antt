@@ -1,7 +1,7 @@
 -- Input writes no command: what it writes is one Error at most.
 use Rattle.std.specs.List.{find}
 use Rattle.runs.specs.Kept.{is_for}
-use Rattle.vm_parts.specs.declared.run_state.KeptProposal.{KeptProposal}
+use Rattle.journal_entries.specs.declared.proposals.KeptProposal.{KeptProposal}
 use Rattle.journal_protocol.specs.ProposeRunCompletionAck.{ProposeRunCompletionAck}
 use Rattle.std.proofs.Common.{◌≡◌, ℕ, Bool, true, false, cond, List, [], ◌∷◌, ◌++◌, map, Option, Some, None, refl, sym, ap, ◌∙◌, subst, append_assoc, append-nil}
 use Rattle.std.specs.Prelude.{◌==◌, ◌&&◌, if◌then◌else◌, nat_le, nat_lt}
@@ -22,16 +22,17 @@ use Rattle.journal_protocol.specs.Types.{type_number}
 use Rattle.vm_machine.specs.declared.machine.Machine.{Machine}
 use Rattle.vm_machine.specs.declared.phase.Phase.{Phase}
 use Rattle.vm_machine.specs.declared.phase.Phase.TheVariants.{WaitingStart, WaitingReplayEntries, Replaying, Processing, Closed}
-use Rattle.vm_machine.specs.Inputs.{close_step, closed_at, counted_entry, coverage_of, entries_in, entry_step, start_info_of, malformed_step, message_step, notification_step, queued, start_step, start_received, started_with, acknowledged, acknowledged_by, acknowledgement_step}
+use Rattle.vm_machine.specs.Inputs.{close_step, closed_at, counted_entry, coverage_of, entries_in, entry_step, malformed_step, message_step, notification_step, queued, start_step, start_received, started_with, acknowledged, acknowledged_by, acknowledgement_step}
+use Rattle.vm_parts.specs.Starts.{start_info_of}
 use Rattle.vm_machine.specs.Outcomes.{Outcome, Done, Failed, called, called_at, failed, refused, ruled, settled}
 use Rattle.vm_machine.specs.Phases.{is_closed}
-use Rattle.invocation_vm.specs.Frames.{Tail, Rest, Garbage, frames_of}
+use Rattle.journal_entries.specs.Frames.{Tail, Rest, Garbage, frames_of}
 use Rattle.invocation_vm.specs.Views.{View, after_closing, after_input, all_received, consumed, has_failed, left_by, left_over, received, spoiled}
 use Rattle.std.proofs.lemmas.Bool.{eqb-true}
 use Rattle.journal_protocol.specs.ProposeRunCompletion.{ProposeRunCompletion}
-use Rattle.vm_model.specs.Journal.{stored_form}
-use Rattle.vm_steps.specs.Heard.{is_proposal, proposals_among, proposed_by}
-use Rattle.vm_model.specs.JournalFrames.{is_command_frame}
+use Rattle.journal_entries.specs.Journal.{stored_form}
+use Rattle.vm_steps.specs.Heard.{proposals_among, proposed_by}
+use Rattle.journal_entries.specs.JournalFrames.{is_command_frame, is_proposal}
 use Rattle.vm_attempt.specs.Told.{Quiet, Wrote, commands_of}
 
 pub quiet_same : (old new : Machine) → new.output ≡ old.output → Quiet old new

@@ -17,13 +17,13 @@ use Rattle.vm_asks.specs.declared.state_read.StateRead.TheVariants as reads
 use Rattle.vm_machine.specs.Commands.{about_next, entered, handed_out, phase_after, written as wrote}
 use Rattle.vm_machine.specs.Outcomes.{Done, Failed, last_related}
 use Rattle.vm_machine.specs.Phases.{is_processing, state_fault}
-use Rattle.vm_machine.specs.Reads.{ReadCanBeRead, own_result, read_back, read_counted, read_numbered, read_popped, read_step, read_written, with_read_ready}
-use Rattle.vm_asks.specs.StateReads.{eager_type, lazy_form, lazy_type, name_read, own_form, recorded_as, recorded_type, result_in}
+use Rattle.vm_machine.specs.Reads.{ReadCanBeRead, read_back, read_counted, read_numbered, read_popped, read_step, read_written, with_read_ready}
+use Rattle.vm_asks.specs.StateReads.{eager_type, lazy_form, lazy_type, name_read, own_form, recorded_as, recorded_type, result_in, own_result}
 use Rattle.vm_asks.specs.Requests.{changed}
 use Rattle.vm_model.specs.Calls.{Setup, Demand, Move, counted, reading}
 use Rattle.vm_model.specs.Calls.Demand.{Reads}
 use Rattle.vm_model.specs.Calls.Move.{Needs}
-use Rattle.vm_model.specs.Journal.{stored_form}
+use Rattle.journal_entries.specs.Journal.{stored_form}
 use Rattle.vm_model.specs.Moves.{Point, with_read_result, changed_by, command_used, found, longer, moved, supply}
 use Rattle.vm_model.proofs.Standing.{read_stands}
 use Rattle.vm_attempt.specs.Agreement.{Aside, Beside, machine_at}

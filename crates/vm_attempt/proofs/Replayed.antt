@@ -13,7 +13,7 @@ use Rattle.vm_types.specs.declared.steps.Answer.{Answer}
 use Rattle.vm_machine.specs.declared.machine.Machine.{Machine}
 use Rattle.vm_model.specs.Calls.{Setup, Meaning}
 use Rattle.vm_model.specs.Calls.Move.{Refuses}
-use Rattle.vm_model.specs.Journal.{Entry, commands_in, input_read_from, notifications_in}
+use Rattle.journal_entries.specs.Journal.{Entry, commands_in, input_read_from, notifications_in}
 use Rattle.vm_model.specs.Moves.{Point, move_at, start}
 use Rattle.vm_model.specs.Histories.{History, Made, Handed}
 use Rattle.vm_model.proofs.Compared.{attempt_is_told, none_refused}
@@ -26,7 +26,7 @@ use Rattle.vm_steps.specs.Record.{Said}
 use Rattle.vm_steps.specs.declared.progress.Progress.{Progress}
 use Rattle.vm_attempt.specs.Blames.{RefusedCall, Blame, IfError, IsHonest, IsOwnError, first_input}
 use Rattle.vm_attempt.specs.Blames.Blame.{Memory, Frame, NoFrame, ClosedEarly, NoInput, NoSkip, Call, RunResult}
-use Rattle.vm_model.specs.JournalFrames.{as_entries, commands_among, is_command_frame, is_notification, notifications_among, notified_by, recorded_by, told_by}
+use Rattle.journal_entries.specs.JournalFrames.{as_entries, commands_among, is_command_frame, is_notification, notifications_among, notified_by, recorded_by, told_by}
 use Rattle.vm_attempt.specs.Journals.{setup_for}
 use Rattle.vm_attempt.specs.Told.{Journal, RefusesReplay, arrivals, start_state}
 use Rattle.vm_attempt.specs.Arrivals.{arriving}
@@ -37,10 +37,10 @@ use Rattle.journal_protocol.specs.NamedFault.TheVariants as fault
 use Rattle.journal_protocol.specs.Types.{type_number}
 use Rattle.vm_machine.specs.declared.phase.Phase.TheVariants.{Processing}
 use Rattle.vm_model.specs.Histories.{after_head}
-use Rattle.vm_parts.specs.declared.run_state.KeptProposal.{KeptProposal}
+use Rattle.journal_entries.specs.declared.proposals.KeptProposal.{KeptProposal}
 use Rattle.vm_attempt.specs.Arrivals.{kept_after}
 use Rattle.vm_attempt.specs.Blames.{BadFrame, fault_among, fault_by, acknowledgement_body_fault}
-use Rattle.vm_model.specs.JournalFrames.{is_acknowledgement}
+use Rattle.journal_entries.specs.JournalFrames.{is_acknowledgement}
 use Rattle.vm_attempt.proofs.Arriving.{kept_none}
 use Rattle.vm_attempt.proofs.Blaming.{none_kept}
 use Rattle.vm_attempt.proofs.Proposed.{arriving_append, arriving_notified, kept_all}
@@ -171,7 +171,7 @@ honest_fails fixed fed said answers e honest (NoFrame x y) = absurd (honest.whol
 honest_fails fixed fed said answers e honest (ClosedEarly x y z) = inr (inl (x, y, z))
 honest_fails fixed fed said answers e honest (NoInput x) = absurd (let h = honest.history x.first x.entries x.others x.start x.is x.reads x.count in no_input (setup_for fixed x.start) fixed.handler h.0 x.entries h.1 x.none)
 honest_fails fixed fed said answers e honest (NoSkip x) = absurd (let z : Enabled ≡ Disabled = sym honest.premises.replays ∙ x.skips in cc)
-honest_fails fixed fed said answers e honest (Call refuses) = ⊎_elim
+honest_fails fixed fed said answers e honest (Call fails refuses) = ⊎_elim
     (λ (y : e ≡ no_memory). inl y)
     (λ (y : RefusedCall fixed fed answers e). honest_refused fixed fed said answers e honest y y.at.left refl)
     (refuses honest.premises)

@@ -19,14 +19,15 @@ use Rattle.vm_parts.specs.Deliveries.{is_known}
 use Rattle.vm_machine.specs.declared.machine.Machine.{Machine}
 use Rattle.vm_asks.specs.declared.command.Command.{Command}
 use Rattle.vm_machine.specs.declared.phase.Phase.TheVariants.{Replaying, Processing}
-use Rattle.vm_machine.specs.Commands.{carried_out, compared, command_if_counted as counted_event, entered, ignores_payloads, issued, phase_after, popped, popped_from, prepared, replayed, runs_after, of_type, written as wrote}
+use Rattle.vm_machine.specs.Commands.{carried_out, compared, command_if_counted as counted_event, entered, issued, phase_after, popped, popped_from, prepared, replayed, runs_after, of_type, written as wrote}
+use Rattle.vm_types.specs.Options.{ignores_payloads}
 use Rattle.vm_machine.specs.Phases.{is_processing, is_running, state_fault}
 use Rattle.vm_machine.specs.Outcomes.{Outcome, Done, Failed, ◌>>>◌, about_last, last_related}
 use Rattle.vm_asks.specs.Requests.{changed, ids_of, name_of, shown_type, tracked_after, with_ids}
 use Rattle.vm_model.specs.Calls.{Setup, Demand, Derived, Move, answer_of, counted, demand_of, numbered, requested, ready_in}
 use Rattle.vm_model.specs.Calls.Demand.{Exactly}
 use Rattle.vm_model.specs.Calls.Move.{Needs}
-use Rattle.vm_model.specs.Journal.{stored_form}
+use Rattle.journal_entries.specs.Journal.{stored_form}
 use Rattle.vm_model.specs.Moves.{Point, changed_by, command_used, found, longer, moved, reads_as, supply, uses_command}
 use Rattle.vm_model.proofs.Runs.{longer_nothing}
 use Rattle.vm_attempt.specs.Agreement.{Aside, Beside, is_some_command, machine_at}

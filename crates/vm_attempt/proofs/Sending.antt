@@ -1,12 +1,12 @@
 -- What a call of a step writes and leaves, after any calls before it: frames of messages, and a VM
 -- that runs, is closed or has failed.
-use Rattle.vm_parts.specs.declared.run_state.PendingRun.{PendingRun}
+use Rattle.runs.specs.declared.pending.PendingRun.{PendingRun}
 use Rattle.runs.specs.Pending.{is_executing, is_executing_in, may_execute, handle_of}
 use Rattle.await_trees.specs.Handles.{handles_of}
 use Rattle.std.specs.List.{find, list_any}
 use Rattle.vm_asks.specs.declared.state_read.StateRead.{StateRead}
-use Rattle.vm_machine.specs.Reads.{own_result, read_back, read_counted, read_numbered, read_popped, read_step, read_written, with_read_ready}
-use Rattle.vm_asks.specs.StateReads.{eager_type, lazy_type, name_read, own_form, recorded_as, recorded_type, result_in}
+use Rattle.vm_machine.specs.Reads.{read_back, read_counted, read_numbered, read_popped, read_step, read_written, with_read_ready}
+use Rattle.vm_asks.specs.StateReads.{eager_type, lazy_type, name_read, own_form, recorded_as, recorded_type, result_in, own_result}
 use Rattle.std.proofs.Common.{◌≡◌, length, ℕ, Bool, true, false, List, [], ◌∷◌, ◌++◌, map, Option, Some, None, Result, Ok, Err, refl, sym, ap, ◌∙◌, subst, ⊎_elim, append_assoc, append-nil}
 use Rattle.std.specs.Prelude.{◌==◌, if◌then◌else◌, unwrap_or}
 use Rattle.journal_protocol.specs.Error.{Error}
@@ -33,7 +33,7 @@ use Rattle.vm_types.specs.declared.values.Value.{Value}
 use Rattle.vm_types.specs.declared.steps.Step.{Step}
 use Rattle.vm_parts.specs.Counting.{missing_number, missing_signals}
 use Rattle.vm_parts.specs.Deliveries.{id_at, present_result_for, taken_by}
-use Rattle.vm_types.specs.Values.{value_of}
+use Rattle.vm_types.specs.Values.{value_of, id_of_value}
 use Rattle.vm_asks.specs.declared.asks.Ask.{Ask}
 use Rattle.vm_asks.specs.declared.asks.Ask.TheVariants as ask
 use Rattle.vm_parts.specs.Ephemerals.{any_in_flight}
@@ -42,38 +42,37 @@ use Rattle.vm_machine.specs.declared.phase.Phase.{Phase}
 use Rattle.vm_machine.specs.declared.phase.Phase.TheVariants.{WaitingStart, WaitingReplayEntries, Replaying, Processing, Closed}
 use Rattle.vm_asks.specs.declared.asks.AnswerKind.{AnswerKind}
 use Rattle.vm_asks.specs.declared.command.Command.{Command}
-use Rattle.vm_asks.specs.Asks.{EachIs, any_refusal, ask_of, cancel_invocation_command}
+use Rattle.vm_asks.specs.Asks.{EachIs, any_refusal, ask_of, cancel_invocation_command, missing_for}
 use Rattle.vm_awaits.specs.Awaits.{Awaits, AwaitsAt, AwaitsBy, Behind, AwaitCompletes, EndsBy, Gathers, ReadsId, StaysPending, Tries, next_id_known, is_cancelled, or_cancelled, pending_on, result_at, said_waiting, says_so, suspended, waiting, with_used, waits_by, waits_on, executed, pending_in_replay}
 use Rattle.vm_awaits.specs.Cancels.{AwaitsWhole, Cancels, FinishesIf, Onward, SendsCancel, cancel_taken, sends_cancels}
 use Rattle.vm_awaits.proofs.Cancelling.{read_known, woken_used}
-use Rattle.vm_types.specs.Options.{ends_awaits}
-use Rattle.vm_parts.specs.Tracked.{id_of_result, id_of_value, invocation_ids, id_noted, unresolved_handles, with_next_id}
-use Rattle.vm_parts.specs.declared.run_state.TrackedCall.{TrackedCall}
+use Rattle.vm_types.specs.Options.{ends_awaits, ignores_payloads, skips_replay}
+use Rattle.vm_parts.specs.Tracked.{id_of_result, invocation_ids, id_noted, unresolved_handles, with_next_id}
+use Rattle.vm_parts.specs.declared.tracked_call.TrackedCall.{TrackedCall}
 use Rattle.std.specs.Option.{option_and_then}
 use Rattle.journal_protocol.specs.Version.{Version}
 use Rattle.journal_protocol.specs.Commands.{IsCommand}
 use Rattle.journal_protocol.specs.NotificationId.{NotificationId}
 use Rattle.vm_types.specs.declared.options.AwaitingOnPolicy.{AwaitingOnPolicy}
-use Rattle.vm_model.specs.Journal.{stored_form}
+use Rattle.journal_entries.specs.Journal.{stored_form}
 use Rattle.vm_steps.specs.Heard.{proposals_among}
 use Rattle.vm_attempt.proofs.Own.{AsksCommand, asks_command, numbered_is, own_is}
 use Rattle.vm_attempt.proofs.Quiet.{forms_append, map_append, proposals_append, proposes_nothing}
 use Rattle.vm_machine.specs.Takes.{result_taken, take_step, taken_at, value_noted, value_taken}
-use Rattle.vm_machine.specs.Commands.{carried_out, commanded, commanded_unless, compared, command_if_counted, entered, ignores_payloads, issued, phase_after, popped, popped_from, prepared, replayed, written, about_next, handed_out}
+use Rattle.vm_machine.specs.Commands.{carried_out, commanded, commanded_unless, compared, command_if_counted, entered, issued, phase_after, popped, popped_from, prepared, replayed, written, about_next, handed_out}
 use Rattle.vm_machine.specs.Inputs.{end_at, end_step}
 use Rattle.vm_machine.specs.Outcomes.{CalledBy, Does, DoesBy, IsStarved, Outcome, Done, Failed, ◌>>>◌, about_last, called, called_at, failed, refused, ruled, settled}
-use Rattle.vm_machine.specs.Several.{BehindFirst, MakesAll, MakesOne, answered_so, commanded_before, foreseen, foreseen_unless, missing_for, numbers_left}
+use Rattle.vm_machine.specs.Several.{BehindFirst, MakesAll, MakesOne, answered_so, commanded_before, foreseen, foreseen_unless, numbers_left}
 use Rattle.vm_machine.proofs.Calling.{called_from}
 use Rattle.vm_machine.specs.Phases.{is_closed, is_processing, is_replaying, is_running, state_fault}
 use Rattle.vm_asks.specs.Requests.{ids_of, name_of, shown_type, with_ids}
 use Rattle.vm_machine.specs.Signals.{awakeable_counted, awakeable_step, name_handed_out, signal_counted, signal_handed_out, signal_step}
 use Rattle.invocation_vm.specs.Calls.{new_awakeable_step}
-use Rattle.vm_machine.specs.Skips.{skips_replay}
 use Rattle.vm_steps.specs.declared.progress.Reply.{Reply}
 use Rattle.vm_steps.specs.declared.progress.Reply.TheVariants as reply
 use Rattle.vm_steps.specs.Steps.{AllCarried, Awaited, Performs, PerformsBy, await_reply, mapped}
 use Rattle.vm_attempt.specs.Told.{IsLive}
-use Rattle.vm_attempt.proofs.Ahead.{Fewer, HandsOut, executed_fewer, executed_once, fewer_same, fewer_then, given_fewer, handed_since, prepared_fewer}
+use Rattle.vm_attempt.proofs.Ahead.{Fewer, HandsOut, HasRunOf, executed_fewer, executed_once, fewer_same, fewer_then, given_fewer, handed_since, prepared_fewer, started_has}
 
 -- ---- what is left
 
@@ -332,7 +331,7 @@ abbrev AwaitLeaves : Machine → Result AwaitResponse Error → Machine → Type
 AwaitLeaves v (Ok AnyCompleted) w = is_running w.phase ≡ true
 AwaitLeaves v (Ok CancelSignalReceived) w = is_running w.phase ≡ true
 AwaitLeaves v (Ok (WaitingExternalProgress input run)) w = is_running w.phase ≡ true
-AwaitLeaves v (Ok (ExecuteRun run)) w = (is_running w.phase ≡ true) × HandsOut run v w
+AwaitLeaves v (Ok (ExecuteRun run)) w = (is_running w.phase ≡ true) × HandsOut run v w × HasRunOf run w.runs
 AwaitLeaves v (Ok (EphemeralNotificationReady id)) w = is_running w.phase ≡ true
 AwaitLeaves v (Err e) w = w.phase ≡ Closed
 
@@ -341,7 +340,7 @@ await_since : (u v : Machine) (a : Result AwaitResponse Error) (w : Machine) →
 await_since u v (Ok AnyCompleted) w n h = h
 await_since u v (Ok CancelSignalReceived) w n h = h
 await_since u v (Ok (WaitingExternalProgress input run)) w n h = h
-await_since u v (Ok (ExecuteRun run)) w n h = (h.0, handed_since run u v w n h.1)
+await_since u v (Ok (ExecuteRun run)) w n h = (h.0, handed_since run u v w n h.1, h.2)
 await_since u v (Ok (EphemeralNotificationReady id)) w n h = h
 await_since u v (Err e) w n h = h
 
@@ -383,7 +382,7 @@ module _ (left : Tree) (v u : Machine) (same : Stays v u) (failure : u.failure �
         kept = same.3;
         fewer = less;
         goes = λ at _. phase ∙ at;
-        left = (runs, handed_since (handle_of run) v u w same.4 (executed_once (handles_of left) u run found));
+        left = (runs, handed_since (handle_of run) v u w same.4 (executed_once (handles_of left) u run found), started_has (handles_of left) u.runs run found);
       }
 
   waits_so : (closed in_flight executing : Bool) → Happens AwaitLeaves v (waits_by closed in_flight executing left u)
@@ -528,7 +527,7 @@ ends Closed v e = record { sends = stays_sends v v (alike v); failure = refl; ke
 abbrev pub StandsBy : Machine → Reply → Machine → Type 0
 StandsBy v (reply.Answer a) w = is_running w.phase ≡ true
 StandsBy v (reply.Waiting input run) w = is_running w.phase ≡ true
-StandsBy v (reply.Execute run) w = (is_running w.phase ≡ true) × HandsOut run v w
+StandsBy v (reply.Execute run) w = (is_running w.phase ≡ true) × HandsOut run v w × HasRunOf run w.runs
 StandsBy v reply.Suspended w = w.phase ≡ Closed
 StandsBy v reply.Ended w = w.phase ≡ Closed
 

@@ -1,6 +1,6 @@
 -- A call with several commands, in a machine that agrees with a point: the outcome of the whole
 -- call.
-use Rattle.std.proofs.Common.{◌≡◌, ◌⊎◌, suc, ◌+◌, Bool, true, false, List, [], ◌∷◌, ◌++◌, Option, Some, None, refl, sym, ap, ◌∙◌, subst, inl, inr, ⊎_elim, append-nil, Ok, Err, Result}
+use Rattle.std.proofs.Common.{◌≡◌, ◌⊎◌, suc, Bool, true, false, List, [], ◌∷◌, ◌++◌, Option, Some, None, refl, sym, ap, ◌∙◌, subst, inl, inr, ⊎_elim, append-nil, Ok, Err, Result}
 use Rattle.std.specs.Prelude.{if◌then◌else◌}
 use Rattle.std.specs.Option.{option_or}
 use Rattle.await_trees.specs.declared.handle.NotificationHandle.{NotificationHandle}
@@ -15,13 +15,14 @@ use Rattle.vm_types.specs.declared.steps.Answer.{Answer}
 use Rattle.vm_asks.specs.declared.asks.AnswerKind.{AnswerKind}
 use Rattle.vm_asks.specs.declared.asks.Ask.TheVariants as ask
 use Rattle.vm_asks.specs.declared.command.Command.{Command}
-use Rattle.vm_asks.specs.Asks.{EachIs, answer_by, any_refusal, ask_of, command_answer}
+use Rattle.vm_asks.specs.Asks.{EachIs, answer_by, any_refusal, ask_of, command_answer, missing_for}
 use Rattle.vm_asks.specs.Requests.{ids_of, name_of, shown_type, with_ids}
 use Rattle.vm_machine.specs.declared.machine.Machine.{Machine}
-use Rattle.vm_machine.specs.Commands.{CanBeRead, commanded, entered, ignores_payloads}
+use Rattle.vm_machine.specs.Commands.{CanBeRead, commanded, entered}
+use Rattle.vm_types.specs.Options.{ignores_payloads}
 use Rattle.vm_machine.specs.Outcomes.{Done, Failed, IsStarved, Outcome, ◌>>>◌, about_last, called, called_at, failed, ruled}
 use Rattle.vm_machine.specs.Phases.{is_running, state_fault}
-use Rattle.vm_machine.specs.Several.{BehindFirst, MakesAll, MakesOne, answered_so, commanded_before, foreseen, foreseen_unless, missing_for, numbers_left}
+use Rattle.vm_machine.specs.Several.{BehindFirst, MakesAll, MakesOne, answered_so, commanded_before, foreseen, foreseen_unless, numbers_left}
 use Rattle.vm_machine.proofs.Foreseeing.{before_first}
 use Rattle.vm_model.specs.Calls.{Demand, Derived, Meaning, Move, Setup, Turn, answer_of, asked, behind_command, call_of, calling, commanding, demand_of, identity_of, numbered, part, part_unless, refused_before, turn_after, turn_taken}
 use Rattle.vm_model.specs.Calls.Move.{Needs, Refuses}

@@ -14,7 +14,7 @@ use Rattle.journal_protocol.specs.Bodies.{ephemeral_notification_in, notificatio
 use Rattle.vm_machine.specs.Ephemerals.{completed_by, result_comes}
 use Rattle.journal_protocol.specs.Notification.{Notification}
 use Rattle.runs.specs.Kept.{is_for}
-use Rattle.vm_parts.specs.declared.run_state.KeptProposal.{KeptProposal}
+use Rattle.journal_entries.specs.declared.proposals.KeptProposal.{KeptProposal}
 use Rattle.vm_machine.specs.declared.machine.Machine.{Machine}
 use Rattle.vm_machine.specs.declared.phase.Phase.{Phase}
 use Rattle.vm_machine.specs.declared.phase.Phase.TheVariants.{WaitingStart, WaitingReplayEntries, Replaying, Processing, Closed}
@@ -23,7 +23,7 @@ use Rattle.vm_machine.specs.Outcomes.{settled, ruled}
 use Rattle.vm_machine.specs.Phases.{is_running}
 use Rattle.invocation_vm.specs.Views.{all_received, left_by, received}
 use Rattle.vm_attempt.specs.Blames.{fault_among}
-use Rattle.vm_model.specs.JournalFrames.{is_command_frame, is_ephemeral, is_notification, is_acknowledgement}
+use Rattle.journal_entries.specs.JournalFrames.{is_command_frame, is_ephemeral, is_notification, is_acknowledgement}
 use Rattle.vm_attempt.proofs.Arriving.{failed_stays, unknown_dead, unknown_step}
 use Rattle.vm_attempt.proofs.Blaming.{one_comes}
 use Rattle.vm_attempt.proofs.Entries.{message_by, receives_by}

@@ -24,11 +24,11 @@ use Rattle.await_trees.specs.Wires.{sent}
 use Rattle.vm_types.specs.declared.values.Value.{Value}
 use Rattle.vm_parts.specs.Counting.{missing_number, missing_signals}
 use Rattle.vm_parts.specs.Deliveries.{id_at, present_result_for}
-use Rattle.vm_types.specs.declared.options.SignalDelivery.TheVariants.{Queued}
+use Rattle.journal_protocol.specs.SignalDelivery.TheVariants.{Queued}
 use Rattle.vm_model.specs.Deliveries.{HasNoTwo}
-use Rattle.vm_parts.specs.Tracked.{id_of_result, id_of_value, invocation_ids, id_noted, unresolved_handles}
-use Rattle.vm_types.specs.Values.{value_of}
-use Rattle.vm_parts.specs.declared.run_state.TrackedCall.{TrackedCall}
+use Rattle.vm_parts.specs.Tracked.{id_of_result, invocation_ids, id_noted, unresolved_handles}
+use Rattle.vm_types.specs.Values.{id_of_value, value_of}
+use Rattle.vm_parts.specs.declared.tracked_call.TrackedCall.{TrackedCall}
 use Rattle.vm_machine.specs.declared.machine.Machine.{Machine}
 use Rattle.vm_machine.specs.declared.phase.Phase.TheVariants.{Closed, Processing, Replaying}
 use Rattle.vm_asks.specs.declared.asks.Ask.{Ask}
@@ -43,12 +43,12 @@ use Rattle.vm_machine.specs.Commands.{phase_after}
 use Rattle.vm_machine.specs.Outcomes.{DoesBy, IsStarved, Outcome, Done, Failed}
 use Rattle.vm_machine.specs.Phases.{is_running}
 use Rattle.vm_asks.specs.Requests.{ids_of}
-use Rattle.vm_machine.specs.Skips.{skips_replay}
-use Rattle.invocation_vm.specs.Frames.{Rest}
+use Rattle.vm_types.specs.Options.{skips_replay}
+use Rattle.journal_entries.specs.Frames.{Rest}
 use Rattle.invocation_vm.specs.Views.{View}
 use Rattle.vm_model.specs.Calls.{Setup, Meaning, Derived, Move, Turn, asked as asked_move, awakeable_made, awaiting, call_of, commanding, is_awake, awaited, cancel_sent, cancelled, cancelling, id_awaited, id_read, is_cancelled_in, making_awakeable, numbered, part, part_unless, reading, refused_before, signal_made, ready_in, take_of_result, turn_after, take_noting_id, take_of_value}
 use Rattle.vm_model.specs.Calls.Move.{Answers, Needs, Awaits, Ends, Refuses}
-use Rattle.vm_model.specs.Journal.{stored_form}
+use Rattle.journal_entries.specs.Journal.{stored_form}
 use Rattle.vm_model.specs.Moves.{Point, after, and_then, move_at, moved, next, own, start, supplied, supply, uses_arrival}
 use Rattle.vm_model.specs.Histories.{IsPrefix, Made, Handed, Knowledge}
 use Rattle.vm_model.proofs.Compared.{after_answers, attempt_is_told}
@@ -59,7 +59,7 @@ use Rattle.vm_steps.specs.declared.progress.Progress.{Progress}
 use Rattle.vm_steps.specs.declared.progress.Reply.{Reply}
 use Rattle.vm_steps.specs.declared.progress.Reply.TheVariants as reply
 use Rattle.vm_attempt.specs.Agreement.{Agrees, Answered, CallFollows, HasEnded, IsCutShort, CallRefused, IsSuspended, MovesOn, StillAgrees, Waits, command_frames, suspended_on, waiting_on}
-use Rattle.vm_model.specs.JournalFrames.{is_command_frame}
+use Rattle.journal_entries.specs.JournalFrames.{is_command_frame}
 use Rattle.vm_attempt.specs.Journals.{setup_for}
 use Rattle.vm_steps.specs.Record.{Record, heard}
 use Rattle.vm_steps.specs.Stepping.{MakesStep, IfWaits, step_asked, asked_from, future_in, progress_of, replied, with_vm}

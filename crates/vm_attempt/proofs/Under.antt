@@ -10,8 +10,8 @@ use Rattle.journal_protocol.specs.NotificationResult.{NotificationResult}
 use Rattle.journal_protocol.specs.Version.{Version}
 use Rattle.vm_machine.specs.declared.phase.Phase.{Phase}
 use Rattle.vm_machine.specs.declared.phase.Phase.TheVariants.{WaitingStart, WaitingReplayEntries, Replaying, Processing, Closed}
-use Rattle.invocation_vm.specs.Frames.{frames_of}
-use Rattle.invocation_vm.proofs.Cuts.{frames_of-append}
+use Rattle.journal_entries.specs.Frames.{frames_of}
+use Rattle.journal_entries.proofs.Cuts.{frames_of-append}
 use Rattle.vm_model.specs.Calls.{Meaning}
 use Rattle.vm_model.specs.Deliveries.{HasNoTwo, deliveries}
 use Rattle.vm_model.specs.Histories.{Handed}
@@ -108,7 +108,7 @@ module _ (version : Version) where
   take_fed old (Ok bytes) new does = ap (heard version) does.1
   take_fed old (Err e) new does = ap (heard version) does
 
-  settled_fed : (r : Record) (future : Option UnresolvedFuture) (x : Result Reply Error) (w : View) → heard version (replied r future x w) ≡ (heard version r)
+  pub settled_fed : (r : Record) (future : Option UnresolvedFuture) (x : Result Reply Error) (w : View) → heard version (replied r future x w) ≡ (heard version r)
   settled_fed r future (Ok (reply.Answer a)) w = refl
   settled_fed r future (Ok (reply.Waiting input run)) w = refl
   settled_fed r future (Ok (reply.Execute run)) w = refl

@@ -9,11 +9,11 @@ use Rattle.journal_protocol.specs.Frames.{encoding, IsWhole}
 use Rattle.journal_protocol.proofs.Facts.{one_body, one_type, proposal_back, whole_spelled}
 use Rattle.vm_parts.specs.Outboxes.{WholeFrames, WholeStream}
 use Rattle.vm_parts.proofs.Outboxes.{all_whole, bytes_of}
-use Rattle.invocation_vm.specs.Frames.{Rest, frames_from, frames_of}
-use Rattle.invocation_vm.proofs.Cuts.{frames_of-next}
-use Rattle.vm_model.specs.Journal.{stored_form}
+use Rattle.journal_entries.specs.Frames.{Rest, frames_from, frames_of}
+use Rattle.journal_entries.proofs.Cuts.{frames_of-next}
+use Rattle.journal_entries.specs.Journal.{stored_form}
 use Rattle.vm_attempt.specs.Honest.{frame_bytes}
-use Rattle.vm_model.specs.JournalFrames.{commands_among, is_command_frame}
+use Rattle.journal_entries.specs.JournalFrames.{commands_among, is_command_frame}
 use Rattle.vm_steps.specs.Record.{Record, bytes_written, heard}
 use Rattle.vm_attempt.specs.Told.{BeforeInput, JournalCame, HasCome, Wrote, commands_of, written_by}
 use Rattle.journal_protocol.specs.ProposeRunCompletion.{ProposeRunCompletion}

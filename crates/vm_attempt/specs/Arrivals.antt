@@ -9,9 +9,9 @@ use Rattle.journal_protocol.specs.Bodies.{acknowledgement_in, notification_in}
 use Rattle.journal_protocol.specs.Notification.{Notification}
 use Rattle.runs.specs.Firsts.{without_first}
 use Rattle.runs.specs.Kept.{is_for}
-use Rattle.vm_parts.specs.declared.run_state.KeptProposal.{KeptProposal}
-use Rattle.vm_machine.specs.Inputs.{acknowledged_completion}
-use Rattle.vm_model.specs.JournalFrames.{is_acknowledgement, is_notification, notified_by}
+use Rattle.journal_entries.specs.declared.proposals.KeptProposal.{KeptProposal}
+use Rattle.journal_entries.specs.Proposals.{acknowledged_completion}
+use Rattle.journal_entries.specs.JournalFrames.{is_acknowledgement, is_notification, notified_by}
 
 -- the completion that an acknowledgement stands for, where a result was proposed under its id
 abbrev pub acknowledged_as : List KeptProposal → Option ProposeRunCompletionAck

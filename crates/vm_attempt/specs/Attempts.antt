@@ -5,7 +5,7 @@ use Rattle.vm_steps.specs.declared.progress.Progress.{Progress}
 use Rattle.vm_steps.specs.Record.{Record, all_heard, all_said, heard}
 use Rattle.vm_model.specs.Fixed.{Fixed}
 use Rattle.vm_attempt.specs.Blames.{Blame, IsHonest, IsOwnError}
-use Rattle.vm_attempt.specs.Told.{AnswersAreTold, NothingWakes, NumbersFreshly, Premises, ReplayPremises, AnswersInReplay}
+use Rattle.vm_attempt.specs.Told.{AnswersAreTold, NothingWakes, NumbersFreshly, Premises, ProvesHistory, ReplayPremises, AnswersInReplay}
 
 -- ---- what is asked
 
@@ -37,6 +37,10 @@ WaitsRightly fixed r = NothingWakes fixed r
 -- journal leads on.
 abbrev pub StepReplays : Fixed → Record → Result Progress Error → Record → Type 0
 StepReplays fixed old result new = AnswersInReplay fixed old result new
+
+-- What was fed proves that its journal is a history of the handler, if nothing was fed after it.
+abbrev pub ProvesItsJournal : Fixed → Record → Type 0
+ProvesItsJournal fixed r = ProvesHistory fixed (heard fixed.version r)
 
 -- The error has one of the causes that an attempt's error can have.
 abbrev pub HasCause : Fixed → Record → Error → Type 0

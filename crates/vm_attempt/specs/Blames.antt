@@ -16,15 +16,16 @@ use Rattle.journal_protocol.specs.Errors.{named_error, no_memory}
 use Rattle.journal_protocol.specs.ProposeRunCompletionAck.{ProposeRunCompletionAck}
 use Rattle.journal_protocol.specs.Bodies.{acknowledgement_in, notification_in, start_in, ephemeral_notification_in}
 use Rattle.retries.specs.declared.policy.RetryPolicy.{RetryPolicy}
-use Rattle.runs.specs.declared.types.RunExitResult.{RunExitResult}
+use Rattle.vm_types.specs.declared.runs.RunExitResult.{RunExitResult}
 use Rattle.runs.specs.Kept.{is_for}
 use Rattle.await_trees.specs.declared.handle.NotificationHandle.{NotificationHandle}
-use Rattle.vm_parts.specs.declared.run_state.KeptProposal.{KeptProposal}
+use Rattle.await_trees.specs.declared.tree.UnresolvedFuture.{UnresolvedFuture}
+use Rattle.journal_entries.specs.declared.proposals.KeptProposal.{KeptProposal}
 use Rattle.std.specs.List.{find}
 use Rattle.journal_protocol.specs.Types.{type_number}
 use Rattle.vm_parts.specs.declared.context.StateMap.{StateMap}
 use Rattle.vm_parts.specs.Counting.{fresh_counters}
-use Rattle.vm_asks.specs.Carried.{past_all}
+use Rattle.journal_entries.specs.Carried.{past_all}
 use Rattle.vm_machine.specs.Skips.{counters_past}
 use Rattle.vm_types.specs.declared.options.JournalReplay.TheVariants.{Disabled}
 use Rattle.vm_types.specs.declared.steps.Answer.{Answer}
@@ -34,20 +35,22 @@ use Rattle.vm_machine.specs.declared.phase.Phase.TheVariants.{WaitingStart, Wait
 use Rattle.vm_machine.specs.Inputs.{entries_in}
 use Rattle.vm_machine.specs.Outcomes.{Failed, ruled, ruled_by}
 use Rattle.vm_machine.specs.Proposals.{Proposes}
-use Rattle.invocation_vm.specs.Frames.{Garbage, Rest, frames_of}
+use Rattle.journal_entries.specs.Frames.{Garbage, Rest, frames_of}
 use Rattle.invocation_vm.specs.Views.{View, all_received}
 use Rattle.vm_model.specs.Calls.Move.{Refuses}
 use Rattle.vm_model.specs.Histories.{History, after_head as behind_first}
-use Rattle.vm_model.specs.Journal.{input_read_from}
+use Rattle.journal_entries.specs.Journal.{input_read_from}
 use Rattle.vm_model.specs.Moves.{Point}
 use Rattle.vm_model.specs.Refusals.{IsRefusedFor}
 use Rattle.vm_attempt.specs.Arrivals.{kept_after}
 use Rattle.vm_steps.specs.Heard.{Heard}
+use Rattle.vm_steps.specs.Steps.{Performs}
+use Rattle.vm_steps.specs.Stepping.{asked_from}
 use Rattle.vm_steps.specs.declared.progress.Progress.{Progress}
-use Rattle.vm_model.specs.JournalFrames.{as_entries, commands_among, is_acknowledgement, is_command_frame, is_ephemeral, is_notification}
+use Rattle.journal_entries.specs.JournalFrames.{as_entries, commands_among, is_acknowledgement, is_command_frame, is_ephemeral, is_notification}
 use Rattle.vm_attempt.specs.Journals.{setup_for}
 use Rattle.vm_steps.specs.Record.{Record, Said, all_heard, all_said, heard}
-use Rattle.vm_attempt.specs.Told.{AreRightlyKinded, ProposesLate, Journal, Premises, bytes_fed, frames_fed, MovesTo, next_move}
+use Rattle.vm_attempt.specs.Told.{AreRightlyKinded, IsLive, ProposesLate, Journal, Premises, bytes_fed, frames_fed, MovesTo, next_move}
 use Rattle.vm_model.specs.Fixed.{Fixed}
 
 -- an error as the error rule says it in a VM that was made for this
@@ -258,6 +261,16 @@ pub record RefusedCall (fixed : Fixed) (fed : Heard) (answers_so_far : List Answ
   pub related : Option RelatedCommand
   pub error : e ≡ ruled_for fixed (named_error why related)
 
+-- The handler's call failed by this error: its call after these answers, or the await that waits,
+-- in a machine of this version and with these options that could make calls.
+pub record FailsAtCall (fixed : Fixed) (answers_so_far : List Answer) (e : Error) : Type 0 where
+  pub waiting : Option UnresolvedFuture
+  pub machine : Machine
+  pub left : Machine
+  pub live : IsLive machine
+  pub made_for : (machine.version ≡ fixed.version) × (machine.options ≡ fixed.options)
+  pub fails : Performs (asked_from waiting (fixed.handler answers_so_far)) machine (Failed e left)
+
 -- ---- results of runs
 
 -- The outcome of an executed run was refused, or fails the attempt, so that it is tried again or
@@ -292,7 +305,8 @@ pub data Blame (fixed : Fixed) (fed : Heard) (said : Said) (answers : List Answe
       → Blame fixed fed said answers e
   NoInput : LacksInput fixed (frames_fed fed) e → Blame fixed fed said answers e
   NoSkip : CannotSkip fixed (frames_fed fed) e → Blame fixed fed said answers e
-  Call : (Premises fixed fed → (e ≡ no_memory) ⊎ RefusedCall fixed fed answers e)
+  Call : FailsAtCall fixed answers e
+      → (Premises fixed fed → (e ≡ no_memory) ⊎ RefusedCall fixed fed answers e)
       → Blame fixed fed said answers e
   RunResult : RefusedResult fixed said.failed_by e → Blame fixed fed said answers e
 

@@ -1,10 +1,10 @@
 -- The calls of an attempt, one after another.
-use Rattle.std.specs.Prelude.{◌≡◌, ℕ, zero, suc, List, Result}
+use Rattle.std.specs.Prelude.{◌≡◌, ℕ, zero, suc, List, Some, None, Result, Err}
 use Rattle.std.specs.declared.alloc.AllocError.{AllocError}
 use Rattle.await_trees.specs.declared.handle.NotificationHandle.{NotificationHandle}
 use Rattle.journal_protocol.specs.Error.{Error}
 use Rattle.retries.specs.declared.policy.RetryPolicy.{RetryPolicy}
-use Rattle.runs.specs.declared.types.RunExitResult.{RunExitResult}
+use Rattle.vm_types.specs.declared.runs.RunExitResult.{RunExitResult}
 use Rattle.vm_steps.specs.declared.progress.Progress.{Progress}
 use Rattle.vm_steps.specs.Record.{Record}
 use Rattle.vm_steps.specs.Stepping.{CloseDoes, FeedDoes, FinishDoes, StepFunction, StepDoes, Takes}
@@ -25,3 +25,20 @@ pub data OneCall (m : StepFunction) (old new : Record) : Type 0 where
 abbrev pub Leads : StepFunction → ℕ → Record → Record → Type 0
 Leads m zero old new = new ≡ old
 Leads m (suc n) old new = (mid : Record) × OneCall m old mid × Leads m n mid new
+
+-- One of the calls between these records reported this run's result, which failed the VM, and the
+-- VM's error has been that of the report since then.
+pub record FailedByResult (m : StepFunction) (first last : Record)
+    (handle : NotificationHandle) : Type 0 where
+  pub before : ℕ
+  pub old : Record
+  pub leads : Leads m before first old
+  pub live : old.vm.machine.failure ≡ None
+  pub exit : RunExitResult
+  pub policy : RetryPolicy
+  pub error : Error
+  pub new : Record
+  pub reports : FinishDoes old.starved handle exit policy old (Err error) new
+  pub after : ℕ
+  pub further : Leads m after new last
+  pub stays : last.vm.machine.failure ≡ Some error

@@ -8,18 +8,18 @@ use Rattle.journal_protocol.specs.Start.{Start}
 use Rattle.journal_protocol.specs.Frames.{frame, IsWhole}
 use Rattle.vm_parts.specs.declared.context.StateMap.{StateMap}
 use Rattle.vm_types.specs.declared.options.JournalReplay.TheVariants.{Enabled}
-use Rattle.vm_types.specs.declared.options.SignalDelivery.TheVariants.{Queued}
+use Rattle.journal_protocol.specs.SignalDelivery.TheVariants.{Queued}
 use Rattle.vm_machine.specs.Inputs.{coverage_of, entries_in}
 use Rattle.vm_model.specs.Carried.{AreOfTheirKind}
 use Rattle.vm_model.specs.Deliveries.{HasNoTwo}
 use Rattle.vm_model.specs.Histories.{Handed, History, Made}
 use Rattle.vm_model.specs.Moves.{Point, start as first_point}
-use Rattle.vm_model.specs.Journal.{Entry, Recorded, Notified, notifications_in, stored_form}
+use Rattle.journal_entries.specs.Journal.{Entry, Recorded, Notified, notifications_in, stored_form}
 use Rattle.journal_protocol.specs.ProposeRunCompletionAck.{ProposeRunCompletionAck}
 use Rattle.journal_protocol.specs.Message.{Message}
 use Rattle.vm_attempt.specs.Arrivals.{AllFound, arriving}
 use Rattle.vm_steps.specs.Heard.{Heard}
-use Rattle.vm_model.specs.JournalFrames.{is_command_frame}
+use Rattle.journal_entries.specs.JournalFrames.{is_command_frame}
 use Rattle.vm_attempt.specs.Journals.{setup_for}
 use Rattle.vm_attempt.specs.Told.{bytes_fed}
 use Rattle.vm_model.specs.Fixed.{Fixed}

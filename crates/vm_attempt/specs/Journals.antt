@@ -18,10 +18,12 @@ use Rattle.vm_parts.specs.Ephemerals.{no_ephemerals}
 use Rattle.vm_machine.specs.declared.machine.Machine.{Machine}
 use Rattle.vm_machine.specs.declared.phase.Phase.{Phase}
 use Rattle.vm_machine.specs.declared.phase.Phase.TheVariants.{WaitingReplayEntries, Replaying}
-use Rattle.vm_machine.specs.Inputs.{coverage_of, entries_in, start_info_of}
+use Rattle.vm_machine.specs.Inputs.{coverage_of, entries_in}
+use Rattle.vm_parts.specs.Starts.{start_info_of}
 use Rattle.vm_machine.specs.Outcomes.{Outcome, Done, Failed}
 use Rattle.vm_model.specs.Calls.{Setup}
-use Rattle.vm_model.specs.JournalFrames.{AcknowledgesNothing, commands_among, notifications_among, setup_with}
+use Rattle.journal_entries.specs.JournalFrames.{AcknowledgesNothing, commands_among, notifications_among}
+use Rattle.vm_model.specs.Setups.{setup_with}
 use Rattle.vm_model.specs.Moves.{start, told_input}
 use Rattle.vm_attempt.specs.Agreement.{Agrees, Aside}
 use Rattle.vm_model.specs.Fixed.{Fixed}

@@ -9,3 +9,4 @@ pub mod Invariant
 pub mod Courses
 pub mod Honest
 pub mod Attempts
+pub mod Ending

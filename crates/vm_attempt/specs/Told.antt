@@ -15,25 +15,26 @@ use Rattle.journal_protocol.specs.Frames.{encoding, IsWhole}
 use Rattle.journal_protocol.specs.Bodies.{start_in}
 use Rattle.vm_parts.specs.declared.context.StateMap.{StateMap}
 use Rattle.vm_types.specs.declared.options.JournalReplay.TheVariants.{Enabled, Disabled}
-use Rattle.vm_asks.specs.Carried.{AreBelow, AreFrom, AreGreater, all_carried}
-use Rattle.vm_types.specs.declared.options.SignalDelivery.TheVariants.{Queued}
+use Rattle.journal_entries.specs.Carried.{AreBelow, AreFrom, AreGreater, all_carried}
+use Rattle.journal_protocol.specs.SignalDelivery.TheVariants.{Queued}
 use Rattle.vm_types.specs.declared.steps.Step.TheVariants as step
 use Rattle.await_trees.specs.declared.tree.UnresolvedFuture.{UnresolvedFuture}
 use Rattle.vm_machine.specs.declared.machine.Machine.{Machine}
 use Rattle.std.proofs.Common.{Global}
 use Rattle.vm_machine.specs.declared.phase.Phase.{Phase}
 use Rattle.vm_machine.specs.declared.phase.Phase.TheVariants.{Closed, Processing, Replaying}
-use Rattle.vm_machine.specs.Inputs.{coverage_of, entries_in, start_info_of}
+use Rattle.vm_machine.specs.Inputs.{coverage_of, entries_in}
+use Rattle.vm_parts.specs.Starts.{start_info_of}
 use Rattle.vm_machine.specs.Making.{fresh}
 use Rattle.vm_machine.specs.Phases.{is_running}
-use Rattle.invocation_vm.specs.Frames.{Rest, frames_of}
+use Rattle.journal_entries.specs.Frames.{Rest, frames_of}
 use Rattle.vm_model.specs.Calls.{Meaning, Move}
 use Rattle.vm_model.specs.Calls.Move.{Awaits}
 use Rattle.vm_model.specs.Carried.{AreOfTheirKind}
 use Rattle.vm_model.specs.Deliveries.{HasNoTwo}
-use Rattle.vm_model.specs.Journal.{input_read_from, stored_form}
+use Rattle.journal_entries.specs.Journal.{input_read_from, stored_form}
 use Rattle.vm_model.specs.Moves.{Point, move_at, start}
-use Rattle.vm_model.specs.Histories.{Handed, IsPrefix, Made, Told, after_head}
+use Rattle.vm_model.specs.Histories.{EagerFrom, Handed, History, IsPrefix, Made, Told, after_head}
 use Rattle.vm_model.specs.Refusals.{IsRefusedFor}
 use Rattle.vm_machine.specs.Outcomes.{IsStarved, ruled}
 use Rattle.vm_steps.specs.declared.progress.Fed.{Fed}
@@ -41,7 +42,7 @@ use Rattle.vm_steps.specs.declared.progress.Progress.{Progress}
 use Rattle.vm_steps.specs.declared.progress.Progress.TheVariants as progress
 use Rattle.vm_asks.specs.Asks.{ask_of}
 use Rattle.vm_attempt.specs.Agreement.{Agrees, Aside, MakesMany, command_frames}
-use Rattle.vm_model.specs.JournalFrames.{AcknowledgesNothing, commands_among, is_command_frame}
+use Rattle.journal_entries.specs.JournalFrames.{AcknowledgesNothing, as_entries, commands_among, is_command_frame}
 use Rattle.vm_attempt.specs.Journals.{HasAll, StillWaits, setup_for}
 use Rattle.vm_types.specs.declared.steps.Answer.{Answer}
 use Rattle.invocation_vm.specs.Views.{View}
@@ -411,12 +412,21 @@ IsKept fixed r = BeforeInput fixed (heard fixed.version r) r.answers r.waiting r
 abbrev pub IsKeptUnder : Fixed → Record → Type 0
 IsKeptUnder fixed r = Premises fixed (heard fixed.version r) → IsKept fixed r
 
--- The handler has read its input, and as long as recorded commands are left it runs.
+-- The journal that was fed is a history of the handler, from each base by which its eager reads are
+-- right, if nothing was fed after it.
+pub record ProvesHistory (fixed : Fixed) (fed : Heard) : Type 0 where
+  pub journal : Journal fed
+  pub history : journal.others ≡ [] → (base : StateMap) → EagerFrom base journal.rest
+      → History (setup_for fixed journal.start) fixed.handler base (as_entries journal.entries)
+
+-- The handler has read its input, and as long as recorded commands are left it runs. Once none is
+-- left, the journal is a history of it.
 pub record InReplay (fixed : Fixed) (fed : Heard) (answers_so_far : List Answer)
     (waiting : Option UnresolvedFuture) (taken : List (List ℕ)) (vm : View) : Type 0 where
   pub came : JournalCame fixed fed answers_so_far taken vm
   pub run : vm.machine.failure ≡ None → vm.machine.phase ≡ Replaying
       → HandlerRuns fixed fed answers_so_far waiting taken vm
+  pub proves : vm.machine.failure ≡ None → vm.machine.phase ≡ Processing → ProvesHistory fixed fed
 
 -- what each call of an attempt keeps in replay, under the premises of replay
 abbrev pub IsKeptInReplay : Fixed → Record → Type 0

@@ -1,14 +1,15 @@
 //! One attempt of a handler: bytes in, steps, bytes out. Its answers are at all times those of the handler's run over its journal.
 ghost use Rattle.std.specs.Prelude.{codes};
 
+use await_trees::NotificationHandle;
 use bytes::Bytes;
-use invocation_vm::{CoreVM, HeaderMap, NotificationHandle, VM, VMOptions, VMResult, Version};
+use invocation_vm::{CoreVM, VM};
+use journal_protocol::{HeaderMap, Version};
 use retries::RetryPolicy;
-use runs::RunExitResult;
 use std::alloc::{AllocError, Global};
 use std::marker::Model;
-use vm_parts::Answer;
-use vm_steps::{Handler, Inner, Progress};
+use vm_steps::{Inner, Progress};
+use vm_types::{Answer, Handler, RunExitResult, State, VMOptions, VMResult};
 
 /// An attempt of a handler over the VM. It keeps a record: each piece of input until the VM failed or closed, the pieces that
 /// came to a closed VM after them, whether the input was closed, the run whose result failed the VM, the answers, and all output, from
@@ -53,7 +54,9 @@ impl<H: Handler> Attempt<H> {
     ghost use Rattle.invocation_vm.specs.Making.{version_in};
     ghost use Rattle.vm_parts.specs.Outboxes.{WholeStream};
     ghost use Rattle.vm_steps.specs.Stepping.{MakesAttempt, StepDoes, FeedDoes, FinishDoes, CloseDoes, IfWaits, IsReplaying, Takes, output_len};
-    ghost use Rattle.vm_attempt.specs.Attempts.{AnswersAsTold, CarriesNewIds, HasCause, IsHonestlyFed, IsItsOwn, IsWellFed, IsWellFedInReplay, StepReplays, WaitsRightly};
+    ghost use Rattle.vm_attempt.specs.Attempts.{AnswersAsTold, CarriesNewIds, HasCause, IsHonestlyFed, IsItsOwn, IsWellFed, IsWellFedInReplay, ProvesItsJournal, StepReplays, WaitsRightly};
+    ghost use Rattle.vm_machine.specs.Queries.{state_of};
+    ghost use Rattle.vm_types.specs.declared.types.State.TheVariants as state;
     ghost use Rattle.vm_attempt.specs.Fixed.{fixed_of};
     ghost use Rattle.vm_attempt.specs.Blames.{IfError};
     ghost use Rattle.vm_steps.specs.Heard.{proposals_in};
@@ -213,6 +216,17 @@ impl<H: Handler> Attempt<H> {
         // What waits now is whole frames, from which the clauses read the commands.
         let _ = self.inner.output_len();
         self.inner.answers.as_slice()
+    }
+
+    /// The VM's state. In `Processing` no recorded command is left: then what was fed, if it was Start and a journal alone, proves
+    /// that the journal is a history of the handler. So this is the check that a handler can replay a journal.
+    pub fn state(&self) -> State
+        ensures state { result ≡ state_of self.now.record_of.vm.machine }
+        ensures proves { result ≡ state.Processing
+            → IsWellFedInReplay (fixed_of (H.meaning self.now.handler) self.now) self.now.record_of
+            → ProvesItsJournal (fixed_of (H.meaning self.now.handler) self.now) self.now.record_of }
+    {
+        self.inner.vm.state()
     }
 
     /// How many bytes the attempt has written, taken or not, as far as a `usize` goes.

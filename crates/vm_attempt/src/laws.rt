@@ -14,23 +14,27 @@ ghost use Rattle.vm_types.specs.declared.options.VMOptions.{VMOptions};
 ghost use Rattle.invocation_vm.specs.Views.{all_received};
 ghost use Rattle.vm_model.specs.Calls.{Setup, Meaning, identity_of};
 ghost use Rattle.vm_model.specs.Deliveries.{HasNoTwo};
-ghost use Rattle.vm_model.specs.Histories.{History, IsAwaiting};
+ghost use Rattle.vm_model.specs.Histories.{History, IsAwaiting, IsPrefix};
 ghost use Rattle.vm_types.specs.declared.options.JournalReplay.TheVariants.{Enabled};
-ghost use Rattle.vm_types.specs.declared.options.SignalDelivery.TheVariants.{Queued};
-ghost use Rattle.vm_model.specs.Journal.{input_read_from};
+ghost use Rattle.journal_protocol.specs.SignalDelivery.TheVariants.{Queued};
+ghost use Rattle.vm_model.specs.HonestRounds.{IsToldOn};
+ghost use Rattle.journal_entries.specs.Journal.{Entry, commands_in, input_read_from, notifications_in};
 ghost use Rattle.vm_model.specs.Moves.{Point, later};
 ghost use Rattle.vm_parts.specs.declared.context.StateMap.{StateMap};
 ghost use Rattle.vm_parts.specs.Outboxes.{WholeFrames};
 ghost use Rattle.vm_attempt.specs.Agreement.{Agrees, Aside, CallFollows};
-ghost use Rattle.vm_attempt.specs.Courses.{Leads};
+ghost use Rattle.vm_attempt.specs.Courses.{FailedByResult, Leads};
 ghost use Rattle.vm_model.specs.Fixed.{Fixed};
 ghost use Rattle.vm_attempt.specs.Blames.{Blame, FailsAt, IsHonest, IsOwnError};
+ghost use Rattle.vm_attempt.specs.Ending.{FinishesOn, GoesToEnd, IsRunning};
 ghost use Rattle.vm_attempt.specs.Honest.{FeedsHonestly};
+ghost use Rattle.vm_model.specs.Finished.{HasFinished};
+ghost use Rattle.std.specs.Prelude.{◌≢◌};
 ghost use Rattle.vm_attempt.specs.Arrivals.{arriving, kept_after};
-ghost use Rattle.vm_model.specs.JournalFrames.{as_entries};
+ghost use Rattle.journal_entries.specs.JournalFrames.{as_entries};
 ghost use Rattle.vm_attempt.specs.Journals.{BeginsOrFails, Started, machine_fed, setup_for};
 ghost use Rattle.vm_steps.specs.Steps.{IfDone, Performs, ReadsBack};
-ghost use Rattle.vm_attempt.specs.Told.{AnswersAreTold, HasCome, IsKeptUnder, Premises, RefusesReplay};
+ghost use Rattle.vm_attempt.specs.Told.{AnswersAreTold, HasCome, IsKeptUnder, Journal, Premises, RefusesReplay, ToldBy, start_state};
 ghost use Rattle.vm_steps.specs.declared.progress.Progress.{Progress};
 ghost use Rattle.vm_steps.specs.declared.progress.Progress.TheVariants.{ExecuteRun};
 ghost use Rattle.vm_steps.specs.declared.progress.Reply.{Reply};
@@ -39,12 +43,12 @@ ghost use Rattle.journal_protocol.specs.Error.{Error};
 ghost use Rattle.std.specs.declared.alloc.AllocError.{AllocError};
 ghost use Rattle.await_trees.specs.declared.handle.NotificationHandle.{NotificationHandle};
 ghost use Rattle.retries.specs.declared.policy.RetryPolicy.{RetryPolicy};
-ghost use Rattle.runs.specs.declared.types.RunExitResult.{RunExitResult};
+ghost use Rattle.vm_types.specs.declared.runs.RunExitResult.{RunExitResult};
 ghost use Rattle.vm_steps.specs.Stepping.{CloseDoes, FeedDoes, FinishDoes, StepDoes, Takes, fresh_record};
 ghost use Rattle.vm_steps.specs.Heard.{Heard};
 ghost use Rattle.vm_steps.specs.Record.{Record, Said, heard};
 ghost use Rattle.invocation_vm.specs.Views.{View, after_input};
-ghost use Rattle.std.specs.Prelude.{ℕ, Option};
+ghost use Rattle.std.specs.Prelude.{ℕ, Option, Some};
 ghost use Rattle.vm_types.specs.declared.steps.Answer.{Answer};
 ghost use Rattle.await_trees.specs.declared.tree.UnresolvedFuture.{UnresolvedFuture};
 
@@ -178,4 +182,40 @@ pub fn runs_are_executed_once()
         (fresh_record (made alloc fixed.options fixed.version)) a
         → StepDoes fixed.handler a (Ok (ExecuteRun handle)) b → Leads fixed.handler between b c
         → StepDoes fixed.handler c (Ok (ExecuteRun handle)) d → ⊥ }
+{}
+
+/// An attempt is its handler's run over its journal, as the laws of honest rounds ask: with what was delivered to it after the journal
+/// and what it wrote, in any order. So a runtime that feeds attempts honestly and stores honestly has what these laws say.
+pub fn attempts_are_told_on()
+    ensures { (fixed : Fixed) (fed : Heard) (answers : List Answer) (written : List RawMessage)
+        (t : ToldBy fixed fed answers written) (course : List Entry)
+        → notifications_in course ≡ arriving fed.proposed t.journal.others
+        → commands_in course ≡ written
+        → IsToldOn (setup_for fixed t.journal.start) fixed.handler (as_entries t.journal.entries)
+        (record { given = start_state t.journal; course = course; answers = answers }) }
+{}
+
+/// The run that an attempt's record names as that whose result failed the VM is so: after some of the attempt's calls its result was
+/// reported, the VM answered that report by an error, and this has been its error since then.
+pub fn runs_fail_by_their_results()
+    ensures { (fixed : Fixed) (alloc : Global) (n : ℕ) (r : Record) (handle : NotificationHandle)
+        → Leads fixed.handler n (fresh_record (made alloc fixed.options fixed.version)) r
+        → r.failed_by ≡ Some handle
+        → FailedByResult fixed.handler
+        (fresh_record (made alloc fixed.options fixed.version)) r handle }
+{}
+
+/// It ends: if the handler comes to its end on the journal that was fed, then each step of an attempt is answered, or the handler ends, or
+/// out of memory. Its answers begin those of that end, and each step that is answered adds one: so after as many steps as
+/// these are the handler has ended.
+pub fn finished_attempts_end()
+    ensures step { (fixed : Fixed) (old : Record) (result : Result Progress Error) (new : Record)
+        → IsKeptUnder fixed old → Premises fixed (heard fixed.version old) → IsRunning old
+        → FinishesOn fixed (heard fixed.version old) → StepDoes fixed.handler old result new
+        → GoesToEnd result }
+    ensures answers { (fixed : Fixed) (r : Record) → IsKeptUnder fixed r
+        → Premises fixed (heard fixed.version r) → r.answers ≢ []
+        → FinishesOn fixed (heard fixed.version r) → (j : Journal (heard fixed.version r))
+        × (h : HasFinished (setup_for fixed j.start) fixed.handler (as_entries j.entries))
+        × IsPrefix r.answers h.at.answers }
 {}

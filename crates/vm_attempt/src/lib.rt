@@ -8,9 +8,8 @@ mod laws;
 pub use attempt::Attempt;
 pub use content_type::ContentType;
 pub use laws::{
-    answers_are_told, attempts_begin, attempts_keep, attempts_write, calls_follow, frames_arrive,
-    histories_are_replayed, honest_attempts_fail_by_themselves, honest_bytes_are_honest,
-    journals_come, runs_are_executed_once,
+    answers_are_told, attempts_are_told_on, attempts_begin, attempts_keep, attempts_write,
+    calls_follow, finished_attempts_end, frames_arrive, histories_are_replayed,
+    honest_attempts_fail_by_themselves, honest_bytes_are_honest, journals_come,
+    runs_are_executed_once, runs_fail_by_their_results,
 };
-pub use vm_parts::{Answer, Step};
-pub use vm_steps::{Fed, Handler, Progress};

@@ -9,10 +9,10 @@ use Rattle.journal_protocol.specs.Error.{Error}
 use Rattle.journal_protocol.specs.NamedFault.TheVariants as fault
 use Rattle.runs.specs.Pending.{is_executing_in, may_execute}
 use Rattle.vm_parts.specs.Ephemerals.{any_in_flight}
-use Rattle.vm_parts.specs.declared.run_state.PendingRun.{PendingRun}
+use Rattle.runs.specs.declared.pending.PendingRun.{PendingRun}
 use Rattle.vm_types.specs.declared.types.AwaitResponse.{AwaitResponse}
 use Rattle.vm_types.specs.declared.types.AwaitResponse.TheVariants.{AnyCompleted, CancelSignalReceived, EphemeralNotificationReady, ExecuteRun, WaitingExternalProgress}
-use Rattle.vm_parts.specs.declared.run_state.TrackedCall.{TrackedCall}
+use Rattle.vm_parts.specs.declared.tracked_call.TrackedCall.{TrackedCall}
 use Rattle.vm_parts.specs.Tracked.{IsFirstHandle, id_of_result, unresolved_handles, with_next_id}
 use Rattle.vm_parts.proofs.Tracking.{unresolved-with_next_id}
 use Rattle.vm_machine.specs.declared.fault.Fault.{Fault}

@@ -8,7 +8,7 @@ use Rattle.runs.specs.Firsts.{with_first}
 use Rattle.runs.specs.Pending.{handle_of, is_executing_in, may_execute, run_started}
 use Rattle.runs.specs.Settling.{run_as_related}
 use Rattle.vm_parts.specs.Ephemerals.{any_in_flight}
-use Rattle.vm_parts.specs.declared.run_state.PendingRun.{PendingRun}
+use Rattle.runs.specs.declared.pending.PendingRun.{PendingRun}
 use Rattle.vm_machine.specs.declared.fault.Fault.{Fault}
 use Rattle.vm_machine.specs.declared.machine.Machine.{Machine}
 use Rattle.await_trees.specs.Handles.{handles_of}

@@ -26,7 +26,7 @@ use Rattle.runs.specs.Pending.{handle_of, has_handle, is_executing, is_executing
 use Rattle.runs.specs.Settling.{run_as_related}
 use Rattle.vm_types.specs.declared.options.AwaitingOnPolicy.{AwaitingOnPolicy}
 use Rattle.vm_types.specs.declared.options.AwaitingOnPolicy.TheVariants as policy
-use Rattle.vm_parts.specs.declared.run_state.PendingRun.{PendingRun}
+use Rattle.runs.specs.declared.pending.PendingRun.{PendingRun}
 use Rattle.vm_types.specs.declared.types.AwaitResponse.{AwaitResponse}
 use Rattle.vm_types.specs.declared.types.AwaitResponse.TheVariants.{AnyCompleted, CancelSignalReceived, EphemeralNotificationReady, ExecuteRun, WaitingExternalProgress}
 use Rattle.vm_parts.specs.Deliveries.{id_at, present_result_for}

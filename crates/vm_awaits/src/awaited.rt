@@ -6,7 +6,7 @@ ghost use Rattle.vm_machine.specs.Outcomes.{flattened};
 
 use journal_protocol::{Error, NamedFault};
 use std::marker::Model;
-use vm_parts::AwaitResponse;
+use vm_types::AwaitResponse;
 
 /// How an await ends.
 #[derive(Clone, Copy)]

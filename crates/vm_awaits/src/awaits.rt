@@ -1,9 +1,9 @@
 //! Awaits of trees: notifications are used until the tree is awake, or the cancel signal is there; else the machine waits for what is
 //! left of the tree.
-ghost use Rattle.std.specs.Prelude.{◌≡◌, ◌∷◌, ◌++◌, [], find, IfNone, IfOk, IfSome, OnOk, OnErr};
+ghost use Rattle.std.specs.Prelude.{◌≡◌, ◌∷◌, ◌++◌, [], false, find, IfNone, IfOk, IfSome, OnOk, OnErr};
 ghost use Rattle.std.specs.List.{list_any};
 ghost use Rattle.std.specs.Option.{option_and_then, option_map};
-ghost use Rattle.await_trees.specs.Tree.{tree_of};
+ghost use Rattle.await_trees.specs.Tree.{leaf, tree_of};
 ghost use Rattle.await_trees.specs.Wires.{sent};
 ghost use Rattle.await_tries.specs.Left.{tree_left};
 ghost use Rattle.await_tries.specs.Message.{ids};
@@ -15,13 +15,17 @@ ghost use Rattle.vm_machine.specs.Outcomes.{Gives, GivesBy};
 ghost use Rattle.vm_types.specs.Options.{ends_awaits};
 ghost use Rattle.vm_parts.specs.Ephemerals.{any_in_flight};
 ghost use Rattle.vm_parts.specs.Tracked.{id_of_result, unresolved_handles};
+ghost use Rattle.vm_machine.specs.Phases.{is_replaying};
 ghost use Rattle.vm_awaits.specs.Awaits.{Awaits, Gathers, ReadsId, Tries, TriesOrCancels, allows, executed, has_woken, is_cancelled, is_first_of_none, last_run, or_cancelled, pending_on, result_at, says_so, waiting, waits_by};
 ghost use Rattle.vm_machine.specs.Proposals.{run_at};
 ghost use Rattle.vm_awaits.specs.Cancels.{cancel_taken};
 
 use crate::awaited::Awaited;
-use await_trees::UnresolvedFuture;
-use await_tries::{Residue, Resolution, future_of, has_leaf, list_handles, try_future};
+use await_trees::{CANCEL_NOTIFICATION_HANDLE, NotificationHandle, UnresolvedFuture};
+use await_tries::{
+    Residue, Resolution, future_of, future_of_two, has_leaf, list_handles, try_future, use_all,
+    use_first, uses_until_either,
+};
 use journal_protocol::{
     AwaitingOn, Error, Message, MessageType, NamedFault, NotificationResult, RelatedCommand,
     Suspension, Version,
@@ -29,10 +33,7 @@ use journal_protocol::{
 use plain::{Items, Text, copy_of};
 use std::alloc::{AllocError, Global};
 use vm_machine::{Fault, Machine, Phase, refuse};
-use vm_parts::{
-    AwaitResponse, AwaitingOnPolicy, CANCEL_NOTIFICATION_HANDLE, ImplicitCancellationOption,
-    NotificationHandle,
-};
+use vm_types::{AwaitResponse, AwaitingOnPolicy, ImplicitCancellationOption};
 
 /// Whether an await that waits may say what for, by whether any run is executing.
 fn allows(policy: AwaitingOnPolicy, executing: bool) -> bool
@@ -218,6 +219,45 @@ fn pend_on(machine: &mut Machine, left: &Residue) -> Result<Awaited, Fault>
     wait_or_suspend(machine, left, executing)
 }
 
+/// An await of a handle, or of the cancel signal, waits, and says so: a leaf is left in any case.
+fn wait_on_either(machine: &mut Machine, handle: u32) -> Result<(), AllocError>
+    ensures ok { OnOk result (machine.new ≡ waiting (or_cancelled (leaf handle)) machine.old) }
+    ensures err { OnErr result (machine.new ≡ machine.old) }
+{
+    let executing = machine.runs.any_executing();
+    if machine.version < Version::V7 || !allows(machine.options.awaiting_on_policy, executing) {
+        return Ok(());
+    }
+    let cancel = CANCEL_NOTIFICATION_HANDLE.0;
+    let future = future_of_two(machine.alloc, &machine.results, handle, cancel)?;
+    let message = Message::AwaitingOn(AwaitingOn {
+        future,
+        executing_side_effects: false,
+    });
+    machine.output.write(machine.alloc, &message)
+}
+
+/// As `pend_on`, of a handle or the cancel signal, in Processing and with open input.
+#[inline(never)]
+fn pend_on_either(machine: &mut Machine, handle: u32) -> Result<Awaited, Fault>
+    requires past { is_replaying machine.old.phase ≡ false }
+    requires open { machine.old.input_closed ≡ false }
+    ensures { Gives (pending_on (or_cancelled (leaf handle)) machine.old) result
+        machine.old
+        machine.new }
+{
+    let handles = [handle, CANCEL_NOTIFICATION_HANDLE.0];
+    if let Some(run) = execute_run(machine, &handles) {
+        return Ok(Awaited::with(AwaitResponse::ExecuteRun(run)));
+    }
+    let executing = machine.runs.any_executing_in_this_set(&handles);
+    wait_on_either(machine, handle)?;
+    Ok(Awaited::with(AwaitResponse::WaitingExternalProgress {
+        waiting_input: true,
+        waiting_run_proposal: executing,
+    }))
+}
+
 /// One try of a future by the notifications alone; it may stay pending.
 #[tactic(auto, using(crate::proofs::Resolving::stays_pending))]
 fn try_alone(machine: &mut Machine, future: &UnresolvedFuture) -> Result<Awaited, Fault>
@@ -287,14 +327,57 @@ fn gather_ids(machine: &mut Machine) -> Result<Awaited, Fault>
     Ok(Awaited::with(AwaitResponse::CancelSignalReceived))
 }
 
-/// Awaits a future, or the cancel signal.
-fn try_or_cancel(machine: &mut Machine, future: UnresolvedFuture) -> Result<Awaited, Fault>
-    ensures { GivesBy (TriesOrCancels (tree_of future) machine.old) result machine.old machine.new }
+/// One try of a future, or of the cancel signal, by a walk over the tree of both.
+fn try_both(machine: &mut Machine, future: UnresolvedFuture) -> Result<Awaited, Fault>
+    ensures { GivesBy (Tries (or_cancelled (tree_of future)) machine.old) result
+        machine.old
+        machine.new }
 {
     let future = or_cancelled(machine.alloc, future)?;
     let given = try_alone(machine, &future);
     drop(future);
-    let answer = given?;
+    given
+}
+
+/// One try of a handle, or of the cancel signal. It needs no tree, but where an await in replay or with closed input stays pending.
+#[inline(never)]
+fn try_either(machine: &mut Machine, handle: u32) -> Result<Awaited, Fault>
+    ensures { GivesBy (Tries (or_cancelled (leaf handle)) machine.old) result
+        machine.old
+        machine.new }
+{
+    let cancel = CANCEL_NOTIFICATION_HANDLE.0;
+    if let Some(enough) = uses_until_either(&machine.results, handle, cancel) {
+        use_first(&mut machine.results, enough);
+        return Ok(Awaited::with(AwaitResponse::AnyCompleted));
+    }
+    if machine.input_closed || machine.phase.is_replaying() {
+        return try_both(
+            machine,
+            UnresolvedFuture::Single(NotificationHandle(handle)),
+        );
+    }
+    use_all(&mut machine.results);
+    pend_on_either(machine, handle)
+}
+
+/// One try of a future, or of the cancel signal.
+fn try_with_cancel(machine: &mut Machine, future: UnresolvedFuture) -> Result<Awaited, Fault>
+    ensures { GivesBy (Tries (or_cancelled (tree_of future)) machine.old) result
+        machine.old
+        machine.new }
+{
+    if let UnresolvedFuture::Single(handle) = &future {
+        return try_either(machine, handle.0);
+    }
+    try_both(machine, future)
+}
+
+/// Awaits a future, or the cancel signal.
+fn try_or_cancel(machine: &mut Machine, future: UnresolvedFuture) -> Result<Awaited, Fault>
+    ensures { GivesBy (TriesOrCancels (tree_of future) machine.old) result machine.old machine.new }
+{
+    let answer = try_with_cancel(machine, future)?;
     if !has_woken(&answer) {
         return Ok(answer);
     }
@@ -324,5 +407,5 @@ pub fn drop_cancel(machine: &mut Machine)
     ensures { machine.new ≡ cancel_taken machine.old }
 {
     let delivery = machine.options.signal_delivery;
-    let _ = machine.results.take(delivery, CANCEL_NOTIFICATION_HANDLE);
+    let _ = machine.results.take(delivery, CANCEL_NOTIFICATION_HANDLE.0);
 }

@@ -8,12 +8,13 @@ use Rattle.journal_protocol.specs.NotificationId.TheVariants.{CompletionId}
 use Rattle.journal_protocol.specs.NotificationResult.{NotificationResult}
 use Rattle.journal_protocol.specs.ValueOrFailure.{ValueOrFailure}
 use Rattle.runs.specs.Firsts.{without_first}
-use Rattle.runs.specs.Kept.{completion_result, is_for, result_of}
+use Rattle.runs.specs.Kept.{is_for, result_of}
+use Rattle.journal_entries.specs.Proposals.{completion_result, acknowledged_completion}
 use Rattle.vm_parts.specs.Arrived.{Arrived}
-use Rattle.vm_parts.specs.declared.run_state.KeptProposal.{KeptProposal}
+use Rattle.journal_entries.specs.declared.proposals.KeptProposal.{KeptProposal}
 use Rattle.vm_machine.specs.declared.fault.Fault.TheVariants.{Refused}
 use Rattle.vm_machine.specs.declared.machine.Machine.{Machine}
-use Rattle.vm_machine.specs.Inputs.{acknowledged, acknowledged_completion}
+use Rattle.vm_machine.specs.Inputs.{acknowledged}
 use Rattle.vm_machine.specs.Outcomes.{Done, Failed, Gives}
 use Rattle.vm_machine.specs.Proposals.{proposed}
 use Rattle.vm_machine.proofs.Running.{mapped_none, mapped_some, not_found}

@@ -4,12 +4,13 @@ ghost use Rattle.runs.specs.Kept.{is_for};
 ghost use Rattle.vm_machine.specs.Ephemerals.{ephemeral_notification_step};
 ghost use Rattle.vm_machine.specs.Outcomes.{Gives};
 ghost use Rattle.vm_machine.specs.Phases.{is_waiting};
-ghost use Rattle.vm_machine.specs.Inputs.{from_version, start_received, start_info_of, entries_in, coverage_of, counted_entry, start_step, acknowledged, acknowledgement_step, entry_step, notification_step, message_step, malformed_step, close_step};
+ghost use Rattle.vm_machine.specs.Inputs.{start_received, entries_in, coverage_of, counted_entry, start_step, acknowledged, acknowledgement_step, entry_step, notification_step, message_step, malformed_step, close_step};
+ghost use Rattle.vm_parts.specs.Starts.{from_version, start_info_of};
 
 use bytes::Bytes;
+use journal_entries::completion_result;
 use journal_protocol::{NamedFault, Notification, NotificationId, RawMessage, Start, Version};
 use plain::{Items, Text};
-use runs::completion_result;
 use std::alloc::{AllocError, Global};
 use vm_machine::{Fault, Machine, Phase, refuse};
 use vm_parts::{Entries, StartInfo, StateCoverage, StateKey, StateMap};

@@ -6,11 +6,12 @@ use Rattle.journal_protocol.specs.NamedFault.TheVariants as name
 use Rattle.journal_protocol.specs.ValueOrFailure.{ValueOrFailure}
 use Rattle.runs.specs.Firsts.{without_first}
 use Rattle.runs.specs.Kept.{is_for}
-use Rattle.vm_parts.specs.declared.run_state.KeptProposal.{KeptProposal}
+use Rattle.journal_entries.specs.declared.proposals.KeptProposal.{KeptProposal}
 use Rattle.vm_machine.specs.declared.machine.Machine.{Machine}
 use Rattle.journal_protocol.specs.Versions.{is_from_v7}
 use Rattle.vm_machine.specs.Ephemerals.{ephemeral_notification_step}
-use Rattle.vm_machine.specs.Inputs.{acknowledged, acknowledged_by, acknowledgement_step, acknowledged_completion, enqueued, entry_step, message_step, notification_step, start_step}
+use Rattle.vm_machine.specs.Inputs.{acknowledged, acknowledged_by, acknowledgement_step, enqueued, entry_step, message_step, notification_step, start_step}
+use Rattle.journal_entries.specs.Proposals.{acknowledged_completion}
 use Rattle.vm_machine.specs.Outcomes.{Done, Outcome, refused}
 use Rattle.vm_machine.specs.Proposals.{Acknowledges, proposed}
 use Rattle.journal_protocol.specs.RawMessage.{RawMessage}

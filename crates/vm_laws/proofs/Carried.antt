@@ -13,9 +13,10 @@ use Rattle.journal_protocol.specs.Bodies.{message_in}
 use Rattle.journal_protocol.specs.Types.{type_number}
 use Rattle.vm_types.specs.declared.types.AwakeableHandle.{AwakeableHandle}
 use Rattle.await_trees.specs.declared.handle.NotificationHandle.{NotificationHandle}
-use Rattle.vm_parts.specs.Counting.{missing_number, missing_signals, next_index}
+use Rattle.vm_parts.specs.Counting.{missing_number, missing_signals, next_index, given_on}
 use Rattle.vm_machine.specs.declared.machine.Machine.{Machine}
-use Rattle.vm_machine.specs.Commands.{written, ignores_payloads, phase_after, popped, popped_from, compared, replayed, carried_out, prepared, command_if_counted, issued}
+use Rattle.vm_machine.specs.Commands.{written, phase_after, popped, popped_from, compared, replayed, carried_out, prepared, command_if_counted, issued}
+use Rattle.vm_types.specs.Options.{ignores_payloads}
 use Rattle.vm_machine.specs.Outcomes.{Outcome, Done, Failed, ◌>>>◌, about_last}
 use Rattle.vm_machine.specs.Phases.{is_running, is_processing}
 use Rattle.vm_asks.specs.Requests.{changed, ids_of, with_ids}
@@ -23,9 +24,9 @@ use Rattle.journal_protocol.specs.NotificationResult.{NotificationResult}
 use Rattle.std.specs.Prelude.{Result, Ok, Err}
 use Rattle.vm_asks.specs.declared.state_read.StateRead.{StateRead}
 use Rattle.vm_parts.specs.declared.context.Counters.{Counters}
-use Rattle.vm_machine.specs.Commands.{entered, given_on, handed_out}
-use Rattle.vm_machine.specs.Reads.{own_result, read_back, read_counted, read_popped, read_step, read_written, with_read_ready}
-use Rattle.vm_asks.specs.StateReads.{eager_type, name_read, own_form, recorded_as, recorded_type, result_in}
+use Rattle.vm_machine.specs.Commands.{entered, handed_out}
+use Rattle.vm_machine.specs.Reads.{read_back, read_counted, read_popped, read_step, read_written, with_read_ready}
+use Rattle.vm_asks.specs.StateReads.{eager_type, name_read, own_form, recorded_as, recorded_type, result_in, own_result}
 use Rattle.vm_machine.specs.Signals.{awakeable_step, awakeable_counted, signal_counted, signal_step}
 use Rattle.vm_laws.specs.Numbers.{Counted}
 

@@ -28,8 +28,8 @@ use Rattle.std.specs.List.{find, list_any}
 use Rattle.await_trees.specs.Handles.{handles_of}
 use Rattle.runs.specs.Kept.{is_for}
 use Rattle.runs.specs.Pending.{is_executing, is_executing_in, may_execute}
-use Rattle.vm_parts.specs.declared.run_state.KeptProposal.{KeptProposal}
-use Rattle.vm_parts.specs.declared.run_state.PendingRun.{PendingRun}
+use Rattle.journal_entries.specs.declared.proposals.KeptProposal.{KeptProposal}
+use Rattle.runs.specs.declared.pending.PendingRun.{PendingRun}
 use Rattle.journal_protocol.specs.Types.{type_number}
 use Rattle.vm_types.specs.declared.command_type.CommandRelationship.{CommandRelationship}
 use Rattle.vm_types.specs.declared.types.AwaitResponse.{AwaitResponse}
@@ -37,12 +37,12 @@ use Rattle.vm_types.specs.declared.types.AwaitResponse.TheVariants.{AnyCompleted
 use Rattle.await_trees.specs.declared.handle.NotificationHandle.{NotificationHandle}
 use Rattle.vm_types.specs.declared.values.Value.{Value}
 use Rattle.vm_parts.specs.Deliveries.{id_at, present_result_for, taken_by}
-use Rattle.vm_types.specs.Values.{value_of}
+use Rattle.vm_types.specs.Values.{value_of, id_of_value}
 use Rattle.vm_parts.specs.declared.context.Counters.{Counters}
 use Rattle.vm_parts.specs.Counting.{missing_number, missing_signals}
 use Rattle.vm_types.specs.declared.values.Input.{Input}
-use Rattle.vm_asks.specs.Carried.{past_all}
-use Rattle.vm_machine.specs.Skips.{counters_past, skipped, skips_replay}
+use Rattle.journal_entries.specs.Carried.{past_all}
+use Rattle.vm_machine.specs.Skips.{counters_past, skipped}
 use Rattle.vm_machine.specs.declared.machine.Machine.{Machine}
 use Rattle.vm_machine.specs.declared.phase.Phase.{Phase}
 use Rattle.vm_machine.specs.declared.phase.Phase.TheVariants.{WaitingStart, WaitingReplayEntries, Replaying, Processing, Closed}
@@ -53,7 +53,7 @@ use Rattle.vm_asks.specs.declared.asks.Ask.{Ask}
 use Rattle.vm_asks.specs.declared.asks.Ask.TheVariants as ask
 use Rattle.vm_asks.specs.declared.asks.AnswerKind.{AnswerKind}
 use Rattle.vm_asks.specs.declared.command.Command.{Command}
-use Rattle.vm_asks.specs.Asks.{EachIs, any_refusal, ask_of}
+use Rattle.vm_asks.specs.Asks.{EachIs, any_refusal, ask_of, missing_for}
 use Rattle.vm_machine.specs.Takes.{result_taken, take_step, taken_at, value_noted, value_taken}
 use Rattle.vm_machine.specs.Inputs.{acknowledged, acknowledged_by, acknowledgement_step, close_step, closed_at, counted_entry, end_at, end_step, with_end_written, enqueued, entries_in, entry_step, input_at, input_by, input_counted, input_numbered, input_past, input_read, input_step, malformed_step, message_step, notification_step, queued, start_step, start_received, started_with}
 use Rattle.journal_protocol.specs.GetStateEphemeralNotification.{GetStateEphemeralNotification}
@@ -67,30 +67,30 @@ use Rattle.vm_parts.specs.Ephemerals.{any_in_flight}
 use Rattle.vm_parts.specs.States.{value_known, known_keys}
 use Rattle.vm_asks.specs.declared.state_read.StateRead.{StateRead}
 use Rattle.vm_asks.specs.declared.state_read.StateRead.TheVariants as reads
-use Rattle.vm_machine.specs.Reads.{own_result, read_back, read_counted, read_popped, read_step, read_written, with_read_ready}
-use Rattle.vm_asks.specs.StateReads.{eager_type, keys_form, lazy_type, name_read, own_form, recorded_as, recorded_type, result_in, value_form}
+use Rattle.vm_machine.specs.Reads.{read_back, read_counted, read_popped, read_step, read_written, with_read_ready}
+use Rattle.vm_asks.specs.StateReads.{eager_type, keys_form, lazy_type, name_read, own_form, recorded_as, recorded_type, result_in, value_form, own_result}
 use Rattle.vm_machine.specs.Signals.{awakeable_counted, awakeable_step, signal_counted, signal_step}
-use Rattle.vm_machine.specs.Commands.{entered, written, ignores_payloads, phase_after, popped, popped_from, compared, replayed, carried_out, prepared, command_if_counted, issued, commanded, commanded_unless, about_next, handed_out}
-use Rattle.vm_machine.specs.Several.{commanded_before, foreseen, foreseen_unless, missing_for, numbers_left}
+use Rattle.vm_machine.specs.Commands.{entered, written, phase_after, popped, popped_from, compared, replayed, carried_out, prepared, command_if_counted, issued, commanded, commanded_unless, about_next, handed_out}
+use Rattle.vm_machine.specs.Several.{commanded_before, foreseen, foreseen_unless, numbers_left}
 use Rattle.vm_laws.specs.Endings.{EndsOnce, EventWrites, Writes, is_over, is_terminal}
 use Rattle.vm_machine.specs.Outcomes.{Outcome, Done, Failed, ◌>>>◌, CalledBy, about_last, called, called_at, failed, refused, ruled}
 use Rattle.vm_machine.specs.Phases.{is_closed, is_processing, is_replaying, is_running, state_fault}
 use Rattle.journal_protocol.specs.Versions.{is_from_v7}
 use Rattle.vm_asks.specs.Requests.{ids_of, name_of, shown_type, with_ids}
 use Rattle.vm_machine.proofs.Calling.{called_from}
-use Rattle.vm_machine.proofs.Numbering.{same_type}
+use Rattle.vm_asks.proofs.Numbering.{same_type}
 use Rattle.retries.specs.declared.policy.RetryPolicy.{RetryPolicy}
 use Rattle.runs.specs.declared.settling.Settlement.{Settlement}
 use Rattle.runs.specs.declared.settling.Settlement.TheVariants as settlement
-use Rattle.runs.specs.declared.types.RunExitResult.{RunExitResult}
+use Rattle.vm_types.specs.declared.runs.RunExitResult.{RunExitResult}
 use Rattle.journal_protocol.specs.ValueOrFailure.{ValueOrFailure}
 use Rattle.vm_machine.specs.Proposals.{Proposes, Settled, SettledAt, SettledUnless, SettlesAs, proposal_fault, proposed, without_run}
 use Rattle.vm_awaits.specs.Awaits.{Awaits, AwaitsAt, AwaitsBy, Behind, AwaitCompletes, EndsBy, Gathers, ReadsId, StaysPending, Tries, next_id_known, is_cancelled, executed, or_cancelled, pending_in_replay, result_at, said_waiting, says_so, suspended, waiting, waits_by, waits_on, with_used}
 use Rattle.vm_machine.specs.Proposals.{run_at}
 use Rattle.vm_awaits.proofs.Cancelling.{Keeps, woken_keeps, read_keeps}
-use Rattle.vm_types.specs.Options.{ends_awaits}
-use Rattle.vm_parts.specs.Tracked.{id_of_result, id_of_value, id_noted, unresolved_handles, with_next_id}
-use Rattle.vm_parts.specs.declared.run_state.TrackedCall.{TrackedCall}
+use Rattle.vm_types.specs.Options.{ends_awaits, ignores_payloads, skips_replay}
+use Rattle.vm_parts.specs.Tracked.{id_of_result, id_noted, unresolved_handles, with_next_id}
+use Rattle.vm_parts.specs.declared.tracked_call.TrackedCall.{TrackedCall}
 use Rattle.std.specs.Option.{option_and_then}
 
 -- ---- nothing is written

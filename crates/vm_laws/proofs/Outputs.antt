@@ -43,12 +43,12 @@ use Rattle.vm_laws.proofs.Ephemerals.{ephemeral_writes, take_ephemeral_writes}
 use Rattle.vm_asks.specs.declared.state_read.StateRead.{StateRead}
 use Rattle.vm_machine.specs.Reads.{read_step}
 use Rattle.retries.specs.declared.policy.RetryPolicy.{RetryPolicy}
-use Rattle.runs.specs.declared.types.RunExitResult.{RunExitResult}
+use Rattle.vm_types.specs.declared.runs.RunExitResult.{RunExitResult}
 use Rattle.vm_machine.specs.Proposals.{Proposes}
 use Rattle.invocation_vm.specs.Calls.{AnswersReady, CallsAwaitBy, CallsCommand, CallsFlatAwait, CallsFor, CallsProposal, CallsRead, new_awakeable_step, CallsAllFor}
-use Rattle.vm_machine.specs.Skips.{skips_replay}
+use Rattle.vm_types.specs.Options.{skips_replay}
 use Rattle.vm_laws.specs.Outputs.{EndsOnceAfter, StaysSo}
-use Rattle.invocation_vm.specs.Frames.{Tail, Rest, Garbage, frames_of}
+use Rattle.journal_entries.specs.Frames.{Tail, Rest, Garbage, frames_of}
 use Rattle.invocation_vm.specs.Making.{made}
 use Rattle.invocation_vm.specs.Views.{View, Calls, Leaves, TakesOutput, after_closing, after_error, after_input, all_received, messages_in_bytes, consumed, has_failed, left_by, left_over, received, spoiled}
 use Rattle.invocation_vm.proofs.Feeds.{among_failed, among_output}

@@ -20,15 +20,17 @@ use Rattle.vm_types.specs.declared.types.DeadlineCallHandle.{DeadlineCallHandle}
 use Rattle.vm_parts.specs.declared.async_results.Mapping.{Mapping}
 use Rattle.vm_parts.specs.Counting.{missing_number}
 use Rattle.vm_asks.specs.declared.command.Command.{Command}
-use Rattle.vm_asks.specs.Asks.{all_ids, any_refusal, deadline_handles, sleep_command}
+use Rattle.vm_asks.specs.Asks.{all_ids, any_refusal, deadline_handles, sleep_command, missing_for}
 use Rattle.vm_asks.specs.GivenIds.{IsCallWith}
 use Rattle.vm_asks.specs.Requests.{ids_of, name_of, shown_type, with_ids}
 use Rattle.vm_machine.specs.declared.machine.Machine.{Machine}
-use Rattle.vm_machine.specs.Commands.{carried_out, commanded, commanded_unless, compared, command_if_counted, entered, ignores_payloads, issued, mapped_from, phase_after, popped, popped_from, prepared, replayed, written}
+use Rattle.vm_machine.specs.Commands.{carried_out, commanded, commanded_unless, compared, command_if_counted, entered, issued, phase_after, popped, popped_from, prepared, replayed, written}
+use Rattle.vm_parts.specs.Mappings.{mapped_from}
+use Rattle.vm_types.specs.Options.{ignores_payloads}
 use Rattle.vm_machine.specs.Outcomes.{Does, Done, Failed, Outcome, ◌>>>◌, about_last, called, called_at}
 use Rattle.vm_machine.specs.Phases.{is_processing, is_running, state_fault}
 use Rattle.vm_machine.proofs.Calling.{answers_first}
-use Rattle.vm_machine.specs.Several.{BehindFirst, MakesAll, MakesOne, answered_so, commanded_before, foreseen, foreseen_unless, missing_for, numbers_left}
+use Rattle.vm_machine.specs.Several.{BehindFirst, MakesAll, MakesOne, answered_so, commanded_before, foreseen, foreseen_unless, numbers_left}
 use Rattle.invocation_vm.specs.Calls.{CallsAll, CallsAllFor, result_by}
 use Rattle.invocation_vm.specs.Views.{AnswersFirst, View}
 use Rattle.invocation_vm.proofs.Failing.{viewed}

@@ -12,7 +12,8 @@ use Rattle.vm_parts.specs.Counting.{missing_number}
 use Rattle.vm_machine.specs.declared.machine.Machine.{Machine}
 use Rattle.vm_machine.specs.declared.phase.Phase.{Phase}
 use Rattle.vm_machine.specs.declared.phase.Phase.TheVariants.{Processing}
-use Rattle.vm_machine.specs.Commands.{carried_out, commanded, commanded_unless, command_if_counted, entered, ignores_payloads, issued, prepared, replayed, written}
+use Rattle.vm_machine.specs.Commands.{carried_out, commanded, commanded_unless, command_if_counted, entered, issued, prepared, replayed, written}
+use Rattle.vm_types.specs.Options.{ignores_payloads}
 use Rattle.vm_machine.specs.Outcomes.{Outcome, Done, Failed, ◌>>>◌, IsStarved, about_last, called, called_at}
 use Rattle.vm_machine.specs.Phases.{is_processing, is_running, state_fault}
 use Rattle.vm_asks.specs.Requests.{shown_type, with_ids}

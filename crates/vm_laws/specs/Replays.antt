@@ -10,7 +10,8 @@ use Rattle.journal_protocol.specs.Types.{type_number}
 use Rattle.vm_parts.specs.Counting.{missing_number}
 use Rattle.vm_machine.specs.declared.machine.Machine.{Machine}
 use Rattle.vm_machine.specs.declared.phase.Phase.TheVariants.{Replaying}
-use Rattle.vm_machine.specs.Commands.{about_next, ignores_payloads, issued}
+use Rattle.vm_machine.specs.Commands.{about_next, issued}
+use Rattle.vm_types.specs.Options.{ignores_payloads}
 use Rattle.vm_machine.specs.Outcomes.{Failed}
 use Rattle.vm_asks.specs.Requests.{ids_of, name_of, shown_type, with_ids}
 

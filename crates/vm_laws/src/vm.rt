@@ -15,8 +15,8 @@ ghost use Rattle.await_trees.specs.declared.handle.NotificationHandle.{Notificat
 ghost use Rattle.vm_types.specs.declared.types.EphemeralCompletionId.{EphemeralCompletionId};
 ghost use Rattle.vm_types.specs.declared.types.SendHandle.{SendHandle};
 ghost use Rattle.retries.specs.declared.policy.RetryPolicy.{RetryPolicy};
-ghost use Rattle.runs.specs.declared.types.RunExitResult.{RunExitResult};
-ghost use Rattle.runs.specs.declared.types.RunHandle.{RunHandle};
+ghost use Rattle.vm_types.specs.declared.runs.RunExitResult.{RunExitResult};
+ghost use Rattle.vm_types.specs.declared.runs.RunHandle.{RunHandle};
 ghost use Rattle.await_trees.specs.declared.tree.UnresolvedFuture.{UnresolvedFuture};
 ghost use Rattle.vm_types.specs.declared.values.Input.{Input};
 ghost use Rattle.vm_types.specs.declared.values.Value.{Value};

@@ -7,12 +7,13 @@ use Rattle.journal_protocol.specs.Message.{Message}
 use Rattle.await_trees.specs.declared.handle.NotificationHandle.{NotificationHandle}
 use Rattle.vm_parts.specs.Counting.{missing_number}
 use Rattle.vm_asks.specs.declared.command.Command.{Command}
-use Rattle.vm_asks.specs.Asks.{all_ids, any_refusal}
+use Rattle.vm_asks.specs.Asks.{all_ids, any_refusal, missing_for}
 use Rattle.vm_asks.specs.Requests.{ids_of, name_of, shown_type, with_ids}
 use Rattle.vm_machine.specs.declared.fault.Fault.{Fault}
 use Rattle.vm_machine.specs.declared.machine.Machine.{Machine}
-use Rattle.vm_machine.specs.Commands.{carried_out, commanded, commanded_unless, command_if_counted, entered, ignores_payloads, issued, prepared}
-use Rattle.vm_machine.specs.Several.{AllFit, commanded_before, foreseen, foreseen_unless, missing_for, numbers_left}
+use Rattle.vm_machine.specs.Commands.{carried_out, commanded, commanded_unless, command_if_counted, entered, issued, prepared}
+use Rattle.vm_types.specs.Options.{ignores_payloads}
+use Rattle.vm_machine.specs.Several.{AllFit, commanded_before, foreseen, foreseen_unless, numbers_left}
 use Rattle.vm_machine.specs.Outcomes.{Done, Failed, Gives, Outcome, ◌>>>◌, about_last}
 use Rattle.vm_machine.specs.Phases.{is_running, state_fault}
 

@@ -1,6 +1,5 @@
 pub mod Answering
 pub mod Calling
-pub mod Numbering
 pub mod Passing
 pub mod Preparing
 pub mod Ruling

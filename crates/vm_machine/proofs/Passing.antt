@@ -4,8 +4,8 @@ use Rattle.std.specs.Option.{option_and_then}
 use Rattle.std.proofs.lemmas.List.{drop_all}
 use Rattle.journal_protocol.specs.RawMessage.{RawMessage}
 use Rattle.journal_protocol.specs.Bodies.{message_in}
-use Rattle.vm_asks.specs.Carried.{past_all, read_past}
-use Rattle.vm_types.proofs.Places.{from_place}
+use Rattle.journal_entries.specs.Carried.{past_all, read_past}
+use Rattle.plain.proofs.Places.{from_place}
 
 -- past the command at a place, and then those after it
 pub past_at : (cs : List RawMessage) (i next : ℕ) (raw : RawMessage) (o : Option ℕ) → i < length cs → raw ≡ get_or cs i raw → o ≡ read_past next (message_in raw.ty raw.body)

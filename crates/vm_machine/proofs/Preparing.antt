@@ -5,7 +5,7 @@ use Rattle.journal_protocol.specs.NotificationId.TheVariants.{CompletionId}
 use Rattle.vm_parts.specs.declared.async_results.Mapping.{Mapping}
 use Rattle.vm_parts.specs.Arrived.{Arrived}
 use Rattle.vm_machine.specs.declared.machine.Machine.{Machine}
-use Rattle.vm_machine.specs.Commands.{mapped_from}
+use Rattle.vm_parts.specs.Mappings.{mapped_from}
 
 -- the handle that is given after n others
 abbrev at_place : ℕ → ℕ → ℕ → Mapping

@@ -14,7 +14,7 @@ use Rattle.journal_protocol.specs.Message.{Message}
 use Rattle.journal_protocol.specs.Message.TheVariants as message
 use Rattle.journal_protocol.specs.RawMessage.{RawMessage}
 use Rattle.journal_protocol.specs.Bodies.{input_in, message_in}
-use Rattle.vm_asks.specs.Carried.{AreBelow, all_carried, carried, carried_by, past, past_all, read_carried, read_past}
+use Rattle.journal_entries.specs.Carried.{AreBelow, all_carried, carried, carried_by, past, past_all, read_carried, read_past}
 use Rattle.vm_parts.specs.declared.context.Counters.{Counters}
 use Rattle.vm_parts.specs.Counting.{missing_number, most, next_index}
 use Rattle.vm_types.specs.declared.values.Input.{Input}
@@ -25,7 +25,8 @@ use Rattle.vm_machine.specs.Commands.{entered, phase_after, popped, popped_from}
 use Rattle.vm_machine.specs.Inputs.{input_at, input_by, input_counted, input_numbered, input_of, input_past, input_read, input_step}
 use Rattle.vm_machine.specs.Outcomes.{Done, Failed, Outcome, ◌>>>◌, about_last}
 use Rattle.vm_machine.specs.Phases.{is_running}
-use Rattle.vm_machine.specs.Skips.{counters_past, skipped, skips_replay}
+use Rattle.vm_machine.specs.Skips.{counters_past, skipped}
+use Rattle.vm_types.specs.Options.{skips_replay}
 
 -- ---- the input was read
 

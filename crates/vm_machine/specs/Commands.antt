@@ -1,6 +1,6 @@
 -- What a call with a command does: in Processing its command is written, in replay the recorded one
 -- is popped.
-use Rattle.std.specs.Prelude.{◌≡◌, ℕ, zero, suc, ◌+◌, ◌<◌, ◌^◌, Bool, true, false, ◌||◌, ◌==◌, if◌then◌else◌, List, [], ◌∷◌, ◌++◌, Option, Some, None, Result, IfOk, OnOk}
+use Rattle.std.specs.Prelude.{◌≡◌, ℕ, ◌+◌, ◌<◌, ◌^◌, Bool, true, ◌==◌, if◌then◌else◌, List, [], ◌∷◌, ◌++◌, Option, Some, None, Result, IfOk, OnOk}
 use Rattle.journal_protocol.specs.Error.{Error}
 use Rattle.journal_protocol.specs.NamedFault.{NamedFault}
 use Rattle.journal_protocol.specs.NamedFault.TheVariants as fault
@@ -13,13 +13,11 @@ use Rattle.journal_protocol.specs.Frames.{encoding, type_of, IsWhole}
 use Rattle.journal_protocol.specs.Bodies.{message_in}
 use Rattle.journal_protocol.specs.Equality.{header_equal}
 use Rattle.journal_protocol.specs.Types.{type_number}
-use Rattle.vm_parts.specs.declared.async_results.Mapping.{Mapping}
-use Rattle.vm_parts.specs.declared.context.Counters.{Counters}
-use Rattle.vm_types.specs.declared.options.NonDeterministicChecksOption.{NonDeterministicChecksOption}
-use Rattle.vm_types.specs.declared.options.NonDeterministicChecksOption.TheVariants as checks
+use Rattle.vm_types.specs.Options.{ignores_payloads}
 use Rattle.await_trees.specs.declared.handle.NotificationHandle.{NotificationHandle}
-use Rattle.vm_parts.specs.Counting.{next_index, missing_number}
+use Rattle.vm_parts.specs.Counting.{next_index, missing_number, given_on}
 use Rattle.vm_parts.specs.Deliveries.{is_known}
+use Rattle.vm_parts.specs.Mappings.{mapped_from}
 use Rattle.vm_asks.specs.declared.command.Command.{Command}
 use Rattle.vm_machine.specs.declared.fault.Fault.{Fault}
 use Rattle.vm_machine.specs.declared.machine.Machine.{Machine}
@@ -28,7 +26,7 @@ use Rattle.vm_machine.specs.declared.phase.Phase.TheVariants.{Replaying, Process
 use Rattle.vm_machine.specs.Outcomes.{Outcome, Done, Failed, ◌>>>◌, Gives, about_last, refused}
 use Rattle.vm_machine.specs.Phases.{is_running, is_processing, state_fault}
 use Rattle.runs.specs.Pending.{to_execute}
-use Rattle.vm_parts.specs.declared.run_state.PendingRun.{PendingRun}
+use Rattle.runs.specs.declared.pending.PendingRun.{PendingRun}
 use Rattle.journal_protocol.specs.Message.TheVariants as message
 use Rattle.vm_asks.specs.Requests.{changed, ids_of, name_of, shown_type, tracked_after, with_ids}
 
@@ -48,15 +46,6 @@ about_next name ty command v = named_error name
 -- a command is written
 abbrev pub written : Message → Machine → Machine
 written m v = record v { wrote_command = true; output = v.output ++ encoding m ∷ [] }
-
--- the options leave payloads out of the comparison
-abbrev pub checks_are_off : NonDeterministicChecksOption → Bool
-checks_are_off checks.PayloadChecksDisabled = true
-checks_are_off checks.Enabled = false
-
--- payloads aren't compared where the options say so or the call's may differ
-abbrev pub ignores_payloads : NonDeterministicChecksOption → Bool → Bool
-ignores_payloads option unstable = checks_are_off option || unstable
 
 -- The pending runs after a command, by its handle, its completion id and its index: a run is
 -- pending unless its result is known.
@@ -103,16 +92,6 @@ replayed m ignore v =
 unfoldable pub carried_out : Message → Bool → Machine → Outcome Unit
 carried_out m ignore v =
     if is_processing v.phase then Done tt (written m v) else replayed m ignore v
-
--- n handles, from this one on, each for a completion id, from this one on
-abbrev pub mapped_from : ℕ → ℕ → ℕ → List Mapping
-mapped_from zero handle id = []
-mapped_from (suc n) handle id = record { handle = handle; id = CompletionId id }
-    ∷ mapped_from n (handle + 1) (id + 1)
-
--- this number of completion ids is given, with a handle for each
-abbrev pub given_on : ℕ → Counters → Counters
-given_on n c = record c { completion = c.completion + n; handle = c.handle + n }
 
 -- the next handles stand for the next completion ids
 abbrev pub handed_out : ℕ → Machine → Machine

@@ -10,15 +10,14 @@ use Rattle.journal_protocol.specs.NamedFault.TheVariants as fault
 use Rattle.journal_protocol.specs.Message.TheVariants as message
 use Rattle.journal_protocol.specs.RawMessage.{RawMessage}
 use Rattle.journal_protocol.specs.Notification.{Notification}
-use Rattle.journal_protocol.specs.NotificationId.TheVariants.{CompletionId}
 use Rattle.journal_protocol.specs.Start.{Start}
 use Rattle.journal_protocol.specs.MessageType.TheVariants as type
-use Rattle.journal_protocol.specs.Version.{Version}
 use Rattle.journal_protocol.specs.Frames.{encoding}
 use Rattle.journal_protocol.specs.Bodies.{acknowledgement_in, start_in, input_in, notification_in}
 use Rattle.runs.specs.Firsts.{without_first}
-use Rattle.runs.specs.Kept.{completion_result, is_for}
-use Rattle.vm_parts.specs.declared.run_state.KeptProposal.{KeptProposal}
+use Rattle.runs.specs.Kept.{is_for}
+use Rattle.journal_entries.specs.Proposals.{acknowledged_completion}
+use Rattle.journal_entries.specs.declared.proposals.KeptProposal.{KeptProposal}
 use Rattle.journal_protocol.specs.Types.{type_number}
 use Rattle.vm_parts.specs.declared.context.Counters.{Counters}
 use Rattle.vm_parts.specs.declared.context.StartInfo.{StartInfo}
@@ -27,6 +26,7 @@ use Rattle.vm_parts.specs.declared.context.StateCoverage.TheVariants.{Partial, C
 use Rattle.vm_types.specs.declared.values.Input.{Input}
 use Rattle.vm_parts.specs.Counting.{missing_number}
 use Rattle.vm_parts.specs.Entries.{entries_of}
+use Rattle.vm_parts.specs.Starts.{start_info_of}
 use Rattle.vm_machine.specs.declared.fault.Fault.{Fault}
 use Rattle.vm_machine.specs.declared.fault.Fault.TheVariants as stopped
 use Rattle.vm_machine.specs.declared.machine.Machine.{Machine}
@@ -36,32 +36,11 @@ use Rattle.vm_machine.specs.Outcomes.{Outcome, Done, Failed, ◌>>>◌, refused,
 use Rattle.vm_machine.specs.Commands.{entered, about_next, popped}
 use Rattle.vm_machine.specs.Ephemerals.{ephemeral_notification_step}
 use Rattle.vm_machine.specs.Phases.{state_fault}
-use Rattle.vm_machine.specs.Skips.{counters_past, skipped, skips_replay}
-use Rattle.vm_asks.specs.Carried.{past_all}
-use Rattle.journal_protocol.specs.Versions.{is_from_v6, is_from_v7}
+use Rattle.vm_machine.specs.Skips.{counters_past, skipped}
+use Rattle.vm_types.specs.Options.{skips_replay}
+use Rattle.journal_entries.specs.Carried.{past_all}
 
 -- ---- Start
-
--- from this version on
-abbrev pub from_version : {A : Type 0} → Bool → Option A → Option A
-from_version true x = x
-from_version false x = None
-
--- What is kept of Start: before V6 the options' seed takes the place of the one handed out, and
--- before V7 there is no scope, limit key or idempotency key.
-abbrev pub start_info_of : Version → ℕ → Start → StartInfo
-start_info_of version seed s = record {
-  id = s.id;
-  debug_id = s.debug_id;
-  key = s.key;
-  known_entries = s.known_entries;
-  retry_count = s.retry_count;
-  duration = s.duration;
-  random_seed = if is_from_v6 version then s.random_seed else seed;
-  scope = from_version (is_from_v7 version) s.scope;
-  limit_key = from_version (is_from_v7 version) s.limit_key;
-  idempotency_key = from_version (is_from_v7 version) s.idempotency_key;
-}
 
 -- what is known of the keys that were not handed out
 abbrev pub coverage_of : Bool → StateCoverage
@@ -130,11 +109,6 @@ notification_step raw Processing v = queued (notification_in raw.body) (λ w. w)
 notification_step raw Closed v = Done tt v
 
 -- ---- acknowledgements
-
--- the completion of this id that a kept proposal stands for
-abbrev pub acknowledged_completion : ℕ → KeptProposal → Notification
-acknowledged_completion id kept =
-    record { id = CompletionId id; result = completion_result kept.result }
 
 -- The first kept proposal of this id, if there is one, comes as the run's completion, and isn't
 -- kept any more.

@@ -1,5 +1,5 @@
 -- The result of an executed run is reported: it is proposed, or the attempt fails.
-use Rattle.std.specs.Prelude.{◌≡◌, ◌++◌, [], ◌∷◌, not, ◌&&◌, ◌||◌, if◌then◌else◌, ℕ, Option, Some, None, find, is_some}
+use Rattle.std.specs.Prelude.{◌≡◌, ◌++◌, [], ◌∷◌, Bool, not, ◌&&◌, ◌||◌, if◌then◌else◌, ℕ, ◌*◌, ◌==◌, Option, Some, None, find, is_some}
 use Rattle.await_trees.specs.declared.handle.NotificationHandle.{NotificationHandle}
 use Rattle.journal_protocol.specs.NamedFault.{NamedFault}
 use Rattle.journal_protocol.specs.NamedFault.TheVariants as fault
@@ -15,12 +15,14 @@ use Rattle.retries.specs.declared.policy.RetryPolicy.{RetryPolicy}
 use Rattle.retries.specs.Policies.{pauses_on_max}
 use Rattle.runs.specs.declared.settling.Settlement.{Settlement}
 use Rattle.runs.specs.declared.settling.Settlement.TheVariants as settlement
-use Rattle.runs.specs.declared.types.RunExitResult.{RunExitResult}
+use Rattle.vm_types.specs.declared.runs.RunExitResult.{RunExitResult}
 use Rattle.runs.specs.Firsts.{without_first}
 use Rattle.runs.specs.Pending.{has_handle}
-use Rattle.runs.specs.Settling.{SettlesRun, exit_has_metadata}
+use Rattle.runs.specs.Settling.{SettlesRun}
+use Rattle.vm_types.specs.Exits.{exit_has_metadata}
+use Rattle.vm_parts.specs.declared.context.StartInfo.{StartInfo}
 use Rattle.vm_parts.specs.Deliveries.{id_at}
-use Rattle.vm_parts.specs.declared.run_state.PendingRun.{PendingRun}
+use Rattle.runs.specs.declared.pending.PendingRun.{PendingRun}
 use Rattle.vm_machine.specs.declared.machine.Machine.{Machine}
 use Rattle.vm_machine.specs.declared.phase.Phase.{Phase}
 use Rattle.vm_machine.specs.declared.phase.Phase.TheVariants.{Processing}
@@ -65,12 +67,25 @@ SettlesAs id (settlement.Failed e) v o = o ≡ Failed e v
 abbrev pub without_run : NotificationHandle → Machine → Machine
 without_run handle v = record v { runs = without_first (has_handle handle) v.runs }
 
+-- how often the run failed in earlier attempts. Start says it of the first command after the
+-- recorded ones, so it counts only if none was written
+abbrev pub earlier_count : StartInfo → Bool → ℕ
+earlier_count start wrote = if wrote then 0 else start.retry_count
+
+-- and for how long, in nanoseconds; where it never failed, the duration that Start tells is none of
+-- its attempts
+abbrev pub earlier_nanos : StartInfo → Bool → ℕ
+earlier_nanos start wrote =
+    if wrote || (start.retry_count == 0) then 0 else start.duration * 1000000
+
 -- the outcome of a report for a handle, by its pending run; refused if it has none
 abbrev pub Settled : NotificationHandle → RunExitResult → RetryPolicy → Option PendingRun → Machine
     → Outcome Unit → Type 0
 Settled handle exit policy None v o = o ≡ refused fault.NoPendingRun v
 Settled handle exit policy (Some run) v o =
-    (s : Settlement) × SettlesRun run exit policy v.start v.wrote_command s
+    (s : Settlement)
+    × SettlesRun run exit policy (earlier_count v.start v.wrote_command)
+    (earlier_nanos v.start v.wrote_command) s
     × SettlesAs run.completion_id s (without_run handle v) o
 
 -- Outside Processing a run's result is ignored.

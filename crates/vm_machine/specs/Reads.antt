@@ -13,7 +13,7 @@ use Rattle.vm_parts.specs.Deliveries.{with_eager}
 use Rattle.vm_machine.specs.declared.fault.Fault.{Fault}
 use Rattle.vm_machine.specs.declared.machine.Machine.{Machine}
 use Rattle.vm_asks.specs.declared.state_read.StateRead.{StateRead}
-use Rattle.vm_asks.specs.StateReads.{eager_type, lazy_type, name_read, own_form, recorded_as, recorded_type, result_in}
+use Rattle.vm_asks.specs.StateReads.{eager_type, lazy_type, name_read, own_form, recorded_as, recorded_type, result_in, own_result}
 use Rattle.vm_machine.specs.Commands.{about_next, entered, handed_out, phase_after, written}
 use Rattle.vm_machine.specs.Outcomes.{Outcome, Done, Failed, Gives, about_last}
 use Rattle.vm_machine.specs.Phases.{is_processing, is_running, state_fault}
@@ -25,11 +25,6 @@ abbrev pub with_read_ready : ℕ → Option NotificationResult → Machine → M
 with_read_ready id None v = v
 with_read_ready id (Some result) v = record v
     { results = record v.results { ready = with_eager id result v.results.ready } }
-
--- what a read's own command brings
-abbrev pub own_result : Result (Option NotificationResult) NamedFault → Option NotificationResult
-own_result (Ok result) = result
-own_result (Err name) = None
 
 -- in Processing a read writes its own command
 abbrev pub read_written : StateRead → ℕ → Message → Machine → Machine

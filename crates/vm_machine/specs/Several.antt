@@ -1,15 +1,11 @@
 -- A call that has several commands: what all of them need is looked for before the first is made,
 -- and each is made by a call of its own.
-use Rattle.std.specs.Prelude.{◌≡◌, ℕ, suc, ◌-◌, ◌+◌, ◌<◌, ◌^◌, if◌then◌else◌, nat_lt, List, [], ◌∷◌, length, Option, Some, None, unwrap_or, Result, Ok, Err, OnOk}
-use Rattle.std.specs.Option.{option_or}
+use Rattle.std.specs.Prelude.{◌≡◌, ◌+◌, ◌<◌, ◌^◌, if◌then◌else◌, List, [], ◌∷◌, Option, Some, None, Result, Ok, Err, OnOk}
 use Rattle.journal_protocol.specs.Error.{Error}
 use Rattle.journal_protocol.specs.NamedFault.{NamedFault}
-use Rattle.journal_protocol.specs.NamedFault.TheVariants.{ExhaustedCommandIndexes}
 use Rattle.await_trees.specs.declared.handle.NotificationHandle.{NotificationHandle}
-use Rattle.vm_parts.specs.declared.context.Counters.{Counters}
-use Rattle.vm_parts.specs.Counting.{missing_number, most}
 use Rattle.vm_asks.specs.declared.command.Command.{Command}
-use Rattle.vm_asks.specs.Asks.{all_ids, any_refusal}
+use Rattle.vm_asks.specs.Asks.{all_ids, any_refusal, missing_for}
 use Rattle.vm_asks.specs.Requests.{name_of, shown_type}
 use Rattle.vm_machine.specs.declared.machine.Machine.{Machine}
 use Rattle.vm_machine.specs.Commands.{CanBeRead, about_next, commanded, entered}
@@ -17,17 +13,6 @@ use Rattle.vm_machine.specs.Outcomes.{Does, Done, Failed, Outcome, ◌>>>◌, ab
 use Rattle.vm_machine.specs.Phases.{is_running, state_fault}
 
 -- ---- what all of them need
-
--- fewer than n command indexes are left
-abbrev pub missing_indexes : ℕ → Counters → Option NamedFault
-missing_indexes n k =
-    if nat_lt (most - unwrap_or k.command 0) n then Some ExhaustedCommandIndexes else None
-
--- the first kind of number of which a command and those after it need more than are left
-abbrev pub missing_for : Command → List Command → Counters → Option NamedFault
-missing_for c cs k =
-    option_or (missing_number (all_ids c cs) 0 (all_ids c cs) k)
-    (missing_indexes (suc (length cs)) k)
 
 -- the numbers are left; or the call is refused, and relates to its first command
 abbrev pub numbers_left : Option NamedFault → Command → Machine → Outcome Unit

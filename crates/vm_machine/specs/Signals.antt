@@ -1,9 +1,7 @@
 -- Signals that the handler waits for: awakeables, which are signals of the invocation's own, and
 -- signals by name.
-use Rattle.std.specs.Prelude.{ℕ, ◌+◌, if◌then◌else◌, List, [], ◌∷◌, ◌++◌, codes, Option, Some, None}
-use Rattle.std.specs.Int.{w32, to_be_bytes}
-use Rattle.base64.specs.Engines.{url_safe_no_pad}
-use Rattle.base64.specs.GeneralPurpose.{encode_of}
+use Rattle.std.specs.Prelude.{ℕ, ◌+◌, if◌then◌else◌, List, [], ◌∷◌, ◌++◌, Option, Some, None}
+use Rattle.vm_asks.specs.Awakeables.{awakeable_id}
 use Rattle.journal_protocol.specs.NamedFault.{NamedFault}
 use Rattle.journal_protocol.specs.NotificationId.TheVariants.{SignalId, SignalName}
 use Rattle.vm_types.specs.declared.types.AwakeableHandle.{AwakeableHandle}
@@ -12,12 +10,6 @@ use Rattle.vm_parts.specs.Counting.{missing_signals}
 use Rattle.vm_machine.specs.declared.machine.Machine.{Machine}
 use Rattle.vm_machine.specs.Outcomes.{Outcome, Done, refused}
 use Rattle.vm_machine.specs.Phases.{is_running, state_fault}
-
--- The id by which others complete an awakeable: a fixed text, and after it the invocation's id and
--- its signal's in four bytes, in the base64 of URLs without padding.
-unfoldable pub awakeable_id : List ℕ → ℕ → List ℕ
-awakeable_id invocation signal =
-    codes "sign_1" ++ encode_of url_safe_no_pad (invocation ++ to_be_bytes w32 signal)
 
 -- the next handle stands for the next signal id
 abbrev pub signal_handed_out : Machine → Machine

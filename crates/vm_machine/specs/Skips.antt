@@ -1,19 +1,12 @@
 -- Recorded commands that are dropped: if they aren't replayed, those after the input are dropped,
 -- and new commands get indexes and completion ids past theirs.
-use Rattle.std.specs.Prelude.{ℕ, ◌+◌, Bool, true, false, ◌==◌, if◌then◌else◌, nat_lt, List, [], Option, Some, None, unwrap_or, Result, Ok, Err}
+use Rattle.std.specs.Prelude.{ℕ, ◌+◌, ◌==◌, if◌then◌else◌, nat_lt, [], Some, unwrap_or, Result, Ok, Err}
 use Rattle.journal_protocol.specs.NamedFault.{NamedFault}
 use Rattle.journal_protocol.specs.NamedFault.TheVariants.{ExhaustedCompletionIds, ExhaustedCommandIndexes}
 use Rattle.vm_parts.specs.declared.context.Counters.{Counters}
 use Rattle.vm_parts.specs.Counting.{most, next_index}
-use Rattle.vm_types.specs.declared.options.JournalReplay.{JournalReplay}
-use Rattle.vm_types.specs.declared.options.JournalReplay.TheVariants.{Enabled, Disabled}
 use Rattle.vm_machine.specs.declared.machine.Machine.{Machine}
 use Rattle.vm_machine.specs.declared.phase.Phase.TheVariants.{Processing}
-
--- recorded commands are skipped
-abbrev pub skips_replay : JournalReplay → Bool
-skips_replay Enabled = false
-skips_replay Disabled = true
 
 -- The counters once the input is read and this number of commands after it is dropped, if this
 -- completion id is next; or the kind of number that runs out by that.

@@ -1,6 +1,6 @@
 //! The first call of a handler, which reads its input, and the last, which ends it.
 ghost use Rattle.std.specs.Prelude.{◌≡◌, IfOk, OnErr, None, false, drop, []};
-ghost use Rattle.vm_asks.specs.Carried.{past_all};
+ghost use Rattle.journal_entries.specs.Carried.{past_all};
 ghost use Rattle.vm_parts.specs.Counting.{missing_number};
 ghost use Rattle.vm_machine.specs.Outcomes.{Gives};
 ghost use Rattle.vm_machine.specs.Phases.{is_closed};
@@ -16,7 +16,8 @@ use crate::skips::{counters_past, skips_replay};
 use journal_protocol::{Error, InputCommand, Message, MessageType, NamedFault, RelatedCommand};
 use plain::{Text, copy_of};
 use std::alloc::AllocError;
-use vm_parts::{Input, StartInfo};
+use vm_parts::StartInfo;
+use vm_types::Input;
 
 /// A copy of a text, if there is one.
 fn copy_text(text: &Option<Text>) -> Result<Option<Text>, AllocError>

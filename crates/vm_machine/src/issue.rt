@@ -3,13 +3,15 @@ ghost use Rattle.std.specs.Prelude.{◌≡◌, ◌<◌, ◌+◌, ◌^◌, ◌∷
 ghost use Rattle.journal_protocol.specs.Errors.{named_error};
 ghost use Rattle.journal_protocol.specs.Frames.{IsWhole, type_of};
 ghost use Rattle.vm_machine.specs.Outcomes.{Gives, about_last, last_related, lasting};
-ghost use Rattle.vm_machine.specs.Commands.{entered, phase_after, written, popped, replayed, carried_out, handed_out, checks_are_off, knows_next, runs_after, Carries, Issues};
+ghost use Rattle.vm_machine.specs.Commands.{entered, phase_after, written, popped, replayed, carried_out, handed_out, knows_next, runs_after, Carries, Issues};
+ghost use Rattle.vm_types.specs.Options.{checks_are_off};
 ghost use Rattle.vm_machine.specs.Phases.{is_processing};
 ghost use Rattle.vm_asks.specs.Requests.{changed, ids_of, tracked_after};
 
 use crate::fault::{Fault, refuse};
 use crate::machine::Machine;
 use crate::phase::Phase;
+use await_trees::NotificationHandle;
 use journal_protocol::{
     Error, Message, MessageType, NamedFault, NotificationId, RawMessage, RelatedCommand, header_eq,
 };
@@ -17,7 +19,8 @@ use plain::{Text, copy_of};
 use std::alloc::AllocError;
 use vm_asks::Command;
 use vm_asks::request::{give_ids, ids_of, is_cancelled_with, name_of, shown_type};
-use vm_parts::{LastCommand, NonDeterministicChecksOption, NotificationHandle, Queue};
+use vm_parts::{LastCommand, Queue};
+use vm_types::NonDeterministicChecksOption;
 
 /// An error that relates to the command that would come next.
 pub fn about_next(fault: NamedFault, index: u32, ty: MessageType, name: Text) -> Error
@@ -225,7 +228,7 @@ impl Machine {
 
     /// A call that has a command, which is given without its numbers, and whether its payload may differ from one
     /// attempt to the next.
-    #[tactic(auto, using(crate::proofs::Numbering::same_type), unfolding(crate::specs::Commands::issued))]
+    #[tactic(auto, using(vm_asks::proofs::Numbering::same_type), unfolding(crate::specs::Commands::issued))]
     pub fn issue(
         &mut self,
         message: &mut Message,

@@ -10,8 +10,9 @@ use runs::{KeptProposals, RunState};
 use std::alloc::{AllocError, Global};
 use vm_parts::{
     AsyncResults, Counters, EphemeralCommands, LastCommand, Outbox, Queue, StartInfo,
-    StateCoverage, StateMap, TrackedCalls, VMOptions,
+    StateCoverage, StateMap, TrackedCalls,
 };
+use vm_types::VMOptions;
 
 /// All that a machine is.
 #[derive(Drop)]

@@ -3,7 +3,7 @@ ghost use Rattle.std.specs.Prelude.{◌≡◌};
 ghost use Rattle.vm_machine.specs.Phases.{is_running, is_processing, is_replaying, is_closed, state_fault, shown_state};
 
 use journal_protocol::NamedFault;
-use vm_parts::State;
+use vm_types::State;
 
 /// The state of a machine that hasn't failed.
 #[derive(Clone, Copy)]

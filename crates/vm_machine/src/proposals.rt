@@ -1,18 +1,22 @@
 //! The result of executing a run: it is proposed, or the attempt fails.
 ghost use Rattle.std.specs.Prelude.{◌≡◌, ◌++◌, ◌∷◌, [], Some, IfNone, IfOk, IfSome, OnOk, OnErr};
+ghost use Rattle.std.specs.Duration.{as_nanos};
 ghost use Rattle.journal_protocol.specs.Frames.{IsWhole, encoding};
 ghost use Rattle.journal_protocol.specs.Message.TheVariants as message;
 ghost use Rattle.runs.specs.Pending.{has_handle};
 ghost use Rattle.vm_machine.specs.Outcomes.{GivesBy, lasting};
-ghost use Rattle.vm_machine.specs.Proposals.{Proposes, Settled, SettlesAs, proposal_kept, proposal_fault, proposed, run_at, without_run};
+ghost use Rattle.vm_machine.specs.Proposals.{Proposes, Settled, SettlesAs, earlier_count, earlier_nanos, proposal_kept, proposal_fault, proposed, run_at, without_run};
 
 use crate::fault::{Fault, refuse};
 use crate::machine::Machine;
+use await_trees::NotificationHandle;
 use journal_protocol::{Message, NamedFault, ProposeRunCompletion, ValueOrFailure, Version};
-use retries::RetryPolicy;
-use runs::{RunExitResult, Settlement, settle};
+use retries::{EntryRetryInfo, RetryPolicy};
+use runs::{PendingRun, Settlement, settle};
 use std::alloc::AllocError;
-use vm_parts::{NotificationHandle, PendingRun};
+use std::time::Duration;
+use vm_parts::StartInfo;
+use vm_types::RunExitResult;
 
 /// Why the version can't take a run's result, if it can't.
 fn proposal_fault(
@@ -28,6 +32,26 @@ fn proposal_fault(
         return Some(NamedFault::UnsupportedFeatureForNegotiatedVersion);
     }
     None
+}
+
+/// How often and for how long the run failed in earlier attempts. What Start says counts only if no command was written after the
+/// recorded ones.
+fn earlier_failures(start: &StartInfo, wrote_command: bool) -> EntryRetryInfo
+    ensures count { result.retry_count ≡ earlier_count start.now wrote_command }
+    ensures nanos { as_nanos result.retry_loop_duration
+        ≡ earlier_nanos start.now wrote_command }
+{
+    if wrote_command || start.retry_count == 0 {
+        EntryRetryInfo {
+            retry_count: 0,
+            retry_loop_duration: Duration::ZERO,
+        }
+    } else {
+        EntryRetryInfo {
+            retry_count: start.retry_count,
+            retry_loop_duration: Duration::from_millis(start.duration),
+        }
+    }
 }
 
 impl Machine {
@@ -95,14 +119,8 @@ impl Machine {
             return Err(refuse(NamedFault::NoPendingRun));
         };
         let id = run.completion_id;
-        let settlement = settle(
-            self.alloc,
-            run,
-            exit,
-            policy,
-            &self.start,
-            self.wrote_command,
-        )?;
+        let earlier = earlier_failures(&self.start, self.wrote_command);
+        let settlement = settle(self.alloc, run, exit, policy, earlier)?;
         self.settle_as(id, settlement)
     }
 

@@ -5,7 +5,7 @@ ghost use Rattle.vm_machine.specs.Queries.{IsReadyAt, state_of, last_index};
 use crate::machine::Machine;
 use crate::phase::Phase;
 use journal_protocol::{Error, NamedFault};
-use vm_parts::State;
+use vm_types::State;
 
 impl Machine {
     /// Whether the handler may run.

@@ -8,12 +8,12 @@ ghost use Rattle.vm_machine.specs.Reads.{StateIsRead, ReadsNumbered, read_popped
 use crate::fault::Fault;
 use crate::issue::about_next;
 use crate::machine::Machine;
+use await_trees::NotificationHandle;
 use journal_protocol::{Message, NamedFault, NotificationResult};
 use plain::Text;
 use std::alloc::AllocError;
 use vm_asks::StateRead;
 use vm_asks::state_read::result_in;
-use vm_parts::NotificationHandle;
 
 impl Machine {
     /// Gives a read its result, where it brings one.

@@ -8,7 +8,7 @@ use crate::machine::Machine;
 use journal_protocol::{Error, ErrorBehavior, NamedFault, RelatedCommand, Version};
 use plain::Text;
 use std::alloc::{AllocError, Global};
-use vm_parts::CommandRelationship;
+use vm_types::CommandRelationship;
 
 /// An absent name is empty.
 fn name_text(alloc: Global, name: Option<Text>) -> Text

@@ -10,7 +10,8 @@ use crate::fault::Fault;
 use crate::machine::Machine;
 use journal_protocol::{Error, ErrorBehavior, Message, NamedFault, Version};
 use std::alloc::{AllocError, Global};
-use vm_parts::{Counters, JournalMismatchRetryBehavior};
+use vm_parts::Counters;
+use vm_types::JournalMismatchRetryBehavior;
 
 fn mismatch_behavior(option: JournalMismatchRetryBehavior) -> ErrorBehavior
     ensures { result ≡ mismatch_behavior option }

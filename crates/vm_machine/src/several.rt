@@ -1,17 +1,17 @@
 //! A call that has two commands: what both need is looked for before the first is made.
 ghost use Rattle.std.specs.Prelude.{◌≡◌, ◌<◌, ◌+◌, ◌^◌, ◌∷◌, [], IfNone, IfOk, OnOk};
-ghost use Rattle.vm_asks.specs.Asks.{all_ids};
+ghost use Rattle.vm_asks.specs.Asks.{all_ids, missing_for};
 ghost use Rattle.vm_machine.specs.Commands.{CanBeRead};
 ghost use Rattle.vm_machine.specs.Outcomes.{Gives};
-ghost use Rattle.vm_machine.specs.Several.{AllFit, commanded_before, foreseen, missing_for};
+ghost use Rattle.vm_machine.specs.Several.{AllFit, commanded_before, foreseen};
 
 use crate::fault::{Fault, refuse};
 use crate::issue::about_next;
 use crate::machine::Machine;
+use await_trees::NotificationHandle;
 use journal_protocol::NamedFault;
 use vm_asks::Command;
 use vm_asks::request::{ids_of, name_of, shown_type};
-use vm_parts::NotificationHandle;
 
 impl Machine {
     /// The first kind of number of which both commands need more than are left.

@@ -1,19 +1,21 @@
 //! The signals that a handler waits for: awakeables, which others complete by an id, and signals by name.
 ghost use Rattle.std.specs.Prelude.{◌≡◌, IfOk};
 ghost use Rattle.vm_machine.specs.Outcomes.{Gives};
-ghost use Rattle.vm_machine.specs.Signals.{awakeable_id, awakeable_step, signal_step};
+ghost use Rattle.vm_machine.specs.Signals.{awakeable_step, signal_step};
+ghost use Rattle.vm_asks.specs.Awakeables.{awakeable_id};
 
 use crate::fault::{Fault, refuse};
 use crate::machine::Machine;
+use await_trees::NotificationHandle;
 use base64::engine::general_purpose::URL_SAFE_NO_PAD;
 use bytes::Bytes;
 use journal_protocol::NotificationId;
 use plain::Text;
 use std::alloc::{AllocError, Global};
-use vm_parts::{AwakeableHandle, NotificationHandle};
+use vm_types::AwakeableHandle;
 
 /// The id by which others complete the awakeable of a signal.
-#[tactic(auto, unfolding(crate::specs::Signals::awakeable_id))]
+#[tactic(auto, unfolding(vm_asks::specs::Awakeables::awakeable_id))]
 fn awakeable_id(alloc: Global, invocation: &Bytes, signal: u32) -> Result<Text, AllocError>
     ensures { IfOk result (λ id. id ≡ awakeable_id invocation.now signal) }
 {

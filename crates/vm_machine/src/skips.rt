@@ -1,8 +1,9 @@
 //! Recorded commands that are skipped: those after the input are dropped, and new commands get indexes and completion ids past theirs.
 ghost use Rattle.std.specs.Prelude.{◌≡◌, drop, length, IfOk};
-ghost use Rattle.vm_asks.specs.Carried.{past_all, read_past};
+ghost use Rattle.journal_entries.specs.Carried.{past_all, read_past};
 ghost use Rattle.journal_protocol.specs.Bodies.{message_in};
-ghost use Rattle.vm_machine.specs.Skips.{counters_past, skipped, skips_replay};
+ghost use Rattle.vm_machine.specs.Skips.{counters_past, skipped};
+ghost use Rattle.vm_types.specs.Options.{skips_replay};
 
 use crate::machine::Machine;
 use crate::phase::Phase;
@@ -10,7 +11,8 @@ use journal_protocol::{NamedFault, RawMessage};
 use plain::Fault;
 use std::alloc::{AllocError, Global};
 use vm_asks::request::past;
-use vm_parts::{Counters, JournalReplay};
+use vm_parts::Counters;
+use vm_types::JournalReplay;
 
 /// Whether recorded commands are skipped.
 pub fn skips_replay(option: JournalReplay) -> bool

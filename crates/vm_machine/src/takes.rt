@@ -2,14 +2,15 @@
 ghost use Rattle.vm_machine.specs.Outcomes.{Gives};
 ghost use Rattle.std.specs.Prelude.{◌≡◌};
 ghost use Rattle.std.specs.Option.{option_copied};
-ghost use Rattle.vm_parts.specs.Tracked.{id_of_value};
+ghost use Rattle.vm_types.specs.Values.{id_of_value};
 ghost use Rattle.vm_machine.specs.Takes.{take_step, is_completed, value_taken};
 
 use crate::fault::{Fault, refuse};
 use crate::machine::Machine;
+use await_trees::NotificationHandle;
 use journal_protocol::NamedFault;
 use plain::Text;
-use vm_parts::{NotificationHandle, Value};
+use vm_types::Value;
 use vm_types::values::read_result;
 
 /// The invocation's id that a value is.
@@ -31,7 +32,7 @@ impl Machine {
         if !self.phase.is_running() {
             return Err(refuse(self.phase.fault()));
         }
-        let Some(found) = self.results.take(self.options.signal_delivery, handle) else {
+        let Some(found) = self.results.take(self.options.signal_delivery, handle.0) else {
             return Ok(None);
         };
         let Some(value) = read_result(self.alloc, found)? else {

@@ -16,16 +16,15 @@ use Rattle.journal_protocol.specs.Bodies.{message_in}
 use Rattle.journal_protocol.specs.Notification.{Notification}
 use Rattle.journal_protocol.specs.NotificationId.{NotificationId}
 use Rattle.journal_protocol.specs.NotificationResult.{NotificationResult}
-use Rattle.vm_types.specs.declared.options.SignalDelivery.{SignalDelivery}
+use Rattle.journal_protocol.specs.SignalDelivery.{SignalDelivery}
 use Rattle.vm_types.specs.declared.steps.Answer.TheVariants as answer
 use Rattle.await_trees.specs.declared.tree.UnresolvedFuture.{UnresolvedFuture}
 use Rattle.vm_parts.specs.Arrived.{Ready}
 use Rattle.vm_parts.specs.Counting.{missing_number}
 use Rattle.vm_parts.specs.Deliveries.{id_at, is_listed, present_among, present_result_for, same_id, with_delivered}
-use Rattle.vm_types.specs.Options.{ends_awaits}
+use Rattle.vm_types.specs.Options.{ends_awaits, ignores_payloads}
 use Rattle.vm_parts.specs.Tracked.{id_of_result, invocation_ids, unresolved_handles, with_next_id, without_first_call}
 use Rattle.vm_asks.specs.Asks.{cancel_invocation_command}
-use Rattle.vm_machine.specs.Commands.{ignores_payloads}
 use Rattle.vm_model.specs.Calls.{Setup, Meaning, Derived, Demand, awaited, call_of, counted, cancel_sent, with_cancel_taken, cancelled, cancelling, id_awaited, id_read, is_cancelled_in, ready_in}
 use Rattle.vm_model.specs.Calls.Demand.{Exactly}
 use Rattle.vm_model.specs.Cancels.{id_in, present_in}

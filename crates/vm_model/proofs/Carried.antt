@@ -27,14 +27,17 @@ use Rattle.journal_protocol.specs.NotificationId.{NotificationId}
 use Rattle.journal_protocol.specs.NotificationId.TheVariants.{CompletionId}
 use Rattle.journal_protocol.specs.NotificationResult.{NotificationResult}
 use Rattle.vm_types.specs.declared.steps.Answer.{Answer}
+use Rattle.vm_types.specs.declared.steps.Step.{Step}
+use Rattle.vm_types.specs.declared.steps.Step.TheVariants as step
+use Rattle.journal_protocol.specs.Version.{Version}
 use Rattle.await_trees.specs.declared.handle.NotificationHandle.{NotificationHandle}
 use Rattle.await_trees.specs.declared.tree.UnresolvedFuture.{UnresolvedFuture}
-use Rattle.vm_parts.specs.declared.run_state.TrackedCall.{TrackedCall}
+use Rattle.vm_parts.specs.declared.tracked_call.TrackedCall.{TrackedCall}
 use Rattle.vm_types.specs.declared.values.Value.{Value}
 use Rattle.vm_parts.specs.Counting.{missing_number, missing_signals}
 use Rattle.vm_parts.specs.Deliveries.{id_at, present_result_for, same_id}
-use Rattle.vm_parts.specs.Tracked.{id_of_result, id_of_value, invocation_ids, id_noted, unresolved_handles}
-use Rattle.vm_types.specs.Values.{value_of}
+use Rattle.vm_parts.specs.Tracked.{id_of_result, invocation_ids, id_noted, unresolved_handles}
+use Rattle.vm_types.specs.Values.{id_of_value, value_of}
 use Rattle.vm_asks.specs.declared.asks.Ask.{Ask}
 use Rattle.vm_asks.specs.declared.asks.Ask.TheVariants as ask
 use Rattle.vm_asks.specs.declared.asks.AnswerKind.{AnswerKind}
@@ -44,16 +47,15 @@ use Rattle.vm_asks.specs.declared.state_read.StateRead.TheVariants as reads
 use Rattle.vm_asks.specs.Asks.{answer_by, ask_of, cancel_invocation_command}
 use Rattle.vm_asks.specs.StateReads.{eager_form, eager_type, lazy_form, lazy_type, read_in_form, read_by, recorded_as, result_in}
 use Rattle.vm_asks.specs.Requests.{ids_of, with_ids}
-use Rattle.vm_machine.specs.Skips.{skips_replay}
 use Rattle.vm_model.specs.Calls.{Derived, Demand, Meaning, Move, Setup, Usage, asked, awaited, awakeable_made, awaiting, cancel_sent, with_cancel_taken, cancelled, cancelling, commanding, id_awaited, id_read, is_awake, is_cancelled_in, making_awakeable, numbered, reading, ready_in, take_of_result, signal_made, take_noting_id, take_of_value, Turn, behind_command, refused_before, turn_after}
-use Rattle.vm_machine.specs.Commands.{ignores_payloads}
+use Rattle.vm_types.specs.Options.{ignores_payloads, skips_replay}
 use Rattle.vm_model.specs.Calls.Demand.{Exactly, Reads}
 use Rattle.vm_model.specs.Calls.Move.{Answers, Needs, Awaits, Ends, Refuses}
 use Rattle.vm_model.specs.Calls.Usage.{Used, Read, Taken}
-use Rattle.vm_asks.specs.Carried.{carried}
+use Rattle.journal_entries.specs.Carried.{carried}
 use Rattle.vm_model.specs.Carried.{AreCarried, ComeOnce, is_id_among, is_carried, read_carries}
 use Rattle.vm_model.specs.Deliveries.{HasNoTwo, deliveries, was_read}
-use Rattle.vm_model.specs.Moves.{Point, after, with_read_result, command_used, found, move_at, moved, next, reads_as, start, uses_arrival, uses_command}
+use Rattle.vm_model.specs.Moves.{Point, after, and_then, with_read_result, command_used, found, move_at, moved, next, reads_as, start, uses_arrival, uses_command}
 use Rattle.vm_model.specs.Uses.{arrivals_in, needed_for}
 use Rattle.vm_model.proofs.Parts.{IsOfOne, next_keeps, next_turn, turn_splits}
 use Rattle.vm_model.proofs.Parted.{PartMove, WasUsed, part_moves}
@@ -213,6 +215,107 @@ came i (Read id result ∷ us) = by_test (id == i) (came i us)
     by_test false ih = ih
 came i (Taken id ∷ us) = came i us
 
+-- ---- how many ids a recorded command stands for
+
+-- the type is that of an eager read
+abbrev pub is_eager : MessageType → Bool
+is_eager type.GetEagerStateCommand = true
+is_eager type.GetEagerStateKeysCommand = true
+is_eager ty = false
+
+-- how many completion ids a call takes whose command is of this type
+abbrev pub ids_by : MessageType → ℕ
+ids_by type.SleepCommand = 1
+ids_by type.GetLazyStateCommand = 1
+ids_by type.GetLazyStateKeysCommand = 1
+ids_by type.GetEagerStateCommand = 1
+ids_by type.GetEagerStateKeysCommand = 1
+ids_by type.CallCommand = 2
+ids_by type.OneWayCallCommand = 1
+ids_by type.GetPromiseCommand = 1
+ids_by type.PeekPromiseCommand = 1
+ids_by type.CompletePromiseCommand = 1
+ids_by type.RunCommand = 1
+ids_by type.AttachInvocationCommand = 1
+ids_by type.GetInvocationOutputCommand = 1
+ids_by ty = 0
+
+-- and of several
+abbrev pub ids_given : List RawMessage → ℕ
+ids_given [] = 0
+ids_given (c ∷ cs) = ids_by c.ty + ids_given cs
+
+-- a command that is no eager read
+abbrev IsPlain : Command → Type 0
+IsPlain c = is_eager (type_of c.message) ≡ false
+
+abbrev AsksPlain : Ask → Type 0
+AsksPlain (ask.Command c) = IsPlain c
+AsksPlain (ask.Commands kind first second) = IsPlain first × IsPlain second
+AsksPlain a = Unit {0}
+
+asks_plain : (version : Version) (st : Step) → AsksPlain (ask_of version st)
+asks_plain version (step.Sleep name wake_up_time now) = refl
+asks_plain version (step.StateSet key value name options) = refl
+asks_plain version (step.StateClear key name) = refl
+asks_plain version (step.StateClearAll name) = refl
+asks_plain version (step.StateGet key name options) = tt
+asks_plain version (step.StateGetKeys name) = tt
+asks_plain version (step.Call target input name options) = refl
+asks_plain version (step.CallWithDeadline target input time name options) = (refl, refl)
+asks_plain version (step.Send target input time name options) = refl
+asks_plain version step.Awakeable = tt
+asks_plain version (step.Signal name) = tt
+asks_plain version (step.CompleteAwakeable id value options) = refl
+asks_plain version (step.CompleteSignal target signal value) = refl
+asks_plain version (step.CancelInvocation target) = refl
+asks_plain version (step.GetPromise key) = refl
+asks_plain version (step.PeekPromise key) = refl
+asks_plain version (step.CompletePromise key value options) = refl
+asks_plain version (step.Run name) = refl
+asks_plain version (step.AttachInvocation target) = refl
+asks_plain version (step.GetInvocationOutput target) = refl
+asks_plain version (step.WriteOutput value options) = refl
+asks_plain version (step.Await future) = tt
+asks_plain version (step.Take handle) = tt
+asks_plain version (step.Completed handle) = tt
+asks_plain version step.End = tt
+
+-- its call's ids by its type
+ids_typed : (m : Message) → is_eager (type_of m) ≡ false → ids_of m ≡ ids_by (type_of m)
+ids_typed (message.Sleep c) e = refl
+ids_typed (message.GetLazyState c) e = refl
+ids_typed (message.GetLazyStateKeys c) e = refl
+ids_typed (message.Call c) e = refl
+ids_typed (message.OneWayCall c) e = refl
+ids_typed (message.GetPromise c) e = refl
+ids_typed (message.PeekPromise c) e = refl
+ids_typed (message.CompletePromise c) e = refl
+ids_typed (message.Run c) e = refl
+ids_typed (message.AttachInvocation c) e = refl
+ids_typed (message.GetInvocationOutput c) e = refl
+ids_typed (message.GetEagerState c) e = absurd (let z : true ≡ false = e in cc)
+ids_typed (message.GetEagerStateKeys c) e = absurd (let z : true ≡ false = e in cc)
+ids_typed m e = refl
+
+typed_ids : (id : ℕ) (m : Message) → type_of (with_ids id m) ≡ type_of m
+typed_ids id (message.Sleep c) = refl
+typed_ids id (message.GetLazyState c) = refl
+typed_ids id (message.GetLazyStateKeys c) = refl
+typed_ids id (message.Call c) = refl
+typed_ids id (message.OneWayCall c) = refl
+typed_ids id (message.GetPromise c) = refl
+typed_ids id (message.PeekPromise c) = refl
+typed_ids id (message.CompletePromise c) = refl
+typed_ids id (message.Run c) = refl
+typed_ids id (message.AttachInvocation c) = refl
+typed_ids id (message.GetInvocationOutput c) = refl
+typed_ids id m = refl
+
+given_append : (us vs : List RawMessage) → ids_given (us ++ vs) ≡ ids_given us + ids_given vs
+given_append [] vs = omega arith
+given_append (u ∷ us) vs = let x = given_append us vs in omega (arith, x)
+
 -- ---- which of its ids a run has given to what
 
 -- Between two points whose next ids are these: no used command carries the id, and nothing was read for it; or the id was given
@@ -226,6 +329,7 @@ record Between (i : ℕ) (p q : Point) (first past : ℕ) : Type 0 where
   used : List RawMessage
   left : p.left ≡ used ++ q.left
   ordered : first ≤ past
+  counted : past ≡ first + ids_given used
   claim : Claim i first past (reads_at i p.derived.usage) (reads_at i q.derived.usage) used
 
 none_carried : (i : ℕ) (us vs : List RawMessage) → is_carried i us ≡ false → is_carried i vs ≡ false → is_carried i (us ++ vs) ≡ false
@@ -254,25 +358,25 @@ claims_join i a b c old mid new us vs x y (inr h) (inr k) = absurd (omega (arith
 
 -- what is needed carries just the ids that are given here
 abbrev IsOwn : ℕ → ℕ → Demand → Type 0
-IsOwn first past (Exactly command ignore) = (m : Message) × (command ≡ with_ids first m) × (past ≡ first + ids_of m)
+IsOwn first past (Exactly command ignore) = (m : Message) × (command ≡ with_ids first m) × (past ≡ first + ids_of m) × (is_eager (type_of m) ≡ false)
 IsOwn first past (Reads r id) = (id ≡ first) × (past ≡ first + 1)
 
 -- a call reads nothing by itself
 abbrev ReadsNone : ℕ → Derived → Move → Type 0
-ReadsNone i d (Answers gives e) = (reads_at i e.usage ≡ reads_at i d.usage) × (d.counters.completion ≤ e.counters.completion)
+ReadsNone i d (Answers gives e) = (reads_at i e.usage ≡ reads_at i d.usage) × (e.counters.completion ≡ d.counters.completion)
 ReadsNone i d (Needs demand gives e) = (reads_at i e.usage ≡ reads_at i d.usage) × IsOwn d.counters.completion e.counters.completion demand
 ReadsNone i d Awaits = Unit {0}
 ReadsNone i d Ends = Unit {0}
 ReadsNone i d (Refuses name) = Unit {0}
 
 module _ (i : ℕ) where
-  numbered_none : (s : Setup) (c : Command) (o : Option NamedFault) (d : Derived) → ReadsNone i d (numbered s c o d)
-  numbered_none s c (Some name) d = tt
-  numbered_none s c None d = (refl, (c.message, refl, refl))
+  numbered_none : (s : Setup) (c : Command) (o : Option NamedFault) (d : Derived) → IsPlain c → ReadsNone i d (numbered s c o d)
+  numbered_none s c (Some name) d plain = tt
+  numbered_none s c None d plain = (refl, (c.message, refl, refl, plain))
 
-  commanding_none : (s : Setup) (c : Command) (o : Option NamedFault) (d : Derived) → ReadsNone i d (commanding s c o d)
-  commanding_none s c (Some name) d = tt
-  commanding_none s c None d = numbered_none s c (missing_number (ids_of c.message) 0 (ids_of c.message) d.counters) d
+  commanding_none : (s : Setup) (c : Command) (o : Option NamedFault) (d : Derived) → IsPlain c → ReadsNone i d (commanding s c o d)
+  commanding_none s c (Some name) d plain = tt
+  commanding_none s c None d plain = numbered_none s c (missing_number (ids_of c.message) 0 (ids_of c.message) d.counters) d plain
 
   reading_none : (r : StateRead) (o : Option NamedFault) (d : Derived) → ReadsNone i d (reading r o d)
   reading_none r (Some name) d = tt
@@ -280,7 +384,7 @@ module _ (i : ℕ) where
 
   awakeable_none : (s : Setup) (o : Option NamedFault) (d : Derived) → ReadsNone i d (awakeable_made s o d)
   awakeable_none s (Some name) d = tt
-  awakeable_none s None d = (refl, omega arith)
+  awakeable_none s None d = (refl, refl)
 
   making_none : (s : Setup) (b : Bool) (d : Derived) → ReadsNone i d (making_awakeable s b d)
   making_none s true d = tt
@@ -288,20 +392,20 @@ module _ (i : ℕ) where
 
   signal_none : (name : List ℕ) (o : Option NamedFault) (d : Derived) → ReadsNone i d (signal_made name o d)
   signal_none name (Some fault) d = tt
-  signal_none name None d = (refl, omega arith)
+  signal_none name None d = (refl, refl)
 
   awaiting_none : (b : Bool) (d : Derived) → ReadsNone i d (awaiting b d)
-  awaiting_none true d = (refl, omega arith)
+  awaiting_none true d = (refl, refl)
   awaiting_none false d = tt
 
-  taken_none : (o : Option NotificationId) (d e : Derived) → reads_at i e.usage ≡ reads_at i d.usage → d.counters.completion ≤ e.counters.completion → (reads_at i (with_cancel_taken o e).usage ≡ reads_at i d.usage) × (d.counters.completion ≤ (with_cancel_taken o e).counters.completion)
+  taken_none : (o : Option NotificationId) (d e : Derived) → reads_at i e.usage ≡ reads_at i d.usage → e.counters.completion ≡ d.counters.completion → (reads_at i (with_cancel_taken o e).usage ≡ reads_at i d.usage) × ((with_cancel_taken o e).counters.completion ≡ d.counters.completion)
   unfolding reads_at
   taken_none None d e same more = (same, more)
   taken_none (Some id) d e same more = (same, more)
 
   read_none : (o : Option (List ℕ)) (d : Derived) → ReadsNone i d (id_read o d)
   read_none None d = tt
-  read_none (Some id) d = (refl, omega arith)
+  read_none (Some id) d = (refl, refl)
 
   id_none : (o : Option NotificationResult) (d : Derived) → ReadsNone i d (id_awaited o d)
   id_none None d = tt
@@ -309,10 +413,10 @@ module _ (i : ℕ) where
 
   sent_none : (s : Setup) (id : List ℕ) (o : Option NamedFault) (d : Derived) → ReadsNone i d (cancel_sent s id o d)
   sent_none s id (Some name) d = tt
-  sent_none s id None d = (refl, ((cancel_invocation_command id).message, refl, refl))
+  sent_none s id None d = (refl, ((cancel_invocation_command id).message, refl, refl, refl))
 
   cancelling_none : (s : Setup) (ids : List (List ℕ)) (d : Derived) → ReadsNone i d (cancelling s ids d)
-  cancelling_none s [] d = taken_none (id_at 1 d.handles) d (record d { tracked = [] }) refl (omega arith)
+  cancelling_none s [] d = taken_none (id_at 1 d.handles) d (record d { tracked = [] }) refl refl
   cancelling_none s (id ∷ ids) d = sent_none s id (missing_number 0 0 0 d.counters) d
 
   cancelled_none : (s : Setup) (handles : List ℕ) (d : Derived) → ReadsNone i d (cancelled s handles d)
@@ -326,7 +430,7 @@ module _ (i : ℕ) where
   noted_none : (handle : NotificationHandle) (id : NotificationId) (value : Value) (o : Option (List TrackedCall)) (d : Derived) → ReadsNone i d (take_noting_id handle id value o d)
   unfolding reads_at
   noted_none handle id value None d = tt
-  noted_none handle id value (Some tracked) d = (refl, omega arith)
+  noted_none handle id value (Some tracked) d = (refl, refl)
 
   value_none : (handle : NotificationHandle) (id : NotificationId) (o : Option Value) (d : Derived) → ReadsNone i d (take_of_value handle id o d)
   value_none handle id None d = tt
@@ -334,19 +438,19 @@ module _ (i : ℕ) where
 
   result_none : (handle : NotificationHandle) (id : Option NotificationId) (o : Option NotificationResult) (d : Derived) → ReadsNone i d (take_of_result handle id o d)
   result_none handle (Some id) (Some result) d = value_none handle id (value_of result) d
-  result_none handle (Some id) None d = (refl, omega arith)
-  result_none handle None o d = (refl, omega arith)
+  result_none handle (Some id) None d = (refl, refl)
+  result_none handle None o d = (refl, refl)
 
-  asked_none : (s : Setup) (a : Ask) (d : Derived) → IsOfOne a → ReadsNone i d (asked s a d)
-  asked_none s (ask.Command c) d one = commanding_none s c c.refusal d
-  asked_none s (ask.Commands kind first second) d one = absurd one
-  asked_none s (ask.Read r) d one = reading_none r (missing_number 1 0 1 d.counters) d
-  asked_none s ask.Awakeable d one = making_none s (skips_replay s.options.journal_replay) d
-  asked_none s (ask.Signal name) d one = signal_none name (missing_signals 0 1 d.counters) d
-  asked_none s (ask.Await future) d one = awaited_none s (is_cancelled_in s d) future d
-  asked_none s (ask.Take handle) d one = result_none handle (id_at handle.0 d.handles) (present_result_for s.options.signal_delivery (id_at handle.0 d.handles) (ready_in s d)) d
-  asked_none s (ask.Completed handle) d one = (refl, omega arith)
-  asked_none s ask.End d one = tt
+  asked_none : (s : Setup) (a : Ask) (d : Derived) → IsOfOne a → AsksPlain a → ReadsNone i d (asked s a d)
+  asked_none s (ask.Command c) d one plain = commanding_none s c c.refusal d plain
+  asked_none s (ask.Commands kind first second) d one plain = absurd one
+  asked_none s (ask.Read r) d one plain = reading_none r (missing_number 1 0 1 d.counters) d
+  asked_none s ask.Awakeable d one plain = making_none s (skips_replay s.options.journal_replay) d
+  asked_none s (ask.Signal name) d one plain = signal_none name (missing_signals 0 1 d.counters) d
+  asked_none s (ask.Await future) d one plain = awaited_none s (is_cancelled_in s d) future d
+  asked_none s (ask.Take handle) d one plain = result_none handle (id_at handle.0 d.handles) (present_result_for s.options.signal_delivery (id_at handle.0 d.handles) (ready_in s d)) d
+  asked_none s (ask.Completed handle) d one plain = (refl, refl)
+  asked_none s ask.End d one plain = tt
 
 -- ---- a recorded command
 
@@ -372,6 +476,31 @@ exact command ignore raw result e = by_test (type_number raw.ty == type_number (
     by_test : (b : Bool) → (type_number raw.ty == type_number (type_of command)) ≡ b → (if b then reads_as ignore command (message_in raw.ty raw.body) else Err fault.CommandTypeMismatch) ≡ Ok result → Exact command (message_in raw.ty raw.body) result
     by_test true t h = exact_by command ignore raw (message_in raw.ty raw.body) result (typed raw.ty (type_of command) t) refl h
     by_test false t h = absurd (cc)
+
+-- the type of a command that is used
+found_typed : (command : Message) (ignore : Bool) (raw : RawMessage) (result : Option NotificationResult) → found (Exactly command ignore) raw ≡ Ok result → raw.ty ≡ type_of command
+found_typed command ignore raw result e = by_test (type_number raw.ty == type_number (type_of command)) refl e
+  where
+    by_test : (b : Bool) → (type_number raw.ty == type_number (type_of command)) ≡ b → (if b then reads_as ignore command (message_in raw.ty raw.body) else Err fault.CommandTypeMismatch) ≡ Ok result → raw.ty ≡ type_of command
+    by_test true t h = typed raw.ty (type_of command) t
+    by_test false t h = absurd (cc)
+
+lazy_ids : (r : StateRead) → ids_by (lazy_type r) ≡ 1
+lazy_ids (reads.Value key name) = refl
+lazy_ids (reads.Keys name) = refl
+
+eager_ids : (r : StateRead) → ids_by (eager_type r) ≡ 1
+eager_ids (reads.Value key name) = refl
+eager_ids (reads.Keys name) = refl
+
+read_typed : (r : StateRead) (id : ℕ) (raw : RawMessage) (result : Option NotificationResult) → recorded_as r id raw ≡ Ok result → ids_by raw.ty ≡ 1
+read_typed r id raw result e = by_type (type_number raw.ty == type_number (lazy_type r)) refl (type_number raw.ty == type_number (eager_type r)) refl e
+  where
+    by_type : (lazy : Bool) → (type_number raw.ty == type_number (lazy_type r)) ≡ lazy → (eager : Bool) → (type_number raw.ty == type_number (eager_type r)) ≡ eager
+        → read_in_form (if lazy then Some (lazy_form r id) else if eager then Some (eager_form r) else None) (message_in raw.ty raw.body) ≡ Ok result → ids_by raw.ty ≡ 1
+    by_type true l eager g h = ap ids_by (typed raw.ty (lazy_type r) l) ∙ lazy_ids r
+    by_type false l true g h = ap ids_by (typed raw.ty (eager_type r) g) ∙ eager_ids r
+    by_type false l false g h = absurd (cc)
 
 -- a lazy form brings no result and carries the read's id
 lazy_read : (r : StateRead) (id : ℕ) (n : Message) (result : Option NotificationResult) → header_equal n (lazy_form r id) true ≡ true → result_in n ≡ Ok result → (result ≡ None) × (carried n ≡ id ∷ [])
@@ -462,6 +591,11 @@ module _ (i : ℕ) (p : Point) (raw : RawMessage) where
       by_form (inl h) = here h.0 (id == i) refl (h.1 i ∙ ap (λ n. (n == i) || false) own.0)
       by_form (inr h) = by_result result (h i)
 
+  -- the ids that it stands for
+  counts : (demand : Demand) (result : Option NotificationResult) (e : Derived) → found demand raw ≡ Ok result → IsOwn id e.counters.completion demand → e.counters.completion ≡ id + ids_given (raw ∷ [])
+  counts (Exactly command ignore) result e is own = own.2 ∙ ap (λ n. id + n) (ids_typed own.0 own.3 ∙ ap ids_by (sym (found_typed command ignore raw result is ∙ ap type_of own.1 ∙ typed_ids id own.0)) ∙ sym (add-zero (ids_by raw.ty)))
+  counts (Reads r number) result e is own = own.1 ∙ ap (λ n. id + n) (sym (read_typed r number raw result is) ∙ sym (add-zero (ids_by raw.ty)))
+
   grows : (demand : Demand) (e : Derived) → IsOwn id e.counters.completion demand → id ≤ e.counters.completion
   grows (Exactly command ignore) e own = let n = own.2 in omega (arith, n)
   grows (Reads r number) e own = let n = own.1 in omega (arith, n)
@@ -476,10 +610,12 @@ module _ (i : ℕ) (p q : Point) where
   command_between demand gives e c left (Ok result) is at none own m =
       let same = same_counter p.derived.counters.completion result e in
       let more = grows i p c demand e own in
+      let gives_ids = counts i p c demand result e is own in
       subst (λ z. Between i p z p.derived.counters.completion z.derived.counters.completion) (same_Some _ q m) (record {
         used = c ∷ [];
         left = at;
         ordered = rw same more;
+        counted = rw same gives_ids;
         claim = rw same (claimed i p c demand result e is none own);
       })
 
@@ -490,10 +626,10 @@ module _ (i : ℕ) (p q : Point) where
   arrival_between : (queue : List Notification) → uses_arrival queue p ≡ Some q → Between i p q p.derived.counters.completion q.derived.counters.completion
   unfolding reads_at
   arrival_between [] m = none_some m
-  arrival_between (n ∷ queue) m = subst (λ z. Between i p z p.derived.counters.completion z.derived.counters.completion) (same_Some _ q m) (record { used = []; left = refl; ordered = omega arith; claim = inl (refl, refl) })
+  arrival_between (n ∷ queue) m = subst (λ z. Between i p z p.derived.counters.completion z.derived.counters.completion) (same_Some _ q m) (record { used = []; left = refl; ordered = omega arith; counted = sym (add-zero p.derived.counters.completion); claim = inl (refl, refl) })
 
   moved_between : (mv : Move) → ReadsNone i p.derived mv → moved mv p ≡ Some q → Between i p q p.derived.counters.completion q.derived.counters.completion
-  moved_between (Answers gives e) h m = subst (λ z. Between i p z p.derived.counters.completion z.derived.counters.completion) (same_Some _ q m) (record { used = []; left = refl; ordered = h.1; claim = inl (h.0, refl) })
+  moved_between (Answers gives e) h m = subst (λ z. Between i p z p.derived.counters.completion z.derived.counters.completion) (same_Some _ q m) (record { used = []; left = refl; ordered = (let x = h.1 in omega (arith, x)); counted = h.1 ∙ sym (add-zero p.derived.counters.completion); claim = inl (h.0, refl) })
   moved_between (Needs demand gives e) h m = uses_between demand gives e p.left refl h.0 h.1 m
   moved_between Awaits h m = arrival_between p.queue m
   moved_between Ends h m = none_some m
@@ -528,6 +664,15 @@ unfolding ids_made
 turn_id s zero c cs d = sym (add-zero d.counters.completion)
 turn_id s (suc n) c [] d = sym (add-zero d.counters.completion)
 turn_id s (suc n) c (b ∷ bs) d = let x = turn_id s n b bs (behind_command s c d) in omega (arith, x)
+
+-- the command whose turn it is is one of both
+turn_one : (s : Setup) (n : ℕ) (c : Command) (d : Derived) → (turn_after s n c [] d).command ≡ c
+turn_one s zero c d = refl
+turn_one s (suc n) c d = refl
+
+turn_two : (s : Setup) (n : ℕ) (first second : Command) (d : Derived) → IsPlain first → IsPlain second → IsPlain (turn_after s n first (second ∷ []) d).command
+turn_two s zero first second d fp sp = fp
+turn_two s (suc n) first second d fp sp = subst IsPlain (sym (turn_one s n second (behind_command s first d))) sp
 
 -- The completion id that comes next, after those of the commands that were made of a call with
 -- several.
@@ -568,22 +713,23 @@ module _ (i : ℕ) (s : Setup) (m : Meaning) (p q : Point) where
       let none : q.derived.parts ≡ 0 = next_keeps s m p q one e ∙ rests_one (ask_of s.version (m p.answers)) p.derived.parts one rests in
       let here : next_id s m p ≡ p.derived.counters.completion = ap (λ n. p.derived.counters.completion + n) (none_of_one p.derived.parts (ask_of s.version (m p.answers)) one) ∙ add-zero p.derived.counters.completion in
       let there : next_id s m q ≡ q.derived.counters.completion = ap (λ n. q.derived.counters.completion + n) (ap (λ n. made_ids n (ask_of s.version (m q.answers))) none ∙ no_ids (ask_of s.version (m q.answers))) ∙ add-zero q.derived.counters.completion in (
-        subst (λ (x : ℕ × ℕ). Between i p q x.0 x.1) (λ j. (sym here j, sym there j)) (moved_between i p q (move_at s m p) (asked_none i s (ask_of s.version (m p.answers)) p.derived one) e),
+        subst (λ (x : ℕ × ℕ). Between i p q x.0 x.1) (λ j. (sym here j, sym there j)) (moved_between i p q (move_at s m p) (asked_none i s (ask_of s.version (m p.answers)) p.derived one (asks_plain s.version (m p.answers))) e),
         rests_none (ask_of s.version (m q.answers)) q.derived.parts none,
       )
 
-  used_between : (first past : ℕ) (c : Command) (gives : List Answer) (e : Derived) → WasUsed (needed_for s first c) gives e p q → past ≡ first + ids_of c.message → reads_at i e.usage ≡ reads_at i p.derived.usage → Between i p q first past
-  used_between first past c gives e u is same =
+  used_between : (first past : ℕ) (c : Command) (gives : List Answer) (e : Derived) → WasUsed (needed_for s first c) gives e p q → past ≡ first + ids_of c.message → IsPlain c → reads_at i e.usage ≡ reads_at i p.derived.usage → Between i p q first past
+  used_between first past c gives e u is plain same =
       record {
         used = u.used ∷ [];
         left = u.left;
         ordered = omega (arith, is);
-        claim = subst (λ (z : Derived). Claim i first past (reads_at i p.derived.usage) (reads_at i z.usage) (u.used ∷ [])) (sym u.derived) (exact_claimed i p u.used first past 0 (with_ids first c.message) (ignores_payloads s.options.non_determinism_checks c.unstable) None e u.stands same (c.message, refl, is));
+        counted = is ∙ ap (λ n. first + n) (ids_typed c.message plain ∙ ap ids_by (sym (found_typed (with_ids first c.message) (ignores_payloads s.options.non_determinism_checks c.unstable) u.used None u.stands ∙ typed_ids first c.message)) ∙ sym (add-zero (ids_by u.used.ty)));
+        claim = subst (λ (z : Derived). Claim i first past (reads_at i p.derived.usage) (reads_at i z.usage) (u.used ∷ [])) (sym u.derived) (exact_claimed i p u.used first past 0 (with_ids first c.message) (ignores_payloads s.options.non_determinism_checks c.unstable) None e u.stands same (c.message, refl, is, plain));
       }
 
-  part_goes : (kind : AnswerKind) (first second : Command) → ask_of s.version (m p.answers) ≡ ask.Commands kind first second → PartMove s kind (turn_after s p.derived.parts first (second ∷ []) p.derived) p q → Goes
+  part_goes : (kind : AnswerKind) (first second : Command) → IsPlain first → IsPlain second → ask_of s.version (m p.answers) ≡ ask.Commands kind first second → PartMove s kind (turn_after s p.derived.parts first (second ∷ []) p.derived) p q → Goes
   unfolding next_id made_ids reads_at
-  part_goes kind first second is (More b bs more u) =
+  part_goes kind first second fp sp is (More b bs more u) =
       let n = p.derived.parts in
       let t = turn_after s n first (second ∷ []) p.derived in
       let asks : ask_of s.version (m q.answers) ≡ ask.Commands kind first second = ap (λ l. ask_of s.version (m l)) (u.answers ∙ append-nil p.answers) ∙ is in
@@ -592,10 +738,10 @@ module _ (i : ℕ) (s : Setup) (m : Meaning) (p q : Point) where
       let here : next_id s m p ≡ t.before.counters.completion = ap (λ a. p.derived.counters.completion + made_ids n a) is ∙ sym (turn_id s n first (second ∷ []) p.derived) in
       let there : next_id s m q ≡ t.before.counters.completion + ids_of t.command.message =
       (λ j. (u.derived j).counters.completion + made_ids (parts j) (asks j)) ∙ sym (turn_id s (suc n) first (second ∷ []) p.derived) ∙ ap (λ (x : Turn). x.before.counters.completion) next in (
-        subst (λ (x : ℕ × ℕ). Between i p q x.0 x.1) (λ j. (sym here j, sym there j)) (used_between t.before.counters.completion (t.before.counters.completion + ids_of t.command.message) t.command [] (record p.derived { parts = suc n }) u refl refl),
+        subst (λ (x : ℕ × ℕ). Between i p q x.0 x.1) (λ j. (sym here j, sym there j)) (used_between t.before.counters.completion (t.before.counters.completion + ids_of t.command.message) t.command [] (record p.derived { parts = suc n }) u refl (turn_two s n first second p.derived fp sp) refl),
         subst (λ a. RestsAt a q.derived.parts) (sym asks) tt,
       )
-  part_goes kind first second is (Last none u) =
+  part_goes kind first second fp sp is (Last none u) =
       let n = p.derived.parts in
       let t = turn_after s n first (second ∷ []) p.derived in
       let a = answer_by kind (record { 0 = p.derived.counters.handle }) in
@@ -603,14 +749,15 @@ module _ (i : ℕ) (s : Setup) (m : Meaning) (p q : Point) where
       let here : next_id s m p ≡ t.before.counters.completion = ap (λ a. p.derived.counters.completion + made_ids n a) is ∙ sym (turn_id s n first (second ∷ []) p.derived) in
       let there : next_id s m q ≡ t.before.counters.completion + ids_of t.command.message =
       ap (λ n. q.derived.counters.completion + n) (ap (λ n. made_ids n (ask_of s.version (m q.answers))) parts ∙ no_ids (ask_of s.version (m q.answers))) ∙ add-zero q.derived.counters.completion ∙ ap (λ e. e.counters.completion) u.derived in (
-        subst (λ (x : ℕ × ℕ). Between i p q x.0 x.1) (λ j. (sym here j, sym there j)) (used_between t.before.counters.completion (t.before.counters.completion + ids_of t.command.message) t.command (a ∷ []) (record (behind_command s t.command t.before) { parts = 0 }) u refl (ap (reads_at i) (turn_splits s n first (second ∷ []) p.derived).usage)),
+        subst (λ (x : ℕ × ℕ). Between i p q x.0 x.1) (λ j. (sym here j, sym there j)) (used_between t.before.counters.completion (t.before.counters.completion + ids_of t.command.message) t.command (a ∷ []) (record (behind_command s t.command t.before) { parts = 0 }) u refl (turn_two s n first second p.derived fp sp) (ap (reads_at i) (turn_splits s n first (second ∷ []) p.derived).usage)),
         rests_none (ask_of s.version (m q.answers)) q.derived.parts parts,
       )
 
   next_goes : (a : Ask) → ask_of s.version (m p.answers) ≡ a → Rests p → next s m p ≡ Some q → Goes
   next_goes (ask.Commands kind first second) is rests e =
       let t = turn_after s p.derived.parts first (second ∷ []) p.derived in
-      part_goes kind first second is (part_moves s kind (refused_before t.command t.behind t.before.counters) t p q (subst (λ a. moved (asked s a p.derived) p ≡ Some q) is e))
+      let plain : AsksPlain (ask.Commands kind first second) = subst AsksPlain is (asks_plain s.version (m p.answers)) in
+      part_goes kind first second plain.0 plain.1 is (part_moves s kind (refused_before t.command t.behind t.before.counters) t p q (subst (λ a. moved (asked s a p.derived) p ≡ Some q) is e))
   next_goes a is rests e = plain_goes (subst IsOfOne (sym is) tt) rests e
 
 -- none are made but of a call that asks for several, one move later
@@ -620,7 +767,7 @@ next_rests s m p q rests e = (next_goes 0 s m p q (ask_of s.version (m p.answers
 -- ---- several moves
 
 between_here : (i : ℕ) (p : Point) (first : ℕ) → Between i p p first first
-between_here i p first = record { used = []; left = refl; ordered = omega arith; claim = inl (refl, refl) }
+between_here i p first = record { used = []; left = refl; ordered = omega arith; counted = sym (add-zero first); claim = inl (refl, refl) }
 
 between_join : (i : ℕ) (p r q : Point) (first mid past : ℕ) → Between i p r first mid → Between i r q mid past → Between i p q first past
 between_join i p r q first mid past a b =
@@ -630,6 +777,7 @@ between_join i p r q first mid past a b =
       used = a.used ++ b.used;
       left = a.left ∙ ap (λ l. a.used ++ l) b.left ∙ sym (append_assoc a.used b.used q.left);
       ordered = omega (arith, x, y);
+      counted = (let u = a.counted in let v = b.counted in let w = given_append a.used b.used in omega (arith, u, v, w));
       claim = claims_join i _ _ _ _ _ _ a.used b.used x y a.claim b.claim;
     }
 
@@ -747,3 +895,88 @@ module _ (s : Setup) (m : Meaning) (input : InputCommand) (ns : List Notificatio
 -- completion id has two results at any point.
 pub completions_once : (s : Setup) (m : Meaning) (n k : ℕ) (input : InputCommand) (ns : List Notification) (cs : List RawMessage) (p q : Point) → after s m n (start s input ns cs) ≡ Some p → after s m k (start s input ns cs) ≡ Some q → q.left ≡ [] → ComeOnce ns → AreCarried ns cs → HasNoTwo p
 completions_once s m n k input ns cs p q e f spent once carry = come_once s m input ns cs once carry n k p q e f spent
+
+-- ---- another handler on the same journal
+
+read_some : (i : ℕ) (us : List Usage) → was_read i us ≡ true → reads_at i us ≡ 0 → ⊥
+unfolding reads_at
+read_some i [] w e = absurd (cc)
+read_some i (Used n ∷ us) w e = read_some i us w e
+read_some i (Taken id ∷ us) w e = read_some i us w e
+read_some i (Read id result ∷ us) w e = by_test (id == i) w e (read_some i us)
+  where
+    by_test : (b : Bool) → (b || was_read i us) ≡ true → cond b (suc (reads_at i us)) (reads_at i us) ≡ 0 → (was_read i us ≡ true → reads_at i us ≡ 0 → ⊥) → ⊥
+    by_test true w e more = absurd (omega (arith, e))
+    by_test false w e more = more w e
+
+-- a move uses one recorded command at most
+one_left : (mv : Move) (p r : Point) → moved mv p ≡ Some r → (r.left ≡ p.left) ⊎ ((c : RawMessage) × (p.left ≡ c ∷ r.left))
+one_left (Answers gives e) p r m = inl (ap (λ z. z.left) (sym (same_Some _ r m)))
+one_left (Needs demand gives e) p r m = by_left p.left refl m
+  where
+    by_found : (o : Result (Option NotificationResult) NamedFault) (c : RawMessage) (left : List RawMessage) → p.left ≡ c ∷ left → command_used o demand gives e left p ≡ Some r → (r.left ≡ p.left) ⊎ ((c : RawMessage) × (p.left ≡ c ∷ r.left))
+    by_found (Err name) c left at m = none_some m
+    by_found (Ok result) c left at m = inr (c, at ∙ ap (λ z. c ∷ z.left) (same_Some _ r m))
+
+    by_left : (left : List RawMessage) → p.left ≡ left → uses_command demand gives e left p ≡ Some r → (r.left ≡ p.left) ⊎ ((c : RawMessage) × (p.left ≡ c ∷ r.left))
+    by_left [] at m = none_some m
+    by_left (c ∷ left) at m = by_found (found demand c) c left at m
+one_left Awaits p r m = by_queue p.queue m
+  where
+    by_queue : (queue : List Notification) → uses_arrival queue p ≡ Some r → (r.left ≡ p.left) ⊎ ((c : RawMessage) × (p.left ≡ c ∷ r.left))
+    by_queue [] m = none_some m
+    by_queue (n ∷ queue) m = inl (ap (λ z. z.left) (sym (same_Some _ r m)))
+one_left Ends p r m = none_some m
+one_left (Refuses name) p r m = none_some m
+
+-- a run that uses all recorded commands stops where these are left
+abbrev StopsAt : Setup → Meaning → Point → Point → List RawMessage → Type 0
+StopsAt s m p q vs = (j : ℕ) × (x : Point) × (l : ℕ) × (after s m j p ≡ Some x) × (x.left ≡ vs) × (after s m l x ≡ Some q)
+
+stops_at : (s : Setup) (m : Meaning) (k : ℕ) (p q : Point) (us vs : List RawMessage) → after s m k p ≡ Some q → q.left ≡ [] → p.left ≡ us ++ vs → StopsAt s m p q vs
+stops_at s m k p q [] vs e spent is = (0, p, k, refl, is, e)
+stops_at s m zero p q (u ∷ us) vs e spent is = absurd (let z : [] ≡ u ∷ (us ++ vs) = sym spent ∙ ap (λ z. z.left) (sym (same_Some p q e)) ∙ is in cc)
+stops_at s m (suc k) p q (u ∷ us) vs e spent is =
+    let x = and_then_some (next s m p) (after s m k) q e in
+    ⊎_elim
+    (λ (same : x.0.left ≡ p.left). one_more x.0 x.1 (stops_at s m k x.0 q (u ∷ us) vs x.2 spent (same ∙ is)))
+    (λ (used : (c : RawMessage) × (p.left ≡ c ∷ x.0.left)). one_more x.0 x.1 (stops_at s m k x.0 q us vs x.2 spent (rest_same used.0 u x.0.left (us ++ vs) (sym used.1 ∙ is))))
+    (one_left (move_at s m p) p x.0 x.1)
+  where
+    one_more : (r : Point) → next s m p ≡ Some r → StopsAt s m r q vs → StopsAt s m p q vs
+    one_more r on (j, x, l, a, left, b) = (suc j, x, l, ap (λ o. and_then o (after s m j)) on ∙ a, left, b)
+
+    rest_same : (c d : RawMessage) (xs ys : List RawMessage) → c ∷ xs ≡ d ∷ ys → xs ≡ ys
+    rest_same c d xs ys h = cc
+
+module _ (s : Setup) (m other : Meaning) (input : InputCommand) (ns : List Notification) (cs : List RawMessage) (n k : ℕ) (p q : Point) (e : after s other n (start s input ns cs) ≡ Some p) (f : after s m k (start s input ns cs) ≡ Some q) (spent : q.left ≡ []) where
+  abbrev at_first : Point
+  at_first = start s input ns cs
+
+  -- both begin with the same id
+  first_id : (h : Meaning) → next_id s h at_first ≡ at_first.derived.counters.completion
+  unfolding next_id
+  first_id h = ap (λ n. at_first.derived.counters.completion + n) (no_ids (ask_of s.version (h at_first.answers))) ∙ add-zero at_first.derived.counters.completion
+
+  -- an id of which the other handler has read is carried by no recorded command
+  other_reads : (i : ℕ) → was_read i p.derived.usage ≡ true → is_carried i cs ≡ false
+  unfolding reads_at
+  other_reads i read =
+      let b = (after_between i s other n at_first p (first_rests s other input ns cs) e).0 in
+      let t = stops_at s m k at_first q b.used p.left f spent b.left in
+      let u = (after_between i s m t.0 at_first t.1 (first_rests s m input ns cs) t.3).0 in
+      let v = (after_between i s m t.2 t.1 q (rests_there s m input ns cs t.0 t.1 t.3) t.5).0 in
+      let used : u.used ≡ b.used = append_cancel_right u.used b.used p.left (ap (λ l. u.used ++ l) (sym t.4) ∙ sym u.left ∙ b.left) in
+      let left : v.used ≡ p.left = sym (append-nil v.used) ∙ ap (λ l. v.used ++ l) (sym spent) ∙ sym v.left ∙ t.4 in
+      let same : next_id s m t.1 ≡ next_id s other p = u.counted ∙ (λ j. (first_id m ∙ sym (first_id other)) j + ids_given (used j)) ∙ sym b.counted in
+      ap (is_carried i) b.left ∙ by_claim b.used _ _ b.claim v.used _ _ _ _ v.claim left same
+    where
+      by_claim : (us : List RawMessage) (first past : ℕ) → Claim i first past 0 (reads_at i p.derived.usage) us → (vs : List RawMessage) (low high old new : ℕ) → Claim i low high old new vs → vs ≡ p.left → low ≡ past → is_carried i (us ++ p.left) ≡ false
+      by_claim us first past (inl c) vs low high old new d left same = absurd (read_some i p.derived.usage read c.0)
+      by_claim us first past (inr (a, b, inl c)) vs low high old new d left same = absurd (read_some i p.derived.usage read c)
+      by_claim us first past (inr (a, b, inr c)) vs low high old new (inl d) left same = none_carried i us p.left c.1 (ap (is_carried i) (sym left) ∙ d.1)
+      by_claim us first past (inr (a, b, inr c)) vs low high old new (inr d) left same = let x = d.0 in absurd (omega (arith, b, x, same))
+
+  -- so no completion id has two results at its point
+  pub other_once : ComeOnce ns → AreCarried ns cs → HasNoTwo p
+  other_once once carry = replays_once s other input ns cs once n p e (λ i read. carry i (other_reads i read))

@@ -15,7 +15,7 @@ use Rattle.vm_asks.specs.StateReads.{keys_form, value_form}
 use Rattle.vm_model.specs.Calls.{Setup, Meaning, Derived, Demand, Move}
 use Rattle.vm_model.specs.Calls.Demand.{Exactly, Reads}
 use Rattle.vm_model.specs.Calls.Move.{Answers, Needs, Awaits, Ends, Refuses}
-use Rattle.vm_model.specs.Journal.{Entry, notifications_in, stored_form}
+use Rattle.journal_entries.specs.Journal.{Entry, notifications_in, stored_form}
 use Rattle.vm_model.specs.Moves.{Point, after, changed_by, command_used, later, longer, move_at, moved, next, found, own, start, supplied, supply, uses_arrival, uses_command}
 use Rattle.vm_model.specs.Histories.{Handed, History, IsAllOf, IsPrefix, IsStuck, Knowledge, Made, OneBegins, Told, Undisturbed, Whole}
 use Rattle.vm_model.proofs.Runs.{after_later, after_longer, and_then_some, longer_nothing, made_after, made_later, made_spent, next_spent, none_some}
@@ -131,14 +131,14 @@ uses_arrival_left : (queue : List Notification) (p q : Point) → uses_arrival q
 uses_arrival_left [] p q h = none_some h
 uses_arrival_left (n ∷ queue) p q h = ([], ap (λ z. z.left) (same_Some _ _ h))
 
-moved_left : (mv : Move) (p q : Point) → moved mv p ≡ Some q → (x : List RawMessage) × (p.left ≡ x ++ q.left)
+pub moved_left : (mv : Move) (p q : Point) → moved mv p ≡ Some q → (x : List RawMessage) × (p.left ≡ x ++ q.left)
 moved_left (Answers gives d) p q h = ([], ap (λ z. z.left) (same_Some _ _ h))
 moved_left (Needs e gives d) p q h = uses_command_left e gives d p.left p q h
 moved_left Awaits p q h = uses_arrival_left p.queue p q h
 moved_left Ends p q h = none_some h
 moved_left (Refuses name) p q h = none_some h
 
-append_none : {A : Type 0} (xs ys : List A) → [] ≡ xs ++ ys → ys ≡ []
+pub append_none : {A : Type 0} (xs ys : List A) → [] ≡ xs ++ ys → ys ≡ []
 append_none [] ys e = sym e
 append_none (x ∷ xs) ys e = absurd (cc)
 
@@ -167,7 +167,7 @@ history_goes_on s m base given journal delivered k written left c q h w some =
     let run : after s m k p ≡ Some q = ap (after s m k) (sym (longer_nothing p) ∙ ap (λ l. longer l p) (sym none)) ∙ made_after s m (Handed given) k p written q w in
     told_goes_on s m h.told.0 k p (later delivered h.at) q c left (after_later s m delivered h.told.0 (start s h.input (notifications_in journal) h.rest) h.at h.told.1) h.uses_all run some
 
-nothing_supplied : (state : StateMap) (mv : Move) (c : RawMessage) (left : List RawMessage) → supply state mv (c ∷ left) ≡ []
+pub nothing_supplied : (state : StateMap) (mv : Move) (c : RawMessage) (left : List RawMessage) → supply state mv (c ∷ left) ≡ []
 nothing_supplied state (Answers gives d) c left = refl
 nothing_supplied state (Needs e gives d) c left = refl
 nothing_supplied state Awaits c left = refl

@@ -30,14 +30,14 @@ use Rattle.vm_asks.specs.declared.state_read.StateRead.TheVariants as reads
 use Rattle.vm_asks.specs.Asks.{EachIs, ask_of}
 use Rattle.vm_asks.specs.Requests.{changed}
 use Rattle.vm_asks.specs.StateReads.{eager_form, eager_type, lazy_form, lazy_type, read_in_form, recorded_as}
-use Rattle.vm_machine.specs.Commands.{checks_are_off}
-use Rattle.vm_machine.proofs.Numbering.{same_type}
+use Rattle.vm_types.specs.Options.{checks_are_off}
+use Rattle.vm_asks.proofs.Numbering.{same_type}
 use Rattle.vm_model.specs.Calls.{Setup, Meaning, Demand, Derived, Move}
 use Rattle.vm_model.specs.Calls.Demand.{Exactly, Reads}
 use Rattle.vm_model.specs.Calls.Move.{Answers, Needs, Awaits, Ends, Refuses}
 use Rattle.vm_model.specs.ComparedSets.{IsNoUnstableSet, SetsAreCompared}
 use Rattle.vm_model.specs.Histories.{History}
-use Rattle.vm_model.specs.Journal.{Entry, messages_in, notifications_in, read_before}
+use Rattle.journal_entries.specs.Journal.{Entry, messages_in, notifications_in, read_before}
 use Rattle.vm_model.specs.Moves.{Point, after, changed_by, command_used, found, move_at, moved, next, reads_as, said_of, start, uses_arrival, uses_command}
 use Rattle.vm_model.specs.SoundHistories.{SoundHistory}
 use Rattle.vm_model.specs.Sums.{calls_after, calls_for}

@@ -20,11 +20,11 @@ use Rattle.vm_asks.specs.declared.asks.Ask.{Ask}
 use Rattle.vm_asks.specs.declared.asks.Ask.TheVariants as ask
 use Rattle.vm_asks.specs.declared.command.Command.{Command}
 use Rattle.vm_asks.specs.Asks.{EachIs, ask_of}
-use Rattle.vm_machine.proofs.Numbering.{same_type}
+use Rattle.vm_asks.proofs.Numbering.{same_type}
 use Rattle.vm_model.specs.Calls.{Setup, Meaning, Demand, Move}
 use Rattle.vm_model.specs.Calls.Move.{Answers, Needs, Awaits, Ends, Refuses}
 use Rattle.vm_model.specs.Histories.{EagerFrom, EagerReadMatches, Honest, IsTrueOf, Knowledge, Made, recorded_value}
-use Rattle.vm_model.specs.Journal.{messages_in, read_before}
+use Rattle.journal_entries.specs.Journal.{messages_in, read_before}
 use Rattle.vm_model.specs.Moves.{Point, changed_by, longer, move_at, next, said_of, supplied, supply}
 use Rattle.vm_model.proofs.Demands.{OfAsk, OfMove, asked_is}
 use Rattle.vm_model.proofs.Runs.{next_spent}
@@ -43,7 +43,7 @@ messages-append (c ∷ a) b = before (message_in c.ty c.body) (messages-append a
 -- ---- the state
 
 -- what a move makes changes the state as its call does
-move_changes : (state : StateMap) (mv : Move) (p q : Point) → Says state mv p q → (g : StateMap) → changed_by q.said g ≡ changed_by (messages_in (supply state mv [])) (changed_by p.said g)
+pub move_changes : (state : StateMap) (mv : Move) (p q : Point) → Says state mv p q → (g : StateMap) → changed_by q.said g ≡ changed_by (messages_in (supply state mv [])) (changed_by p.said g)
 move_changes state (Needs e gives d) p q says g =
     ap (λ l. changed_by l g) says.2 ∙ changed_by-append p.said (said_of e ∷ []) g ∙ sym (own_changes state e says.0 says.1 (changed_by p.said g))
 move_changes state (Answers gives d) p q says g = ap (λ l. changed_by l g) says
@@ -51,7 +51,7 @@ move_changes state Awaits p q says g = ap (λ l. changed_by l g) says
 move_changes state Ends p q says g = ap (λ l. changed_by l g) says
 move_changes state (Refuses name) p q says g = ap (λ l. changed_by l g) says
 
-next_changes : (s : Setup) (m : Meaning) (state : StateMap) (p q : Point) → p.left ≡ [] → next s m (longer (supplied s m state p) p) ≡ Some q → (g : StateMap) → changed_by q.said g ≡ changed_by (messages_in (supplied s m state p)) (changed_by p.said g)
+pub next_changes : (s : Setup) (m : Meaning) (state : StateMap) (p q : Point) → p.left ≡ [] → next s m (longer (supplied s m state p) p) ≡ Some q → (g : StateMap) → changed_by q.said g ≡ changed_by (messages_in (supplied s m state p)) (changed_by p.said g)
 next_changes s m state p q spent moves g = rw spent (move_changes state (move_at s m p) p q (next_says s m state p q spent moves) g)
 
 -- what a run said changes the state as what it made
@@ -98,13 +98,13 @@ plain_ask s (ask.Commands kind first second) h = (
 )
 plain_ask s a h = tt
 
-plain_move : (s : Setup) (m : Meaning) (p : Point) → OfMove Plain (move_at s m p)
+pub plain_move : (s : Setup) (m : Meaning) (p : Point) → OfMove Plain (move_at s m p)
 plain_move s m p = asked_is s Plain (λ r id gives. tt) (λ id d. refl) (ask_of s.version (m p.answers)) p.derived (plain_ask s (ask_of s.version (m p.answers)) (steps_plain s.version (m p.answers)))
 
 -- ---- eager reads
 
 -- what a move makes is as the state is there
-move_fits : (now state : StateMap) (mv : Move) (p q : Point) (rest : List RawMessage) → Says state mv p q → IsTrueOf now state → OfMove Plain mv → EagerFrom (changed_by (messages_in (supply state mv [])) now) rest → EagerFrom now (supply state mv [] ++ rest)
+pub move_fits : (now state : StateMap) (mv : Move) (p q : Point) (rest : List RawMessage) → Says state mv p q → IsTrueOf now state → OfMove Plain mv → EagerFrom (changed_by (messages_in (supply state mv [])) now) rest → EagerFrom now (supply state mv [] ++ rest)
 move_fits now state (Needs e gives d) p q rest says knows plain more = (own_fits now state e says.0 knows plain says.1, more)
 move_fits now state (Answers gives d) p q rest says knows plain more = more
 move_fits now state Awaits p q rest says knows plain more = more

@@ -8,7 +8,7 @@ use Rattle.vm_parts.specs.declared.context.StateMap.{StateMap}
 use Rattle.vm_parts.specs.Entries.{IsInOrder}
 use Rattle.vm_types.specs.declared.steps.Answer.{Answer}
 use Rattle.vm_model.specs.Calls.{Setup, Meaning}
-use Rattle.vm_model.specs.Journal.{Entry, commands_in, notifications_in, input_read_from, messages_in}
+use Rattle.journal_entries.specs.Journal.{Entry, commands_in, notifications_in, input_read_from, messages_in}
 use Rattle.vm_model.specs.Moves.{Point, changed_by, later, start}
 use Rattle.vm_model.specs.Histories.{Handed, Honest, Knowledge, Made, OneBegins, Told, Undisturbed, Whole, after_head}
 use Rattle.vm_model.specs.HonestRounds.{Attempted, HonestRound, HonestRounds, IsHanded, IsOneRun, IsToldOn}

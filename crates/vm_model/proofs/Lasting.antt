@@ -3,7 +3,7 @@ use Rattle.std.proofs.Common.{◌≡◌, List, [], ◌∷◌, ◌++◌, refl, ap
 use Rattle.journal_protocol.specs.Message.{Message}
 use Rattle.vm_parts.specs.declared.context.StateMap.{StateMap}
 use Rattle.vm_parts.specs.Entries.{IsInOrder}
-use Rattle.vm_model.specs.Journal.{Entry, Recorded, Notified, commands_in, notifications_in}
+use Rattle.journal_entries.specs.Journal.{Entry, Recorded, Notified, commands_in, notifications_in}
 use Rattle.vm_model.specs.Moves.{changed_by}
 use Rattle.vm_model.specs.Histories.{Handed, Honest, Knowledge, Whole}
 use Rattle.vm_model.proofs.States.{all_again, true_again}

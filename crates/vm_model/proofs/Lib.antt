@@ -33,3 +33,9 @@ pub mod Gone
 pub mod Queueing
 pub mod SaidLast
 pub mod Named
+pub mod Agreeing
+pub mod Ended
+pub mod Replays
+pub mod Likeness
+pub mod Erasing
+pub mod Mixed

@@ -26,11 +26,11 @@ use Rattle.vm_types.specs.declared.values.Value.{Value}
 use Rattle.await_trees.specs.declared.handle.NotificationHandle.{NotificationHandle}
 use Rattle.await_trees.specs.declared.tree.UnresolvedFuture.{UnresolvedFuture}
 use Rattle.vm_parts.specs.declared.async_results.Mapping.{Mapping}
-use Rattle.vm_parts.specs.declared.run_state.TrackedCall.{TrackedCall}
+use Rattle.vm_parts.specs.declared.tracked_call.TrackedCall.{TrackedCall}
 use Rattle.vm_parts.specs.Counting.{missing_number, missing_signals}
 use Rattle.vm_parts.specs.Deliveries.{id_at, present_result_for}
-use Rattle.vm_parts.specs.Tracked.{id_of_result, id_of_value, invocation_ids, id_noted, unresolved_handles}
-use Rattle.vm_types.specs.Values.{value_of}
+use Rattle.vm_parts.specs.Tracked.{id_of_result, invocation_ids, id_noted, unresolved_handles}
+use Rattle.vm_types.specs.Values.{id_of_value, value_of}
 use Rattle.vm_asks.specs.declared.asks.Ask.{Ask}
 use Rattle.vm_asks.specs.declared.asks.Ask.TheVariants as ask
 use Rattle.vm_asks.specs.declared.asks.AnswerKind.{AnswerKind}
@@ -39,11 +39,11 @@ use Rattle.vm_asks.specs.declared.command.Command.{Command}
 use Rattle.vm_asks.specs.declared.state_read.StateRead.{StateRead}
 use Rattle.vm_asks.specs.declared.state_read.StateRead.TheVariants as reads
 use Rattle.vm_asks.specs.Asks.{answer_by, ask_of, call_command, command_answer, deadline_handles, name_in, request_of, sleep_command}
-use Rattle.vm_asks.specs.Carried.{carried}
+use Rattle.journal_entries.specs.Carried.{carried}
 use Rattle.vm_asks.specs.Requests.{ids_of, with_ids}
 use Rattle.vm_asks.specs.StateReads.{lazy_form}
-use Rattle.vm_machine.specs.Commands.{mapped_from}
-use Rattle.vm_machine.specs.Skips.{skips_replay}
+use Rattle.vm_parts.specs.Mappings.{mapped_from}
+use Rattle.vm_types.specs.Options.{skips_replay}
 use Rattle.vm_model.specs.Calls.{Setup, Meaning, Derived, Demand, Move, answer_of, asked, awaited, awakeable_made, awaiting, behind_command, cancel_sent, cancelled, cancelling, commanding, counted, demand_of, id_awaited, id_read, is_awake, is_cancelled_in, making_awakeable, numbered, part_unless, reading, ready_in, refused_before, take_of_result, signal_made, turn_after, turn_taken, take_noting_id, take_of_value}
 use Rattle.vm_model.specs.Calls.Demand.{Reads}
 use Rattle.vm_model.specs.Calls.Move.{Answers, Needs, Awaits, Ends, Refuses}

@@ -3,7 +3,7 @@ use Rattle.std.proofs.Common.{◌≡◌, ◌+◌, ℕ, zero, suc, List, [], ◌�
 use Rattle.std.proofs.lemmas.Option.{same_Some}
 use Rattle.journal_protocol.specs.RawMessage.{RawMessage}
 use Rattle.journal_protocol.specs.Notification.{Notification}
-use Rattle.vm_model.specs.Journal.{Entry, Recorded, Notified, commands_in, notifications_in}
+use Rattle.journal_entries.specs.Journal.{Entry, Recorded, Notified, commands_in, notifications_in}
 use Rattle.vm_model.specs.Histories.{IsPrefix}
 use Rattle.vm_model.specs.HonestRounds.{HonestRound, ahead_of}
 use Rattle.vm_model.proofs.Lasting.{commands-append}

@@ -11,7 +11,7 @@ use Rattle.vm_asks.specs.declared.asks.AnswerKind.{AnswerKind}
 use Rattle.vm_asks.specs.declared.command.Command.{Command}
 use Rattle.vm_asks.specs.Asks.{answer_by}
 use Rattle.vm_asks.specs.Requests.{with_ids}
-use Rattle.vm_machine.specs.Commands.{ignores_payloads}
+use Rattle.vm_types.specs.Options.{ignores_payloads}
 use Rattle.vm_model.specs.Calls.{Demand, Derived, Setup, Turn, behind_command, part, part_unless}
 use Rattle.vm_model.specs.Calls.Demand.{Exactly}
 use Rattle.vm_model.specs.Moves.{Point, command_used, found, moved, uses_command}

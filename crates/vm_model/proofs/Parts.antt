@@ -12,21 +12,21 @@ use Rattle.journal_protocol.specs.NotificationResult.{NotificationResult}
 use Rattle.await_trees.specs.declared.handle.NotificationHandle.{NotificationHandle}
 use Rattle.await_trees.specs.declared.tree.UnresolvedFuture.{UnresolvedFuture}
 use Rattle.vm_parts.specs.declared.async_results.Mapping.{Mapping}
-use Rattle.vm_parts.specs.declared.run_state.TrackedCall.{TrackedCall}
+use Rattle.vm_parts.specs.declared.tracked_call.TrackedCall.{TrackedCall}
 use Rattle.vm_parts.specs.Counting.{missing_number, missing_signals}
 use Rattle.vm_parts.specs.Deliveries.{id_at, present_result_for}
-use Rattle.vm_parts.specs.Tracked.{id_of_result, id_of_value, invocation_ids, id_noted, unresolved_handles}
+use Rattle.vm_parts.specs.Tracked.{id_of_result, invocation_ids, id_noted, unresolved_handles}
+use Rattle.vm_types.specs.Values.{id_of_value, value_of}
 use Rattle.vm_types.specs.declared.steps.Answer.{Answer}
 use Rattle.vm_types.specs.declared.values.Value.{Value}
-use Rattle.vm_types.specs.Values.{value_of}
 use Rattle.vm_asks.specs.declared.asks.Ask.{Ask}
 use Rattle.vm_asks.specs.declared.asks.Ask.TheVariants as ask
 use Rattle.vm_asks.specs.declared.command.Command.{Command}
 use Rattle.vm_asks.specs.declared.state_read.StateRead.{StateRead}
 use Rattle.vm_asks.specs.Asks.{EachIs, all_ids, ask_of}
 use Rattle.vm_asks.specs.Requests.{ids_of}
-use Rattle.vm_machine.specs.Commands.{mapped_from}
-use Rattle.vm_machine.specs.Skips.{skips_replay}
+use Rattle.vm_parts.specs.Mappings.{mapped_from}
+use Rattle.vm_types.specs.Options.{skips_replay}
 use Rattle.vm_model.specs.Calls.{Demand, Derived, Meaning, Move, Setup, Turn, asked, awaited, awakeable_made, awaiting, behind_command, cancel_sent, with_cancel_taken, cancelled, cancelling, commanding, id_awaited, id_read, is_awake, is_cancelled_in, making_awakeable, numbered, reading, ready_in, take_of_result, signal_made, turn_after, take_noting_id, take_of_value}
 use Rattle.vm_model.specs.Calls.Move.{Answers, Needs, Awaits, Ends, Refuses}
 use Rattle.vm_model.specs.Moves.{Point, with_read_result, command_used, found, move_at, moved, next, uses_arrival, uses_command}

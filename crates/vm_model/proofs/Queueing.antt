@@ -8,7 +8,7 @@ use Rattle.journal_protocol.specs.RawMessage.{RawMessage}
 use Rattle.journal_protocol.specs.Notification.{Notification}
 use Rattle.journal_protocol.specs.NotificationId.{NotificationId}
 use Rattle.journal_protocol.specs.NotificationId.TheVariants.{CompletionId, SignalId, SignalName}
-use Rattle.vm_types.specs.declared.options.SignalDelivery.TheVariants.{Queued}
+use Rattle.journal_protocol.specs.SignalDelivery.TheVariants.{Queued}
 use Rattle.vm_parts.specs.Deliveries.{is_listed, same_id}
 use Rattle.vm_model.specs.Calls.{Meaning, Setup, Usage, ready_by_usage}
 use Rattle.vm_model.specs.Calls.Usage.{Used, Read, Taken}

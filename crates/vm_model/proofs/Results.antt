@@ -6,8 +6,8 @@ use Rattle.std.specs.Cmp.Lexicographic.{bytes_decides}
 use Rattle.journal_protocol.specs.Notification.{Notification}
 use Rattle.journal_protocol.specs.NotificationId.{NotificationId}
 use Rattle.journal_protocol.specs.NotificationId.TheVariants.{CompletionId, SignalId, SignalName}
-use Rattle.vm_types.specs.declared.options.SignalDelivery.{SignalDelivery}
-use Rattle.vm_types.specs.declared.options.SignalDelivery.TheVariants.{Queued, Overwrite}
+use Rattle.journal_protocol.specs.SignalDelivery.{SignalDelivery}
+use Rattle.journal_protocol.specs.SignalDelivery.TheVariants.{Queued, Overwrite}
 use Rattle.journal_protocol.specs.NotificationResult.{NotificationResult}
 use Rattle.vm_parts.specs.Arrived.{Ready}
 use Rattle.vm_parts.specs.Deliveries.{first, is_listed, left_among, left_ready, newest, newest_after, with_delivered, with_eager, present_result, results_of, same_id, without_all, without_oldest}

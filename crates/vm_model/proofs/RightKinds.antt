@@ -1,6 +1,6 @@
 -- Where the results of invocations' ids are of the right kind, none is read of another kind.
 use Rattle.std.proofs.Common.{◌≡◌, ◌≢◌, ◌<◌, ◌≤◌, ℕ, zero, suc, ◌+◌, Bool, true, false, cond, ◌||◌, List, [], ◌∷◌, ◌++◌, length, is_some, Option, Some, None, refl, sym, ap, ◌∙◌, subst, append_assoc, append-nil, arith}
-use Rattle.std.specs.Prelude.{◌==◌, ◌-◌, nat_lt, if◌then◌else◌, unwrap_or, IsSome, Result, Ok, Err}
+use Rattle.std.specs.Prelude.{◌==◌, ◌-◌, nat_lt, if◌then◌else◌, unwrap_or, Result, Ok, Err}
 use Rattle.std.specs.List.{AllByRecursion}
 use Rattle.std.specs.Option.{option_map, option_or}
 use Rattle.std.proofs.lemmas.Bool.{eq-eqb, eqb-true}
@@ -24,42 +24,41 @@ use Rattle.journal_protocol.specs.NotificationId.TheVariants.{CompletionId, Sign
 use Rattle.journal_protocol.specs.NotificationResult.{NotificationResult}
 use Rattle.journal_protocol.specs.NotificationResult.TheVariants as found
 use Rattle.vm_types.specs.declared.options.ImplicitCancellationOption.{ImplicitCancellationOption}
-use Rattle.vm_types.specs.declared.options.SignalDelivery.{SignalDelivery}
-use Rattle.vm_types.specs.declared.options.SignalDelivery.TheVariants.{Queued, Overwrite}
+use Rattle.journal_protocol.specs.SignalDelivery.{SignalDelivery}
+use Rattle.journal_protocol.specs.SignalDelivery.TheVariants.{Queued, Overwrite}
 use Rattle.vm_types.specs.declared.steps.Answer.{Answer}
 use Rattle.vm_types.specs.declared.steps.Step.{Step}
 use Rattle.vm_types.specs.declared.steps.Step.TheVariants as step
 use Rattle.vm_types.specs.declared.values.Target.{Target}
 use Rattle.vm_types.specs.declared.values.Value.{Value}
 use Rattle.vm_types.specs.declared.values.NonEmptyValue.{NonEmptyValue}
-use Rattle.vm_types.specs.Values.{value_of}
+use Rattle.vm_types.specs.Values.{value_of, id_of_value}
 use Rattle.await_trees.specs.declared.handle.NotificationHandle.{NotificationHandle}
 use Rattle.await_trees.specs.declared.tree.UnresolvedFuture.{UnresolvedFuture}
 use Rattle.vm_parts.specs.declared.async_results.Mapping.{Mapping}
 use Rattle.vm_parts.specs.declared.context.Counters.{Counters}
-use Rattle.vm_parts.specs.declared.run_state.TrackedCall.{TrackedCall}
-use Rattle.vm_parts.specs.Counting.{missing_number, missing_signals, most}
+use Rattle.vm_parts.specs.declared.tracked_call.TrackedCall.{TrackedCall}
+use Rattle.vm_parts.specs.Counting.{missing_number, missing_signals, most, missing_indexes}
 use Rattle.vm_parts.specs.Deliveries.{id_at, newest, newest_after, present_result, present_result_for, same_id, unmapped}
-use Rattle.vm_parts.specs.Tracked.{by_known_id, id_of_result, if_unresolved, id_of_value, invocation_ids, is_tracked, id_noted, unresolved_handles, with_call, with_invocation_id, with_next_id, without_first_call}
+use Rattle.vm_parts.specs.Tracked.{by_known_id, id_of_result, if_unresolved, invocation_ids, is_tracked, id_noted, unresolved_handles, with_call, with_invocation_id, with_next_id, without_first_call}
 use Rattle.vm_asks.specs.declared.asks.AnswerKind.{AnswerKind}
 use Rattle.vm_asks.specs.declared.asks.Ask.{Ask}
 use Rattle.vm_asks.specs.declared.asks.Ask.TheVariants as ask
 use Rattle.vm_asks.specs.declared.command.Command.{Command}
 use Rattle.vm_asks.specs.declared.state_read.StateRead.{StateRead}
-use Rattle.vm_asks.specs.Asks.{EachIs, all_ids, any_refusal, ask_of, cancel_invocation_command, early_fault, empty_fault, first_fault, scope_fault, scope_of, target_fault, time_fault, value_fault}
-use Rattle.vm_asks.specs.Requests.{ids_of, is_cancelled_with, tracked_after, with_ids}
-use Rattle.vm_machine.specs.Commands.{ignores_payloads, mapped_from}
-use Rattle.vm_machine.specs.Several.{missing_for, missing_indexes}
-use Rattle.vm_machine.specs.Skips.{skips_replay}
+use Rattle.vm_asks.specs.Asks.{EachIs, all_ids, any_refusal, ask_of, early_fault, empty_fault, scope_fault, scope_of, target_fault, time_fault, value_fault, missing_for}
+use Rattle.vm_asks.specs.Requests.{ids_of, is_cancelled_with, with_ids}
+use Rattle.vm_parts.specs.Mappings.{mapped_from}
+use Rattle.vm_types.specs.Options.{ignores_payloads, skips_replay}
 use Rattle.vm_model.specs.Calls.{Derived, Demand, Meaning, Move, Setup, Turn, Usage, asked, awaited, awakeable_made, awaiting, behind_command, cancel_sent, with_cancel_taken, cancelled, cancelling, commanding, counted, id_awaited, id_read, is_awake, is_cancelled_in, making_awakeable, numbered, part, part_unless, reading, ready_in, refused_before, take_of_result, signal_made, turn_after, take_noting_id, take_of_value}
 use Rattle.vm_model.specs.Calls.Demand.{Exactly}
 use Rattle.vm_model.specs.Calls.Move.{Answers, Needs, Awaits, Ends, Refuses}
 use Rattle.vm_model.specs.Calls.Usage.{Used, Read, Taken}
 use Rattle.vm_model.specs.Carried.{AreOfTheirKind, IsInvocationId, is_carried, is_for_invocation, names_invocation, read_carries}
-use Rattle.vm_model.specs.Deliveries.{EachTookAResult, next_taken, since_taken}
+use Rattle.vm_model.specs.Deliveries.{next_taken, since_taken}
 use Rattle.vm_model.specs.Moves.{Point, after, arrival_used, with_read_result, command_used, first_derived, found as stands_for, move_at, moved, next, reads_as, start, uses_arrival, uses_command}
 use Rattle.vm_model.specs.Uses.{arrivals_in, needed_for}
-use Rattle.vm_model.proofs.Carried.{RestsAt, both, next_rests, none_read, reads_at, rests_none, rests_one, rests_there, same_request, typed}
+use Rattle.vm_model.proofs.Carried.{RestsAt, both, next_rests, none_read, reads_at, rests_none, rests_one, rests_there, same_request}
 use Rattle.vm_model.proofs.Parts.{IsOfOne, next_keeps, next_turn, turn_apart}
 use Rattle.vm_model.proofs.Parted.{PartMove, part_moves}
 use Rattle.vm_model.proofs.Parted.PartMove.{More, Last}

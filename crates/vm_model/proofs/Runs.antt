@@ -13,7 +13,7 @@ use Rattle.vm_model.specs.Calls.{Setup, Meaning, Derived, Demand, Move}
 use Rattle.vm_model.specs.Calls.Move.{Answers, Needs, Awaits, Ends, Refuses}
 use Rattle.vm_model.specs.Moves.{Point, and_then, after, command_used, longer, later, move_at, moved, next, found, own, supplied, supply, uses_arrival, uses_command}
 use Rattle.vm_model.specs.Histories.{Knowledge, Made}
-use Rattle.vm_model.specs.Journal.{stored_form}
+use Rattle.journal_entries.specs.Journal.{stored_form}
 
 pub none_some : {A P : Type 0} {x : A} → None ≡ Some x → P
 none_some h = absurd (cc)

@@ -11,7 +11,7 @@ use Rattle.vm_parts.specs.declared.context.StateMap.{StateMap}
 use Rattle.vm_types.specs.declared.steps.Answer.{Answer}
 use Rattle.vm_model.specs.Calls.{Setup, Meaning, Derived, Demand, Move}
 use Rattle.vm_model.specs.Calls.Move.{Answers, Needs, Awaits, Ends, Refuses}
-use Rattle.vm_model.specs.Journal.{stored_form}
+use Rattle.journal_entries.specs.Journal.{stored_form}
 use Rattle.vm_model.specs.Moves.{Point, command_used, found, longer, move_at, moved, next, own, said_of, supplied, supply, uses_arrival, uses_command}
 use Rattle.vm_model.specs.Histories.{IsPrefix, Knowledge, Made}
 use Rattle.vm_model.proofs.Runs.{moved_alone, none_some}

@@ -11,7 +11,7 @@ use Rattle.vm_parts.specs.declared.context.StateMap.{StateMap}
 use Rattle.vm_parts.specs.Entries.{IsInOrder}
 use Rattle.vm_model.specs.Calls.{Setup, Meaning, Move}
 use Rattle.vm_model.specs.Calls.Move.{Answers, Needs, Awaits, Ends, Refuses}
-use Rattle.vm_model.specs.Journal.{Entry, commands_in, notifications_in, input_read_from, messages_in}
+use Rattle.journal_entries.specs.Journal.{Entry, commands_in, notifications_in, input_read_from, messages_in}
 use Rattle.vm_model.specs.Moves.{Point, after, changed_by, later, longer, move_at, moved, next, start, supplied, supply}
 use Rattle.vm_model.specs.Histories.{EagerFrom, Handed, Honest, Knowledge, Made, Whole, after_head}
 use Rattle.vm_model.specs.HonestRounds.{Attempted, HonestRound, HonestRounds, IsHanded, IsOneRun, IsToldOn}
@@ -86,7 +86,7 @@ module _ (s : Setup) (m : Meaning) (base : StateMap) (before : List Entry) (a : 
   written = commands_in a.course
 
   -- what was stored of it
-  abbrev stored : List RawMessage
+  abbrev pub stored : List RawMessage
   stored = take r.stored written
 
   heads : t.first ∷ t.rest ≡ h.history.first ∷ rest
@@ -103,25 +103,28 @@ module _ (s : Setup) (m : Meaning) (base : StateMap) (before : List Entry) (a : 
   there : after s m h.history.told.0 (start s input (known ++ delivered) rest) ≡ Some (later delivered at)
   there = after_later s m delivered h.history.told.0 (start s input known rest) at h.history.told.1
 
-  -- from there on a run makes what the attempt wrote
-  goes : (j : ℕ) × (q : Point) × Made s m (Honest base) j (later delivered at) written q
-  goes =
+  -- from there on a run makes what the attempt wrote, by what lasts
+  goes : (K : Knowledge) → Lasting K a.given at.said → (j : ℕ) × (q : Point) × Made s m K j (later delivered at) written q
+  goes K last =
       ⊎_elim
       (λ (none : written ≡ []). (0, later delivered at, (none, refl)))
       (λ (x : (j : ℕ) × Made s m (Handed a.given) j (later delivered at) written t.at).
-      (x.0, t.at, made_weaken s m (Honest base) (Handed a.given) at.said lasts x.0 (later delivered at) written t.at [] (sym (append-nil at.said)) x.1))
+      (x.0, t.at, made_weaken s m K (Handed a.given) at.said last x.0 (later delivered at) written t.at [] (sym (append-nil at.said)) x.1))
       (passes s m (Handed a.given) h.history.told.0 (start s input (known ++ delivered) rest) (later delivered at) there t.moves written t.at told)
 
   -- and what was stored of it, with all notifications
-  abbrev from : Point
+  abbrev pub from : Point
   from = later r.undelivered (later delivered at)
 
-  front : (j : ℕ) × (q : Point) × Made s m (Honest base) j from stored q
-  front =
-      let on = goes in
+  pub front_by : (K : Knowledge) → Lasting K a.given at.said → (j : ℕ) × (q : Point) × Made s m K j from stored q
+  front_by K last =
+      let on = goes K last in
       let parted : written ≡ stored ++ drop r.stored written = sym (take-append-drop r.stored written) in
-      let x = made_front s m (Honest base) on.0 (later delivered at) stored (drop r.stored written) on.1 (subst (λ l. Made s m (Honest base) on.0 (later delivered at) l on.1) parted on.2) in
-      (x.0, later r.undelivered x.1, made_later s m (Honest base) r.undelivered x.0 (later delivered at) stored x.1 x.2)
+      let x = made_front s m K on.0 (later delivered at) stored (drop r.stored written) on.1 (subst (λ l. Made s m K on.0 (later delivered at) l on.1) parted on.2) in
+      (x.0, later r.undelivered x.1, made_later s m K r.undelivered x.0 (later delivered at) stored x.1 x.2)
+
+  front : (j : ℕ) × (q : Point) × Made s m (Honest base) j from stored q
+  front = front_by (Honest base) lasts
 
   all_notes : (known ++ delivered) ++ r.undelivered ≡ notifications_in after_round
   all_notes = append_assoc known delivered r.undelivered ∙ ap (λ l. known ++ l) (sym r.notifications) ∙ sym (notifications-append before r.added) ∙ ap notifications_in (sym r.extends)

@@ -16,10 +16,9 @@ use Rattle.vm_parts.specs.declared.context.StateMap.{StateMap}
 use Rattle.vm_parts.specs.States.{value_known, known_keys}
 use Rattle.vm_asks.specs.declared.state_read.StateRead.{StateRead}
 use Rattle.vm_asks.specs.declared.state_read.StateRead.TheVariants as reads
-use Rattle.vm_machine.specs.Reads.{own_result}
-use Rattle.vm_asks.specs.StateReads.{eager_form, keys_form, own_form, read_by, result_in, value_form}
+use Rattle.vm_asks.specs.StateReads.{eager_form, keys_form, own_form, read_by, result_in, value_form, own_result}
 use Rattle.vm_model.specs.Calls.Demand.{Exactly, Reads}
-use Rattle.vm_model.specs.Journal.{stored_form}
+use Rattle.journal_entries.specs.Journal.{stored_form}
 use Rattle.vm_model.specs.Moves.{found, reads_as}
 
 pub command_stands : (command : Message) (ignore : Bool) → IsWhole command → found (Exactly command ignore) (stored_form command) ≡ Ok None

@@ -29,7 +29,7 @@ use Rattle.vm_asks.specs.Requests.{changed}
 use Rattle.vm_model.specs.Calls.{Demand}
 use Rattle.vm_model.specs.Calls.Demand.{Exactly, Reads}
 use Rattle.vm_model.specs.Histories.{EagerReadMatches, IsTrueOf, recorded_value}
-use Rattle.vm_model.specs.Journal.{messages_in, read_before, stored_form}
+use Rattle.journal_entries.specs.Journal.{messages_in, read_before, stored_form}
 use Rattle.vm_model.specs.Moves.{changed_by, found, own, reads_as, said_of}
 
 -- ---- types

@@ -12,7 +12,7 @@ use Rattle.await_tries.proofs.LaterArrivals.{first_is_now, once_stays, plainly_l
 use Rattle.journal_protocol.specs.Notification.{Notification}
 use Rattle.journal_protocol.specs.NotificationId.{NotificationId}
 use Rattle.journal_protocol.specs.NotificationId.TheVariants.{CompletionId}
-use Rattle.vm_types.specs.declared.options.SignalDelivery.TheVariants.{Queued}
+use Rattle.journal_protocol.specs.SignalDelivery.TheVariants.{Queued}
 use Rattle.vm_parts.specs.Arrived.{Arrived}
 use Rattle.vm_parts.specs.Deliveries.{id_at, left_among, present_result_for, same_id, without_all}
 use Rattle.vm_model.specs.Calls.{Derived, Setup, Usage, leaf_in, ready_by_usage, ready_in, tree_wakes}

@@ -13,7 +13,7 @@ use Rattle.std.specs.Option.{option_or}
 use Rattle.vm_parts.specs.declared.async_results.Mapping.{Mapping}
 use Rattle.vm_parts.specs.declared.context.Counters.{Counters}
 use Rattle.vm_parts.specs.declared.context.StartInfo.{StartInfo}
-use Rattle.vm_types.specs.declared.options.SignalDelivery.{SignalDelivery}
+use Rattle.journal_protocol.specs.SignalDelivery.{SignalDelivery}
 use Rattle.vm_types.specs.declared.options.VMOptions.{VMOptions}
 use Rattle.vm_types.specs.declared.steps.Answer.{Answer}
 use Rattle.vm_types.specs.declared.steps.Answer.TheVariants as answer
@@ -26,23 +26,21 @@ use Rattle.await_trees.specs.Tree.{Tree, tree_of}
 use Rattle.await_tries.specs.Leaves.{result_outcome}
 use Rattle.vm_types.specs.declared.values.Value.{Value}
 use Rattle.vm_parts.specs.Arrived.{Ready}
-use Rattle.vm_parts.specs.Counting.{missing_number, missing_signals, next_index}
+use Rattle.vm_parts.specs.Counting.{missing_number, missing_signals, next_index, given_on}
 use Rattle.vm_parts.specs.Deliveries.{has_result_for, id_at, left_ready, none_ready, present_result_for, unmapped, with_delivered, with_eager}
-use Rattle.vm_parts.specs.declared.run_state.TrackedCall.{TrackedCall}
-use Rattle.vm_types.specs.Options.{ends_awaits}
-use Rattle.vm_parts.specs.Tracked.{id_of_result, id_of_value, invocation_ids, id_noted, unresolved_handles, with_next_id, without_first_call}
-use Rattle.vm_types.specs.Values.{value_of}
+use Rattle.vm_parts.specs.declared.tracked_call.TrackedCall.{TrackedCall}
+use Rattle.vm_types.specs.Options.{ends_awaits, ignores_payloads, skips_replay}
+use Rattle.vm_parts.specs.Tracked.{id_of_result, invocation_ids, id_noted, unresolved_handles, with_next_id, without_first_call}
+use Rattle.vm_types.specs.Values.{id_of_value, value_of}
 use Rattle.vm_asks.specs.declared.asks.Ask.{Ask}
 use Rattle.vm_asks.specs.declared.asks.Ask.TheVariants as ask
 use Rattle.vm_asks.specs.declared.asks.AnswerKind.{AnswerKind}
 use Rattle.vm_asks.specs.declared.command.Command.{Command}
 use Rattle.vm_asks.specs.declared.state_read.StateRead.{StateRead}
-use Rattle.vm_asks.specs.Asks.{answer_by, any_refusal, ask_of, cancel_invocation_command, command_answer}
-use Rattle.vm_machine.specs.Commands.{given_on, ignores_payloads, mapped_from}
+use Rattle.vm_asks.specs.Asks.{answer_by, any_refusal, ask_of, cancel_invocation_command, command_answer, missing_for}
+use Rattle.vm_parts.specs.Mappings.{mapped_from}
 use Rattle.vm_asks.specs.Requests.{ids_of, tracked_after, with_ids}
-use Rattle.vm_machine.specs.Several.{missing_for}
-use Rattle.vm_machine.specs.Signals.{awakeable_id}
-use Rattle.vm_machine.specs.Skips.{skips_replay}
+use Rattle.vm_asks.specs.Awakeables.{awakeable_id}
 
 -- What stays the same over all attempts of an invocation, as a handler is given it with its input.
 pub record Identity : Type 0 where

@@ -5,8 +5,8 @@ use Rattle.std.specs.Option.{option_or}
 use Rattle.journal_protocol.specs.Message.{Message}
 use Rattle.journal_protocol.specs.Notification.{Notification}
 use Rattle.journal_protocol.specs.NotificationResult.{NotificationResult}
-use Rattle.vm_types.specs.declared.options.SignalDelivery.TheVariants.{Queued}
-use Rattle.vm_parts.specs.declared.run_state.TrackedCall.{TrackedCall}
+use Rattle.journal_protocol.specs.SignalDelivery.TheVariants.{Queued}
+use Rattle.vm_parts.specs.declared.tracked_call.TrackedCall.{TrackedCall}
 use Rattle.vm_types.specs.declared.steps.Answer.{Answer}
 use Rattle.vm_types.specs.declared.steps.Answer.TheVariants as answer
 use Rattle.vm_parts.specs.Deliveries.{id_at, present_result_for}

@@ -18,7 +18,7 @@ use Rattle.vm_parts.specs.States.{value_known, known_keys}
 use Rattle.vm_asks.specs.declared.state_read.StateRead.TheVariants as reads
 use Rattle.vm_asks.specs.StateReads.{own_form}
 use Rattle.vm_model.specs.Calls.{Setup, Meaning, Derived, is_awake, is_cancelled_in}
-use Rattle.vm_model.specs.Journal.{Entry, commands_in, notifications_in, input_read_from, messages_in, stored_form}
+use Rattle.journal_entries.specs.Journal.{Entry, commands_in, notifications_in, input_read_from, messages_in, stored_form}
 use Rattle.vm_model.specs.Moves.{Point, after, next, start, supplied, longer, arrival_used, changed_by}
 
 -- A point is reached on a journal: some number of moves leads to it from the point after the input.

@@ -6,7 +6,7 @@ use Rattle.journal_protocol.specs.Notification.{Notification}
 use Rattle.vm_parts.specs.declared.context.StateMap.{StateMap}
 use Rattle.vm_types.specs.declared.steps.Answer.{Answer}
 use Rattle.vm_model.specs.Calls.{Setup, Meaning}
-use Rattle.vm_model.specs.Journal.{Entry, Recorded, Notified, commands_in, notifications_in, input_read_from, messages_in}
+use Rattle.journal_entries.specs.Journal.{Entry, Recorded, Notified, commands_in, notifications_in, input_read_from, messages_in}
 use Rattle.vm_model.specs.Moves.{Point, start}
 use Rattle.vm_model.specs.Histories.{Handed, IsPrefix, Knowledge, Made, after_head}
 

@@ -1,4 +1,3 @@
-pub mod Journal
 pub mod Calls
 pub mod Moves
 pub mod Histories
@@ -10,10 +9,13 @@ pub mod Carried
 pub mod Refusals
 pub mod HonestRounds
 pub mod SoundHistories
+pub mod Versions
+pub mod Finished
 pub mod ComparedSets
 pub mod TakenHandles
 pub mod SignalQueues
 pub mod SaidState
 pub mod NamedHandles
-pub mod JournalFrames
 pub mod Fixed
+pub mod Alike
+pub mod Setups

@@ -24,7 +24,7 @@ use Rattle.vm_model.specs.Calls.{Setup, Identity, Meaning, Derived, Demand, Move
 use Rattle.vm_model.specs.Calls.Demand.{Exactly, Reads}
 use Rattle.vm_model.specs.Calls.Usage.{Used, Read}
 use Rattle.vm_model.specs.Calls.Move.{Answers, Needs, Awaits, Ends, Refuses}
-use Rattle.vm_model.specs.Journal.{stored_form}
+use Rattle.journal_entries.specs.Journal.{stored_form}
 
 -- The answers so far, what follows from them, the commands of the calls so far, the arrivals that
 -- no await has used, and the recorded commands that no call has used.

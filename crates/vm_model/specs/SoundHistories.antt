@@ -2,7 +2,7 @@
 use Rattle.std.specs.Prelude.{◌≡◌, List}
 use Rattle.vm_parts.specs.declared.context.StateMap.{StateMap}
 use Rattle.vm_model.specs.Calls.{Setup, Meaning}
-use Rattle.vm_model.specs.Journal.{Entry, messages_in}
+use Rattle.journal_entries.specs.Journal.{Entry, messages_in}
 use Rattle.vm_model.specs.Moves.{changed_by}
 use Rattle.vm_model.specs.Histories.{History}
 

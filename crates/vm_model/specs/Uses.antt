@@ -20,7 +20,7 @@ use Rattle.vm_asks.specs.declared.asks.Ask.{Ask}
 use Rattle.vm_asks.specs.declared.asks.Ask.TheVariants as ask
 use Rattle.vm_asks.specs.declared.command.Command.{Command}
 use Rattle.vm_asks.specs.Asks.{all_ids, ask_of, cancel_invocation_command}
-use Rattle.vm_machine.specs.Commands.{ignores_payloads}
+use Rattle.vm_types.specs.Options.{ignores_payloads}
 use Rattle.vm_asks.specs.StateReads.{recorded_as}
 use Rattle.vm_asks.specs.Requests.{ids_of, with_ids}
 use Rattle.vm_model.specs.Calls.{Demand, Meaning, Setup, Usage}

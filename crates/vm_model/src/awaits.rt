@@ -5,7 +5,7 @@ ghost use Rattle.journal_protocol.specs.RawMessage.{RawMessage};
 ghost use Rattle.journal_protocol.specs.Notification.{Notification};
 ghost use Rattle.journal_protocol.specs.NotificationId.{NotificationId};
 ghost use Rattle.journal_protocol.specs.NotificationId.TheVariants.{CompletionId};
-ghost use Rattle.vm_types.specs.declared.options.SignalDelivery.{SignalDelivery};
+ghost use Rattle.journal_protocol.specs.SignalDelivery.{SignalDelivery};
 ghost use Rattle.vm_types.specs.declared.steps.Answer.{Answer};
 ghost use Rattle.vm_types.specs.declared.steps.Answer.TheVariants as answer;
 ghost use Rattle.vm_types.specs.declared.steps.Step.TheVariants as step;
@@ -17,7 +17,7 @@ ghost use Rattle.vm_model.specs.Moves.{Point, after, next, start};
 ghost use Rattle.vm_model.specs.Histories.{IsAwaiting, IsLeast, arrivals_used, ends_await};
 ghost use Rattle.await_trees.specs.Tree.{Tree};
 ghost use Rattle.await_tries.specs.Await.{LeastAwake, NeverAwake};
-ghost use Rattle.vm_types.specs.declared.options.SignalDelivery.TheVariants.{Queued};
+ghost use Rattle.journal_protocol.specs.SignalDelivery.TheVariants.{Queued};
 ghost use Rattle.vm_model.specs.Cancels.{CancelledAwait};
 ghost use Rattle.vm_model.specs.Deliveries.{EachTookAResult, HasNoTwo, TakeIsAnswered, arrived_at, deliveries, next_taken, takes};
 

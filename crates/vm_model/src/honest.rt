@@ -6,7 +6,7 @@ ghost use Rattle.journal_protocol.specs.Notification.{Notification};
 ghost use Rattle.vm_parts.specs.declared.context.StateMap.{StateMap};
 ghost use Rattle.vm_parts.specs.Entries.{IsInOrder};
 ghost use Rattle.vm_model.specs.Calls.{Setup, Meaning};
-ghost use Rattle.vm_model.specs.Journal.{Entry, Recorded, commands_in, notifications_in};
+ghost use Rattle.journal_entries.specs.Journal.{Entry, Recorded, commands_in, notifications_in};
 ghost use Rattle.vm_model.specs.Moves.{Point};
 ghost use Rattle.vm_model.specs.ComparedSets.{SetsAreCompared};
 ghost use Rattle.vm_model.specs.Histories.{History, Honest, IsPrefix, OneBegins, Told, Undisturbed, Whole};

@@ -3,6 +3,8 @@
 #![tactic(auto)]
 
 mod awaits;
+mod families;
+mod finished;
 mod handles;
 mod honest;
 mod lists;
@@ -11,8 +13,11 @@ mod reads;
 mod signals;
 mod state;
 mod told;
+mod versions;
 
 pub use awaits::{awaits_wake, cancelled_awaits, results_are_present, trees_wake};
+pub use families::{erased_alike, erased_steps, one_run_of_a_family};
+pub use finished::finished_stays_finished;
 pub use handles::{handles_name_ids, taken_handles_go};
 pub use honest::{
     attempts_agree, commands_stand_behind, compared_histories_are_sound, honest_rounds,
@@ -29,3 +34,4 @@ pub use told::{
     attempt_is_told, attempts_go_on, later_changes_nothing, none_refused, one_told,
     own_commands_stand,
 };
+pub use versions::{replays_prove_histories, versions_share_journals};

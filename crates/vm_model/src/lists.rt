@@ -68,7 +68,8 @@ pub fn handles_stand_for_ids()
 /// The same is so of an attempt, whose written commands count as the recorded ones do: it has the results of its own commands,
 /// and at each point of its run, before it wrote them and after, no completion id has two. It is so too at each point of a run
 /// over commands that don't all fit, if the arrivals have one result at most for each completion id, and none for an id to
-/// which the run itself has given the result of an eager read.
+/// which the run itself has given the result of an eager read. And it is so at each point of a run over commands that the run of
+/// another handler uses to the last, as that of an older version of it.
 pub fn completions_come_once()
     ensures told { (s : Setup) (m : Meaning) (n k : ℕ) (input : InputCommand)
         (ns : List Notification) (cs : List RawMessage) (p q : Point)
@@ -88,6 +89,11 @@ pub fn completions_come_once()
         → after s m n (start s input ns cs) ≡ Some p → ComeOnce ns
         → ((id : ℕ) → was_read id p.derived.usage ≡ true → results_of (CompletionId id) ns ≡ [])
         → HasNoTwo p }
+    ensures versions { (s : Setup) (m other : Meaning) (n k : ℕ) (input : InputCommand)
+        (ns : List Notification) (cs : List RawMessage) (p q : Point)
+        → after s other n (start s input ns cs) ≡ Some p
+        → after s m k (start s input ns cs) ≡ Some q → q.left ≡ []
+        → ComeOnce ns → AreCarried ns cs → HasNoTwo p }
 {}
 
 /// Where each result of an id that a call or a one-way call carries for its invocation's is an invocation's id, no take and no cancelled

@@ -14,7 +14,7 @@ ghost use Rattle.vm_parts.specs.States.{value_known, known_keys};
 ghost use Rattle.vm_asks.specs.declared.state_read.StateRead.TheVariants as reads;
 ghost use Rattle.vm_asks.specs.StateReads.{own_form};
 ghost use Rattle.vm_model.specs.Calls.{Setup, Meaning};
-ghost use Rattle.vm_model.specs.Journal.{Entry, messages_in};
+ghost use Rattle.journal_entries.specs.Journal.{Entry, messages_in};
 ghost use Rattle.vm_model.specs.Moves.{changed_by};
 ghost use Rattle.vm_model.specs.Histories.{History, Honest, Whole, recorded_value};
 

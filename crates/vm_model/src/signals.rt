@@ -5,7 +5,7 @@ ghost use Rattle.journal_protocol.specs.InputCommand.{InputCommand};
 ghost use Rattle.journal_protocol.specs.RawMessage.{RawMessage};
 ghost use Rattle.journal_protocol.specs.Notification.{Notification};
 ghost use Rattle.journal_protocol.specs.NotificationId.{NotificationId};
-ghost use Rattle.vm_types.specs.declared.options.SignalDelivery.TheVariants.{Queued};
+ghost use Rattle.journal_protocol.specs.SignalDelivery.TheVariants.{Queued};
 ghost use Rattle.vm_model.specs.Calls.{Meaning, Setup};
 ghost use Rattle.vm_model.specs.Deliveries.{takes};
 ghost use Rattle.vm_model.specs.Moves.{Point, after, start};

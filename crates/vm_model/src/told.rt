@@ -8,13 +8,12 @@ ghost use Rattle.vm_parts.specs.declared.context.StateMap.{StateMap};
 ghost use Rattle.journal_protocol.specs.Message.{Message};
 ghost use Rattle.journal_protocol.specs.Frames.{IsWhole};
 ghost use Rattle.vm_asks.specs.declared.state_read.StateRead.{StateRead};
-ghost use Rattle.vm_machine.specs.Reads.{own_result};
-ghost use Rattle.vm_asks.specs.StateReads.{own_form, result_in};
+ghost use Rattle.vm_asks.specs.StateReads.{own_form, result_in, own_result};
 ghost use Rattle.vm_model.specs.Calls.Demand.{Exactly, Reads};
 ghost use Rattle.vm_model.specs.Calls.{Setup, Meaning, Move};
 ghost use Rattle.vm_model.specs.Calls.Move.{Refuses};
 ghost use Rattle.vm_model.specs.Refusals.{IsRefusedFor};
-ghost use Rattle.vm_model.specs.Journal.{Entry, notifications_in, stored_form};
+ghost use Rattle.journal_entries.specs.Journal.{Entry, notifications_in, stored_form};
 ghost use Rattle.vm_model.specs.Moves.{Point, after, found, later, longer, move_at, next, start};
 ghost use Rattle.vm_model.specs.Histories.{Handed, History, IsStuck, Made, OneBegins, Told};
 

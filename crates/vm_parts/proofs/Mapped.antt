@@ -16,7 +16,7 @@ use Rattle.journal_protocol.specs.NotificationId.{NotificationId}
 use Rattle.std.proofs.lemmas.Map.Lookups
 use Rattle.vm_parts.specs.Deliveries.{id_at, unmapped}
 use Rattle.vm_parts.specs.Mappings.{live_mappings, mapping_if, MappingsAscend, MappingsAbove, AllUnder, IsMappingAt, HasNoMapping}
-use Rattle.vm_types.proofs.Places.{from_place}
+use Rattle.plain.proofs.Places.{from_place}
 
 above_at : (x : ℕ) (xs : List Held) → MappingsAbove x xs → (i : ℕ) (d : Held) → i < length xs → x < (get_or xs i d).handle
 above_at x [] a i d l = absurd (omega arith)

@@ -1,9 +1,9 @@
 -- The bytes of an outbox are cut into its frames by the lengths in them; one more frame is put
 -- after the others.
-use Rattle.std.proofs.Common.{◌≡◌, ℕ, zero, suc, ◌+◌, ◌<◌, ◌≤◌, ◌^◌, List, [], ◌∷◌, ◌++◌, length, map, take, drop, refl, sym, ap, subst, ◌∙◌, append_assoc, length-append, arith, Result, Ok, Err}
+use Rattle.std.proofs.Common.{◌≡◌, ℕ, zero, suc, ◌<◌, ◌≤◌, ◌^◌, List, [], ◌∷◌, ◌++◌, length, map, take, drop, refl, sym, ap, subst, ◌∙◌, append_assoc, length-append, arith, Result, Ok, Err}
 use Rattle.std.proofs.lemmas.List.{append-nil, drop_at}
 use Rattle.std.proofs.Math.Seq.{take-append_seam}
-use Rattle.std.specs.Prelude.{if◌then◌else◌, is_ok, IfOk, OnOk}
+use Rattle.std.specs.Prelude.{IfOk, OnErr, OnOk}
 use Rattle.std.specs.declared.alloc.AllocError.{AllocError}
 use Rattle.std.specs.List.{concat, flat_map, AllByRecursion}
 use Rattle.journal_protocol.specs.Message.{Message}
@@ -60,7 +60,8 @@ frames_are stream w = ap (λ s. first_frames (length s) s) w.are ∙ apart (leng
 pub whole_frames : (stream : List ℕ) → WholeStream stream → WholeFrames (frames_in stream)
 whole_frames stream w = record { messages = w.messages; are = frames_are stream w; each = w.each }
 
-joined : (stream : List ℕ) → WholeStream stream → stream ≡ concat (frames_in stream)
+-- the bytes are those of the frames
+pub joined : (stream : List ℕ) → WholeStream stream → stream ≡ concat (frames_in stream)
 joined stream w = w.are ∙ sym (bytes_of w.messages) ∙ sym (ap concat (frames_are stream w))
 
 -- their length, which a usize holds
@@ -92,10 +93,15 @@ frames_more stream m w whole =
     ∙ ap (λ t. t ++ encoding m ∷ []) (sym (frames_are stream w))
 
 -- one frame more, or none after an error
-pub stays_whole : (old new frame : List ℕ) (r : Result Unit AllocError) (m : Message) → WholeStream old → IsWhole m → frame ≡ encoding m → new ≡ (if is_ok r then old ++ frame else old) → WholeStream new
-stays_whole old new frame (Ok u) m w whole is e = subst WholeStream (sym (e ∙ ap (λ t. old ++ t) is)) (stream_more old m w whole)
-stays_whole old new frame (Err x) m w whole is e = subst WholeStream (sym e) w
+module _ (old new : List ℕ) (m : Message) (w : WholeStream old) where
+  pub stays_whole : (r : Result Unit AllocError) → OnOk r (new ≡ old ++ encoding m) → OnOk r (IsWhole m) → OnErr r (new ≡ old) → WholeStream new
+  stays_whole (Ok u) is whole kept = subst WholeStream (sym is) (stream_more old m w whole)
+  stays_whole (Err x) is whole kept = subst WholeStream (sym kept) w
 
-pub one_more : (old new frame : List ℕ) (r : Result Unit AllocError) (m : Message) → WholeStream old → IsWhole m → frame ≡ encoding m → new ≡ (if is_ok r then old ++ frame else old) → OnOk r (frames_in new ≡ frames_in old ++ encoding m ∷ [])
-one_more old new frame (Ok u) m w whole is e = ap frames_in (e ∙ ap (λ t. old ++ t) is) ∙ frames_more old m w whole
-one_more old new frame (Err x) m w whole is e = tt
+  pub one_more : (r : Result Unit AllocError) → OnOk r (new ≡ old ++ encoding m) → OnOk r (IsWhole m) → OnOk r (frames_in new ≡ frames_in old ++ encoding m ∷ [])
+  one_more (Ok u) is whole = ap frames_in is ∙ frames_more old m w whole
+  one_more (Err x) is whole = tt
+
+  pub none_more : (r : Result Unit AllocError) → OnErr r (new ≡ old) → OnErr r (frames_in new ≡ frames_in old)
+  none_more (Ok u) kept = tt
+  none_more (Err x) kept = ap frames_in kept

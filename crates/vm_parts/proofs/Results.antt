@@ -7,7 +7,7 @@ use Rattle.std.specs.Prelude.{◌||◌}
 use Rattle.vm_parts.specs.Arrived.{Arrived, Ready}
 use Rattle.std.specs.Option.{option_or}
 use Rattle.vm_parts.specs.Deliveries.{same_id, results_of, first, newest, newest_after, without_oldest, without_all, left_among, left_ready, present_result, present_among, present_result_for, first_result_for, id_at, is_listed, IsTakeOf}
-use Rattle.vm_types.specs.declared.options.SignalDelivery.{SignalDelivery}
+use Rattle.journal_protocol.specs.SignalDelivery.{SignalDelivery}
 
 -- ---- an id without a result
 

@@ -37,3 +37,12 @@ missing_signals signals handles c =
 -- An ephemeral read needs an id.
 abbrev pub missing_ephemeral : Counters → Option NamedFault
 missing_ephemeral c = if c.ephemeral == most then Some ExhaustedEphemeralIds else None
+
+-- this number of completion ids is given, with a handle for each
+abbrev pub given_on : ℕ → Counters → Counters
+given_on n c = record c { completion = c.completion + n; handle = c.handle + n }
+
+-- fewer than n command indexes are left
+abbrev pub missing_indexes : ℕ → Counters → Option NamedFault
+missing_indexes n k =
+    if nat_lt (most - unwrap_or k.command 0) n then Some ExhaustedCommandIndexes else None

@@ -10,8 +10,8 @@ use Rattle.arrivals.specs.Came.{one_used}
 pub use Rattle.arrivals.specs.Ids.{same_id}
 pub use Rattle.arrivals.specs.Results.{results_of, has_result_among, first, newest_after, newest, without_oldest, without_all}
 use Rattle.vm_parts.specs.declared.async_results.Mapping.{Mapping}
-use Rattle.vm_types.specs.declared.options.SignalDelivery.{SignalDelivery}
-use Rattle.vm_types.specs.declared.options.SignalDelivery.TheVariants.{Queued, Overwrite}
+use Rattle.journal_protocol.specs.SignalDelivery.{SignalDelivery}
+use Rattle.journal_protocol.specs.SignalDelivery.TheVariants.{Queued, Overwrite}
 use Rattle.vm_parts.specs.Arrived.{Arrived, Ready}
 
 -- no result is ready

@@ -8,3 +8,4 @@ pub mod Outboxes
 pub mod StateKeys
 pub mod States
 pub mod Tracked
+pub mod Starts

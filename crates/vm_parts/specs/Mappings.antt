@@ -1,6 +1,7 @@
 -- Handles that were handed out in ascending order, and which of them still stand for an id.
-use Rattle.std.specs.Prelude.{ℕ, ◌≡◌, ◌<◌, slice_index_or, length, List, [], ◌∷◌, Option, Some, None}
+use Rattle.std.specs.Prelude.{ℕ, ◌≡◌, ◌<◌, slice_index_or, length, List, [], ◌∷◌, Option, Some, None, zero, suc, ◌+◌}
 use Rattle.journal_protocol.specs.NotificationId.{NotificationId}
+use Rattle.journal_protocol.specs.NotificationId.TheVariants.{CompletionId}
 use Rattle.vm_parts.specs.declared.async_results.Mapping.{Mapping}
 use Rattle.vm_parts.specs.declared.handles.Held.{Held}
 
@@ -38,3 +39,9 @@ HasNoMapping handle hs =
 abbrev pub IsMappingAt : ℕ → List Held → ℕ → Type 0
 IsMappingAt handle hs place =
     (place < length hs) × ((d : Held) → (slice_index_or hs place d).handle ≡ handle)
+
+-- n handles, from this one on, each for a completion id, from this one on
+abbrev pub mapped_from : ℕ → ℕ → ℕ → List Mapping
+mapped_from zero handle id = []
+mapped_from (suc n) handle id = record { handle = handle; id = CompletionId id }
+    ∷ mapped_from n (handle + 1) (id + 1)

@@ -5,9 +5,7 @@ use Rattle.std.specs.List.Sorted.{IsPartitionPoint}
 use Rattle.std.specs.Option.{option_map}
 use Rattle.journal_protocol.specs.NotificationResult.{NotificationResult}
 use Rattle.journal_protocol.specs.NotificationResult.TheVariants as result
-use Rattle.vm_parts.specs.declared.run_state.TrackedCall.{TrackedCall}
-use Rattle.vm_types.specs.declared.values.Value.{Value}
-use Rattle.vm_types.specs.declared.values.Value.TheVariants as value
+use Rattle.vm_parts.specs.declared.tracked_call.TrackedCall.{TrackedCall}
 
 -- a call whose invocation's id isn't known
 abbrev pub unresolved_call : ℕ → TrackedCall
@@ -78,14 +76,6 @@ id_of_result result.Void = None
 id_of_result (result.Value bytes) = None
 id_of_result (result.Failure failure) = None
 id_of_result (result.StateKeys keys) = None
-
--- the invocation's id that a value is
-abbrev pub id_of_value : Value → Option (List ℕ)
-id_of_value (value.InvocationId id) = Some id
-id_of_value value.Void = None
-id_of_value (value.Success bytes) = None
-id_of_value (value.Failure failure) = None
-id_of_value (value.StateKeys keys) = None
 
 -- the first of some calls isn't tracked any more
 abbrev pub without_first_call : List TrackedCall → List TrackedCall

@@ -7,12 +7,10 @@ ghost use Rattle.vm_parts.specs.Deliveries.{id_at, is_known, no_results, is_list
 
 use crate::handles::Handles;
 use arrivals::{Arrivals, EagerResults};
-use await_trees::NotificationHandle;
-use journal_protocol::{Notification, NotificationId, NotificationResult};
+use journal_protocol::{Notification, NotificationId, NotificationResult, SignalDelivery};
 use plain::copy_of;
 use std::alloc::{AllocError, Global};
 use std::marker::Model;
-use vm_types::options::SignalDelivery;
 
 /// The id that a handle stands for.
 #[derive(Drop)]
@@ -241,19 +239,15 @@ impl AsyncResults {
     }
 
     /// Takes the present result of a handle; the handle is then forgotten, but for the cancel handle.
-    pub fn take(
-        &mut self,
-        delivery: SignalDelivery,
-        handle: NotificationHandle,
-    ) -> Option<NotificationResult>
-        ensures { IsTakeOf delivery handle.0 self.old result self.new }
+    pub fn take(&mut self, delivery: SignalDelivery, handle: u32) -> Option<NotificationResult>
+        ensures { IsTakeOf delivery handle self.old result self.new }
     {
-        let id = self.handles.find(handle.0)?;
+        let id = self.handles.find(handle)?;
         let delivered = take_delivered(delivery, &mut self.arrivals, id);
         let eager = take_eager(delivery, &mut self.eager, id);
         let taken = delivered.or(eager)?;
-        if handle.0 != 1 {
-            self.handles.remove(handle.0);
+        if handle != 1 {
+            self.handles.remove(handle);
         }
         Some(taken)
     }

@@ -14,7 +14,7 @@ use std::marker::Model;
 pub struct Outbox {
     /// The bytes of all frames.
     stream: Vec<u8>,
-    /// Where a frame is made before it is appended to the others.
+    /// Where a frame is made before it is appended to others. One that stands alone is made in its place.
     frame: Vec<u8>,
 }
 
@@ -27,6 +27,39 @@ impl Model for Outbox {
     ghost view = { λ o. frames_in o.stream.items };
 
     ghost invariant = { λ o. WholeStream o.stream.items };
+}
+
+/// Makes a message's frame in an empty stream. If memory runs out, the stream is emptied again.
+fn begin(alloc: Global, message: &Message, stream: &mut Vec<u8>) -> Result<(), AllocError>
+    ensures ok { OnOk result (stream.new.items ≡ encoding message.now) }
+    ensures whole { OnOk result (IsWhole message.now) }
+    ensures err { OnErr result (stream.new.items ≡ []) }
+{
+    match Encoder::new(alloc).encode_in(message, stream) {
+        Ok(()) => Ok(()),
+        Err(error) => {
+            stream.clear();
+            Err(error)
+        }
+    }
+}
+
+/// Appends a message's frame to a stream.
+fn append(
+    alloc: Global,
+    message: &Message,
+    frame: &mut Vec<u8>,
+    stream: &mut Vec<u8>,
+) -> Result<(), AllocError>
+    ensures ok { OnOk result (stream.new.items ≡ stream.old.items ++ encoding message.now) }
+    ensures whole { OnOk result (IsWhole message.now) }
+    ensures err { OnErr result (stream.new.items ≡ stream.old.items) }
+{
+    if stream.is_empty() {
+        return begin(alloc, message, stream);
+    }
+    Encoder::new(alloc).encode_in(message, frame)?;
+    stream.extend_from_slice(frame.as_slice())
 }
 
 #[tactic(auto, using(crate::proofs::Outboxes::no_frames, crate::proofs::Outboxes::len_is))]
@@ -46,8 +79,7 @@ impl Outbox {
         ensures whole { OnOk result (IsWhole message.now) }
         ensures err { OnErr result (self.new ≡ self.old) }
     {
-        Encoder::new(alloc).encode_in(message, &mut self.frame)?;
-        self.stream.extend_from_slice(self.frame.as_slice())
+        append(alloc, message, &mut self.frame, &mut self.stream)
     }
 
     /// The bytes of all frames, which stay there.
@@ -57,6 +89,14 @@ impl Outbox {
         ensures frames { WholeFrames self.now }
     {
         Bytes::copy_from_slice(alloc, self.stream.as_slice())
+    }
+
+    /// The bytes of all frames, where they lie.
+    pub fn as_slice(&self) -> &[u8]
+        ensures bytes { result.now ≡ concat self.now }
+        ensures whole { WholeStream result.now }
+    {
+        self.stream.as_slice()
     }
 
     /// How many bytes the frames have, as far as a `usize` goes.

@@ -3,7 +3,7 @@ ghost use Rattle.std.specs.Prelude.{◌≡◌, ◌≤◌, [], IfOk, OnOk, OnErr,
 ghost use Rattle.std.specs.Option.{option_copied};
 ghost use Rattle.vm_parts.specs.Tracked.{unresolved_handles, with_call, with_next_id, NotesId, IsFirstHandle, TrackedAscend, IsTrackedAt, IsBetween, IsNextUnresolved};
 
-use crate::run_state::TrackedCall;
+use crate::tracked_call::TrackedCall;
 use plain::{Text, copy_of};
 use std::alloc::{AllocError, Global};
 use std::marker::Model;
@@ -19,7 +19,7 @@ pub struct TrackedCalls {
 
 impl Model for TrackedCalls {
     ghost use Rattle.std.specs.Prelude.{List};
-    ghost use Rattle.vm_parts.specs.declared.run_state.TrackedCall.{TrackedCall};
+    ghost use Rattle.vm_parts.specs.declared.tracked_call.TrackedCall.{TrackedCall};
     ghost use Rattle.vm_parts.specs.Tracked.{IsTracking};
 
     ghost Value = { List TrackedCall };

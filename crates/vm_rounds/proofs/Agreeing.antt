@@ -6,7 +6,7 @@ use Rattle.std.proofs.lemmas.Option.{same_Some}
 use Rattle.journal_protocol.specs.InputCommand.{InputCommand}
 use Rattle.journal_protocol.specs.RawMessage.{RawMessage}
 use Rattle.vm_model.specs.Calls.{Meaning, Setup}
-use Rattle.vm_model.specs.Journal.{Entry, commands_in, notifications_in, input_read_from}
+use Rattle.journal_entries.specs.Journal.{Entry, commands_in, notifications_in, input_read_from}
 use Rattle.vm_model.specs.Moves.{Point}
 use Rattle.vm_model.specs.Histories.{Honest, Knowledge, OneBegins, Told}
 use Rattle.vm_model.specs.HonestRounds.{Attempted, IsToldOn}
@@ -17,7 +17,7 @@ use Rattle.vm_attempt.proofs.Replayed.{head_same}
 use Rattle.vm_store.specs.declared.types.Round.{Round}
 use Rattle.vm_store.specs.declared.types.Setting.{Setting}
 use Rattle.vm_rounds.specs.Courses.{attempt_of}
-use Rattle.vm_store.specs.Entries.{journal_entries}
+use Rattle.journal_entries.specs.Entries.{journal_entries}
 use Rattle.vm_rounds.specs.Rounds.{Agree, ReplaysAndQueues, ReportView, RoundDoes, RoundsDo, TellsAlong}
 use Rattle.vm_store.specs.States.{base_of}
 use Rattle.vm_store.specs.Worlds.{IsJournal, setup_of}
@@ -25,7 +25,7 @@ use Rattle.vm_rounds.specs.Sound.{IsSoundFor}
 use Rattle.vm_rounds.proofs.Rounding.{HandsOut, Lasts, entries_grow, hands_honest, round_gives, round_grows, round_honest, round_lasts, rounds_grow, sound_lasts}
 
 -- an attempt over a journal that has grown, and the answers over the journal before
-attempt_along : (s : Setup) (m : Meaning) (before more now : List Entry) (a : Attempted) → now ≡ before ++ more → (t : IsToldOn s m now a)
+pub attempt_along : (s : Setup) (m : Meaning) (before more now : List Entry) (a : Attempted) → now ≡ before ++ more → (t : IsToldOn s m now a)
     → (first : RawMessage) (input : InputCommand) (rest : List RawMessage) (p : Point) → commands_in before ≡ first ∷ rest → input_read_from first ≡ Some input → Told s m input (notifications_in before) rest p → OneBegins p.answers a.answers
 attempt_along s m before more now a grown t first input rest p begins reads told =
     let t' : IsToldOn s m (before ++ more) a = subst (λ j. IsToldOn s m j a) grown t in

@@ -10,7 +10,7 @@ use Rattle.vm_model.specs.Calls.{Meaning}
 use Rattle.vm_steps.specs.Record.{Record}
 use Rattle.vm_steps.specs.Stepping.{fresh_record}
 use Rattle.vm_store.specs.declared.types.Round.{Round}
-use Rattle.vm_store.specs.declared.types.RoundFault.{RoundFault}
+use Rattle.journal_entries.specs.declared.fault.RoundFault.{RoundFault}
 use Rattle.vm_store.specs.declared.types.Setting.{Setting}
 use Rattle.vm_rounds.specs.Rounds.{StaysShort, IsSupported, Ran, ReportView, RoundDoes, begin, new_now}
 use Rattle.vm_rounds.specs.Places.{FaultsAt, IsMemoryAside, RoundStops}
@@ -19,7 +19,7 @@ use Rattle.vm_store.specs.Worlds.{IsJournal, fixed_in, start_message}
 use Rattle.vm_rounds.proofs.Rounding.{short_all}
 use Rattle.vm_model.specs.Fixed.{Fixed, fixed_by}
 
-begun_is : (w : Setting) (round : Round) (old : List (List ℕ)) (alloc : Global) (waiting : List ℕ) (r : Record) → waiting ≡ encoding (start_message w round old) ++ concat old → r ≡ fresh_record (made alloc w.options w.version) → new_now w.version old waiting r ≡ begin alloc w round old
+pub begun_is : (w : Setting) (round : Round) (old : List (List ℕ)) (alloc : Global) (waiting : List ℕ) (r : Record) → waiting ≡ encoding (start_message w round old) ++ concat old → r ≡ fresh_record (made alloc w.options w.version) → new_now w.version old waiting r ≡ begin alloc w round old
 begun_is w round old alloc waiting r e f = λ i. new_now w.version old (e i) (f i)
 
 pub round_does : (m : Meaning) (w : Setting) (round : Round) (old : List (List ℕ)) (alloc : Global) (waiting : List ℕ) (r : Record) (version : Version) (options : VMOptions) (report : ReportView) (new : List (List ℕ)) → IsSupported w.version → IsWhole (start_message w round old) → HaveTextKeys (pairs_for w round old) → waiting ≡ encoding (start_message w round old) ++ concat old → r ≡ fresh_record (made alloc w.options w.version) → version ≡ w.version → options ≡ w.options → Ran (fixed_by m version options) round.events (new_now w.version old waiting r) report new → RoundDoes m w round old report new

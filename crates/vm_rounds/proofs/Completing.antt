@@ -9,17 +9,17 @@ use Rattle.journal_protocol.specs.Bodies.{message_in}
 use Rattle.journal_protocol.proofs.Facts.{type_read}
 use Rattle.journal_protocol.specs.Notification.{Notification}
 use Rattle.vm_parts.specs.declared.context.StateMap.{StateMap}
-use Rattle.vm_asks.specs.Carried.{carried_by, read_carried}
+use Rattle.journal_entries.specs.Carried.{carried_by, read_carried}
 use Rattle.vm_model.specs.Calls.{Meaning, Setup}
 use Rattle.vm_model.specs.Carried.{AreCarried, ComeOnce, is_id_among, is_carried, read_carries}
-use Rattle.vm_model.specs.Journal.{input_read_from, notifications_in}
+use Rattle.journal_entries.specs.Journal.{input_read_from, notifications_in}
 use Rattle.vm_model.specs.Histories.{History, Told}
-use Rattle.vm_model.proofs.Carried.{completions_once, input_carries, typed}
+use Rattle.vm_model.proofs.Carried.{completions_once, input_carries, typed, other_once}
 use Rattle.vm_attempt.proofs.Replayed.{commands_same, head_same, notes_same, tail_same}
-use Rattle.vm_store.specs.Entries.{journal_entries, journal_frames, notes_in}
+use Rattle.journal_entries.specs.Entries.{journal_entries, journal_frames, notes_in}
 use Rattle.vm_rounds.specs.Rounds.{CompletesOnce}
 use Rattle.vm_store.specs.Worlds.{IsJournal}
-use Rattle.vm_store.proofs.Framing.{notes_are}
+use Rattle.journal_entries.proofs.Framing.{notes_are}
 use Rattle.vm_rounds.proofs.Inputs.{input_type}
 use Rattle.vm_rounds.proofs.Once.{come_once}
 
@@ -53,3 +53,15 @@ completes_once s m base journal j h first input rest p begins reads told =
     let here : Told s m h.input ns h.rest p = subst (λ (x : InputCommand × List RawMessage). Told s m x.0 ns x.1 p) (λ i. (one i, tail i)) told in
     let carry : AreCarried ns (h.first ∷ h.rest) = subst (λ (x : List Notification × List RawMessage). AreCarried x.0 x.1) (λ i. (notes i, (sym (commands_same (journal_frames journal)) ∙ h.begins) i)) j.carried in
     completions_once s m here.0 h.told.0 h.input ns h.rest p h.at here.1 h.told.1 h.uses_all (subst ComeOnce notes (come_once (notes_in journal) j.once)) (carried_behind ns h.first h.input h.rest h.reads carry)
+
+-- so it is at the points of another handler's run, if the journal is a history of some handler
+pub completes_once_too : (s : Setup) (m other : Meaning) (base : StateMap) (journal : List (List ℕ)) → IsJournal journal → History s m base (journal_entries journal) → CompletesOnce s other (journal_entries journal)
+completes_once_too s m other base journal j h first input rest p begins reads told =
+    let ns = notifications_in (journal_entries journal) in
+    let notes : notes_in journal ≡ ns = notes_are journal ∙ sym (notes_same (journal_frames journal)) in
+    let head : first ≡ h.first = head_same first h.first rest h.rest (sym begins ∙ h.begins) in
+    let tail : rest ≡ h.rest = tail_same first h.first rest h.rest (sym begins ∙ h.begins) in
+    let one : input ≡ h.input = same_Some input h.input (sym reads ∙ ap input_read_from head ∙ h.reads) in
+    let here : Told s other h.input ns h.rest p = subst (λ (x : InputCommand × List RawMessage). Told s other x.0 ns x.1 p) (λ i. (one i, tail i)) told in
+    let carry : AreCarried ns (h.first ∷ h.rest) = subst (λ (x : List Notification × List RawMessage). AreCarried x.0 x.1) (λ i. (notes i, (sym (commands_same (journal_frames journal)) ∙ h.begins) i)) j.carried in
+    other_once s m other h.input ns h.rest here.0 h.told.0 p h.at here.1 h.told.1 h.uses_all (subst ComeOnce notes (come_once (notes_in journal) j.once)) (carried_behind ns h.first h.input h.rest h.reads carry)

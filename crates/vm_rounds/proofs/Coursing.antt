@@ -6,18 +6,18 @@ use Rattle.std.proofs.lemmas.List.Folds.{concat-append}
 use Rattle.std.proofs.lemmas.Bool.{cases_lt}
 use Rattle.journal_protocol.specs.RawMessage.{RawMessage}
 use Rattle.journal_protocol.specs.Notification.{Notification}
-use Rattle.invocation_vm.specs.Frames.{Tail, frames_of}
-use Rattle.invocation_vm.proofs.Cuts.{frames_of-append}
+use Rattle.journal_entries.specs.Frames.{Tail, frames_of}
+use Rattle.journal_entries.proofs.Cuts.{frames_of-append}
 use Rattle.vm_model.specs.Calls.{Meaning}
 use Rattle.vm_model.specs.Histories.{IsPrefix, after_head}
 use Rattle.vm_model.specs.HonestRounds.{ahead_of}
-use Rattle.vm_model.specs.Journal.{Entry, Recorded, Notified, commands_in, notifications_in}
+use Rattle.journal_entries.specs.Journal.{Entry, Recorded, Notified, commands_in, notifications_in}
 use Rattle.vm_model.proofs.Lasting.{commands-append, notifications-append}
 use Rattle.journal_protocol.specs.Version.{Version}
-use Rattle.vm_parts.specs.declared.run_state.KeptProposal.{KeptProposal}
+use Rattle.journal_entries.specs.declared.proposals.KeptProposal.{KeptProposal}
 use Rattle.vm_attempt.specs.Arrivals.{AllFound, arriving, kept_after, kept_behind}
 use Rattle.vm_steps.specs.Heard.{acknowledged_from, proposals_among}
-use Rattle.vm_model.specs.JournalFrames.{commands_among}
+use Rattle.journal_entries.specs.JournalFrames.{commands_among}
 use Rattle.vm_steps.specs.Record.{Record, bytes_written, heard}
 use Rattle.vm_steps.specs.Stepping.{output_taken}
 use Rattle.vm_attempt.specs.Told.{arrivals_of, bytes_in, frames_fed, written_by}
@@ -28,10 +28,10 @@ use Rattle.vm_attempt.proofs.Replayed.{commands_same, notes_same}
 use Rattle.vm_store.specs.declared.types.Event.{Event}
 use Rattle.vm_store.specs.declared.types.Event.TheVariants as event
 use Rattle.vm_rounds.specs.Courses.{brought_by, course_of, delivered, new_in}
-use Rattle.vm_store.specs.Entries.{journal_entries, journal_frames, notes_in}
+use Rattle.journal_entries.specs.Entries.{journal_entries, journal_frames, notes_in}
 use Rattle.vm_rounds.specs.Rounds.{Happen, Happens, Now, Pieces, StepHappens, StepsHappen}
 use Rattle.vm_store.specs.Worlds.{IsJournal}
-use Rattle.vm_store.proofs.Framing.{AreFrames, entries_append, join, journal_acknowledges, journal_framed, notes_are}
+use Rattle.journal_entries.proofs.Framing.{AreFrames, entries_append, join, journal_acknowledges, journal_framed, notes_are}
 use Rattle.vm_rounds.proofs.Going.{IsOpen, Stepped, Takes, closes, fed, finishes, prefix_then, same_prefix, stepped}
 use Rattle.vm_rounds.proofs.Keeping.{Going, event_keeps, one_note}
 use Rattle.vm_rounds.proofs.Once.{is_new}

@@ -1,5 +1,5 @@
 -- Storing what an attempt wrote has no fault but out of memory or a full journal: event by event, and round by round.
-use Rattle.std.proofs.Common.{◌≡◌, ◌⊎◌, inl, inr, ⊎_elim, ℕ, ◌≤◌, Bool, true, false, List, [], ◌∷◌, ◌++◌, length, map, take, Some, None, refl, sym, ap, ◌∙◌, subst, append_assoc, append-nil, arith}
+use Rattle.std.proofs.Common.{◌≡◌, ◌⊎◌, inl, inr, ⊎_elim, ℕ, ◌≤◌, Bool, true, false, List, [], ◌∷◌, ◌++◌, length, map, take, Option, Some, None, Ok, refl, sym, ap, ◌∙◌, subst, append_assoc, append-nil, arith}
 use Rattle.std.specs.Prelude.{◌||◌}
 use Rattle.std.specs.List.{AllByRecursion, concat, flat_map}
 use Rattle.std.proofs.lemmas.Grind.{flat_map-append}
@@ -11,24 +11,24 @@ use Rattle.journal_protocol.specs.Frames.{IsWhole, encoding}
 use Rattle.journal_protocol.specs.Bodies.{start_in}
 use Rattle.journal_protocol.specs.Notification.{Notification}
 use Rattle.journal_protocol.specs.NotificationId.TheVariants.{CompletionId}
-use Rattle.invocation_vm.specs.Frames.{Tail, frames_of}
+use Rattle.journal_entries.specs.Frames.{Tail, frames_of}
 use Rattle.invocation_vm.specs.Making.{made}
 use Rattle.vm_types.specs.declared.options.VMOptions.{VMOptions}
 use Rattle.vm_parts.specs.declared.context.StateMap.{StateMap}
 use Rattle.vm_parts.specs.Deliveries.{is_known}
 use Rattle.vm_parts.specs.Outboxes.{WholeFrames}
-use Rattle.vm_asks.specs.Carried.{all_carried}
+use Rattle.journal_entries.specs.Carried.{all_carried}
 use Rattle.vm_machine.specs.declared.machine.Machine.{Machine}
 use Rattle.vm_machine.specs.Commands.{knows_next}
 use Rattle.vm_model.specs.Calls.{Meaning, Setup, ready_by_usage}
-use Rattle.vm_model.specs.Histories.{Handed, History, IsPrefix, Made}
-use Rattle.vm_model.specs.Journal.{notifications_in, stored_form}
+use Rattle.vm_model.specs.Histories.{Handed, History, Made}
+use Rattle.journal_entries.specs.Journal.{notifications_in, stored_form}
 use Rattle.vm_model.specs.Moves.{Point, after, start as first_point}
 use Rattle.vm_model.proofs.Compared.{wrote_left}
 use Rattle.vm_model.proofs.Runs.{made_after}
 use Rattle.vm_model.proofs.Uses.{commands_used}
 use Rattle.vm_attempt.specs.Honest.{frame_bytes}
-use Rattle.vm_model.specs.JournalFrames.{commands_among, notified_by}
+use Rattle.journal_entries.specs.JournalFrames.{commands_among, notified_by}
 use Rattle.vm_attempt.specs.Journals.{setup_for}
 use Rattle.vm_attempt.specs.Told.{BeforeInput, HasCome, IsKept, IsLive, HandlerRuns, Wrote}
 use Rattle.vm_attempt.proofs.Advanced.{made_new}
@@ -37,24 +37,31 @@ use Rattle.vm_attempt.proofs.Numbers.{carried_append}
 use Rattle.vm_attempt.proofs.Pieces.{commands_append}
 use Rattle.vm_attempt.proofs.Replayed.{commands_same, notes_same}
 use Rattle.vm_attempt.proofs.Written.{Fits, frames_spelled, taken_first, written_is}
-use Rattle.vm_steps.specs.Record.{heard}
-use Rattle.vm_steps.specs.Stepping.{fresh_record, output_taken}
+use Rattle.vm_steps.specs.Record.{Record, heard}
+use Rattle.vm_steps.specs.Stepping.{StepDoes, fresh_record, output_taken}
 use Rattle.vm_store.specs.declared.types.Event.{Event}
 use Rattle.vm_store.specs.declared.types.Event.TheVariants as event
 use Rattle.vm_store.specs.declared.types.Round.{Round}
-use Rattle.vm_store.specs.declared.types.RoundFault.{RoundFault}
-use Rattle.vm_store.specs.declared.types.RoundFault.TheVariants as round_fault
+use Rattle.journal_entries.specs.declared.fault.RoundFault.{RoundFault}
+use Rattle.journal_entries.specs.declared.fault.RoundFault.TheVariants as round_fault
 use Rattle.vm_store.specs.declared.types.Setting.{Setting}
-use Rattle.vm_store.specs.Arrivals.{arrival_fault, completes_id}
-use Rattle.vm_store.specs.Entries.{journal_entries, journal_frames, notes_in}
+use Rattle.journal_entries.specs.Arrivals.{arrival_fault, completes_id}
+use Rattle.journal_entries.specs.Entries.{journal_entries, journal_frames, notes_in}
 use Rattle.vm_store.specs.States.{base_of}
-use Rattle.vm_store.specs.Storing.{FirstFault, Stores, written_among}
+use Rattle.journal_entries.specs.Storing.{FirstFault, Stores, written_among}
 use Rattle.vm_store.specs.Worlds.{IsJournal, fixed_in, setup_of, start_for}
-use Rattle.vm_store.proofs.Framing.{AreFrames, frames_append, front_grows, in_front, notes_append, notes_are}
-use Rattle.vm_store.proofs.Scanned.{written_append}
+use Rattle.journal_entries.proofs.Framing.{AreFrames, frames_append, front_grows, in_front, notes_append, notes_are}
+use Rattle.journal_entries.proofs.Scanned.{written_append}
 use Rattle.vm_rounds.specs.Courses.{delivered, start_handed}
-use Rattle.vm_rounds.specs.Rounds.{ArrivalHas, ArrivalsFault, ArrivesAmong, AttemptFaults, ComesFromOutside, Fault, HappenFaults, Happens, Now, Pieces, RefusedFaults, ReplaysAndQueues, ReportView, RoundDoes, RoundFaults, RoundsFault, StepHappens, StepsHappen, begin}
+use Rattle.vm_rounds.specs.declared.placed.PlacedFault.{PlacedFault}
+use Rattle.vm_rounds.specs.Places.{RoundStops, RoundsStop, StopsOutside}
+use Rattle.vm_rounds.specs.Rounds.{AttemptFaults, AttemptFaultsBy, Fault, Faults, Happen, HappenFaults, HappenFaultsBy, Happens, Now, OutsideFault, Pieces, RefusedFaults, ReplaysAndQueues, ReportView, RoundDoes, RoundFaults, RoundFaultsBy, RoundsFault, RoundsFaultBy, StepHappens, StepsHappen, begin}
+use Rattle.vm_rounds.specs.Executing.{Executes, IsUnfinished}
 use Rattle.vm_rounds.specs.Sound.{IsSoundFor}
+use Rattle.vm_rounds.proofs.Unfinished.{FreeRun, events_none, pending_free, steps_none}
+use Rattle.await_trees.specs.declared.handle.NotificationHandle.{NotificationHandle}
+use Rattle.vm_steps.specs.declared.progress.Progress.TheVariants as progress
+use Rattle.vm_attempt.proofs.Executing.{ExecutesNone, step_hands}
 use Rattle.vm_rounds.proofs.Completing.{input_carries_none}
 use Rattle.vm_rounds.proofs.Keeping.{Going, event_keeps, one_note}
 use Rattle.vm_rounds.proofs.Known.{unknown_open}
@@ -63,7 +70,7 @@ use Rattle.vm_rounds.proofs.Pending.{ArePending, ProposeWell, ids_join, propose_
 use Rattle.vm_rounds.proofs.Proposing.{Knows, KnowsLive, Proposes, all_sent, close_proposes, feed_proposes, finish_proposes, items, next_of, step_proposes, take_proposes}
 use Rattle.vm_rounds.proofs.Repeating.{steps_keep}
 use Rattle.vm_rounds.proofs.Rising.{Rises, rises_front, told_rises}
-use Rattle.vm_rounds.proofs.Rounding.{begun, round_grows, start_framed, start_reads, stays_sound}
+use Rattle.vm_rounds.proofs.Rounding.{begun, round_grows, rounds_grow, start_framed, start_reads, stays_sound}
 use Rattle.vm_rounds.proofs.Running.{event_runs, there}
 use Rattle.vm_rounds.proofs.RunsCalled.{run_ids}
 use Rattle.vm_rounds.proofs.Settled.{are_items, command_in, commands_are}
@@ -350,47 +357,32 @@ module _ (m : Meaning) (w : Setting) (begin_bytes : List ℕ) (raw : RawMessage)
         stored = event_stored e now mid d x;
       }
 
-  -- a fault is out of memory, or that of a full journal, or of an arrival among these events, on a journal that begins with the old one
-  abbrev Blames : List Event → RoundFault → Type 0
-  Blames es f = (f ≡ round_fault.Memory) ⊎ ((f ≡ round_fault.JournalFull) ⊎ ((entry : List ℕ) × ArrivesAmong entry es × (journal : List (List ℕ)) × IsPrefix old journal × (arrival_fault entry journal ≡ Some f)))
+  -- an event's fault comes from outside
+  fault_outside : (e : Event) (now : Now) (f : RoundFault) → IsWell now → Fault e now f → OutsideFault e now f
+  fault_outside (event.Piece n) now f x h = h
+  fault_outside event.Close now f x h = h
+  fault_outside event.Step now f x h = h
+  fault_outside (event.Steps n) now f x h = h
+  fault_outside (event.RunResult handle exit policy) now f x h = h
+  fault_outside (event.Arrive entry) now f x h = h
+  fault_outside (event.Store n) now f x h =
+      storing_full w.version ns past.first n (unseen now) now.journal (stored_commands x.stored.seen) (proposed_ids (written_among x.stored.seen)) f (stands now x.going x.kept x.stored x.proposes h.1)
+      (subst (λ v. FirstFault v (take n (written_among (unseen now))) now.journal f) x.going.made_for h.0)
 
-  fault_blames : (e : Event) (es : List Event) (now : Now) (f : RoundFault) → IsWell now → Fault e now f → Blames (e ∷ es) f
-  fault_blames (event.Piece n) es now f x h = absurd h
-  fault_blames event.Close es now f x h = absurd h
-  fault_blames event.Step es now f x h = absurd h
-  fault_blames (event.Steps n) es now f x h = absurd h
-  fault_blames (event.RunResult handle exit policy) es now f x h = absurd h
-  fault_blames (event.Arrive entry) es now f x h = inr (inr (entry, inl refl, now.journal, (x.going.added, x.going.extends), h))
-  fault_blames (event.Store n) es now f x h =
-      inr (inl (storing_full w.version ns past.first n (unseen now) now.journal (stored_commands x.stored.seen) (proposed_ids (written_among x.stored.seen)) f (stands now x.going x.kept x.stored x.proposes h.1)
-      (subst (λ v. FirstFault v (take n (written_among (unseen now))) now.journal f) x.going.made_for h.0)))
+  faults_outside : (e : Event) (now : Now) (f : RoundFault) → IsWell now → Faults e now f → (f ≡ round_fault.Memory) ⊎ OutsideFault e now f
+  faults_outside e now f x = ⊎_elim (λ (z : f ≡ round_fault.Memory). inl z) (λ (z : Fault e now f). inr (fault_outside e now f x z))
 
-  later_among : (e : Event) (es : List Event) (entry : List ℕ) → ArrivesAmong entry es → ArrivesAmong entry (e ∷ es)
-  later_among (event.Piece n) es entry h = h
-  later_among event.Close es entry h = h
-  later_among event.Step es entry h = h
-  later_among (event.Steps n) es entry h = h
-  later_among (event.RunResult handle exit policy) es entry h = h
-  later_among (event.Arrive x) es entry h = inr h
-  later_among (event.Store n) es entry h = h
-
-  later_blames : (e : Event) (es : List Event) (f : RoundFault) → Blames es f → Blames (e ∷ es) f
-  later_blames e es f =
+  events_outside : (es : List Event) (now : Now) (f : RoundFault) → IsWell now → HappenFaults m es now f → HappenFaultsBy OutsideFault m es now f
+  events_outside [] now f x h = h
+  events_outside (e ∷ es) now f x h =
       ⊎_elim
-      (λ (x : f ≡ round_fault.Memory). inl x)
-      (λ (o : (f ≡ round_fault.JournalFull) ⊎ ((entry : List ℕ) × ArrivesAmong entry es × (journal : List (List ℕ)) × IsPrefix old journal × (arrival_fault entry journal ≡ Some f))).
-      ⊎_elim
-      (λ (x : f ≡ round_fault.JournalFull). inr (inl x))
-      (λ (x : (entry : List ℕ) × ArrivesAmong entry es × (journal : List (List ℕ)) × IsPrefix old journal × (arrival_fault entry journal ≡ Some f)). inr (inr (x.0, later_among e es x.0 x.1, x.2, x.3, x.4)))
-      o)
-
-  events_blame : (es : List Event) (now : Now) (f : RoundFault) → IsWell now → HappenFaults m es now f → Blames es f
-  events_blame [] now f x h = absurd h
-  events_blame (e ∷ es) now f x h =
-      ⊎_elim
-      (λ (o : (f ≡ round_fault.Memory) ⊎ Fault e now f). ⊎_elim (λ (z : f ≡ round_fault.Memory). inl z) (λ (z : Fault e now f). fault_blames e es now f x z) o)
-      (λ (o : (mid : Now) × Happens m e now mid × HappenFaults m es mid f). later_blames e es f (events_blame es o.0 f (event_well e now o.0 o.1 x) o.2))
+      (λ (o : Faults e now f). inl (faults_outside e now f x o))
+      (λ (o : (mid : Now) × Happens m e now mid × HappenFaults m es mid f). inr (o.0, o.1, events_outside es o.0 f (event_well e now o.0 o.1 x) o.2))
       h
+
+  events_well : (es : List Event) (now end : Now) → Happen m es now end → IsWell now → IsWell end
+  events_well [] now end h x = subst IsWell (sym h) x
+  events_well (e ∷ es) now end (mid, first, more) x = events_well es mid end more (event_well e now mid first x)
 
   -- a round begins with nothing written
   begins_well : (now : Now) → Going w.version begin_bytes old now → Kept now → HasCome (fixed_in m w) now.attempt → now.journal ≡ old → now.output ≡ [] → now.unstored ≡ [] → now.attempt.taken ≡ [] → now.attempt.vm.machine.output ≡ [] → now.attempt.vm.machine.runs ≡ [] → IsWell now
@@ -419,84 +411,84 @@ module _ (m : Meaning) (w : Setting) (begin_bytes : List ℕ) (raw : RawMessage)
     };
   }
 
-  round_blames : (es : List Event) (now : Now) (f : RoundFault) → Going w.version begin_bytes old now → Kept now → HasCome (fixed_in m w) now.attempt → now.journal ≡ old → now.output ≡ [] → now.unstored ≡ [] → now.attempt.taken ≡ [] → now.attempt.vm.machine.output ≡ [] → now.attempt.vm.machine.runs ≡ [] → HappenFaults m es now f → Blames es f
-  round_blames es now f g kept came_so journal output unstored taken nothing runs h = events_blame es now f (begins_well now g kept came_so journal output unstored taken nothing runs) h
+  round_outside : (es : List Event) (now : Now) (f : RoundFault) → Going w.version begin_bytes old now → Kept now → HasCome (fixed_in m w) now.attempt → now.journal ≡ old → now.output ≡ [] → now.unstored ≡ [] → now.attempt.taken ≡ [] → now.attempt.vm.machine.output ≡ [] → now.attempt.vm.machine.runs ≡ [] → HappenFaults m es now f → HappenFaultsBy OutsideFault m es now f
+  round_outside es now f g kept came_so journal output unstored taken nothing runs h = events_outside es now f (begins_well now g kept came_so journal output unstored taken nothing runs) h
+
+  place_outside : (es : List Event) (now : Now) (e : Event) (end : Now) (f : RoundFault) → Going w.version begin_bytes old now → Kept now → HasCome (fixed_in m w) now.attempt → now.journal ≡ old → now.output ≡ [] → now.unstored ≡ [] → now.attempt.taken ≡ [] → now.attempt.vm.machine.output ≡ [] → now.attempt.vm.machine.runs ≡ [] → Happen m es now end → Faults e end f → (f ≡ round_fault.Memory) ⊎ OutsideFault e end f
+  place_outside es now e end f g kept came_so journal output unstored taken nothing runs h faults = faults_outside e end f (events_well es now end h (begins_well now g kept came_so journal output unstored taken nothing runs)) faults
+
+  -- a run that is handed out has no result in the journal with which the round began
+  executes_free : (es : List Event) (now mid end : Now) (n : ℕ) (new : Record) (handle : NotificationHandle) → Going w.version begin_bytes old now → Kept now → HasCome (fixed_in m w) now.attempt → now.journal ≡ old → now.output ≡ [] → now.unstored ≡ [] → now.attempt.taken ≡ [] → now.attempt.vm.machine.output ≡ [] → now.attempt.vm.machine.runs ≡ [] → ExecutesNone now.attempt.over
+      → Happen m es now mid → StepsHappen m n mid end → StepDoes m end.attempt (Ok (progress.ExecuteRun handle)) new → FreeRun handle new.vm.machine.runs ns
+  executes_free es now mid end n new handle g kept came_so journal output unstored taken nothing runs none happen further does =
+      let well = steps_well n mid end further (events_well es now mid happen (begins_well now g kept came_so journal output unstored taken nothing runs)) in
+      let out = (step_hands m end.attempt (Ok (progress.ExecuteRun handle)) new does).out handle refl (steps_none m n mid end further (events_none m es now mid happen none)) in
+      let x = step_proposes ns past.rest m end.attempt (Ok (progress.ExecuteRun handle)) new well.proposes (knows_live end well.going well.kept) does in
+      pending_free (next_of new.vm.machine) ns (past.rest ++ flat_map command_in (items (x.sent ++ x.waiting))) (proposed_ids (items (x.sent ++ x.waiting))) new.vm.machine.runs handle (x.sound.pending out.3) out.2
 
 -- ---- rounds
 
--- a round's fault comes from outside
-abbrev RoundBlames : List (List ℕ) → List Event → RoundFault → Type 0
-RoundBlames old es f = (f ≡ round_fault.Memory) ⊎ ((f ≡ round_fault.JournalFull) ⊎ ((entry : List ℕ) × ArrivesAmong entry es × (journal : List (List ℕ)) × IsPrefix old journal × (arrival_fault entry journal ≡ Some f)))
-
-attempt_blames : (m : Meaning) (w : Setting) (round : Round) (old : List (List ℕ)) (f : RoundFault) → IsJournal old → IsSoundFor m w old → AttemptFaults m w round old f → RoundBlames old round.events f
-attempt_blames m w round old f j h d =
+-- the fault of a round with its attempt
+attempt_outside : (m : Meaning) (w : Setting) (round : Round) (old : List (List ℕ)) (f : RoundFault) → IsJournal old → IsSoundFor m w old → AttemptFaults m w round old f → AttemptFaultsBy OutsideFault m w round old f
+attempt_outside m w round old f j h d =
     let st = start_for w round old in
     let bytes = encoding (message.Start st) in
     let r = fresh_record (made d.alloc w.options w.version) in
-    round_blames m w bytes (stored_form (message.Start st)) st old j (start_framed st d.start) (start_reads st d.start) refl (setup_of w) refl (base_of w) h.history.history h.replays round.events (begin d.alloc w round old) f
-    (begun w.version bytes old r j refl refl refl refl) (inl (made_new d.alloc (fixed_in m w))) (made_comes d.alloc (fixed_in m w)) refl refl refl refl refl refl d.faults
+    record {
+      alloc = d.alloc;
+      speaks = d.speaks;
+      start = d.start;
+      faults = round_outside m w bytes (stored_form (message.Start st)) st old j (start_framed st d.start) (start_reads st d.start) refl (setup_of w) refl (base_of w) h.history.history h.replays round.events (begin d.alloc w round old) f
+          (begun w.version bytes old r j refl refl refl refl) (inl (made_new d.alloc (fixed_in m w))) (made_comes d.alloc (fixed_in m w)) refl refl refl refl refl refl d.faults;
+    }
 
-arrivals_blame : (old : List (List ℕ)) (es : List Event) (journal : List (List ℕ)) (f : RoundFault) → IsPrefix old journal → ArrivalsFault es journal f → RoundBlames old es f
-arrivals_blame old [] journal f front h = absurd h
-arrivals_blame old (event.Piece n ∷ es) journal f front h = arrivals_blame old es journal f front h
-arrivals_blame old (event.Close ∷ es) journal f front h = arrivals_blame old es journal f front h
-arrivals_blame old (event.Step ∷ es) journal f front h = arrivals_blame old es journal f front h
-arrivals_blame old (event.Steps n ∷ es) journal f front h = arrivals_blame old es journal f front h
-arrivals_blame old (event.RunResult handle exit policy ∷ es) journal f front h = arrivals_blame old es journal f front h
-arrivals_blame old (event.Store n ∷ es) journal f front h = arrivals_blame old es journal f front h
-arrivals_blame old (event.Arrive x ∷ es) journal f front h =
-    ⊎_elim
-    (λ (o : (f ≡ round_fault.Memory) ⊎ (arrival_fault x journal ≡ Some f)). ⊎_elim (λ (z : f ≡ round_fault.Memory). inl z) (λ (z : arrival_fault x journal ≡ Some f). inr (inr (x, inl refl, journal, front, z))) o)
-    (λ (o : (arrival_fault x journal ≡ None) × ArrivalsFault es (journal ++ x ∷ []) f).
-    more (arrivals_blame old es (journal ++ x ∷ []) f (front.0 ++ x ∷ [], ap (λ l. l ++ x ∷ []) front.1 ∙ append_assoc old front.0 (x ∷ [])) o.1))
-    h
-  where
-    more : RoundBlames old es f → RoundBlames old (event.Arrive x ∷ es) f
-    more = ⊎_elim
-        (λ (z : f ≡ round_fault.Memory). inl z)
-        (λ (o : (f ≡ round_fault.JournalFull) ⊎ ((entry : List ℕ) × ArrivesAmong entry es × (journal : List (List ℕ)) × IsPrefix old journal × (arrival_fault entry journal ≡ Some f))).
-        ⊎_elim
-        (λ (z : f ≡ round_fault.JournalFull). inr (inl z))
-        (λ (z : (entry : List ℕ) × ArrivesAmong entry es × (journal : List (List ℕ)) × IsPrefix old journal × (arrival_fault entry journal ≡ Some f)). inr (inr (z.0, inr z.1, z.2, z.3, z.4)))
-        o)
+-- the event at which a round with its attempt is stopped
+pub stops_outside : (m : Meaning) (w : Setting) (round : Round) (old : List (List ℕ)) (place : Option ℕ) (f : RoundFault) → IsJournal old → IsSoundFor m w old → (s : RoundStops m w round old place f) → StopsOutside m w round old place f s
+stops_outside m w round old place f j h (inl aside) = tt
+stops_outside m w round old place f j h (inr (inl d)) =
+    let st = start_for w round old in
+    let bytes = encoding (message.Start st) in
+    let r = fresh_record (made d.alloc w.options w.version) in
+    place_outside m w bytes (stored_form (message.Start st)) st old j (start_framed st d.start) (start_reads st d.start) refl (setup_of w) refl (base_of w) h.history.history h.replays d.stops.before (begin d.alloc w round old) d.stops.event d.stops.now f
+    (begun w.version bytes old r j refl refl refl refl) (inl (made_new d.alloc (fixed_in m w))) (made_comes d.alloc (fixed_in m w)) refl refl refl refl refl refl d.stops.happen d.stops.faults
+stops_outside m w round old place f j h (inr (inr d)) = tt
 
-round_blames_all : (m : Meaning) (w : Setting) (round : Round) (old : List (List ℕ)) (f : RoundFault) → IsJournal old → IsSoundFor m w old → RoundFaults m w round old f → RoundBlames old round.events f
-round_blames_all m w round old f j h =
+round_outside_all : (m : Meaning) (w : Setting) (round : Round) (old : List (List ℕ)) (f : RoundFault) → IsJournal old → IsSoundFor m w old → RoundFaults m w round old f → RoundFaultsBy OutsideFault m w round old f
+round_outside_all m w round old f j h =
     ⊎_elim
     (λ (x : f ≡ round_fault.Memory). inl x)
     (λ (o : AttemptFaults m w round old f ⊎ RefusedFaults w round old f).
-    ⊎_elim
-    (λ (x : AttemptFaults m w round old f). attempt_blames m w round old f j h x)
-    (λ (x : RefusedFaults w round old f). arrivals_blame old round.events old f ([], sym (append-nil old)) x.faults)
-    o)
-
--- a round's fault, as one of the rounds
-from_round : (old : List (List ℕ)) (round : Round) (rounds : List Round) (f : RoundFault) → RoundBlames old round.events f → ComesFromOutside (round ∷ rounds) old f
-from_round old round rounds f = ⊎_elim
-    (λ (x : f ≡ round_fault.Memory). inl x)
-    (λ (o : (f ≡ round_fault.JournalFull) ⊎ ((entry : List ℕ) × ArrivesAmong entry round.events × (journal : List (List ℕ)) × IsPrefix old journal × (arrival_fault entry journal ≡ Some f))).
-    ⊎_elim
-    (λ (x : f ≡ round_fault.JournalFull). inr (inl x))
-    (λ (x : (entry : List ℕ) × ArrivesAmong entry round.events × (journal : List (List ℕ)) × IsPrefix old journal × (arrival_fault entry journal ≡ Some f)). inr (inr (record { entry = x.0; arrives = inl x.1; journal = x.2; extends = x.3; fault = x.4 })))
-    o)
-
-from_later : (old mid added : List (List ℕ)) (round : Round) (rounds : List Round) (f : RoundFault) → mid ≡ old ++ added → ComesFromOutside rounds mid f → ComesFromOutside (round ∷ rounds) old f
-from_later old mid added round rounds f grown = ⊎_elim
-    (λ (x : f ≡ round_fault.Memory). inl x)
-    (λ (o : (f ≡ round_fault.JournalFull) ⊎ ArrivalHas rounds mid f).
-    ⊎_elim
-    (λ (x : f ≡ round_fault.JournalFull). inr (inl x))
-    (λ (x : ArrivalHas rounds mid f). inr (inr (record { entry = x.entry; arrives = inr x.arrives; journal = x.journal; extends = (added ++ x.extends.0, x.extends.1 ∙ ap (λ l. l ++ x.extends.0) grown ∙ append_assoc old added x.extends.0); fault = x.fault })))
-    o)
+    inr (⊎_elim
+    (λ (x : AttemptFaults m w round old f). inl (attempt_outside m w round old f j h x))
+    (λ (x : RefusedFaults w round old f). inr x)
+    o))
 
 -- Of rounds over a journal that can be replayed each fault comes from outside.
-pub faults_come_from_outside : (m : Meaning) (w : Setting) (rounds : List Round) (old : List (List ℕ)) (f : RoundFault) → IsJournal old → IsSoundFor m w old → RoundsFault m w rounds old f → ComesFromOutside rounds old f
-faults_come_from_outside m w [] old f j h d = inl d
+pub faults_come_from_outside : (m : Meaning) (w : Setting) (rounds : List Round) (old : List (List ℕ)) (f : RoundFault) → IsJournal old → IsSoundFor m w old → RoundsFault m w rounds old f → RoundsFaultBy OutsideFault m w rounds old f
+faults_come_from_outside m w [] old f j h d = d
 faults_come_from_outside m w (q ∷ qs) old f j h d =
     ⊎_elim
-    (λ (x : RoundFaults m w q old f). from_round old q qs f (round_blames_all m w q old f j h x))
+    (λ (x : RoundFaults m w q old f). inl (round_outside_all m w q old f j h x))
     (λ (x : (mid : List (List ℕ)) × (report : ReportView) × RoundDoes m w q old report mid × RoundsFault m w qs mid f).
     let g = round_grows m w q old x.1 x.0 j x.2 in
     let on = stays_sound m w (q ∷ []) old (x.1 ∷ []) x.0 j (x.0, x.1, [], refl, x.2, (refl, refl)) h in
-    from_later old x.0 g.added q qs f g.extends (faults_come_from_outside m w qs x.0 f g.journal on x.3))
+    inr (x.0, x.1, x.2, faults_come_from_outside m w qs x.0 f g.journal on x.3))
     d
+
+-- So does the fault at the place where they are stopped.
+pub stops_come_from_outside : (m : Meaning) (w : Setting) (rounds : List Round) (old : List (List ℕ)) (reports : List ReportView) (at : PlacedFault) → IsJournal old → IsSoundFor m w old → (s : RoundsStop m w rounds old reports at) → StopsOutside m w s.round s.journal at.event at.fault s.stops
+stops_come_from_outside m w rounds old reports at j h s =
+    let g = rounds_grow m w s.before old reports s.journal j s.ended in
+    stops_outside m w s.round s.journal at.event at.fault g.journal (stays_sound m w s.before old reports s.journal j s.ended h) s.stops
+
+-- ---- what is executed
+
+-- A run that rounds execute has no result in the journal with which its round began.
+pub executes_unfinished : (m : Meaning) (w : Setting) (round : Round) (old : List (List ℕ)) (handle : NotificationHandle) → IsJournal old → IsSoundFor m w old → (x : Executes m w round old handle) → IsUnfinished handle x.new.vm.machine.runs old
+executes_unfinished m w round old handle j h d =
+    let st = start_for w round old in
+    let bytes = encoding (message.Start st) in
+    let r = fresh_record (made d.alloc w.options w.version) in
+    let x = executes_free m w bytes (stored_form (message.Start st)) st old j (start_framed st d.start) (start_reads st d.start) refl (setup_of w) refl (base_of w) h.history.history h.replays d.before (begin d.alloc w round old) d.mid d.now d.steps d.new handle
+    (begun w.version bytes old r j refl refl refl refl) (inl (made_new d.alloc (fixed_in m w))) (made_comes d.alloc (fixed_in m w)) refl refl refl refl refl refl tt d.happen d.further d.hands in
+    record { before = x.0; run = x.1; behind = x.2; split = x.3; named = x.4; free = x.5 }

@@ -14,9 +14,9 @@ use Rattle.journal_protocol.specs.RawMessage.{RawMessage}
 use Rattle.journal_protocol.specs.Bodies.{acknowledgement_in, notification_in, start_in}
 use Rattle.journal_protocol.specs.Notification.{Notification}
 use Rattle.runs.specs.Kept.{is_for}
-use Rattle.invocation_vm.specs.Frames.{Garbage, frames_of}
+use Rattle.journal_entries.specs.Frames.{Garbage, frames_of}
 use Rattle.vm_parts.specs.declared.context.StateMap.{StateMap}
-use Rattle.vm_parts.specs.declared.run_state.KeptProposal.{KeptProposal}
+use Rattle.journal_entries.specs.declared.proposals.KeptProposal.{KeptProposal}
 use Rattle.vm_machine.specs.declared.phase.Phase.{Phase}
 use Rattle.vm_machine.specs.declared.phase.Phase.TheVariants.{WaitingStart, WaitingReplayEntries, Replaying, Processing, Closed}
 use Rattle.vm_machine.specs.Inputs.{coverage_of, entries_in}
@@ -24,14 +24,14 @@ use Rattle.vm_model.specs.Calls.{Setup}
 use Rattle.vm_model.specs.Carried.{AreOfTheirKind}
 use Rattle.vm_model.specs.Deliveries.{HasNoTwo}
 use Rattle.vm_model.specs.Histories.{Handed, History, Made, after_head}
-use Rattle.vm_model.specs.Journal.{input_read_from, notifications_in}
+use Rattle.journal_entries.specs.Journal.{input_read_from, notifications_in}
 use Rattle.vm_model.specs.Moves.{Point, later, start as first_point}
 use Rattle.vm_model.proofs.RightKinds.{fewer_kinds}
 use Rattle.vm_model.proofs.Runs.{made_later}
 use Rattle.vm_attempt.specs.Arrivals.{AllFound, FindsProposal, IsOfKept, arriving, kept_after, kept_behind}
 use Rattle.vm_attempt.specs.Blames.{IsHonest, Place, fault_by, phase_fault, kept_fault, notification_fault, acknowledgement_body_fault, refused_start, start_fault}
 use Rattle.vm_model.specs.Fixed.{Fixed}
-use Rattle.vm_model.specs.JournalFrames.{AcknowledgesNothing, as_entries, commands_among, is_acknowledgement, is_command_frame, is_notification}
+use Rattle.journal_entries.specs.JournalFrames.{AcknowledgesNothing, as_entries, commands_among, is_acknowledgement, is_command_frame, is_notification}
 use Rattle.vm_attempt.specs.Journals.{setup_for}
 use Rattle.vm_attempt.specs.Told.{Journal, arrivals, begun, bytes_fed, frames_fed, start_state}
 use Rattle.vm_attempt.proofs.Entries.{not_both}
@@ -39,8 +39,8 @@ use Rattle.vm_attempt.proofs.Proposed.{arriving_append, arriving_notified, found
 use Rattle.vm_attempt.proofs.Replayed.{commands_same, head_same, notes_same, tail_same}
 use Rattle.vm_attempt.proofs.Under.{fewer_waiting}
 use Rattle.vm_steps.specs.Heard.{Heard}
-use Rattle.vm_store.specs.Entries.{may_stand}
-use Rattle.vm_store.proofs.Framing.{note_acknowledges_nothing, note_no_command, same_front}
+use Rattle.journal_entries.specs.Entries.{may_stand}
+use Rattle.journal_entries.proofs.Framing.{note_acknowledges_nothing, note_no_command, same_front}
 use Rattle.vm_rounds.specs.Rounds.{ReplaysAndQueues}
 use Rattle.vm_rounds.proofs.Settled.{IsTaken}
 

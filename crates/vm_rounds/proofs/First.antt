@@ -12,15 +12,15 @@ use Rattle.journal_protocol.proofs.Facts.{read_back}
 use Rattle.journal_protocol.specs.NotificationId.TheVariants.{CompletionId}
 use Rattle.vm_model.specs.Calls.{Meaning, Setup}
 use Rattle.vm_model.specs.Carried.{AreOfTheirKind, IsInvocationId}
-use Rattle.vm_model.specs.Journal.{stored_form}
+use Rattle.journal_entries.specs.Journal.{stored_form}
 use Rattle.vm_model.specs.Moves.{start}
 use Rattle.vm_model.specs.Histories.{Knowledge}
 use Rattle.vm_model.specs.HonestRounds.{IsOneRun}
-use Rattle.vm_model.specs.JournalFrames.{as_entries, commands_among, notified_by}
-use Rattle.vm_store.specs.Completions.{CompleteOnce, NoteIsOfItsKind}
-use Rattle.vm_store.specs.Entries.{journal_entries, frame_in, framed_by, journal_frames, may_stand, note_of, notes_in, read_from}
+use Rattle.journal_entries.specs.JournalFrames.{as_entries, commands_among, notified_by}
+use Rattle.journal_entries.specs.Completions.{CompleteOnce, NoteIsOfItsKind}
+use Rattle.journal_entries.specs.Entries.{journal_entries, frame_in, framed_by, journal_frames, may_stand, note_of, notes_in, read_from}
 use Rattle.vm_store.specs.Worlds.{IsJournal}
-use Rattle.vm_store.proofs.Framing.{frame_back}
+use Rattle.journal_entries.proofs.Framing.{frame_back}
 
 first_frame : (i : InputCommand) → IsWhole (message.Input i) → frame_in (encoding (message.Input i)) ≡ Some (stored_form (message.Input i))
 first_frame i whole = frame_back (stored_form (message.Input i)) whole.1

@@ -7,20 +7,20 @@ use Rattle.journal_protocol.specs.Message.TheVariants as message
 use Rattle.journal_protocol.specs.RawMessage.{RawMessage}
 use Rattle.journal_protocol.specs.Frames.{encoding}
 use Rattle.journal_protocol.specs.Bodies.{start_in}
-use Rattle.vm_asks.specs.Carried.{AreGreater, all_carried}
-use Rattle.invocation_vm.specs.Frames.{frames_of}
+use Rattle.journal_entries.specs.Carried.{AreGreater, all_carried}
+use Rattle.journal_entries.specs.Frames.{frames_of}
 use Rattle.vm_model.specs.Calls.{Meaning}
-use Rattle.vm_model.specs.Journal.{stored_form}
+use Rattle.journal_entries.specs.Journal.{stored_form}
 use Rattle.vm_steps.specs.Record.{heard}
-use Rattle.vm_model.specs.JournalFrames.{commands_among}
+use Rattle.journal_entries.specs.JournalFrames.{commands_among}
 use Rattle.vm_attempt.specs.Told.{HasFreshIds, Journal, written_by}
 use Rattle.vm_attempt.proofs.Numbers.{carried_append}
 use Rattle.vm_attempt.proofs.Replayed.{head_same, tail_same}
 use Rattle.vm_store.specs.declared.types.Round.{Round}
 use Rattle.vm_store.specs.declared.types.Setting.{Setting}
-use Rattle.vm_store.specs.Entries.{journal_frames}
+use Rattle.journal_entries.specs.Entries.{journal_frames}
 use Rattle.vm_store.specs.Worlds.{IsJournal, start_for}
-use Rattle.vm_store.proofs.Framing.{AreFrames, journal_length, same_front}
+use Rattle.journal_entries.proofs.Framing.{AreFrames, journal_length, same_front}
 use Rattle.vm_rounds.specs.Fresh.{AreFresh, IsFresh, Skips, ids_in, ids_written}
 use Rattle.vm_rounds.specs.Rounds.{AttemptDoes, Now, RefusedDoes, ReportView, RoundDoes, RoundsDo, report_of}
 use Rattle.vm_rounds.proofs.Agreeing.{round_counts, then_stood}

@@ -12,18 +12,18 @@ use Rattle.journal_protocol.specs.NotificationId.{NotificationId}
 use Rattle.journal_protocol.specs.NotificationId.TheVariants.{CompletionId, SignalId, SignalName}
 use Rattle.journal_protocol.specs.NotificationResult.{NotificationResult}
 use Rattle.vm_model.specs.Carried.{AreCarried, is_carried}
-use Rattle.vm_model.specs.JournalFrames.{commands_among, is_command_frame, notifications_among, notified_by}
+use Rattle.journal_entries.specs.JournalFrames.{commands_among, is_command_frame, notifications_among, notified_by}
 use Rattle.vm_attempt.proofs.Pieces.{commands_append}
 use Rattle.vm_model.proofs.Once.{still_carried}
-use Rattle.vm_store.specs.declared.completions.Completes.{Completes}
-use Rattle.vm_store.specs.declared.completions.Completes.TheVariants as completes
-use Rattle.vm_store.specs.declared.types.RoundFault.TheVariants as round_fault
-use Rattle.vm_store.specs.Arrivals.{completes_among, completes_id, most_entries, room_fault}
-use Rattle.vm_store.specs.Completions.{CompleteOnce, HasNoOther, IsOfItsKind, IsOfKind, NoteIsOfItsKind}
-use Rattle.vm_store.specs.Entries.{frame_in, framed_by, journal_frames, may_stand, note_in, note_of, notes_in, read_from, said_by, said_in}
-use Rattle.vm_store.specs.Given.{AreGiven, as_given, framed_fault, given_fault, given_note_fault, may_be_given, noted_fault, place_fault}
+use Rattle.journal_entries.specs.declared.completions.Completes.{Completes}
+use Rattle.journal_entries.specs.declared.completions.Completes.TheVariants as completes
+use Rattle.journal_entries.specs.declared.fault.RoundFault.TheVariants as round_fault
+use Rattle.journal_entries.specs.Arrivals.{completes_among, completes_id, most_entries, room_fault}
+use Rattle.journal_entries.specs.Completions.{CompleteOnce, HasNoOther, IsOfItsKind, IsOfKind, NoteIsOfItsKind}
+use Rattle.journal_entries.specs.Entries.{frame_in, framed_by, journal_frames, may_stand, note_in, note_of, notes_in, read_from, said_by, said_in}
+use Rattle.journal_entries.specs.Given.{AreGiven, as_given, framed_fault, given_fault, given_note_fault, may_be_given, noted_fault, place_fault}
 use Rattle.vm_store.specs.Worlds.{IsJournal}
-use Rattle.vm_store.proofs.Framing.{command_no_note, entries_join, frames_append, notes_append, notes_are}
+use Rattle.journal_entries.proofs.Framing.{command_no_note, entries_join, frames_append, notes_append, notes_are}
 use Rattle.vm_rounds.proofs.Keeping.{one_note}
 use Rattle.vm_rounds.proofs.Once.{absent, completed_carried, each_more, kind_of, not_done, not_most, not_nothing}
 use Rattle.vm_rounds.proofs.Settled.{note_keeps}

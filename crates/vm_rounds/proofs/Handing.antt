@@ -25,7 +25,7 @@ use Rattle.vm_model.specs.Moves.{changed_by}
 use Rattle.vm_model.proofs.States.{many_in_order, one_key_list}
 use Rattle.vm_store.specs.declared.types.Round.{Round}
 use Rattle.vm_store.specs.declared.types.Setting.{Setting}
-use Rattle.vm_store.specs.Entries.{said_in}
+use Rattle.journal_entries.specs.Entries.{said_in}
 use Rattle.vm_store.specs.States.{base_of, is_asked, pairs_in, state_after}
 
 -- ---- one key

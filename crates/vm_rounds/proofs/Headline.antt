@@ -6,21 +6,21 @@ use Rattle.journal_protocol.specs.Notification.{Notification}
 use Rattle.journal_protocol.specs.Start.{Start}
 use Rattle.journal_protocol.specs.Bodies.{start_in}
 use Rattle.vm_model.specs.Calls.{Meaning, Setup}
-use Rattle.vm_model.specs.Journal.{Entry, notifications_in}
+use Rattle.journal_entries.specs.Journal.{Entry, notifications_in}
 use Rattle.vm_model.specs.Moves.{Point, start as first_point}
 use Rattle.vm_model.specs.Histories.{Handed, History, IsPrefix, Made}
 use Rattle.vm_model.specs.HonestRounds.{Attempted, HonestRound, IsToldOn}
-use Rattle.vm_model.specs.JournalFrames.{commands_among}
+use Rattle.journal_entries.specs.JournalFrames.{commands_among}
 use Rattle.vm_attempt.specs.Journals.{setup_for}
 use Rattle.vm_parts.specs.declared.context.StateMap.{StateMap}
 use Rattle.vm_attempt.specs.Told.{AnswersAreTold, IsKept, written_by}
 use Rattle.vm_store.specs.declared.types.Setting.{Setting}
 use Rattle.vm_rounds.specs.Courses.{delivered, start_handed}
-use Rattle.vm_store.specs.Entries.{journal_entries}
+use Rattle.journal_entries.specs.Entries.{journal_entries}
 use Rattle.vm_rounds.specs.Rounds.{EndsTold, Now, ReplaysAndQueues}
 use Rattle.vm_store.specs.Worlds.{IsJournal, fixed_in}
 use Rattle.vm_rounds.proofs.Coursing.{Along, behind_commands, behind_first, delivered_arrived, stored_among}
-use Rattle.vm_store.proofs.Framing.{AreFrames, entries_append}
+use Rattle.journal_entries.proofs.Framing.{AreFrames, entries_append}
 use Rattle.vm_rounds.proofs.Keeping.{Going}
 use Rattle.vm_rounds.proofs.Running.{none_two, there}
 

@@ -8,9 +8,9 @@ use Rattle.journal_protocol.specs.Types.{type_number}
 use Rattle.journal_protocol.specs.RawMessage.{RawMessage}
 use Rattle.journal_protocol.specs.Bodies.{message_in, start_in}
 use Rattle.journal_protocol.specs.Notification.{Notification}
-use Rattle.invocation_vm.specs.Frames.{Garbage, Rest, Tail, frames_of, frames_joined}
-use Rattle.invocation_vm.proofs.Cuts.{frames_of-append}
-use Rattle.vm_asks.specs.Carried.{all_carried}
+use Rattle.journal_entries.specs.Frames.{Garbage, Rest, Tail, frames_of, frames_joined}
+use Rattle.journal_entries.proofs.Cuts.{frames_of-append}
+use Rattle.journal_entries.specs.Carried.{all_carried}
 use Rattle.vm_parts.specs.declared.context.StateMap.{StateMap}
 use Rattle.vm_parts.specs.Entries.{entries_of as state_entries}
 use Rattle.vm_machine.specs.Inputs.{entries_in}
@@ -18,14 +18,14 @@ use Rattle.vm_model.specs.Calls.{Meaning, Setup}
 use Rattle.vm_model.specs.Carried.{AreCarried, AreOfTheirKind, is_for_invocation, names_invocation}
 use Rattle.vm_model.specs.Deliveries.{HasNoTwo}
 use Rattle.vm_model.specs.Histories.{Handed, History, IsPrefix, Made}
-use Rattle.vm_model.specs.Journal.{notifications_in}
+use Rattle.journal_entries.specs.Journal.{notifications_in}
 use Rattle.vm_model.specs.Moves.{Point, after, later, start as first_point}
 use Rattle.vm_model.proofs.Compared.{attempt_is_told}
 use Rattle.vm_model.proofs.Once.{made_along, run_once, still_carried}
 use Rattle.vm_model.proofs.Runs.{after_later, made_later}
 use Rattle.vm_attempt.specs.Arrivals.{AllFound, arriving}
 use Rattle.vm_attempt.specs.Blames.{IsHonest}
-use Rattle.vm_model.specs.JournalFrames.{commands_among}
+use Rattle.journal_entries.specs.JournalFrames.{commands_among}
 use Rattle.vm_attempt.specs.Journals.{setup_for}
 use Rattle.vm_attempt.specs.Told.{BeforeInput, IsKept, HandlerRuns, Wrote, frames_fed}
 use Rattle.vm_attempt.proofs.Pieces.{commands_append}
@@ -33,10 +33,10 @@ use Rattle.vm_attempt.proofs.Replayed.{commands_same, notes_same}
 use Rattle.vm_steps.specs.Heard.{acknowledged_from, proposals_among}
 use Rattle.vm_steps.specs.Record.{all_heard, heard}
 use Rattle.vm_store.specs.declared.types.Setting.{Setting}
-use Rattle.vm_store.specs.Entries.{AreEntries, journal_entries, frame_in, framed_by, journal_frames, may_stand, notes_in}
+use Rattle.journal_entries.specs.Entries.{AreEntries, journal_entries, frame_in, framed_by, journal_frames, may_stand, notes_in}
 use Rattle.vm_store.specs.States.{HaveTextKeys}
 use Rattle.vm_store.specs.Worlds.{IsJournal, fixed_in}
-use Rattle.vm_store.proofs.Framing.{AreFrames, frames_append, journal_framed, journal_length, join, notes_append, notes_are}
+use Rattle.journal_entries.proofs.Framing.{AreFrames, frames_append, journal_framed, journal_length, join, notes_append, notes_are}
 use Rattle.vm_rounds.specs.Courses.{start_handed}
 use Rattle.vm_rounds.specs.Rounds.{Now, ReplaysAndQueues}
 use Rattle.vm_rounds.proofs.Completing.{carried_behind}

@@ -11,7 +11,7 @@ use Rattle.journal_protocol.specs.Types.{type_number}
 use Rattle.journal_protocol.proofs.Facts.{type_read}
 use Rattle.vm_parts.specs.declared.context.StateMap.{StateMap}
 use Rattle.vm_model.specs.Calls.{Meaning, Setup}
-use Rattle.vm_model.specs.Journal.{Entry, commands_in, input_read_from, messages_in, read_before}
+use Rattle.journal_entries.specs.Journal.{Entry, commands_in, input_read_from, messages_in, read_before}
 use Rattle.vm_model.specs.Moves.{changed_by}
 use Rattle.vm_model.specs.Histories.{History, after_head}
 use Rattle.vm_model.proofs.Stored.{changes_state, unchanged}

@@ -9,12 +9,12 @@ use Rattle.journal_protocol.specs.Version.{Version}
 use Rattle.journal_protocol.specs.RawMessage.{RawMessage}
 use Rattle.journal_protocol.specs.Notification.{Notification}
 use Rattle.journal_protocol.specs.Bodies.{notification_in}
-use Rattle.invocation_vm.specs.Frames.{Tail, frames_of}
-use Rattle.vm_parts.specs.declared.run_state.KeptProposal.{KeptProposal}
+use Rattle.journal_entries.specs.Frames.{Tail, frames_of}
+use Rattle.journal_entries.specs.declared.proposals.KeptProposal.{KeptProposal}
 use Rattle.vm_model.specs.Calls.{Meaning}
 use Rattle.vm_model.specs.Histories.{IsPrefix}
 use Rattle.vm_steps.specs.Heard.{proposals_among, proposals_in}
-use Rattle.vm_model.specs.JournalFrames.{commands_among, is_command_frame, is_notification, notified_by}
+use Rattle.journal_entries.specs.JournalFrames.{commands_among, is_command_frame, is_notification, notified_by}
 use Rattle.vm_steps.specs.Record.{Record, bytes_written}
 use Rattle.vm_steps.specs.Stepping.{output_taken}
 use Rattle.vm_attempt.specs.Told.{bytes_in}
@@ -22,12 +22,12 @@ use Rattle.vm_attempt.proofs.Pieces.{commands_append}
 use Rattle.vm_attempt.proofs.Quiet.{proposals_append}
 use Rattle.vm_store.specs.declared.types.Event.{Event}
 use Rattle.vm_store.specs.declared.types.Event.TheVariants as event
-use Rattle.vm_store.specs.Arrivals.{arrival_fault}
-use Rattle.vm_store.specs.Entries.{AreEntries, frame_in, framed_by, journal_frames, may_stand, note_in, note_of, notes_in, read_from}
+use Rattle.journal_entries.specs.Arrivals.{arrival_fault}
+use Rattle.journal_entries.specs.Entries.{AreEntries, frame_in, framed_by, journal_frames, may_stand, note_in, note_of, notes_in, read_from}
 use Rattle.vm_rounds.specs.Rounds.{ArrivalsDo, Happen, Happens, Now, Pieces, StepHappens}
-use Rattle.vm_store.specs.Storing.{Stores, stored_as, waits_behind, written_among}
+use Rattle.journal_entries.specs.Storing.{Stores, stored_as, waits_behind, written_among}
 use Rattle.vm_store.specs.Worlds.{IsJournal}
-use Rattle.vm_store.proofs.Framing.{AreFrames, entry_framed, frames_append, front_grows, in_front, join, note_no_command, notes_append}
+use Rattle.journal_entries.proofs.Framing.{AreFrames, entry_framed, frames_append, front_grows, in_front, join, note_no_command, notes_append}
 use Rattle.vm_rounds.proofs.Going.{Hears, IsOpen, Stepped, Takes, TakesAll, all_fed, closes, fed, finishes, keeps_all, prefix_then, stepped}
 use Rattle.vm_rounds.proofs.Once.{has_room, is_new}
 use Rattle.vm_rounds.proofs.Repeating.{steps_keep}

@@ -12,17 +12,17 @@ use Rattle.journal_protocol.specs.NotificationId.TheVariants.{CompletionId, Sign
 use Rattle.journal_protocol.specs.NotificationResult.{NotificationResult}
 use Rattle.arrivals.specs.Ids.{same_id}
 use Rattle.arrivals.specs.Results.{has_result_among, without_all, without_oldest}
-use Rattle.vm_types.specs.declared.options.SignalDelivery.{SignalDelivery}
+use Rattle.journal_protocol.specs.SignalDelivery.{SignalDelivery}
 use Rattle.vm_types.specs.declared.steps.Answer.{Answer}
 use Rattle.vm_types.specs.declared.steps.Step.{Step}
 use Rattle.await_trees.specs.declared.handle.NotificationHandle.{NotificationHandle}
 use Rattle.await_trees.specs.declared.tree.UnresolvedFuture.{UnresolvedFuture}
-use Rattle.vm_parts.specs.declared.run_state.TrackedCall.{TrackedCall}
+use Rattle.vm_parts.specs.declared.tracked_call.TrackedCall.{TrackedCall}
 use Rattle.vm_types.specs.declared.values.Value.{Value}
 use Rattle.vm_parts.specs.Counting.{missing_number, missing_signals}
 use Rattle.vm_parts.specs.Deliveries.{has_result, id_at, is_known, is_listed, left_among, present_result_for}
-use Rattle.vm_parts.specs.Tracked.{id_of_result, id_of_value, invocation_ids, id_noted, unresolved_handles}
-use Rattle.vm_types.specs.Values.{value_of}
+use Rattle.vm_parts.specs.Tracked.{id_of_result, invocation_ids, id_noted, unresolved_handles}
+use Rattle.vm_types.specs.Values.{id_of_value, value_of}
 use Rattle.vm_asks.specs.declared.asks.Ask.{Ask}
 use Rattle.vm_asks.specs.declared.asks.Ask.TheVariants as ask
 use Rattle.vm_asks.specs.declared.asks.AnswerKind.{AnswerKind}
@@ -30,7 +30,7 @@ use Rattle.vm_asks.specs.declared.command.Command.{Command}
 use Rattle.vm_asks.specs.declared.state_read.StateRead.{StateRead}
 use Rattle.vm_asks.specs.Asks.{all_ids, ask_of}
 use Rattle.vm_asks.specs.Requests.{ids_of}
-use Rattle.vm_machine.specs.Skips.{skips_replay}
+use Rattle.vm_types.specs.Options.{skips_replay}
 use Rattle.vm_model.specs.Calls.{Setup, Meaning, Derived, Demand, Move, Usage, asked, awaited, awakeable_made, awaiting, cancel_sent, with_cancel_taken, cancelled, cancelling, commanding, id_awaited, id_read, is_awake, is_cancelled_in, making_awakeable, numbered, reading, ready_by_usage, ready_in, take_of_result, signal_made, take_noting_id, take_of_value, Turn, part, part_unless, refused_before, turn_after}
 use Rattle.vm_model.specs.Calls.Move.{Answers, Needs, Awaits, Ends, Refuses}
 use Rattle.vm_model.specs.Calls.Usage.{Used, Read, Taken}
@@ -44,7 +44,7 @@ use Rattle.vm_model.proofs.Results.{same_is}
 use Rattle.vm_model.proofs.Runs.{and_then_some, none_some}
 use Rattle.vm_model.proofs.Sums.{told_sums}
 use Rattle.vm_model.proofs.Uses.{arrivals_used, handles_stand}
-use Rattle.vm_store.specs.Arrivals.{completes_id, is_of}
+use Rattle.journal_entries.specs.Arrivals.{completes_id, is_of}
 
 -- ---- what was taken
 

@@ -27,8 +27,15 @@ pub mod Known
 pub mod Proposing
 pub mod Rising
 pub mod Storable
+pub mod Unfinished
 pub mod Faultless
 pub mod RightKinds
 pub mod Fed
 pub mod Honestly
 pub mod Owning
+pub mod Takeover
+pub mod Replaying
+pub mod Upgrading
+pub mod Continuing
+pub mod Families
+pub mod Tracing

@@ -12,19 +12,19 @@ use Rattle.journal_protocol.specs.Notification.{Notification}
 use Rattle.journal_protocol.specs.NotificationId.{NotificationId}
 use Rattle.journal_protocol.specs.NotificationId.TheVariants.{CompletionId, SignalId, SignalName}
 use Rattle.journal_protocol.specs.NotificationResult.{NotificationResult}
-use Rattle.vm_asks.specs.Carried.{carried}
+use Rattle.journal_entries.specs.Carried.{carried}
 use Rattle.vm_model.specs.Carried.{AreCarried, ComeOnce, is_id_among, is_carried, read_carries}
-use Rattle.vm_model.specs.Journal.{messages_in, read_before}
+use Rattle.journal_entries.specs.Journal.{messages_in, read_before}
 use Rattle.vm_model.proofs.Results.{results_behind, same_is}
-use Rattle.vm_model.specs.JournalFrames.{commands_among}
-use Rattle.vm_store.specs.Completions.{CompleteOnce, EachOfItsKind, HasNoOther, CompletesNone, IsOfItsKind, IsOfKind, NoteIsOfItsKind}
-use Rattle.vm_store.specs.declared.completions.Completes.{Completes}
-use Rattle.vm_store.specs.declared.completions.Completes.TheVariants as completes
-use Rattle.vm_store.specs.declared.types.RoundFault.{RoundFault}
-use Rattle.vm_store.specs.declared.types.RoundFault.TheVariants as round_fault
-use Rattle.vm_store.specs.Arrivals.{arrival_fault, completes_among, completes_by, completion_fault, if_same, completes_id, is_invocation_id, is_of, most_entries, note_fault, read_fault, room_fault}
-use Rattle.vm_store.specs.Entries.{journal_frames, note_in, notes_in, said_in}
-use Rattle.vm_store.proofs.Framing.{said_are}
+use Rattle.journal_entries.specs.JournalFrames.{commands_among}
+use Rattle.journal_entries.specs.Completions.{CompleteOnce, EachOfItsKind, HasNoOther, CompletesNone, IsOfItsKind, IsOfKind, NoteIsOfItsKind}
+use Rattle.journal_entries.specs.declared.completions.Completes.{Completes}
+use Rattle.journal_entries.specs.declared.completions.Completes.TheVariants as completes
+use Rattle.journal_entries.specs.declared.fault.RoundFault.{RoundFault}
+use Rattle.journal_entries.specs.declared.fault.RoundFault.TheVariants as round_fault
+use Rattle.journal_entries.specs.Arrivals.{arrival_fault, completes_among, completes_by, completion_fault, if_same, completes_id, is_invocation_id, is_of, most_entries, note_fault, read_fault, room_fault}
+use Rattle.journal_entries.specs.Entries.{journal_frames, note_in, notes_in, said_in}
+use Rattle.journal_entries.proofs.Framing.{said_are}
 
 -- ---- one notification more
 

@@ -1,5 +1,5 @@
 -- The error of a round's report is its attempt's own, at a moment of the round.
-use Rattle.std.proofs.Common.{◌≡◌, ◌⊎◌, ⊎_elim, inl, inr, ℕ, Bool, true, false, List, [], ◌∷◌, ◌++◌, length, take, Option, Some, None, Result, Ok, Err, refl, sym, ap, ◌∙◌, subst, append_assoc}
+use Rattle.std.proofs.Common.{◌≡◌, ◌⊎◌, ⊎_elim, inl, inr, ℕ, zero, suc, Bool, true, false, List, [], ◌∷◌, length, take, Option, Some, None, Result, Ok, Err, refl, sym, ap, ◌∙◌, subst}
 use Rattle.std.specs.Prelude.{◌==◌, IfErr}
 use Rattle.std.specs.List.{concat}
 use Rattle.std.specs.declared.alloc.AllocError.{AllocError}
@@ -15,7 +15,7 @@ use Rattle.std.proofs.lemmas.Option.{same_Some}
 use Rattle.invocation_vm.specs.Making.{made, supported}
 use Rattle.vm_model.specs.Calls.{Meaning, Setup}
 use Rattle.vm_model.specs.Histories.{History, Honest}
-use Rattle.vm_model.specs.Journal.{stored_form}
+use Rattle.journal_entries.specs.Journal.{stored_form}
 use Rattle.vm_model.specs.SoundHistories.{SoundHistory}
 use Rattle.vm_parts.specs.declared.context.StateMap.{StateMap}
 use Rattle.vm_attempt.specs.Blames.{Blame, IfError, IsBlamed, IsLate, IsOwnError}
@@ -34,17 +34,16 @@ use Rattle.vm_store.specs.declared.types.Event.{Event}
 use Rattle.vm_store.specs.declared.types.Event.TheVariants as event
 use Rattle.vm_store.specs.declared.types.Round.{Round}
 use Rattle.vm_store.specs.declared.types.Setting.{Setting}
-use Rattle.vm_store.specs.Entries.{journal_entries}
+use Rattle.journal_entries.specs.Entries.{journal_entries}
 use Rattle.vm_store.specs.States.{HaveTextKeys, base_of}
 use Rattle.vm_store.specs.Worlds.{IsJournal, fixed_in, setup_of, start_for}
-use Rattle.vm_store.proofs.Framing.{AreFrames}
+use Rattle.journal_entries.proofs.Framing.{AreFrames}
 use Rattle.vm_rounds.specs.Inside.{may_go_on}
-use Rattle.vm_rounds.specs.Owning.{AreOwn, IsOwnIn, OwnOf}
+use Rattle.vm_rounds.specs.Owning.{AreOwn, BringsOwn, OwnOf}
 use Rattle.vm_rounds.specs.Rounds.{AttemptDoes, Happen, Happens, IsRefusal, Now, Pieces, ReplaysAndQueues, ReportView, RoundDoes, RoundsDo, StepHappens, StepsHappen, begin, error_of, first_error, memory_of}
 use Rattle.vm_rounds.specs.Sound.{IsSoundFor}
 use Rattle.vm_rounds.proofs.Honestly.{honest_now}
 use Rattle.vm_rounds.proofs.Keeping.{Going, event_keeps}
-use Rattle.vm_rounds.proofs.Placing.{happen_then}
 use Rattle.vm_rounds.proofs.Repeating.{step_still, steps_keep}
 use Rattle.vm_rounds.proofs.Rounding.{begun, hands_honest, round_grows, round_lasts, sound_lasts, start_framed, start_reads}
 use Rattle.vm_rounds.proofs.Running.{Goes, event_runs}
@@ -55,6 +54,27 @@ use Rattle.vm_rounds.proofs.Running.{Goes, event_runs}
 error_by : (old next now : Option Error) (e : Error) → now ≡ first_error old next → now ≡ Some e → (old ≡ Some e) ⊎ ((old ≡ None) × (next ≡ Some e))
 error_by (Some x) next now e is h = inl (sym is ∙ h)
 error_by None next now e is h = inr (refl, sym is ∙ h)
+
+-- the first error stays
+first_stays : (now mid : Now) (next : Option Error) (e : Error) → mid.error ≡ first_error now.error next → now.error ≡ Some e → mid.error ≡ Some e
+first_stays now mid next e is some = is ∙ ap (λ o. first_error o next) some
+
+steps_stay : (m : Meaning) (n : ℕ) (now mid : Now) (e : Error) → StepsHappen m n now mid → now.error ≡ Some e → mid.error ≡ Some e
+steps_stay m zero now mid e is some = ap (λ (z : Now). z.error) is ∙ some
+steps_stay m (suc n) now mid e (x, (result, a, d, is), more) some = steps_stay m n x mid e more (first_stays now x (error_of result) e (ap (λ (z : Now). z.error) is) some)
+
+error_stays : (m : Meaning) (v : Event) (now mid : Now) (e : Error) → Happens m v now mid → now.error ≡ Some e → mid.error ≡ Some e
+error_stays m (event.Piece n) now mid e d some = by_closed now.closed d
+  where
+    by_closed : (closed : Bool) → Pieces closed n now mid → mid.error ≡ Some e
+    by_closed true is = ap (λ (z : Now). z.error) is ∙ some
+    by_closed false (result, a, fed, is) = first_stays now mid (memory_of result) e (ap (λ (z : Now). z.error) is) some
+error_stays m event.Close now mid e (result, a, d, is) some = first_stays now mid (memory_of result) e (ap (λ (z : Now). z.error) is) some
+error_stays m event.Step now mid e (result, a, d, is) some = first_stays now mid (error_of result) e (ap (λ (z : Now). z.error) is) some
+error_stays m (event.Steps n) now mid e d some = steps_stay m n now mid e d some
+error_stays m (event.RunResult handle exit policy) now mid e (result, a, d, is) some = first_stays now mid (error_of result) e (ap (λ (z : Now). z.error) is) some
+error_stays m (event.Arrive x) now mid e (none, is) some = ap (λ (z : Now). z.error) is ∙ some
+error_stays m (event.Store n) now mid e (journal, waiting, unstored, stores, is, whole, proposed) some = ap (λ (z : Now). z.error) is ∙ some
 
 module _ (m : Meaning) (w : Setting) (begin_bytes : List ℕ) (raw : RawMessage) (st : Start) (old : List (List ℕ)) (j : IsJournal old) (framed : AreFrames begin_bytes (raw ∷ [])) (found : start_in raw.body ≡ Some st) (known : st.known_entries ≡ length old) (s : Setup) (same_setup : setup_for (fixed_in m w) st ≡ s) (base : StateMap) (past : History s m base (journal_entries old)) (r : ReplaysAndQueues w.options) (is_start : (type_number raw.ty == 1) ≡ true) (texts : HaveTextKeys st.state) where
   -- what each event keeps of the attempt
@@ -196,23 +216,22 @@ module _ (m : Meaning) (w : Setting) (begin_bytes : List ℕ) (raw : RawMessage)
 
   -- ---- a round's events
 
-  events_own : (done : List Event) (es : List Event) (first now end : Now) → Happen m done first now → Happen m es now end → Stands now → (e : Error) → end.error ≡ Some e → (now.error ≡ Some e) ⊎ IsOwnIn m w (done ++ es) first e
-  events_own done [] first now end before h x e is = inl (ap (λ (z : Now). z.error) (sym h) ∙ is)
-  events_own done (v ∷ es) first now end before (mid, d, more) x e is =
+  events_own : (es : List Event) (now end : Now) (h : Happen m es now end) → Stands now → (e : Error) → end.error ≡ Some e → (now.error ≡ Some e) ⊎ BringsOwn m w es now end h e
+  events_own [] now end h x e is = inl (ap (λ (z : Now). z.error) (sym h) ∙ is)
+  events_own (v ∷ es) now end (mid, d, more) x e is =
       let on = event_goes v now mid d x in
-      let so_far = happen_then m done v first now mid before d in
       ⊎_elim
-      (λ (y : mid.error ≡ Some e).
-      ⊎_elim
-      (λ (z : now.error ≡ Some e). inl z)
-      (λ (z : Owns mid e). inr (record { before = done ++ v ∷ []; behind = es; split = sym (append_assoc done (v ∷ []) es); now = mid; happen = so_far; own = z }))
-      (on.1 e y))
-      (λ (y : IsOwnIn m w ((done ++ v ∷ []) ++ es) first e). inr (subst (λ l. IsOwnIn m w l first e) (append_assoc done (v ∷ []) es) y))
-      (events_own (done ++ v ∷ []) es first mid end so_far more on.0 e is)
+      (λ (y : mid.error ≡ Some e). brings now.error refl y (on.1 e y))
+      (λ (y : BringsOwn m w es mid end more e). inr (inr y))
+      (events_own es mid end more on.0 e is)
+    where
+      brings : (o : Option Error) → now.error ≡ o → mid.error ≡ Some e → (now.error ≡ Some e) ⊎ Owns mid e → (now.error ≡ Some e) ⊎ BringsOwn m w (v ∷ es) now end (mid, d, more) e
+      brings None none y c = ⊎_elim (λ (z : now.error ≡ Some e). inl z) (λ (z : Owns mid e). inr (inl (none, y, z))) c
+      brings (Some f) some y c = inl (some ∙ sym (error_stays m v now mid f d some) ∙ y)
 
 -- ---- a round
 
-attempt_owns : (m : Meaning) (w : Setting) (round : Round) (old : List (List ℕ)) (report : ReportView) (new : List (List ℕ)) → ReplaysAndQueues w.options → IsJournal old → History (setup_of w) m (base_of w) (journal_entries old) → (d : AttemptDoes m w round old report new) → (e : Error) → report.error ≡ Some e → IsOwnIn m w round.events (begin d.alloc w round old) e
+attempt_owns : (m : Meaning) (w : Setting) (round : Round) (old : List (List ℕ)) (report : ReportView) (new : List (List ℕ)) → ReplaysAndQueues w.options → IsJournal old → History (setup_of w) m (base_of w) (journal_entries old) → (d : AttemptDoes m w round old report new) → (e : Error) → report.error ≡ Some e → BringsOwn m w round.events (begin d.alloc w round old) d.ran.now d.ran.happen e
 attempt_owns m w round old report new r j past d e is =
     let st = start_for w round old in
     let bytes = encoding (message.Start st) in
@@ -229,8 +248,8 @@ attempt_owns m w round old report new r j past d e is =
     } in
     ⊎_elim
     (λ (x : first.error ≡ Some e). absurd (let z : None ≡ Some e = x in cc))
-    (λ (x : IsOwnIn m w round.events first e). x)
-    (events_own m w bytes raw st old j framed found refl (setup_of w) refl (base_of w) past r refl d.texts [] round.events first first d.ran.now refl d.ran.happen stands e (ap (λ (z : ReportView). z.error) (sym d.ran.told) ∙ is))
+    (λ (x : BringsOwn m w round.events first d.ran.now d.ran.happen e). x)
+    (events_own m w bytes raw st old j framed found refl (setup_of w) refl (base_of w) past r refl d.texts round.events first d.ran.now d.ran.happen stands e (ap (λ (z : ReportView). z.error) (sym d.ran.told) ∙ is))
 
 round_owns : (m : Meaning) (w : Setting) (round : Round) (old : List (List ℕ)) (report : ReportView) (new : List (List ℕ)) → ReplaysAndQueues w.options → IsJournal old → History (setup_of w) m (base_of w) (journal_entries old) → (d : RoundDoes m w round old report new) → OwnOf m w round old report new d
 round_owns m w round old report new r j past (inl d) = λ e is. attempt_owns m w round old report new r j past d e is

@@ -15,13 +15,13 @@ use Rattle.journal_protocol.specs.Notification.{Notification}
 use Rattle.await_trees.specs.declared.handle.NotificationHandle.{NotificationHandle}
 use Rattle.runs.specs.Firsts.{without_first}
 use Rattle.runs.specs.Pending.{has_handle}
-use Rattle.vm_parts.specs.declared.run_state.KeptProposal.{KeptProposal}
-use Rattle.vm_parts.specs.declared.run_state.PendingRun.{PendingRun}
-use Rattle.vm_asks.specs.Carried.{AreBelow}
+use Rattle.journal_entries.specs.declared.proposals.KeptProposal.{KeptProposal}
+use Rattle.runs.specs.declared.pending.PendingRun.{PendingRun}
+use Rattle.journal_entries.specs.Carried.{AreBelow}
 use Rattle.vm_model.specs.Carried.{is_id_among}
-use Rattle.vm_store.specs.Arrivals.{completes_id}
-use Rattle.vm_store.specs.declared.storing.Written.{Written}
-use Rattle.vm_store.specs.declared.storing.Written.TheVariants.{Command, Proposal}
+use Rattle.journal_entries.specs.Arrivals.{completes_id}
+use Rattle.journal_entries.specs.declared.storing.Written.{Written}
+use Rattle.journal_entries.specs.declared.storing.Written.TheVariants.{Command, Proposal}
 use Rattle.vm_rounds.proofs.RunsCalled.{run_id, run_ids}
 use Rattle.vm_rounds.proofs.Settled.{command_in, proposal_in_item}
 

@@ -5,10 +5,10 @@ use Rattle.vm_model.specs.Calls.{Meaning}
 use Rattle.vm_store.specs.declared.types.Event.{Event}
 use Rattle.vm_store.specs.declared.types.Event.TheVariants as event
 use Rattle.vm_store.specs.declared.types.Round.{Round}
-use Rattle.vm_store.specs.declared.types.RoundFault.{RoundFault}
-use Rattle.vm_store.specs.declared.types.RoundFault.TheVariants as round_fault
+use Rattle.journal_entries.specs.declared.fault.RoundFault.{RoundFault}
+use Rattle.journal_entries.specs.declared.fault.RoundFault.TheVariants as round_fault
 use Rattle.vm_store.specs.declared.types.Setting.{Setting}
-use Rattle.vm_store.specs.Arrivals.{arrival_fault}
+use Rattle.journal_entries.specs.Arrivals.{arrival_fault}
 use Rattle.vm_rounds.specs.Places.{ArrivalFaultsAt, AttemptStops, FaultsAt, IsMemoryAside, RefusedStops, RoundStops}
 use Rattle.vm_rounds.specs.Rounds.{ArrivalsDo, ArrivalsFault, Faults, Happen, HappenFaults, Happens, Now, RoundFaults, begin}
 use Rattle.vm_rounds.proofs.Lists.{split_at, whole_at}

@@ -29,20 +29,20 @@ use Rattle.await_trees.specs.declared.handle.NotificationHandle.{NotificationHan
 use Rattle.retries.specs.declared.policy.RetryPolicy.{RetryPolicy}
 use Rattle.runs.specs.declared.settling.Settlement.{Settlement}
 use Rattle.runs.specs.declared.settling.Settlement.TheVariants as settlement
-use Rattle.runs.specs.declared.types.RunExitResult.{RunExitResult}
+use Rattle.vm_types.specs.declared.runs.RunExitResult.{RunExitResult}
 use Rattle.runs.specs.Firsts.{without_first}
 use Rattle.runs.specs.Pending.{has_handle}
 use Rattle.vm_types.specs.declared.steps.Answer.{Answer}
 use Rattle.vm_types.specs.declared.steps.Answer.TheVariants as answer
 use Rattle.vm_types.specs.declared.values.Input.{Input}
 use Rattle.vm_parts.specs.declared.context.Counters.{Counters}
-use Rattle.vm_parts.specs.declared.run_state.KeptProposal.{KeptProposal}
-use Rattle.vm_parts.specs.declared.run_state.PendingRun.{PendingRun}
+use Rattle.journal_entries.specs.declared.proposals.KeptProposal.{KeptProposal}
+use Rattle.runs.specs.declared.pending.PendingRun.{PendingRun}
 use Rattle.vm_parts.specs.Counting.{missing_number}
 use Rattle.vm_parts.specs.Deliveries.{id_at}
 use Rattle.vm_parts.specs.Outboxes.{WholeFrames}
 use Rattle.vm_parts.proofs.Outboxes.{all_whole, bytes_of}
-use Rattle.vm_asks.specs.Carried.{AreBelow, past_all}
+use Rattle.journal_entries.specs.Carried.{AreBelow, past_all}
 use Rattle.vm_machine.specs.declared.machine.Machine.{Machine}
 use Rattle.vm_machine.specs.declared.phase.Phase.{Phase}
 use Rattle.vm_machine.specs.declared.phase.Phase.TheVariants.{WaitingStart, WaitingReplayEntries, Replaying, Processing, Closed}
@@ -51,19 +51,20 @@ use Rattle.vm_machine.specs.Inputs.{input_at, input_by, input_counted, input_num
 use Rattle.vm_machine.specs.Outcomes.{CalledBy, IsStarved, Outcome, Done, Failed, ◌>>>◌, about_last, called, settled}
 use Rattle.vm_machine.specs.Phases.{is_running}
 use Rattle.vm_machine.specs.Proposals.{Proposes as MayCome, Settled, SettledAt, SettledUnless, SettlesAs, proposal_fault, proposed, run_at, without_run}
-use Rattle.vm_machine.specs.Skips.{counters_past, skipped, skips_replay}
+use Rattle.vm_machine.specs.Skips.{counters_past, skipped}
+use Rattle.vm_types.specs.Options.{skips_replay}
 use Rattle.vm_machine.proofs.Calling.{answers_first, called_from}
-use Rattle.invocation_vm.specs.Frames.{Garbage, Rest, Tail, frames_of}
+use Rattle.journal_entries.specs.Frames.{Garbage, Rest, Tail, frames_of}
 use Rattle.invocation_vm.specs.Views.{StarvesAmong, View, after_closing, after_input, all_received, messages_in_bytes, consumed, has_failed, left_by, left_over, received, spoiled}
 use Rattle.invocation_vm.proofs.Feeds.{among_output}
 use Rattle.vm_model.specs.Calls.{Meaning}
 use Rattle.vm_model.specs.Carried.{is_id_among}
-use Rattle.vm_model.specs.Journal.{stored_form}
-use Rattle.vm_store.specs.declared.storing.Written.{Written}
-use Rattle.vm_store.specs.declared.storing.Written.TheVariants.{Proposal}
-use Rattle.vm_store.specs.Arrivals.{completes_id}
-use Rattle.vm_store.specs.Storing.{kept_of, written_among, written_before}
-use Rattle.vm_store.proofs.Scanned.{written_append}
+use Rattle.journal_entries.specs.Journal.{stored_form}
+use Rattle.journal_entries.specs.declared.storing.Written.{Written}
+use Rattle.journal_entries.specs.declared.storing.Written.TheVariants.{Proposal}
+use Rattle.journal_entries.specs.Arrivals.{completes_id}
+use Rattle.journal_entries.specs.Storing.{kept_of, written_among, written_before}
+use Rattle.journal_entries.proofs.Scanned.{written_append}
 use Rattle.vm_steps.specs.declared.progress.Progress.{Progress}
 use Rattle.vm_steps.specs.declared.progress.Reply.{Reply}
 use Rattle.vm_steps.specs.declared.progress.Reply.TheVariants as reply
@@ -72,7 +73,7 @@ use Rattle.vm_steps.specs.Record.{Record}
 use Rattle.vm_steps.specs.Stepping.{Advances, MakesStep, CloseDoes, InputIsClosed, FeedDoes, FeedsPiece, FinishDoes, CompletesRun, LacksMemory, InputIsRead, StepAt, StepDoes, StepFrom, StepUnless, future_in, with_piece_kept, kept_at, newly_proposed, failed_run_noted, noted_at, replied, step_asked, output_taken, with_vm}
 use Rattle.vm_steps.specs.Steps.{StepMade}
 use Rattle.vm_attempt.specs.Blames.{fault_among}
-use Rattle.vm_model.specs.JournalFrames.{is_acknowledgement, is_command_frame, is_notification}
+use Rattle.journal_entries.specs.JournalFrames.{is_acknowledgement, is_command_frame, is_notification}
 use Rattle.vm_attempt.specs.Told.{IsLive, Quiet}
 use Rattle.vm_attempt.proofs.Advanced.{done_of, failed_quiet, input_silent}
 use Rattle.vm_attempt.proofs.Arriving.{failed_receives}

@@ -14,23 +14,23 @@ use Rattle.journal_protocol.specs.Notification.{Notification}
 use Rattle.journal_protocol.specs.NotificationId.TheVariants.{CompletionId}
 use Rattle.journal_protocol.specs.NotificationResult.{NotificationResult}
 use Rattle.journal_protocol.specs.NotificationResult.TheVariants as result
-use Rattle.vm_asks.specs.Carried.{all_carried, carried, carried_by, read_carried}
+use Rattle.journal_entries.specs.Carried.{all_carried, carried, carried_by, read_carried}
 use Rattle.vm_parts.specs.declared.context.StateMap.{StateMap}
 use Rattle.vm_model.specs.Calls.{Meaning, Setup}
 use Rattle.vm_model.specs.Carried.{AreOfTheirKind, IsInvocationId, is_id_among, is_carried, is_for_invocation, names_invocation, read_carries}
 use Rattle.vm_model.specs.Histories.{History, IsPrefix}
-use Rattle.vm_model.specs.Journal.{input_read_from, messages_in, notifications_in, read_before}
+use Rattle.journal_entries.specs.Journal.{input_read_from, messages_in, notifications_in, read_before}
 use Rattle.vm_model.proofs.Results.{same_is}
-use Rattle.vm_model.specs.JournalFrames.{commands_among, notified_by}
+use Rattle.journal_entries.specs.JournalFrames.{commands_among, notified_by}
 use Rattle.vm_attempt.proofs.Pieces.{commands_append}
 use Rattle.vm_attempt.proofs.Replayed.{commands_same}
-use Rattle.vm_store.specs.declared.completions.Completes.{Completes}
-use Rattle.vm_store.specs.declared.completions.Completes.TheVariants as completes
-use Rattle.vm_store.specs.Arrivals.{completes_among, completes_by, if_same, is_invocation_id}
-use Rattle.vm_store.specs.Completions.{EachOfItsKind, IsOfItsKind, IsOfKind, NoteIsOfItsKind}
-use Rattle.vm_store.specs.Entries.{journal_entries, journal_frames, note_in, notes_in, said_in}
+use Rattle.journal_entries.specs.declared.completions.Completes.{Completes}
+use Rattle.journal_entries.specs.declared.completions.Completes.TheVariants as completes
+use Rattle.journal_entries.specs.Arrivals.{completes_among, completes_by, if_same, is_invocation_id}
+use Rattle.journal_entries.specs.Completions.{EachOfItsKind, IsOfItsKind, IsOfKind, NoteIsOfItsKind}
+use Rattle.journal_entries.specs.Entries.{journal_entries, journal_frames, note_in, notes_in, said_in}
 use Rattle.vm_store.specs.Worlds.{IsJournal}
-use Rattle.vm_store.proofs.Framing.{frames_append, said_are}
+use Rattle.journal_entries.proofs.Framing.{frames_append, said_are}
 use Rattle.vm_rounds.proofs.Completing.{input_carries_none}
 use Rattle.vm_rounds.proofs.Once.{completes_none, completes_not}
 use Rattle.vm_rounds.proofs.Rising.{Rises, carried_is, only_once, rises_behind, told_rises}

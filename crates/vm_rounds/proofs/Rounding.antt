@@ -10,11 +10,11 @@ use Rattle.journal_protocol.specs.Frames.{encoding, IsWhole}
 use Rattle.journal_protocol.specs.Bodies.{message_in, start_in}
 use Rattle.journal_protocol.proofs.Facts.{read_back}
 use Rattle.journal_protocol.specs.RawMessage.{RawMessage}
-use Rattle.invocation_vm.specs.Frames.{Tail, frames_of}
+use Rattle.journal_entries.specs.Frames.{Tail, frames_of}
 use Rattle.invocation_vm.specs.Making.{made}
 use Rattle.vm_types.specs.declared.steps.Answer.{Answer}
 use Rattle.vm_model.specs.Calls.{Meaning}
-use Rattle.vm_model.specs.Journal.{Entry, commands_in, messages_in, notifications_in, stored_form}
+use Rattle.journal_entries.specs.Journal.{Entry, commands_in, messages_in, notifications_in, stored_form}
 use Rattle.vm_model.specs.Moves.{changed_by, start as first_point}
 use Rattle.vm_model.specs.Histories.{History, Honest, IsAllOf, IsTrueOf, Knowledge, Whole, after_head}
 use Rattle.vm_model.specs.HonestRounds.{Attempted, HonestRound, IsHanded, IsOneRun, IsToldOn}
@@ -24,7 +24,7 @@ use Rattle.vm_model.proofs.SoundHistories.{run_is_sound, sound_round, sound_roun
 use Rattle.journal_protocol.specs.Version.{Version}
 use Rattle.vm_attempt.specs.Arrivals.{arriving}
 use Rattle.vm_steps.specs.Heard.{acknowledged_from}
-use Rattle.vm_model.specs.JournalFrames.{commands_among}
+use Rattle.journal_entries.specs.JournalFrames.{commands_among}
 use Rattle.vm_steps.specs.Record.{Record}
 use Rattle.vm_steps.specs.Stepping.{fresh_record}
 use Rattle.vm_attempt.specs.Told.{bytes_in}
@@ -33,16 +33,16 @@ use Rattle.vm_attempt.proofs.Coming.{made_comes}
 use Rattle.vm_attempt.proofs.Replayed.{commands_same}
 use Rattle.vm_store.specs.declared.types.Event.{Event}
 use Rattle.vm_store.specs.declared.types.Round.{Round}
-use Rattle.vm_store.specs.declared.types.RoundFault.{RoundFault}
+use Rattle.journal_entries.specs.declared.fault.RoundFault.{RoundFault}
 use Rattle.vm_store.specs.declared.types.Setting.{Setting}
 use Rattle.vm_rounds.specs.Courses.{AreHonest, attempt_of, attempts_of, course_of, start_handed}
-use Rattle.vm_store.specs.Entries.{journal_entries, journal_frames, notes_in}
+use Rattle.journal_entries.specs.Entries.{journal_entries, journal_frames, notes_in}
 use Rattle.vm_rounds.specs.Rounds.{AreWhole, AttemptDoes, StaysShort, RefusedDoes, ReplaysAndQueues, ReportView, RoundDoes, RoundFaults, RoundsDo, RoundsFault, begin, new_now}
 use Rattle.vm_rounds.specs.Sound.{IsSoundFor}
 use Rattle.vm_store.specs.States.{base_of, state_after}
 use Rattle.vm_store.specs.Worlds.{IsJournal, fixed_in, setup_of, start_for, start_message}
 use Rattle.vm_rounds.proofs.Coursing.{Along, events_go_along}
-use Rattle.vm_store.proofs.Framing.{AreFrames, entries_append, one_framed, said_are, none_framed}
+use Rattle.journal_entries.proofs.Framing.{AreFrames, entries_append, one_framed, said_are, none_framed}
 use Rattle.vm_rounds.proofs.Handing.{base_in_order, round_all, round_true}
 use Rattle.vm_rounds.proofs.Headline.{IsHonest, is_honest}
 use Rattle.vm_rounds.proofs.Inputs.{Begins, history_begins, input_says}

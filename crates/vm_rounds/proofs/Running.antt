@@ -11,7 +11,7 @@ use Rattle.journal_protocol.specs.Bodies.{start_in}
 use Rattle.journal_protocol.specs.Notification.{Notification}
 use Rattle.journal_protocol.specs.NotificationId.TheVariants.{CompletionId}
 use Rattle.journal_protocol.specs.NotificationResult.{NotificationResult}
-use Rattle.invocation_vm.specs.Frames.{Tail, frames_of}
+use Rattle.journal_entries.specs.Frames.{Tail, frames_of}
 use Rattle.vm_parts.specs.declared.context.StateMap.{StateMap}
 use Rattle.vm_parts.specs.Entries.{entries_of as state_entries}
 use Rattle.vm_machine.specs.Inputs.{coverage_of}
@@ -19,11 +19,11 @@ use Rattle.vm_model.specs.Calls.{Meaning, Setup}
 use Rattle.vm_model.specs.Carried.{AreCarried, ComeOnce}
 use Rattle.vm_model.specs.Deliveries.{HasNoTwo}
 use Rattle.vm_model.specs.Histories.{Handed, History, IsPrefix, Made, after_head}
-use Rattle.vm_model.specs.Journal.{Entry, input_read_from, notifications_in}
+use Rattle.journal_entries.specs.Journal.{Entry, input_read_from, notifications_in}
 use Rattle.vm_model.specs.Moves.{Point, later, start as first_point}
 use Rattle.vm_model.proofs.Once.{run_once, still_carried}
 use Rattle.vm_model.proofs.Runs.{after_later}
-use Rattle.vm_model.specs.JournalFrames.{commands_among}
+use Rattle.journal_entries.specs.JournalFrames.{commands_among}
 use Rattle.vm_attempt.specs.Journals.{setup_for}
 use Rattle.vm_attempt.specs.Told.{BeforeInput, HasCome, IsKept, Journal, NoneHasTwo, HandlerRuns, Wrote, arrivals, begun, start_state}
 use Rattle.vm_attempt.specs.Arrivals.{arriving}
@@ -42,12 +42,12 @@ use Rattle.vm_store.specs.declared.types.Event.{Event}
 use Rattle.vm_store.specs.declared.types.Event.TheVariants as event
 use Rattle.vm_store.specs.declared.types.Setting.{Setting}
 use Rattle.vm_rounds.specs.Courses.{delivered, start_handed}
-use Rattle.vm_store.specs.Entries.{journal_entries, journal_frames, notes_in}
+use Rattle.journal_entries.specs.Entries.{journal_entries, journal_frames, notes_in}
 use Rattle.vm_rounds.specs.Rounds.{Happen, Happens, Now, Pieces, ReplaysAndQueues, StepHappens, StepsHappen}
 use Rattle.vm_store.specs.Worlds.{IsJournal, fixed_in}
 use Rattle.vm_rounds.proofs.Completing.{carried_behind}
 use Rattle.vm_rounds.proofs.Coursing.{delivered_arrived, fed_frames, new_behind}
-use Rattle.vm_store.proofs.Framing.{AreFrames, frames_append, journal_acknowledges, journal_length, notes_append, notes_are, same_front}
+use Rattle.journal_entries.proofs.Framing.{AreFrames, frames_append, journal_acknowledges, journal_length, notes_append, notes_are, same_front}
 use Rattle.vm_rounds.proofs.Handing.{entries_found}
 use Rattle.vm_rounds.proofs.Keeping.{Going, event_keeps}
 use Rattle.vm_rounds.proofs.Once.{come_once}

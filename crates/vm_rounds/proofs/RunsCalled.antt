@@ -29,33 +29,32 @@ use Rattle.vm_types.specs.declared.types.AwaitResponse.{AwaitResponse}
 use Rattle.vm_types.specs.declared.types.AwaitResponse.TheVariants.{AnyCompleted, CancelSignalReceived, EphemeralNotificationReady, ExecuteRun, WaitingExternalProgress}
 use Rattle.vm_types.specs.declared.types.AwakeableHandle.{AwakeableHandle}
 use Rattle.vm_types.specs.declared.values.Value.{Value}
-use Rattle.vm_types.specs.Options.{ends_awaits}
-use Rattle.vm_types.specs.Values.{value_of}
-use Rattle.vm_parts.specs.declared.run_state.PendingRun.{PendingRun}
-use Rattle.vm_parts.specs.declared.run_state.TrackedCall.{TrackedCall}
+use Rattle.vm_types.specs.Options.{ends_awaits, ignores_payloads, skips_replay}
+use Rattle.vm_types.specs.Values.{value_of, id_of_value}
+use Rattle.runs.specs.declared.pending.PendingRun.{PendingRun}
+use Rattle.vm_parts.specs.declared.tracked_call.TrackedCall.{TrackedCall}
 use Rattle.vm_parts.specs.Counting.{missing_number, missing_signals, next_index}
 use Rattle.vm_parts.specs.Deliveries.{id_at, present_result_for, taken_by}
 use Rattle.vm_parts.specs.Ephemerals.{any_in_flight}
-use Rattle.vm_parts.specs.Tracked.{id_of_result, id_of_value, invocation_ids, id_noted, unresolved_handles}
+use Rattle.vm_parts.specs.Tracked.{id_of_result, invocation_ids, id_noted, unresolved_handles}
 use Rattle.vm_asks.specs.declared.asks.Ask.{Ask}
 use Rattle.vm_asks.specs.declared.asks.Ask.TheVariants as ask
 use Rattle.vm_asks.specs.declared.asks.AnswerKind.{AnswerKind}
 use Rattle.vm_asks.specs.declared.command.Command.{Command}
 use Rattle.vm_asks.specs.declared.state_read.StateRead.{StateRead}
-use Rattle.vm_asks.specs.Asks.{EachIs, any_refusal, ask_of, cancel_invocation_command}
+use Rattle.vm_asks.specs.Asks.{EachIs, any_refusal, ask_of, cancel_invocation_command, missing_for}
 use Rattle.vm_asks.specs.Requests.{ids_of, name_of, shown_type, with_ids}
-use Rattle.vm_asks.specs.StateReads.{eager_type, lazy_type, name_read, own_form, recorded_as, recorded_type, result_in}
+use Rattle.vm_asks.specs.StateReads.{eager_type, lazy_type, name_read, own_form, recorded_as, recorded_type, result_in, own_result}
 use Rattle.vm_machine.specs.declared.machine.Machine.{Machine}
 use Rattle.vm_machine.specs.declared.phase.Phase.{Phase}
 use Rattle.vm_machine.specs.declared.phase.Phase.TheVariants.{WaitingStart, WaitingReplayEntries, Replaying, Processing, Closed}
-use Rattle.vm_machine.specs.Commands.{CanBeRead, about_next, carried_out, commanded, commanded_unless, compared, command_if_counted, entered, handed_out, ignores_payloads, issued, knows_next, phase_after, popped, popped_from, prepared, replayed, runs_after, written}
+use Rattle.vm_machine.specs.Commands.{CanBeRead, about_next, carried_out, commanded, commanded_unless, compared, command_if_counted, entered, handed_out, issued, knows_next, phase_after, popped, popped_from, prepared, replayed, runs_after, written}
 use Rattle.vm_machine.specs.Inputs.{end_at, end_step}
 use Rattle.vm_machine.specs.Outcomes.{CalledBy, DoesBy, Outcome, Done, Failed, ◌>>>◌, about_last, called, called_at, refused, settled}
 use Rattle.vm_machine.specs.Phases.{is_processing, is_replaying, is_running, state_fault}
-use Rattle.vm_machine.specs.Reads.{own_result, read_back as read_again, read_counted, read_numbered, read_popped, read_step, read_written, with_read_ready}
+use Rattle.vm_machine.specs.Reads.{read_back as read_again, read_counted, read_numbered, read_popped, read_step, read_written, with_read_ready}
 use Rattle.vm_machine.specs.Signals.{awakeable_counted, awakeable_step, signal_counted, signal_step}
-use Rattle.vm_machine.specs.Several.{BehindFirst, MakesAll, MakesOne, answered_so, commanded_before, foreseen, foreseen_unless, missing_for, numbers_left}
-use Rattle.vm_machine.specs.Skips.{skips_replay}
+use Rattle.vm_machine.specs.Several.{BehindFirst, MakesAll, MakesOne, answered_so, commanded_before, foreseen, foreseen_unless, numbers_left}
 use Rattle.vm_machine.specs.Takes.{result_taken, take_step, taken_at, value_noted, value_taken}
 use Rattle.vm_machine.proofs.Calling.{answers_first, called_from}
 use Rattle.vm_awaits.specs.Awaits.{Awaits, AwaitsAt, AwaitsBy, Behind, AwaitCompletes, EndsBy, Gathers, ReadsId, StaysPending, Tries, next_id_known, is_cancelled, or_cancelled, pending_in_replay, pending_on, result_at, waits_by, waits_on, with_used}

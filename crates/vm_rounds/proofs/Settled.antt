@@ -16,32 +16,32 @@ use Rattle.journal_protocol.specs.Bodies.{acknowledgement_in, message_in, notifi
 use Rattle.journal_protocol.proofs.Facts.{read_back}
 use Rattle.journal_protocol.specs.Notification.{Notification}
 use Rattle.runs.specs.Kept.{is_for}
-use Rattle.vm_parts.specs.declared.run_state.KeptProposal.{KeptProposal}
-use Rattle.vm_machine.specs.Inputs.{acknowledged_completion}
+use Rattle.journal_entries.specs.declared.proposals.KeptProposal.{KeptProposal}
+use Rattle.journal_entries.specs.Proposals.{acknowledged_completion}
 use Rattle.journal_protocol.specs.Versions.{is_from_v7}
 use Rattle.vm_model.specs.Carried.{AreCarried, is_carried}
-use Rattle.vm_model.specs.Journal.{stored_form}
+use Rattle.journal_entries.specs.Journal.{stored_form}
 use Rattle.vm_model.proofs.Once.{still_carried}
 use Rattle.vm_attempt.specs.Arrivals.{AllFound, FindsProposal, IsOfKept, arriving, kept_after, acknowledged_as, unacknowledged}
-use Rattle.vm_steps.specs.Heard.{acknowledged_from, is_proposal, proposals_among, proposed_by}
-use Rattle.vm_model.specs.JournalFrames.{commands_among, is_acknowledgement, is_command_frame, is_notification, notifications_among, notified_by}
+use Rattle.vm_steps.specs.Heard.{acknowledged_from, proposals_among, proposed_by}
+use Rattle.journal_entries.specs.JournalFrames.{commands_among, is_acknowledgement, is_command_frame, is_notification, notifications_among, notified_by, is_proposal}
 use Rattle.vm_attempt.proofs.Advanced.{nothing_acknowledged}
 use Rattle.vm_attempt.proofs.Arriving.{arriving_alone, kept_none}
 use Rattle.vm_attempt.proofs.Finishing.{acknowledged_more}
 use Rattle.vm_attempt.proofs.Pieces.{commands_append}
 use Rattle.vm_attempt.proofs.Proposed.{arriving_append, arriving_more, found_append, found_more, kept_append, kept_more}
 use Rattle.journal_protocol.specs.NotificationResult.{NotificationResult}
-use Rattle.vm_store.specs.declared.completions.Completes.{Completes}
-use Rattle.vm_store.specs.declared.completions.Completes.TheVariants as completes
-use Rattle.vm_store.specs.declared.storing.Written.{Written}
-use Rattle.vm_store.specs.declared.storing.Written.TheVariants.{Command, Proposal}
-use Rattle.vm_store.specs.declared.types.RoundFault.{RoundFault}
-use Rattle.vm_store.specs.Arrivals.{completes_among, completes_id, most_entries, stored_proposal_fault, proposed_fault, room_fault}
-use Rattle.vm_store.specs.Completions.{CompleteOnce, IsOfKind, NoteIsOfItsKind}
-use Rattle.vm_store.specs.Entries.{AreEntries, frame_in, frame_of, framed_by, journal_frames, may_stand, note_in, note_of, notes_in, read_from, said_in}
-use Rattle.vm_store.specs.Storing.{StoredCanBeRead, NoneFaults, acknowledgement, answer_to, completion_message, kept_of, proposal_of, stored_as, storing_fault, waits_behind, written_among, written_before}
+use Rattle.journal_entries.specs.declared.completions.Completes.{Completes}
+use Rattle.journal_entries.specs.declared.completions.Completes.TheVariants as completes
+use Rattle.journal_entries.specs.declared.storing.Written.{Written}
+use Rattle.journal_entries.specs.declared.storing.Written.TheVariants.{Command, Proposal}
+use Rattle.journal_entries.specs.declared.fault.RoundFault.{RoundFault}
+use Rattle.journal_entries.specs.Arrivals.{completes_among, completes_id, most_entries, stored_proposal_fault, proposed_fault, room_fault}
+use Rattle.journal_entries.specs.Completions.{CompleteOnce, IsOfKind, NoteIsOfItsKind}
+use Rattle.journal_entries.specs.Entries.{AreEntries, frame_in, frame_of, framed_by, journal_frames, may_stand, note_in, note_of, notes_in, read_from, said_in}
+use Rattle.journal_entries.specs.Storing.{StoredCanBeRead, NoneFaults, acknowledgement, answer_to, completion_message, kept_of, proposal_of, stored_as, storing_fault, waits_behind, written_among, written_before}
 use Rattle.vm_store.specs.Worlds.{IsJournal}
-use Rattle.vm_store.proofs.Framing.{AreFrames, command_no_note, entries_join, frame_back, frames_append, join, none_framed, note_acknowledges_nothing, notes_append, notes_are, one_framed}
+use Rattle.journal_entries.proofs.Framing.{AreFrames, command_no_note, entries_join, frame_back, frames_append, join, none_framed, note_acknowledges_nothing, notes_append, notes_are, one_framed}
 use Rattle.vm_rounds.proofs.Once.{IsNew, absent, carried_more, completed_carried, each_more, not_most, once_more}
 
 -- ---- the commands and proposals that were stored

@@ -13,23 +13,23 @@ use Rattle.journal_protocol.specs.Notification.{Notification}
 use Rattle.journal_protocol.specs.NotificationId.{NotificationId}
 use Rattle.journal_protocol.specs.NotificationId.TheVariants.{CompletionId, SignalId, SignalName}
 use Rattle.journal_protocol.specs.NotificationResult.{NotificationResult}
-use Rattle.vm_asks.specs.Carried.{all_carried, carried, carried_by, read_carried}
-use Rattle.vm_parts.specs.declared.run_state.KeptProposal.{KeptProposal}
+use Rattle.journal_entries.specs.Carried.{all_carried, carried, carried_by, read_carried}
+use Rattle.journal_entries.specs.declared.proposals.KeptProposal.{KeptProposal}
 use Rattle.vm_model.specs.Carried.{is_id_among, is_carried, read_carries}
-use Rattle.vm_model.specs.Journal.{messages_in, read_before}
-use Rattle.vm_model.specs.JournalFrames.{commands_among, is_command_frame}
+use Rattle.journal_entries.specs.Journal.{messages_in, read_before}
+use Rattle.journal_entries.specs.JournalFrames.{commands_among, is_command_frame}
 use Rattle.vm_attempt.proofs.Numbers.{carried_append}
 use Rattle.vm_attempt.proofs.Pieces.{commands_append}
-use Rattle.vm_store.specs.declared.completions.Completes.{Completes}
-use Rattle.vm_store.specs.declared.completions.Completes.TheVariants as completes
-use Rattle.vm_store.specs.declared.storing.Written.{Written}
-use Rattle.vm_store.specs.declared.storing.Written.TheVariants.{Command, Proposal}
-use Rattle.vm_store.specs.declared.types.RoundFault.{RoundFault}
-use Rattle.vm_store.specs.declared.types.RoundFault.TheVariants as round_fault
-use Rattle.vm_store.specs.Arrivals.{arrival_fault, completes_among, completes_by, completion_fault, if_same, completes_id, is_of, most_entries, note_fault, stored_proposal_fault, proposed_fault, read_fault, room_fault}
-use Rattle.vm_store.specs.Entries.{journal_frames, note_in, notes_in, said_in}
-use Rattle.vm_store.specs.Storing.{StoredCanBeRead, FirstFault, proposal_of, stored_as, written_among, written_before}
-use Rattle.vm_store.proofs.Framing.{frames_append, notes_append, said_are}
+use Rattle.journal_entries.specs.declared.completions.Completes.{Completes}
+use Rattle.journal_entries.specs.declared.completions.Completes.TheVariants as completes
+use Rattle.journal_entries.specs.declared.storing.Written.{Written}
+use Rattle.journal_entries.specs.declared.storing.Written.TheVariants.{Command, Proposal}
+use Rattle.journal_entries.specs.declared.fault.RoundFault.{RoundFault}
+use Rattle.journal_entries.specs.declared.fault.RoundFault.TheVariants as round_fault
+use Rattle.journal_entries.specs.Arrivals.{arrival_fault, completes_among, completes_by, completion_fault, if_same, completes_id, is_of, most_entries, note_fault, stored_proposal_fault, proposed_fault, read_fault, room_fault}
+use Rattle.journal_entries.specs.Entries.{journal_frames, note_in, notes_in, said_in}
+use Rattle.journal_entries.specs.Storing.{StoredCanBeRead, FirstFault, proposal_of, stored_as, written_among, written_before}
+use Rattle.journal_entries.proofs.Framing.{frames_append, notes_append, said_are}
 use Rattle.vm_rounds.proofs.Once.{completes_none}
 use Rattle.vm_rounds.proofs.Pending.{MayPropose, ProposeWell, among_append, has_run, proposed_ids, read_runs}
 use Rattle.vm_rounds.proofs.Rising.{Rises, carried_is, only_once, rises_behind, rises_front}

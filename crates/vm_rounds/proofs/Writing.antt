@@ -12,7 +12,7 @@ use Rattle.vm_types.specs.declared.types.AwakeableHandle.{AwakeableHandle}
 use Rattle.await_trees.specs.declared.handle.NotificationHandle.{NotificationHandle}
 use Rattle.await_trees.specs.declared.tree.UnresolvedFuture.{UnresolvedFuture}
 use Rattle.retries.specs.declared.policy.RetryPolicy.{RetryPolicy}
-use Rattle.runs.specs.declared.types.RunExitResult.{RunExitResult}
+use Rattle.vm_types.specs.declared.runs.RunExitResult.{RunExitResult}
 use Rattle.await_trees.specs.Tree.{tree_of}
 use Rattle.vm_asks.specs.declared.asks.Ask.{Ask}
 use Rattle.vm_asks.specs.declared.asks.Ask.TheVariants as ask
@@ -28,7 +28,7 @@ use Rattle.vm_machine.specs.Inputs.{close_step, input_step}
 use Rattle.vm_machine.specs.Outcomes.{Does, DoesBy, Done, Failed, Outcome, called, refused}
 use Rattle.vm_machine.specs.Signals.{awakeable_step}
 use Rattle.vm_laws.proofs.Endings.{awakeable_writes, called_writes, close_writes, commanded_event, end_writes, ends_nothing, input_writes, read_writes, same, signal_writes, take_writes, writes_nothing}
-use Rattle.vm_machine.specs.Skips.{skips_replay}
+use Rattle.vm_types.specs.Options.{skips_replay}
 use Rattle.invocation_vm.specs.Views.{View, after_closing, after_input, left_by}
 use Rattle.invocation_vm.proofs.Feeds.{among_output}
 use Rattle.vm_model.specs.Calls.{Meaning}

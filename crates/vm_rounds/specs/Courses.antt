@@ -10,14 +10,14 @@ use Rattle.vm_parts.specs.Entries.{entries_of as state_entries}
 use Rattle.vm_model.specs.Calls.{Meaning}
 use Rattle.vm_model.specs.Histories.{Knowledge}
 use Rattle.vm_model.specs.HonestRounds.{Attempted, HonestRounds}
-use Rattle.vm_model.specs.Journal.{Entry, Recorded, Notified}
+use Rattle.journal_entries.specs.Journal.{Entry, Recorded, Notified}
 use Rattle.journal_protocol.specs.Version.{Version}
 use Rattle.vm_steps.specs.Record.{Record, heard}
 use Rattle.vm_attempt.specs.Told.{arrivals_of, written_by}
 use Rattle.vm_store.specs.declared.types.Event.{Event}
 use Rattle.vm_store.specs.declared.types.Round.{Round}
 use Rattle.vm_store.specs.declared.types.Setting.{Setting}
-use Rattle.vm_store.specs.Entries.{journal_entries, notes_in}
+use Rattle.journal_entries.specs.Entries.{journal_entries, notes_in}
 use Rattle.vm_rounds.specs.Rounds.{Happen, Now, ReportView, RoundDoes, RoundsDo, begin}
 use Rattle.vm_store.specs.Worlds.{setup_of, start_for}
 

@@ -2,10 +2,10 @@
 use Rattle.std.specs.Prelude.{◌≡◌, ℕ, List, [], ◌∷◌, take, drop}
 use Rattle.vm_types.specs.declared.options.JournalReplay.TheVariants.{Disabled}
 use Rattle.vm_types.specs.declared.options.VMOptions.{VMOptions}
-use Rattle.vm_asks.specs.Carried.{AreGreater, all_carried}
-use Rattle.invocation_vm.specs.Frames.{frames_of}
-use Rattle.vm_model.specs.JournalFrames.{commands_among}
-use Rattle.vm_store.specs.Entries.{journal_frames}
+use Rattle.journal_entries.specs.Carried.{AreGreater, all_carried}
+use Rattle.journal_entries.specs.Frames.{frames_of}
+use Rattle.journal_entries.specs.JournalFrames.{commands_among}
+use Rattle.journal_entries.specs.Entries.{journal_frames}
 use Rattle.vm_rounds.specs.Rounds.{ReportView}
 
 -- the completion ids that the commands of a journal carry

@@ -1,22 +1,26 @@
 -- What rounds guarantee of a handler and its world. Read this file first.
 use Rattle.std.specs.Prelude.{ℕ, List, map, length}
-use Rattle.vm_model.specs.JournalFrames.{commands_among}
+use Rattle.journal_entries.specs.JournalFrames.{commands_among}
+use Rattle.vm_model.specs.Alike.{IsOneRunAlike}
 use Rattle.vm_model.specs.Calls.{Meaning}
 use Rattle.vm_model.specs.Carried.{AreOfTheirKind}
-use Rattle.vm_model.specs.Histories.{Honest, Whole}
+use Rattle.vm_model.specs.Histories.{EagerFrom, History, Honest, Whole, after_head}
+use Rattle.journal_entries.specs.Journal.{commands_in}
 use Rattle.vm_model.specs.HonestRounds.{IsOneRun}
-use Rattle.vm_store.specs.Entries.{journal_entries, journal_frames, notes_in}
+use Rattle.journal_entries.specs.Entries.{journal_entries, journal_frames, notes_in}
 use Rattle.vm_store.specs.States.{base_of}
 use Rattle.vm_store.specs.Worlds.{WorldView, setup_of}
 use Rattle.vm_store.specs.declared.types.Report.{Report}
 use Rattle.vm_store.specs.declared.types.Round.{Round}
-use Rattle.vm_store.specs.declared.types.RoundFault.{RoundFault}
+use Rattle.journal_entries.specs.declared.fault.RoundFault.{RoundFault}
 use Rattle.vm_store.specs.declared.types.Setting.{Setting}
 use Rattle.vm_rounds.specs.Courses.{AreHonest}
 use Rattle.vm_rounds.specs.Fresh.{AreFresh}
 use Rattle.vm_rounds.specs.Inside.{report_view}
 use Rattle.vm_rounds.specs.Owning.{AreOwn}
-use Rattle.vm_rounds.specs.Rounds.{Agree, ComesFromOutside, CompletesOnce, ReportView, RoundsDo}
+use Rattle.vm_rounds.specs.declared.placed.PlacedFault.{PlacedFault}
+use Rattle.vm_rounds.specs.Places.{RoundsStop, StopsOutside}
+use Rattle.vm_rounds.specs.Rounds.{Agree, CompletesOnce, OutsideFault, ReportView, RoundsDo, RoundsFaultBy}
 use Rattle.vm_rounds.specs.Sound.{IsSoundFor}
 
 -- What is fixed over all rounds: what the handler calls next after the answers that it saw, and
@@ -37,16 +41,38 @@ abbrev pub IsExactlyOnce : Case → List (List ℕ) → Type 0
 IsExactlyOnce c journal =
     IsOneRun (setup_of c.setting) c.handler (Honest (base_of c.setting)) (journal_entries journal)
 
--- So did one run that nothing interrupted: each call knew the whole state.
+-- One run made the journal in which each call may be that of another handler, of those that replay
+-- can't tell from this one: each of its commands stands there once, in order, and no other.
+abbrev pub IsExactlyOnceAlike : Case → List (List ℕ) → Type 0
+IsExactlyOnceAlike c journal = IsOneRunAlike (setup_of c.setting) c.handler
+    (Honest (base_of c.setting)) (journal_entries journal)
+
+-- One run of the handler made the journal that nothing interrupted: each call knew the whole state.
 abbrev pub IsUninterrupted : Case → List (List ℕ) → Type 0
 IsUninterrupted c journal =
     IsOneRun (setup_of c.setting) c.handler (Whole (base_of c.setting)) (journal_entries journal)
+
+-- So did one such run of several handlers that are alike.
+abbrev pub IsUninterruptedAlike : Case → List (List ℕ) → Type 0
+IsUninterruptedAlike c journal = IsOneRunAlike (setup_of c.setting) c.handler
+    (Whole (base_of c.setting)) (journal_entries journal)
 
 -- The journal can be replayed to its end, whoever made it: recorded commands are replayed, signals
 -- queue, the handler's calls are its commands in order, and these leave of the state what the calls
 -- leave.
 abbrev pub IsReplayable : Case → List (List ℕ) → Type 0
 IsReplayable c journal = IsSoundFor c.handler c.setting journal
+
+-- The journal is a history of the handler: its commands are the handler's calls in order, and it is
+-- replayed to its end without a mismatch.
+abbrev pub IsHistory : Case → List (List ℕ) → Type 0
+IsHistory c journal =
+    History (setup_of c.setting) c.handler (base_of c.setting) (journal_entries journal)
+
+-- Each recorded eager read of the journal has the value that the state has there.
+abbrev pub HasRightReads : Case → List (List ℕ) → Type 0
+HasRightReads c journal =
+    EagerFrom (base_of c.setting) (after_head (commands_in (journal_entries journal)))
 
 -- the world's journal can be replayed by the handler
 abbrev pub CanBeReplayed : Meaning → WorldView → Type 0
@@ -89,10 +115,18 @@ ErrorsAreTheirOwn c rounds old reports new =
     (d : RoundsDo c.handler c.setting rounds old reports new)
     → AreOwn c.handler c.setting rounds old reports new d
 
--- A fault is out of memory, a full journal, or that of an arrival, on a journal that begins with
--- the old one: what an attempt wrote can always be stored.
-abbrev pub FaultsComeFromOutside : List Round → List (List ℕ) → RoundFault → Type 0
-FaultsComeFromOutside rounds old f = ComesFromOutside rounds old f
+-- A fault comes from outside: the first event that has one is out of memory, stores into a full
+-- journal, or is an arrival that has it on the journal as it is then. What an attempt wrote can
+-- always be stored.
+abbrev pub FaultsComeFromOutside : Case → List Round → List (List ℕ) → RoundFault → Type 0
+FaultsComeFromOutside c rounds old f = RoundsFaultBy OutsideFault c.handler c.setting rounds old f
+
+-- So does the fault of the event at which rounds are stopped.
+abbrev pub StopsComeFromOutside : Case → List Round → List (List ℕ) → List ReportView → PlacedFault
+    → Type 0
+StopsComeFromOutside c rounds old reports at =
+    (s : RoundsStop c.handler c.setting rounds old reports at)
+    → StopsOutside c.handler c.setting s.round s.journal at.event at.fault s.stops
 
 -- ---- what lasts
 

@@ -1,4 +1,5 @@
 pub mod Rounds
+pub mod Course
 pub mod Places
 pub mod Courses
 pub mod Inside
@@ -6,3 +7,6 @@ pub mod Fresh
 pub mod Sound
 pub mod Owning
 pub mod Guarantees
+pub mod Executing
+pub mod Families
+pub mod Origins

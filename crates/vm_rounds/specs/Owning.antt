@@ -1,6 +1,6 @@
 -- Whose errors the reports of rounds tell: each is its attempt's own, or that of the attempt's
 -- making.
-use Rattle.std.specs.Prelude.{◌≡◌, ℕ, List, [], ◌∷◌, ◌++◌, Some}
+use Rattle.std.specs.Prelude.{◌≡◌, ◌⊎◌, ℕ, List, [], ◌∷◌, Some, None}
 use Rattle.std.proofs.Common.{inl, inr}
 use Rattle.journal_protocol.specs.Error.{Error}
 use Rattle.invocation_vm.specs.Making.{supported}
@@ -13,24 +13,23 @@ use Rattle.vm_store.specs.declared.types.Setting.{Setting}
 use Rattle.vm_store.specs.Worlds.{fixed_in}
 use Rattle.vm_rounds.specs.Rounds.{Happen, IsRefusal, Now, ReportView, RoundDoes, RoundsDo, begin}
 
--- At a moment of a round, after the first of its events, its attempt has this error as its own:
--- out of memory, input that was closed too early, a call's own refusal after the recorded
--- commands, or that of a run's result.
-pub record IsOwnIn (m : Meaning) (w : Setting) (events : List Event) (begun : Now)
-    (e : Error) : Type 0 where
-  pub before : List Event
-  pub behind : List Event
-  pub split : events ≡ before ++ behind
-  pub now : Now
-  pub happen : Happen m before begun now
-  pub own : IsOwnError (fixed_in m w) (all_heard w.version now.attempt) (all_said now.attempt)
-      now.attempt.answers e
+-- On this course of a round's events: the event that brought the round's error brought this one,
+-- and right after it the error is the attempt's own: out of memory, input that was closed too
+-- early, a call's own refusal after the recorded commands, or that of a run's result.
+abbrev pub BringsOwn : (m : Meaning) (w : Setting) (events : List Event) (begun end : Now)
+    → Happen m events begun end → Error → Type 0
+BringsOwn m w [] begun end h e = ⊥
+BringsOwn m w (v ∷ es) begun end (mid, happens, others) e =
+    ((begun.error ≡ None) × (mid.error ≡ Some e)
+    × IsOwnError (fixed_in m w) (all_heard w.version mid.attempt) (all_said mid.attempt)
+    mid.attempt.answers e)
+    ⊎ BringsOwn m w es mid end others e
 
 -- The error of a round, if it has one, is its attempt's own; or, if no attempt was made, why.
 abbrev pub OwnOf : (m : Meaning) (w : Setting) (round : Round) (old : List (List ℕ))
     (report : ReportView) (new : List (List ℕ)) → RoundDoes m w round old report new → Type 0
 OwnOf m w round old report new (inl d) = (e : Error) → report.error ≡ Some e
-    → IsOwnIn m w round.events (begin d.alloc w round old) e
+    → BringsOwn m w round.events (begin d.alloc w round old) d.ran.now d.ran.happen e
 OwnOf m w round old report new (inr d) = (e : Error) → report.error ≡ Some e
     → IsRefusal (supported w.version) e
 

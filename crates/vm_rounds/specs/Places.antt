@@ -1,18 +1,18 @@
 -- Where rounds are stopped: the round, the event in it, and what had happened before.
 use Rattle.std.specs.Prelude.{◌≡◌, ◌⊎◌, ℕ, List, [], ◌∷◌, ◌++◌, length, Option, Some, None}
-use Rattle.std.proofs.Common.{Global}
+use Rattle.std.proofs.Common.{Global, inl, inr}
 use Rattle.journal_protocol.specs.Error.{Error}
 use Rattle.journal_protocol.specs.Frames.{IsWhole}
 use Rattle.invocation_vm.specs.Making.{supported}
 use Rattle.vm_model.specs.Calls.{Meaning}
 use Rattle.vm_store.specs.declared.types.Event.{Event}
 use Rattle.vm_store.specs.declared.types.Round.{Round}
-use Rattle.vm_store.specs.declared.types.RoundFault.{RoundFault}
-use Rattle.vm_store.specs.declared.types.RoundFault.TheVariants as round_fault
+use Rattle.journal_entries.specs.declared.fault.RoundFault.{RoundFault}
+use Rattle.journal_entries.specs.declared.fault.RoundFault.TheVariants as round_fault
 use Rattle.vm_store.specs.declared.types.Setting.{Setting}
 use Rattle.vm_store.specs.Worlds.{start_message}
 use Rattle.vm_rounds.specs.declared.placed.PlacedFault.{PlacedFault}
-use Rattle.vm_rounds.specs.Rounds.{ArrivalsDo, ArrivalsFault, Faults, Happen, IsRefusal, IsSupported, Now, ReportView, RoundsDo, begin}
+use Rattle.vm_rounds.specs.Rounds.{ArrivalsDo, ArrivalsFault, Faults, Happen, IsRefusal, IsSupported, Now, OutsideFault, ReportView, RoundsDo, begin}
 
 -- The events before this place, counted from 0, have happened, and the event there has this fault.
 pub record FaultsAt (m : Meaning) (events : List Event) (begun : Now)
@@ -74,3 +74,12 @@ pub record RoundsStop (m : Meaning) (w : Setting) (rounds : List Round) (old : L
   pub journal : List (List ℕ)
   pub ended : RoundsDo m w before old reports journal
   pub stops : RoundStops m w round journal at.event at.fault
+
+-- The event at which a round is stopped has its fault from outside. (So has an arrival at which a
+-- round without an attempt is stopped: the fault is its own.)
+abbrev pub StopsOutside : (m : Meaning) (w : Setting) (round : Round) (old : List (List ℕ))
+    (place : Option ℕ) (f : RoundFault) → RoundStops m w round old place f → Type 0
+StopsOutside m w round old place f (inl aside) = Unit {0}
+StopsOutside m w round old place f (inr (inl d)) = (f ≡ round_fault.Memory)
+    ⊎ OutsideFault d.stops.event d.stops.now f
+StopsOutside m w round old place f (inr (inr d)) = Unit {0}

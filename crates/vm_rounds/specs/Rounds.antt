@@ -8,14 +8,14 @@ use Rattle.journal_protocol.specs.Version.{Version}
 use Rattle.journal_protocol.specs.Errors.{no_memory}
 use Rattle.journal_protocol.specs.Frames.{encoding, IsWhole}
 use Rattle.vm_types.specs.declared.options.JournalReplay.TheVariants.{Enabled}
-use Rattle.vm_types.specs.declared.options.SignalDelivery.TheVariants.{Queued}
+use Rattle.journal_protocol.specs.SignalDelivery.TheVariants.{Queued}
 use Rattle.vm_types.specs.declared.options.VMOptions.{VMOptions}
 use Rattle.vm_parts.specs.Outboxes.{WholeFrames}
 use Rattle.vm_types.specs.declared.steps.Answer.{Answer}
 use Rattle.invocation_vm.specs.Making.{made, supported}
 use Rattle.vm_model.specs.Calls.{Meaning, Setup}
-use Rattle.vm_model.specs.Histories.{IsPrefix, OneBegins, Told}
-use Rattle.vm_model.specs.Journal.{Entry, commands_in, input_read_from, notifications_in}
+use Rattle.vm_model.specs.Histories.{OneBegins, Told}
+use Rattle.journal_entries.specs.Journal.{Entry, commands_in, input_read_from, notifications_in}
 use Rattle.vm_model.specs.Moves.{Point}
 use Rattle.vm_model.specs.Deliveries.{HasNoTwo}
 use Rattle.journal_protocol.specs.InputCommand.{InputCommand}
@@ -28,13 +28,13 @@ use Rattle.vm_steps.specs.Stepping.{CloseDoes, FeedDoes, FinishDoes, StepDoes, f
 use Rattle.vm_store.specs.declared.types.Event.{Event}
 use Rattle.vm_store.specs.declared.types.Event.TheVariants as event
 use Rattle.vm_store.specs.declared.types.Round.{Round}
-use Rattle.vm_store.specs.declared.types.RoundFault.{RoundFault}
-use Rattle.vm_store.specs.declared.types.RoundFault.TheVariants as round_fault
+use Rattle.journal_entries.specs.declared.fault.RoundFault.{RoundFault}
+use Rattle.journal_entries.specs.declared.fault.RoundFault.TheVariants as round_fault
 use Rattle.vm_store.specs.declared.types.Setting.{Setting}
-use Rattle.vm_store.specs.Arrivals.{arrival_fault, most_entries}
-use Rattle.vm_store.specs.Entries.{journal_entries}
+use Rattle.journal_entries.specs.Arrivals.{arrival_fault, most_entries}
+use Rattle.journal_entries.specs.Entries.{journal_entries}
 use Rattle.vm_store.specs.States.{HaveTextKeys, pairs_for}
-use Rattle.vm_store.specs.Storing.{FirstFault, Stores, written_from}
+use Rattle.journal_entries.specs.Storing.{FirstFault, Stores, written_from}
 use Rattle.vm_store.specs.Worlds.{fixed_in, start_message}
 use Rattle.vm_model.specs.Fixed.{Fixed}
 
@@ -156,11 +156,19 @@ abbrev pub Happen : Meaning → List Event → Now → Now → Type 0
 Happen m [] old new = new ≡ old
 Happen m (e ∷ es) old new = (mid : Now) × Happens m e old mid × Happen m es mid new
 
+-- a kind of fault that events can have
+abbrev pub EventFault : Type 1
+EventFault = Event → Now → RoundFault → Type 0
+
+-- the first of these events that has a fault of this kind, or is out of memory, has this one
+abbrev pub HappenFaultsBy : EventFault → Meaning → List Event → Now → RoundFault → Type 0
+HappenFaultsBy Has m [] now f = ⊥
+HappenFaultsBy Has m (e ∷ es) now f = ((f ≡ round_fault.Memory) ⊎ Has e now f)
+    ⊎ ((mid : Now) × Happens m e now mid × HappenFaultsBy Has m es mid f)
+
 -- the first of these events that has a fault has this one
 abbrev pub HappenFaults : Meaning → List Event → Now → RoundFault → Type 0
-HappenFaults m [] now f = ⊥
-HappenFaults m (e ∷ es) now f = Faults e now f
-    ⊎ ((mid : Now) × Happens m e now mid × HappenFaults m es mid f)
+HappenFaults m events now f = HappenFaultsBy Fault m events now f
 
 -- ---- rounds whose attempt was refused
 
@@ -283,13 +291,17 @@ RoundsDo m w (r ∷ rs) old reports new =
     (mid : List (List ℕ)) × (report : ReportView) × (more : List ReportView)
     × (reports ≡ report ∷ more) × RoundDoes m w r old report mid × RoundsDo m w rs mid more new
 
--- the first event of a round with its attempt that has a fault has this one
-pub record AttemptFaults (m : Meaning) (w : Setting) (round : Round) (old : List (List ℕ))
-    (f : RoundFault) : Type 0 where
+-- the first event of a round with its attempt that has a fault of this kind has this one
+pub record AttemptFaultsBy (Has : EventFault) (m : Meaning) (w : Setting) (round : Round)
+    (old : List (List ℕ)) (f : RoundFault) : Type 0 where
   pub alloc : Global
   pub speaks : IsSupported w.version
   pub start : IsWhole (start_message w round old)
-  pub faults : HappenFaults m round.events (begin alloc w round old) f
+  pub faults : HappenFaultsBy Has m round.events (begin alloc w round old) f
+
+-- the first event of a round with its attempt that has a fault has this one
+abbrev pub AttemptFaults : Meaning → Setting → Round → List (List ℕ) → RoundFault → Type 0
+AttemptFaults m w round old f = AttemptFaultsBy Fault m w round old f
 
 -- the first arrival of a round whose attempt was refused that has a fault has this one
 pub record RefusedFaults (w : Setting) (round : Round) (old : List (List ℕ))
@@ -298,44 +310,41 @@ pub record RefusedFaults (w : Setting) (round : Round) (old : List (List ℕ))
   pub refusal : IsRefusal (supported w.version) error
   pub faults : ArrivalsFault round.events old f
 
+-- a round's fault of this kind: out of memory, or that of the first event that has one
+abbrev pub RoundFaultsBy : EventFault → Meaning → Setting → Round → List (List ℕ) → RoundFault
+    → Type 0
+RoundFaultsBy Has m w round old f =
+    (f ≡ round_fault.Memory) ⊎ (AttemptFaultsBy Has m w round old f ⊎ RefusedFaults w round old f)
+
 -- a round's fault: out of memory, or that of the first event that has one
 abbrev pub RoundFaults : Meaning → Setting → Round → List (List ℕ) → RoundFault → Type 0
-RoundFaults m w round old f =
-    (f ≡ round_fault.Memory) ⊎ (AttemptFaults m w round old f ⊎ RefusedFaults w round old f)
+RoundFaults m w round old f = RoundFaultsBy Fault m w round old f
+
+-- the first round that has a fault of this kind has this one
+abbrev pub RoundsFaultBy : EventFault → Meaning → Setting → List Round → List (List ℕ) → RoundFault
+    → Type 0
+RoundsFaultBy Has m w [] old f = f ≡ round_fault.Memory
+RoundsFaultBy Has m w (r ∷ rs) old f =
+    RoundFaultsBy Has m w r old f
+    ⊎ ((mid : List (List ℕ)) × (report : ReportView) × RoundDoes m w r old report mid
+    × RoundsFaultBy Has m w rs mid f)
 
 -- the first round that has a fault has this one
 abbrev pub RoundsFault : Meaning → Setting → List Round → List (List ℕ) → RoundFault → Type 0
-RoundsFault m w [] old f = f ≡ round_fault.Memory
-RoundsFault m w (r ∷ rs) old f =
-    RoundFaults m w r old f
-    ⊎ ((mid : List (List ℕ)) × (report : ReportView) × RoundDoes m w r old report mid
-    × RoundsFault m w rs mid f)
+RoundsFault m w rounds old f = RoundsFaultBy Fault m w rounds old f
 
 -- ---- faults that come from outside
 
--- the entry arrives among these events
-abbrev pub ArrivesAmong : List ℕ → List Event → Type 0
-ArrivesAmong entry [] = ⊥
-ArrivesAmong entry (event.Arrive x ∷ es) = (x ≡ entry) ⊎ ArrivesAmong entry es
-ArrivesAmong entry (e ∷ es) = ArrivesAmong entry es
-
--- the entry arrives in one of these rounds
-abbrev pub ArrivesIn : List ℕ → List Round → Type 0
-ArrivesIn entry [] = ⊥
-ArrivesIn entry (r ∷ rs) = ArrivesAmong entry r.events ⊎ ArrivesIn entry rs
-
--- An arrival of these rounds has this fault, on a journal that begins with the one before them.
-pub record ArrivalHas (rounds : List Round) (old : List (List ℕ)) (f : RoundFault) : Type 0 where
-  pub entry : List ℕ
-  pub arrives : ArrivesIn entry rounds
-  pub journal : List (List ℕ)
-  pub extends : IsPrefix old journal
-  pub fault : arrival_fault entry journal ≡ Some f
-
--- out of memory, a full journal, or the fault of an arrival
-abbrev pub ComesFromOutside : List Round → List (List ℕ) → RoundFault → Type 0
-ComesFromOutside rounds old f =
-    (f ≡ round_fault.Memory) ⊎ ((f ≡ round_fault.JournalFull) ⊎ ArrivalHas rounds old f)
+-- An event's fault that comes from outside, out of memory aside: of storing that the journal is
+-- full; of an arrival its own, on the journal as it is then.
+abbrev pub OutsideFault : EventFault
+OutsideFault (event.Piece n) now f = ⊥
+OutsideFault event.Close now f = ⊥
+OutsideFault event.Step now f = ⊥
+OutsideFault (event.Steps n) now f = ⊥
+OutsideFault (event.RunResult handle exit policy) now f = ⊥
+OutsideFault (event.Arrive x) now f = arrival_fault x now.journal ≡ Some f
+OutsideFault (event.Store n) now f = f ≡ round_fault.JournalFull
 
 -- ---- what is asked for histories
 

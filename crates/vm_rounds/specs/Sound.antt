@@ -3,7 +3,7 @@ use Rattle.std.specs.Prelude.{ℕ, List}
 use Rattle.vm_model.specs.Calls.{Meaning}
 use Rattle.vm_model.specs.SoundHistories.{SoundHistory}
 use Rattle.vm_store.specs.declared.types.Setting.{Setting}
-use Rattle.vm_store.specs.Entries.{journal_entries}
+use Rattle.journal_entries.specs.Entries.{journal_entries}
 use Rattle.vm_store.specs.States.{base_of}
 use Rattle.vm_store.specs.Worlds.{setup_of}
 use Rattle.vm_rounds.specs.Rounds.{ReplaysAndQueues}

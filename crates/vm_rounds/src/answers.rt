@@ -2,7 +2,7 @@
 ghost use Rattle.std.specs.Prelude.{◌≡◌, IfOk};
 
 use std::alloc::{AllocError, Global};
-use vm_parts::Answer;
+use vm_types::Answer;
 
 fn copy_answer(answer: &Answer) -> Result<Answer, AllocError>
     ensures { IfOk result (λ copy. copy ≡ answer.now) }

@@ -1,21 +1,22 @@
 //! A round on its way, and its events one by one.
 ghost use Rattle.std.specs.Prelude.{◌≡◌, ◌⊎◌, false, [], ◌∷◌, ◌++◌, drop, take, Some, None, IfOk, IfErr, OnOk};
-ghost use Rattle.vm_store.specs.Arrivals.{arrival_fault};
+ghost use Rattle.journal_entries.specs.Arrivals.{arrival_fault};
 ghost use Rattle.vm_rounds.specs.Rounds.{first_error, memory_of, Happens, EventOutcome};
 ghost use Rattle.vm_store.specs.declared.types.Event.TheVariants as event;
-ghost use Rattle.vm_store.specs.declared.types.RoundFault.TheVariants as round_fault;
+ghost use Rattle.journal_entries.specs.declared.fault.RoundFault.TheVariants as round_fault;
 ghost use Rattle.vm_rounds.specs.Inside.{may_go_on, the_now};
 
+use await_trees::NotificationHandle;
 use bytes::{Bytes, BytesMut};
-use invocation_vm::VMResult;
+use journal_entries::RoundFault;
 use journal_protocol::{Decoder, Error, NamedFault, Version};
 use retries::RetryPolicy;
-use runs::RunExitResult;
 use std::alloc::{AllocError, Global};
 use stored_journals::WholeJournal;
-use vm_attempt::{Attempt, Handler, Progress};
-use vm_parts::NotificationHandle;
-use vm_store::types::{Event, RoundFault};
+use vm_attempt::Attempt;
+use vm_steps::Progress;
+use vm_store::types::Event;
+use vm_types::{Handler, RunExitResult, VMResult};
 
 /// A round on its way, but for its attempt.
 #[derive(Drop)]

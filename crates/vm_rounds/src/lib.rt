@@ -3,15 +3,25 @@
 #![tactic(auto)]
 
 mod answers;
+mod course;
 mod desk;
+mod laws;
 mod placed;
 mod played;
+mod replay;
 mod round;
 mod rounds;
 mod world;
 
+pub use course::Course;
+pub use laws::{
+    alike_versions_take_over, compared_histories_can_be_replayed, families_keep_histories,
+    finished_runs_are_not_executed, finished_stays_finished, journals_go_on_in_version_8,
+    nothing_is_invented, versions_take_over,
+};
 pub use placed::{PlacedFault, StoppedRounds};
 pub use played::play_rounds;
+pub use replay::can_replay;
 pub use rounds::run_rounds;
-pub use vm_store::types::{Event, Identity, Report, Round, RoundFault, Setting};
+pub use vm_store::types::{Event, Identity, Report, Round, Setting};
 pub use world::World;

@@ -2,7 +2,7 @@
 ghost use Rattle.std.specs.Prelude.{◌≡◌, ◌∷◌, [], ◌++◌, length, map, IfOk, IfErr, if◌then◌else◌};
 ghost use Rattle.vm_model.specs.Histories.{IsPrefix};
 ghost use Rattle.vm_rounds.specs.Fresh.{Skips};
-ghost use Rattle.vm_rounds.specs.Guarantees.{AttemptsAgree, CanBeReplayed, ErrorsAreTheirOwn, FaultsComeFromOutside, HasOneResultEach, HasRightKinds, IdsAreNew, IsExactlyOnce, IsReplayable, IsUninterrupted, Lasts, RoundsAreHonest, case_of, told};
+ghost use Rattle.vm_rounds.specs.Guarantees.{AttemptsAgree, CanBeReplayed, ErrorsAreTheirOwn, FaultsComeFromOutside, HasOneResultEach, HasRightKinds, IdsAreNew, IsExactlyOnce, IsReplayable, IsUninterrupted, Lasts, RoundsAreHonest, StopsComeFromOutside, case_of, told};
 ghost use Rattle.vm_rounds.specs.Inside.{report_view};
 ghost use Rattle.vm_rounds.specs.Places.{RoundsStop};
 ghost use Rattle.vm_rounds.specs.Rounds.{AreWhole, ReplaysAndQueues, RoundsDo, RoundsFault};
@@ -10,8 +10,8 @@ ghost use Rattle.vm_rounds.specs.Rounds.{AreWhole, ReplaysAndQueues, RoundsDo, R
 use crate::placed::{PlacedFault, StoppedRounds};
 use crate::round::{EventFault, out_of_memory, run_round};
 use crate::world::World;
-use vm_attempt::Handler;
 use vm_store::types::{Report, Round};
+use vm_types::Handler;
 
 /// Keeps a report, if there is memory.
 fn keep_report(reports: &mut Vec<Report>, report: Report) -> bool
@@ -64,10 +64,15 @@ pub fn play_rounds<H: Handler>(
     // memory.
     ensures err { IfErr result (λ s.
         RoundsFault (H.meaning handler.now) world.setting rounds.now world.journal s.at.fault) }
-    // If the journal can be replayed, it is out of memory, a full journal, or the fault of an
-    // arrival: what an attempt wrote can always be stored.
+    // If the journal can be replayed, it comes from outside: the first event that has one is out of
+    // memory, stores into a full journal, or is an arrival that has it on the journal as it is then.
+    // What an attempt wrote can always be stored.
     ensures outside { IfErr result (λ s. CanBeReplayed (H.meaning handler.now) world
-        → FaultsComeFromOutside rounds.now world.journal s.at.fault) }
+        → FaultsComeFromOutside (case_of (H.meaning handler.now) world) rounds.now
+        world.journal s.at.fault) }
+    ensures outside_there { IfErr result (λ s. CanBeReplayed (H.meaning handler.now) world
+        → StopsComeFromOutside (case_of (H.meaning handler.now) world) rounds.now
+        world.journal (told s.reports.items) s.at) }
     // The journal begins with the old one.
     ensures extends { IfOk result (λ r. IsPrefix world.journal r.0.journal) }
     // If the journal can be replayed, whoever made it, then so can the new one.

@@ -4,7 +4,7 @@ ghost use Rattle.std.specs.List.{concat};
 ghost use Rattle.journal_protocol.specs.Frames.{encoding, IsWhole};
 ghost use Rattle.invocation_vm.specs.Making.{made, supported};
 ghost use Rattle.vm_steps.specs.Stepping.{fresh_record};
-ghost use Rattle.vm_store.specs.Arrivals.{most_entries};
+ghost use Rattle.journal_entries.specs.Arrivals.{most_entries};
 ghost use Rattle.vm_rounds.specs.Inside.{the_now, report_view};
 ghost use Rattle.vm_attempt.specs.Fixed.{fixed_of};
 ghost use Rattle.vm_rounds.specs.Places.{ArrivalFaultsAt, FaultsAt, IsMemoryAside, RefusedStops, RoundStops};
@@ -15,13 +15,14 @@ ghost use Rattle.vm_store.specs.Worlds.{IsJournal, start_message};
 use crate::answers::copy_answers;
 use crate::desk::{Desk, happen};
 use bytes::{Bytes, BytesMut};
-use invocation_vm::VMResult;
+use journal_entries::RoundFault;
 use journal_protocol::{Decoder, Error, Version};
 use std::alloc::{AllocError, Global};
 use stored_journals::WholeJournal;
-use vm_attempt::{Attempt, ContentType, Handler};
+use vm_attempt::{Attempt, ContentType};
 use vm_store::handed::start_bytes;
-use vm_store::types::{Event, Report, Round, RoundFault, Setting};
+use vm_store::types::{Event, Report, Round, Setting};
+use vm_types::{Handler, VMResult};
 
 /// A fault in a round, at the event of this place, counted from 0; without one it is out of memory, before the first event or after
 /// the last.
@@ -52,7 +53,7 @@ fn wait_all(waiting: &mut BytesMut, journal: &[Bytes]) -> Result<(), AllocError>
 }
 
 /// A round's Start and journal wait.
-fn waiting_bytes(
+pub fn waiting_bytes(
     alloc: Global,
     setting: &Setting,
     round: &Round,
@@ -163,7 +164,7 @@ fn report<H: Handler>(
 }
 
 /// An attempt for the setting's version.
-fn new_attempt<'a, H: Handler>(
+pub fn new_attempt<'a, H: Handler>(
     alloc: Global,
     setting: &Setting,
     handler: &'a H,

@@ -7,8 +7,9 @@ ghost use Rattle.vm_rounds.specs.Rounds.{AreWhole, ReplaysAndQueues, RoundsDo, R
 
 use crate::played::play_rounds;
 use crate::world::World;
-use vm_attempt::Handler;
-use vm_store::types::{Report, Round, RoundFault};
+use journal_entries::RoundFault;
+use vm_store::types::{Report, Round};
+use vm_types::Handler;
 
 /// Rounds of a handler over a world's journal, one after another, each with a report. The first event that has a fault stops
 /// them, and the world is gone.
@@ -26,10 +27,12 @@ pub fn run_rounds<H: Handler>(
     // memory.
     ensures err { IfErr result (λ f.
         RoundsFault (H.meaning handler.now) world.setting rounds.now world.journal f) }
-    // If the journal can be replayed, it is out of memory, a full journal, or the fault of an
-    // arrival: what an attempt wrote can always be stored.
+    // If the journal can be replayed, it comes from outside: the first event that has one is out of
+    // memory, stores into a full journal, or is an arrival that has it on the journal as it is then.
+    // What an attempt wrote can always be stored.
     ensures outside { IfErr result (λ f. CanBeReplayed (H.meaning handler.now) world
-        → FaultsComeFromOutside rounds.now world.journal f) }
+        → FaultsComeFromOutside (case_of (H.meaning handler.now) world) rounds.now
+        world.journal f) }
     // The journal begins with the old one.
     ensures extends { IfOk result (λ r. IsPrefix world.journal r.0.journal) }
     // If the journal can be replayed, whoever made it, then so can the new one.

@@ -5,13 +5,14 @@ ghost use Rattle.journal_protocol.specs.Message.TheVariants as message;
 ghost use Rattle.vm_store.specs.Worlds.{pairs_given};
 
 use bytes::Bytes;
+use journal_entries::RoundFault;
 use journal_protocol::{Encoder, InputCommand, Message, Version};
 use plain::{Items, Text};
 use std::alloc::{AllocError, Global};
 use std::marker::Model;
 use stored_journals::WholeJournal;
-use vm_parts::VMOptions;
-use vm_store::types::{Identity, RoundFault, Setting};
+use vm_store::types::{Identity, Setting};
+use vm_types::VMOptions;
 
 /// An invocation: what all its attempts are made with, and the journal, one frame an entry.
 #[derive(Drop)]
@@ -84,15 +85,15 @@ fn base_pairs(
 
 impl World {
     ghost use Rattle.std.specs.Prelude.{◌≡◌, ◌≢◌, ◌⊎◌, [], ◌∷◌, IfOk, IfErr, OnOk};
-    ghost use Rattle.vm_store.specs.Given.{AreGiven, GivenFaults};
+    ghost use Rattle.journal_entries.specs.Given.{AreGiven, GivenFaults};
     ghost use Rattle.vm_rounds.specs.Guarantees.{CanBeReplayed, HasRightKinds};
     ghost use Rattle.vm_model.specs.Calls.{Meaning};
     ghost use Rattle.vm_model.specs.Histories.{Honest, Whole};
     ghost use Rattle.vm_model.specs.HonestRounds.{IsOneRun};
-    ghost use Rattle.vm_store.specs.Entries.{journal_entries};
+    ghost use Rattle.journal_entries.specs.Entries.{journal_entries};
     ghost use Rattle.vm_store.specs.States.{base_of};
     ghost use Rattle.vm_store.specs.Worlds.{setup_of};
-    ghost use Rattle.vm_store.specs.declared.types.RoundFault.TheVariants as round_fault;
+    ghost use Rattle.journal_entries.specs.declared.fault.RoundFault.TheVariants as round_fault;
 
     /// A world whose journal is one Input command, with this state before any command; of several pairs of one key the last
     /// counts.
@@ -113,6 +114,9 @@ impl World {
             }) }
         ensures journal { IfOk result (λ w. w.journal
             ≡ encoding (message.Input (record { headers = []; value = input })) ∷ []) }
+        // Its frame can be read back.
+        ensures whole { OnOk result
+            (IsWhole (message.Input (record { headers = []; value = input }))) }
         ensures err { IfErr result (λ f. f ≡ round_fault.Memory) }
         // For every handler one run made the journal, even if its calls know nothing of the state.
         ensures one_run { IfOk result (λ w. (m : Meaning)

@@ -1,21 +1,17 @@
 -- What an attempt has received: the pieces of its input, and the results of runs that were reported
 -- to it and that it has proposed.
-use Rattle.std.specs.Prelude.{◌==◌, ◌++◌, Bool, cond, if◌then◌else◌, List, [], ◌∷◌, ℕ, Option, Some, None}
+use Rattle.std.specs.Prelude.{◌++◌, cond, if◌then◌else◌, List, [], ◌∷◌, ℕ, Option, Some, None}
 use Rattle.journal_protocol.specs.ProposeRunCompletion.{ProposeRunCompletion}
 use Rattle.journal_protocol.specs.Version.{Version}
-use Rattle.journal_protocol.specs.Types.{type_number}
 use Rattle.journal_protocol.specs.RawMessage.{RawMessage}
 use Rattle.journal_protocol.specs.Bodies.{proposal_in}
-use Rattle.vm_parts.specs.declared.run_state.KeptProposal.{KeptProposal}
+use Rattle.journal_entries.specs.declared.proposals.KeptProposal.{KeptProposal}
 use Rattle.journal_protocol.specs.Versions.{is_from_v7}
-use Rattle.invocation_vm.specs.Frames.{frames_of}
+use Rattle.journal_entries.specs.Frames.{frames_of}
+use Rattle.journal_entries.specs.JournalFrames.{is_proposal}
 use Rattle.vm_steps.specs.declared.progress.Fed.{Fed}
 
 -- ---- proposals
-
--- the frame is one of a proposal
-abbrev pub is_proposal : RawMessage → Bool
-is_proposal raw = type_number raw.ty == 5
 
 -- with the proposal that was read, as it is kept, if there was one
 abbrev pub proposed_by : Option ProposeRunCompletion → List KeptProposal → List KeptProposal

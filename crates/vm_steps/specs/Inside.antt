@@ -1,7 +1,7 @@
 -- The record that the fields of an attempt are.
 use Rattle.std.specs.Prelude.{List, [], ◌++◌}
 use Rattle.std.specs.List.{concat}
-use Rattle.vm_parts.specs.declared.run_state.KeptProposal.{KeptProposal}
+use Rattle.journal_entries.specs.declared.proposals.KeptProposal.{KeptProposal}
 use Rattle.invocation_vm.specs.Seen.{seen}
 use Rattle.vm_steps.specs.declared.inner.Inner.{Inner}
 use Rattle.vm_steps.specs.Heard.{proposals_in}

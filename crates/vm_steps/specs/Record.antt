@@ -6,7 +6,7 @@ use Rattle.vm_types.specs.declared.options.VMOptions.{VMOptions}
 use Rattle.vm_types.specs.declared.steps.Answer.{Answer}
 use Rattle.await_trees.specs.declared.handle.NotificationHandle.{NotificationHandle}
 use Rattle.await_trees.specs.declared.tree.UnresolvedFuture.{UnresolvedFuture}
-use Rattle.vm_parts.specs.declared.run_state.KeptProposal.{KeptProposal}
+use Rattle.journal_entries.specs.declared.proposals.KeptProposal.{KeptProposal}
 use Rattle.invocation_vm.specs.Views.{View}
 use Rattle.vm_steps.specs.Heard.{Heard, acknowledged_from}
 use Rattle.vm_steps.specs.declared.progress.Fed.{Fed}

@@ -13,8 +13,8 @@ use Rattle.vm_types.specs.declared.steps.Step.TheVariants as step
 use Rattle.await_trees.specs.declared.handle.NotificationHandle.{NotificationHandle}
 use Rattle.await_trees.specs.declared.tree.UnresolvedFuture.{UnresolvedFuture}
 use Rattle.retries.specs.declared.policy.RetryPolicy.{RetryPolicy}
-use Rattle.runs.specs.declared.types.RunExitResult.{RunExitResult}
-use Rattle.vm_parts.specs.declared.run_state.KeptProposal.{KeptProposal}
+use Rattle.vm_types.specs.declared.runs.RunExitResult.{RunExitResult}
+use Rattle.journal_entries.specs.declared.proposals.KeptProposal.{KeptProposal}
 use Rattle.vm_machine.specs.declared.machine.Machine.{Machine}
 use Rattle.invocation_vm.specs.Calls.{CallsProposal}
 use Rattle.vm_steps.specs.Heard.{proposals_in}

@@ -5,17 +5,16 @@ ghost use Rattle.vm_parts.specs.Outboxes.{WholeFrames};
 ghost use Rattle.invocation_vm.specs.Seen.{seen};
 ghost use Rattle.vm_steps.specs.Stepping.{fresh_record, replied, future_in, progress_of, asked_from, Advances, StepDoes, FeedDoes, CloseDoes, TellsUnless, Takes, output_len, with_piece_kept};
 
-use crate::handler::Handler;
 use crate::perform::perform;
 use crate::progress::{Fed, Progress, Reply};
 use crate::taken::Taken;
+use await_trees::{NotificationHandle, UnresolvedFuture};
 use bytes::Bytes;
-use invocation_vm::{CoreVM, Error, NotificationHandle, State, UnresolvedFuture, VM, VMResult};
-use journal_protocol::NamedFault;
+use invocation_vm::{CoreVM, VM};
+use journal_protocol::{Error, NamedFault};
 use retries::RetryPolicy;
-use runs::RunExitResult;
 use std::alloc::{AllocError, Global};
-use vm_parts::{Answer, Step};
+use vm_types::{Answer, Handler, RunExitResult, State, Step, VMResult};
 
 /// The fields of an attempt.
 #[derive(Drop)]

@@ -7,11 +7,12 @@ ghost use Rattle.invocation_vm.specs.Seen.{seen};
 ghost use Rattle.vm_steps.specs.Steps.{AllCarried, Asked, Awaited, ComesTo, StepMade, await_reply, awakeable_reply_step, commanded_reply, end_reply, read_made, signalled, taken};
 
 use crate::progress::Reply;
-use invocation_vm::{AwaitResponse, CoreVM, NotificationHandle, UnresolvedFuture, VM, VMResult};
+use await_trees::{NotificationHandle, UnresolvedFuture};
+use invocation_vm::{CoreVM, VM};
 use plain::Text;
 use vm_asks::asks::{AnswerKind, command_answer};
 use vm_asks::{Ask, Command, StateRead};
-use vm_parts::{Answer, Step};
+use vm_types::{Answer, AwaitResponse, Step, VMResult};
 
 #[tactic(auto, using(crate::proofs::Replies::replies, crate::proofs::Replies::replies_sent, vm_machine::proofs::Answering::handles_fit))]
 fn carry(vm: &mut CoreVM, command: Command) -> VMResult<Reply>

@@ -1,7 +1,8 @@
 //! What a step of an attempt did, and what an attempt keeps of its input.
 
+use await_trees::NotificationHandle;
 use bytes::Bytes;
-use vm_parts::{Answer, NotificationHandle};
+use vm_types::Answer;
 
 /// What a step of an attempt did.
 #[derive(Clone, Copy, Debug, PartialEq, Eq)]

@@ -1,3 +1,1 @@
-pub mod Framing
-pub mod Scanned
 pub mod Texts

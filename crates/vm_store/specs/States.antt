@@ -10,7 +10,7 @@ use Rattle.vm_parts.specs.Entries.{entries_of as state_entries}
 use Rattle.vm_model.specs.Moves.{changed_by}
 use Rattle.vm_store.specs.declared.types.Round.{Round}
 use Rattle.vm_store.specs.declared.types.Setting.{Setting}
-use Rattle.vm_store.specs.Entries.{said_in}
+use Rattle.journal_entries.specs.Entries.{said_in}
 
 -- the state before any command
 abbrev pub base_of : Setting → StateMap

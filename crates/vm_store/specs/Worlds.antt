@@ -8,13 +8,14 @@ use Rattle.journal_protocol.specs.Start.{Start}
 use Rattle.vm_model.specs.Calls.{Meaning, Setup}
 use Rattle.vm_model.specs.Carried.{AreCarried}
 use Rattle.vm_model.specs.Fixed.{Fixed, fixed_by}
-use Rattle.vm_model.specs.JournalFrames.{commands_among, setup_with}
-use Rattle.vm_store.specs.Completions.{CompleteOnce, EachOfItsKind}
+use Rattle.journal_entries.specs.JournalFrames.{commands_among}
+use Rattle.vm_model.specs.Setups.{setup_with}
+use Rattle.journal_entries.specs.Completions.{CompleteOnce, EachOfItsKind}
 use Rattle.vm_store.specs.declared.types.Identity.{Identity}
 use Rattle.vm_store.specs.declared.types.Round.{Round}
 use Rattle.vm_store.specs.declared.types.Setting.{Setting}
-use Rattle.vm_store.specs.Arrivals.{most_entries}
-use Rattle.vm_store.specs.Entries.{AreEntries, journal_frames, notes_in}
+use Rattle.journal_entries.specs.Arrivals.{most_entries}
+use Rattle.journal_entries.specs.Entries.{AreEntries, journal_frames, notes_in}
 use Rattle.vm_store.specs.States.{pairs_for}
 
 -- a world: what all its attempts are made with, and the journal, one frame an entry

@@ -5,15 +5,15 @@ ghost use Rattle.journal_protocol.specs.Message.TheVariants as message;
 ghost use Rattle.vm_parts.specs.declared.context.StateCoverage.TheVariants.{Complete};
 ghost use Rattle.vm_parts.specs.Entries.{entries_of as state_entries};
 ghost use Rattle.vm_model.specs.Moves.{changed_by};
-ghost use Rattle.vm_store.specs.Arrivals.{most_entries};
-ghost use Rattle.vm_store.specs.Entries.{said_in};
+ghost use Rattle.journal_entries.specs.Arrivals.{most_entries};
+ghost use Rattle.journal_entries.specs.Entries.{said_in};
 ghost use Rattle.vm_store.specs.States.{HaveTextKeys, pairs_for, state_after};
 ghost use Rattle.vm_store.specs.Worlds.{start_message, start_of};
 
-use crate::entry::said_at;
 use crate::types::{Identity, Round, Setting};
 use crate::values::Values;
 use bytes::Bytes;
+use journal_entries::entry::said_at;
 use journal_protocol::{Encoder, Message, Start};
 use plain::{Items, Text};
 use std::alloc::{AllocError, Global};

@@ -2,9 +2,6 @@
 //! what may arrive and be stored, as definitions, which `stored_journals` keeps. The rounds are `vm_rounds`'s.
 #![tactic(auto)]
 
-pub mod completions;
-pub mod entry;
 pub mod handed;
-pub mod storing;
 pub mod types;
 mod values;

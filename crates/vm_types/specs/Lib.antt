@@ -1,4 +1,5 @@
 pub mod CommandTypes
+pub mod Exits
 pub mod Options
 pub mod Values
 pub mod Same

@@ -1,5 +1,5 @@
--- What a VM does if nothing else is asked for.
-use Rattle.std.specs.Prelude.{Bool, true, false}
+-- What a VM does if nothing else is asked for, and what its options say.
+use Rattle.std.specs.Prelude.{Bool, true, false, ◌||◌}
 use Rattle.vm_types.specs.declared.options.VMOptions.{VMOptions}
 use Rattle.vm_types.specs.declared.options.AwaitingOnPolicy.TheVariants as awaiting
 use Rattle.vm_types.specs.declared.options.ImplicitCancellationOption.{ImplicitCancellationOption}
@@ -7,7 +7,9 @@ use Rattle.vm_types.specs.declared.options.ImplicitCancellationOption.TheVariant
 use Rattle.vm_types.specs.declared.options.JournalMismatchRetryBehavior.TheVariants as mismatch
 use Rattle.vm_types.specs.declared.options.JournalReplay.TheVariants as replay
 use Rattle.vm_types.specs.declared.options.NonDeterministicChecksOption.TheVariants as checks
-use Rattle.vm_types.specs.declared.options.SignalDelivery.TheVariants as delivery
+use Rattle.vm_types.specs.declared.options.NonDeterministicChecksOption.{NonDeterministicChecksOption}
+use Rattle.vm_types.specs.declared.options.JournalReplay.{JournalReplay}
+use Rattle.journal_protocol.specs.SignalDelivery.TheVariants as delivery
 
 -- the options of a VM by default
 abbrev pub default_options : VMOptions
@@ -35,3 +37,17 @@ cancels_calls (cancellation.Enabled calls sends) = calls
 abbrev pub cancels_sends : ImplicitCancellationOption → Bool
 cancels_sends cancellation.Disabled = false
 cancels_sends (cancellation.Enabled calls sends) = sends
+
+-- the options leave payloads out of the comparison
+abbrev pub checks_are_off : NonDeterministicChecksOption → Bool
+checks_are_off checks.PayloadChecksDisabled = true
+checks_are_off checks.Enabled = false
+
+-- payloads aren't compared where the options say so or the call's may differ
+abbrev pub ignores_payloads : NonDeterministicChecksOption → Bool → Bool
+ignores_payloads option unstable = checks_are_off option || unstable
+
+-- recorded commands are skipped
+abbrev pub skips_replay : JournalReplay → Bool
+skips_replay replay.Enabled = false
+skips_replay replay.Disabled = true

@@ -3,7 +3,7 @@ use Rattle.std.specs.Prelude.{refl}
 use Rattle.std.specs.Cmp.Lexicographic.{bytes_decides, pointwise_decides}
 use Rattle.std.proofs.Common.{ap}
 use Rattle.std.proofs.lemmas.Bool.Decides.{Decides-eqb}
-use Rattle.plain.specs.Same.{Exact, exact_pair, exact_on, exact_option}
+use Rattle.plain.specs.Same.{Exact, exact_bool, exact_pair, exact_on, exact_option}
 use Rattle.await_trees.specs.declared.handle.NotificationHandle.{NotificationHandle}
 use Rattle.await_trees.specs.contracts.handle.NotificationHandlePartialEq.TheImpl as handles
 use Rattle.journal_protocol.specs.HeaderPartialEq.TheImpl as headers
@@ -12,6 +12,7 @@ use Rattle.vm_types.specs.declared.command_type.CommandRelationship.TheVariants 
 use Rattle.vm_types.specs.declared.values.Value.TheVariants as value
 use Rattle.vm_types.specs.contracts.command_type.CommandTypePartialEq.TheImpl as types
 use Rattle.vm_types.specs.contracts.command_type.CommandRelationshipPartialEq.TheImpl as relationships
+use Rattle.vm_types.specs.contracts.runs.RunHandlePartialEq.TheImpl as run_handles
 use Rattle.vm_types.specs.contracts.types.AwakeableHandlePartialEq.TheImpl as awakeables
 use Rattle.vm_types.specs.contracts.values.InputPartialEq.TheImpl as inputs
 use Rattle.vm_types.specs.contracts.values.TargetPartialEq.TheImpl as targets
@@ -24,6 +25,10 @@ handle_exact = exact_on (λ h. h.0) (λ n. record { 0 = n }) (λ _. refl) Decide
 pub header_exact : Exact (headers.ghosts).eq
 header_exact = exact_on (λ h. (h.key, h.value)) (λ p. record { key = p.0; value = p.1 }) (λ _. refl)
     (exact_pair bytes_decides bytes_decides)
+
+pub run_exact : Exact (run_handles.ghosts).eq
+run_exact = exact_on (λ r. (r.replayed, r.handle)) (λ p. record { replayed = p.0; handle = p.1 })
+    (λ _. refl) (exact_pair exact_bool handle_exact)
 
 pub awakeable_exact : Exact (awakeables.ghosts).eq
 awakeable_exact = exact_on (λ a. (a.id, a.handle)) (λ p. record { id = p.0; handle = p.1 })

@@ -48,6 +48,14 @@ value_of (found.Failure f) = Some (Failed (terminal_failure f))
 value_of (found.StateKeys keys) = keys_value (texts_in keys)
 value_of (found.InvocationId id) = Some (InvocationId id)
 
+-- the invocation's id that a value is
+abbrev pub id_of_value : Value → Option (List ℕ)
+id_of_value (InvocationId id) = Some id
+id_of_value Void = None
+id_of_value (Success bytes) = None
+id_of_value (Failed failure) = None
+id_of_value (StateKeys keys) = None
+
 -- the name of a value's case
 abbrev pub case_name : Value → List ℕ
 case_name Void = codes "Void"

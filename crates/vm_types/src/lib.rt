@@ -1,22 +1,25 @@
-//! The public types of the VM: options, values, what a handler's step asks for and what it is answered.
+//! The public types of the VM: options, values, results of runs, what a handler is, what its step asks for and what it is answered.
 #![tactic(auto)]
 
 pub mod boxed;
 pub mod command_type;
+pub mod handler;
 pub mod options;
+pub mod runs;
 mod same;
 pub mod steps;
 pub mod types;
 pub mod values;
 
-pub use await_trees::{CANCEL_NOTIFICATION_HANDLE, NotificationHandle, UnresolvedFuture};
 pub use boxed::Boxed;
 pub use command_type::{CommandRelationship, CommandType};
+pub use handler::Handler;
 pub use journal_protocol::InvocationTarget as AttachInvocationTarget;
 pub use options::{
     AwaitingOnPolicy, ImplicitCancellationOption, JournalMismatchRetryBehavior, JournalReplay,
-    NonDeterministicChecksOption, PayloadOptions, SignalDelivery, VMOptions,
+    NonDeterministicChecksOption, PayloadOptions, VMOptions,
 };
+pub use runs::{RunExitResult, RunHandle};
 pub use steps::{Answer, Step};
 pub use types::{
     AwaitResponse, AwakeableHandle, CallHandle, DeadlineCallHandle, EphemeralCompletionId,

@@ -5,7 +5,8 @@ ghost use Rattle.vm_types.specs.declared.options.AwaitingOnPolicy.TheVariants as
 ghost use Rattle.vm_types.specs.declared.options.JournalMismatchRetryBehavior.TheVariants as mismatch;
 ghost use Rattle.vm_types.specs.declared.options.JournalReplay.TheVariants as replay;
 ghost use Rattle.vm_types.specs.declared.options.NonDeterministicChecksOption.TheVariants as checks;
-ghost use Rattle.vm_types.specs.declared.options.SignalDelivery.TheVariants as delivery;
+
+use journal_protocol::SignalDelivery;
 
 /// How the payload of one call is compared in replay.
 #[derive(Clone, Copy, Debug)]
@@ -80,13 +81,6 @@ pub enum JournalReplay {
     Disabled,
 }
 
-/// Whether several deliveries of one signal queue up or the newest replaces the others.
-#[derive(Clone, Copy, Debug, PartialEq, Eq)]
-pub enum SignalDelivery {
-    Queued,
-    Overwrite,
-}
-
 #[derive(Clone, Copy, Debug)]
 pub struct VMOptions {
     pub implicit_cancellation: ImplicitCancellationOption,
@@ -128,14 +122,6 @@ impl Default for JournalReplay {
 
     fn default() -> JournalReplay {
         JournalReplay::Enabled
-    }
-}
-
-impl Default for SignalDelivery {
-    ghost is_default = { λ option. option ≡ delivery.Queued };
-
-    fn default() -> SignalDelivery {
-        SignalDelivery::Queued
     }
 }
 

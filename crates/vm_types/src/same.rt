@@ -1,8 +1,9 @@
 //! Whose `==` says whether two values are the same.
-ghost use Rattle.vm_types.specs.Same.{awakeable_exact, terminal_failure_exact, input_exact, relationship_exact, target_exact, type_exact, answer_value_exact};
+ghost use Rattle.vm_types.specs.Same.{awakeable_exact, terminal_failure_exact, input_exact, relationship_exact, run_exact, target_exact, type_exact, answer_value_exact};
 
 use crate::{
-    AwakeableHandle, CommandRelationship, CommandType, Input, Target, TerminalFailure, Value,
+    AwakeableHandle, CommandRelationship, CommandType, Input, RunHandle, Target, TerminalFailure,
+    Value,
 };
 use plain::Exact;
 
@@ -20,6 +21,10 @@ impl Exact for CommandType {
 
 impl Exact for Input {
     ghost compares = { input_exact };
+}
+
+impl Exact for RunHandle {
+    ghost compares = { run_exact };
 }
 
 impl Exact for Target {

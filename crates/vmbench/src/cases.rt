@@ -2,11 +2,12 @@
 
 use crate::frames::Frames;
 use crate::player::{Failed, awaits, begin, bytes, done, feed, string, take, take_awaited};
-use invocation_vm::{
-    AwaitResponse, CoreVM, Items, PayloadOptions, RetryPolicy, RunExitResult, Target, Text, VM,
-};
+use invocation_vm::{CoreVM, VM};
+use plain::{Items, Text};
+use retries::RetryPolicy;
 use std::alloc::Global;
 use std::time::Duration;
+use vm_types::{AwaitResponse, PayloadOptions, RunExitResult, Target};
 
 /// Sleeps, and answers nothing of it.
 fn sleep(alloc: Global, vm: &mut CoreVM) -> Result<(), Failed> {

@@ -1,13 +1,12 @@
 //! A VM that is played on.
 
 use crate::frames::Frames;
+use await_trees::{NotificationHandle, UnresolvedFuture};
 use bytes::Bytes;
-use invocation_vm::{
-    AwaitResponse, CoreVM, ImplicitCancellationOption, NotificationHandle, UnresolvedFuture, VM,
-    VMOptions, VMResult,
-};
+use invocation_vm::{CoreVM, VM};
 use std::alloc::{AllocError, Global};
 use vectors::headers::Headers;
+use vm_types::{AwaitResponse, ImplicitCancellationOption, VMOptions, VMResult};
 
 /// A call was refused, an await wasn't done, or no memory was found.
 #[derive(Clone, Copy, Debug)]

@@ -1,4 +1,4 @@
-//! `vmrounds`: plays rounds of one invocation from a script on standard input, and prints what they tell.
+//! `vmrounds`: plays rounds of one invocation from a script on standard input, and prints their report.
 #![tactic(auto)]
 
 use command_lines::asks_for_help;

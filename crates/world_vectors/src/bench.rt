@@ -1,12 +1,12 @@
 // What the tests of rounds share: worlds of the invocation "abc" in version 7, rounds as constants, and what they leave.
 use bytes::Bytes;
-use invocation_vm::{VMOptions, Version};
+use journal_protocol::Version;
 use plain::{Items, Text};
 use std::alloc::{AllocError, Global};
 use std::process::Abort;
 use std::test::Fail;
-use vm_attempt::Handler;
 use vm_rounds::{Event, Identity, Report, Round, World, run_rounds};
+use vm_types::{Handler, VMOptions};
 
 /// What happens in a round.
 #[derive(Clone, Copy, Debug)]

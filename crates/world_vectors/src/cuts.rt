@@ -7,7 +7,9 @@ use attempt_bench::whole_runs::{Ending, Replay, Run};
 use std::alloc::{AllocError, Global};
 use std::process::Abort;
 use std::test::Fail;
-use vm_attempt::{Attempt, Handler, Progress};
+use vm_attempt::Attempt;
+use vm_steps::Progress;
+use vm_types::Handler;
 
 /// Feeds these pieces, and drives the attempt after each. It is ready as soon as the known entries are there.
 fn feed_pieces<H: Handler>(

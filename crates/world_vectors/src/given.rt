@@ -1,11 +1,13 @@
 // Worlds whose journal is given, as a runtime makes one. Worked journals and their faults stand as text in `crates/vmrounds/rows`.
 use crate::bench::{assert_journal, identity};
 use bytes::Bytes;
-use invocation_vm::{VMOptions, Version};
+use journal_entries::RoundFault;
+use journal_protocol::Version;
 use std::alloc::Global;
 use std::test::Fail;
 use vectors::frames::{COMPLETION_1, INPUT_TILL, SLEEP_TO_1000};
-use vm_rounds::{RoundFault, World};
+use vm_rounds::World;
+use vm_types::VMOptions;
 
 /// The world of the invocation "abc" with these entries.
 fn given(alloc: Global, entries: Vec<Bytes>) -> Result<World, RoundFault> {

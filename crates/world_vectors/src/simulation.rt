@@ -3,6 +3,7 @@
 use crate::bench::world;
 use crate::counts::{LAZY_COUNT, OUTPUT_42, READ_41, SET_42, state_of_41};
 use crate::vmrun::frames::{OUTPUT_HI, OUTPUT_TIMEOUT, RESULT_2, VOID_3};
+use await_trees::NotificationHandle;
 use bytes::Bytes;
 use handlers::charge::Charge;
 use handlers::counter::Counter;
@@ -10,14 +11,12 @@ use handlers::deadline::Deadline;
 use handlers::sleeper::Sleeper;
 use plain::{Items, Text};
 use retries::RetryPolicy;
-use runs::RunExitResult;
 use std::alloc::{AllocError, Global};
 use std::process::Abort;
 use std::test::Fail;
 use vectors::frames::{COMPLETION_1, INPUT_TILL, OUTPUT_EMPTY, OUTPUT_X, SLEEP_TO_1000};
-use vm_attempt::Handler;
-use vm_parts::NotificationHandle;
 use vm_rounds::{Event, Round, World, run_rounds};
+use vm_types::{Handler, RunExitResult};
 
 /// The count is 41, read under id 1.
 const COUNT_COMES: &[u8] = b"\0\x1e\0\0\0\0\0\0\0\x10\

@@ -14,7 +14,8 @@ use std::alloc::Global;
 use std::process::Abort;
 use std::test::Fail;
 use vectors::frames::{CLEAR_ALL, OUTPUT_EMPTY, OUTPUT_X, SLEEP_TO_1000};
-use vm_attempt::{Attempt, Handler};
+use vm_attempt::Attempt;
+use vm_types::Handler;
 
 /// The attempt answers a step with out of memory, has these answers, and sends these frames.
 fn assert_starved<H: Handler>(

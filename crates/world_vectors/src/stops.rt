@@ -9,7 +9,7 @@ use std::alloc::Global;
 use std::process::Abort;
 use std::test::Fail;
 use vectors::frames::{COMPLETION_1, INPUT_TILL, OUTPUT_EMPTY, OUTPUT_X, SLEEP_TO_1000};
-use vm_attempt::Handler;
+use vm_types::Handler;
 
 /// The first round stops after each of its events, the second goes on to the end of the handler and leaves this journal.
 struct Stops {

@@ -3,7 +3,27 @@
 >>> from palqytun import VM
 >>> VM("application/vnd.restate.invocation.v7").state()
 'WaitingPreFlight'
+
+`palqytun.is_proved` says whether the shared object was built of sources that were proved, and `palqytun.build` which it is: its version, the
+commit, the sum of the kit's logic, and `proved` or `unproved`. Both load it.
+
+>>> import palqytun
+>>> palqytun.build.endswith(" proved") == palqytun.is_proved
+True
 """
 
+from typing import TYPE_CHECKING
+
+from palqytun._library import library as _library_of
 from palqytun.core import *
 from palqytun.core import __all__ as __all__
+
+build: str
+is_proved: bool
+
+if not TYPE_CHECKING:  # a type checker refuses other names
+
+    def __getattr__(name: str) -> str | bool:
+        if name in ("build", "is_proved"):
+            return getattr(_library_of(), name)
+        raise AttributeError(f"module {__name__!r} has no attribute {name!r}")

@@ -208,6 +208,8 @@ class Judged(ctypes.Structure):
 
 Buffer = ctypes.Array[ctypes.c_char]
 
+HOW_TO_MAKE_IT = "./bindings/build makes it, at the top of the repository, or, in some minutes and without a proof, ./bindings/build --unproved"
+
 
 def buffer(size: int) -> Buffer:
     """Room for so many bytes."""
@@ -332,6 +334,9 @@ class Library:
     take_output: Callable[[Session, Buffer, int], Told]
     free: Callable[[Session], None]
     part: Callable[[Session, int, Buffer, int], Told]
+    build: str
+    """The library's version, the commit and the sum of the kit's logic that it was built of, and `proved` or `unproved`."""
+    is_proved: bool
 
     def __init__(self, path: str) -> None:
         try:
@@ -339,8 +344,11 @@ class Library:
             functions = {name: getattr(library, f"palqytun_{name}") for name in _FUNCTIONS}
             of_journals = {name: getattr(library, f"palqytun_journal_{name}") for name in _JOURNAL_FUNCTIONS}
             on_frames = {name: getattr(library, f"palqytun_{name}") for name in _FRAME_FUNCTIONS}
+            build, is_proved = library.palqytun_build, library.palqytun_is_proved
         except (OSError, AttributeError) as error:
-            raise ImportError(f"{error}: ./bindings/build makes it, at the top of the repository, or PALQYTUN_LIBRARY names it") from error
+            raise ImportError(f"{error}: {HOW_TO_MAKE_IT}; PALQYTUN_LIBRARY may name another") from error
+        build.restype, is_proved.restype = _TEXT, _BOOL
+        self.build, self.is_proved = build().decode(), is_proved()
         for name, (arguments, result) in _FUNCTIONS.items():
             functions[name].argtypes, functions[name].restype = [_SESSION, *arguments], result
             if result is not Replied:

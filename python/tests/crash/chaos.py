@@ -1,4 +1,4 @@
-"""The crash tests for as long as one likes: chaos.py [MINUTES] [--db sqlite|postgresql://..] [--seed N] [--kills N]
+"""The crash tests for as long as one likes: chaos.py [MINUTES] [--db sqlite|postgres|postgresql://..] [--seed N] [--kills N]
 
 Round after round, each with another seed, until the time is over or something is wrong: workers are killed while workflows are submitted;
 on SQLite they also die at commits, meet torn writes, clocks that jump, and a full disk; on PostgreSQL three of them run, are stopped for
@@ -11,6 +11,7 @@ With --kills there is one long round instead, of so many kills and no other faul
 from __future__ import annotations
 
 import argparse
+import contextlib
 import functools
 import pathlib
 import random
@@ -21,7 +22,9 @@ import tempfile
 import time
 from collections.abc import Callable, Iterator
 
-sys.path.insert(0, str(pathlib.Path(__file__).parent))
+HERE = pathlib.Path(__file__).parent
+sys.path[:0] = [str(HERE), str(HERE.parent)]
+import postgres  # noqa: E402
 import scenarios  # noqa: E402
 from checked import Found, Wrong  # noqa: E402
 from scenarios import Report  # noqa: E402
@@ -43,7 +46,7 @@ def _storms(folder: pathlib.Path, seed: int, may_mount: bool) -> Report:
     for number in range(3):
         calls.append(functools.partial(scenarios.clock_jumps, room, 1000 * seed + number))
     report = sum(scenarios.side_by_side(calls), Report())
-    return report + scenarios.full_disk(room, seed) if may_mount else report
+    return report + scenarios.full_disk(room, seed, may_mount)
 
 
 def _round(url: str, folder: pathlib.Path, seed: int, reference: Found, may_mount: bool) -> Report:
@@ -77,21 +80,11 @@ def one_of_kills(url: str, folder: pathlib.Path, seed: int, count: int) -> Itera
     yield scenarios.kills(url if is_shared else str(room / "db"), room, faults=count, **how)
 
 
-def main() -> int:
-    parser = argparse.ArgumentParser("chaos", description="Crash tests of the durable runtime, round after round.")
-    parser.add_argument("minutes", nargs="?", type=float, default=10.0)
-    parser.add_argument("--db", default="sqlite", help="sqlite, or the URL of a PostgreSQL database, which is emptied")
-    parser.add_argument("--seed", type=int, default=1, help="of the first round")
-    parser.add_argument("--kills", type=int, default=0, help="in place of rounds one run with so many kills")
-    options = parser.parse_args()
-    signal.signal(signal.SIGTERM, lambda *_: sys.exit(1))  # so the workers end with it
+def played(url: str, seed: int, kills: int, minutes: float) -> int:
+    """Plays rounds, and says what they found."""
     total, count, folder = Report(), 0, pathlib.Path(tempfile.mkdtemp(prefix="palqytun-chaos-"))
     try:
-        if options.kills:
-            reports = one_of_kills(options.db, folder, options.seed, options.kills)
-        else:
-            reports = rounds(options.db, folder, options.seed, 60 * options.minutes)
-        for report in reports:
+        for report in one_of_kills(url, folder, seed, kills) if kills else rounds(url, folder, seed, 60 * minutes):
             total, count = total + report, count + 1
     except Wrong as error:
         print(f"WRONG: {error}\nwhat it left is in {folder}", file=sys.stderr)
@@ -99,6 +92,24 @@ def main() -> int:
     shutil.rmtree(folder)
     print(f"{count} rounds, nothing wrong: {total}")
     return 0
+
+
+def main() -> int:
+    parser = argparse.ArgumentParser("tools/chaos", description="Crash tests of the durable runtime, round after round.")
+    parser.add_argument("minutes", nargs="?", type=float, default=10.0)
+    parser.add_argument("--db", default="sqlite", help="sqlite, postgres for a temporary cluster, or the URL of a PostgreSQL database, which is emptied")
+    parser.add_argument("--seed", type=int, default=1, help="of the first round")
+    parser.add_argument("--kills", type=int, default=0, help="in place of rounds one run with so many kills")
+    options = parser.parse_args()
+    if options.db not in ("sqlite", "postgres") and not options.db.startswith(("postgres://", "postgresql://")):
+        parser.error(f"--db is sqlite, postgres or postgresql://.., and not {options.db}")
+    signal.signal(signal.SIGTERM, lambda *_: sys.exit(1))  # so the workers end with it
+    try:
+        with postgres.cluster() if options.db == "postgres" else contextlib.nullcontext() as made:
+            return played(options.db if made is None else made.url, options.seed, options.kills, options.minutes)
+    except postgres.NoServer as error:
+        print(f"chaos: {error}", file=sys.stderr)
+        return 2
 
 
 if __name__ == "__main__":

@@ -3,7 +3,7 @@
     death_at_commit   a worker dies in place of one of its commits; the next does the rest (SQLite)
     torn_write        the log is cut at a random place, as after a loss of power; a new worker goes on (SQLite)
     clock_jumps       the worker's clock jumps by up to half an hour, forward and back (SQLite)
-    full_disk         the disk is full again and again (SQLite, as root: on a small file system)
+    full_disk         the disk is full again and again (SQLite; as root on a small file system, else by a limit of its files)
     kills             workers are killed at random, or stopped for longer than their lease, or lose their connection (SQLite, PostgreSQL)
 """
 
@@ -17,6 +17,7 @@ import multiprocessing.connection
 import os
 import pathlib
 import random
+import resource
 import shutil
 import signal
 import subprocess
@@ -271,55 +272,82 @@ def may_mount() -> bool:
     """Whether this process may mount a file system, as root outside of a container does."""
     with tempfile.TemporaryDirectory(prefix="palqytun-mount-") as folder:
         try:
-            with _small_disk(pathlib.Path(folder) / "disk", 1):
+            with _small_disk(pathlib.Path(folder), 1):
                 return True
         except (OSError, subprocess.CalledProcessError):
             return False
 
 
 @contextlib.contextmanager
-def _small_disk(folder: pathlib.Path, megabytes: int) -> Iterator[pathlib.Path]:
-    """A file system of its own."""
-    folder.mkdir()
+def _small_disk(folder: pathlib.Path, megabytes: int) -> Iterator[None]:
+    """A file system in a folder."""
     subprocess.run(["mount", "-t", "tmpfs", "-o", f"size={megabytes}m", "tmpfs", str(folder)], check=True, stderr=subprocess.PIPE)
     try:
-        yield folder
+        yield
     finally:
         subprocess.run(["umount", "-l", str(folder)], check=True)
 
 
-def full_disk(room: Room, seed: int) -> Report:
-    """The disk is full for some moments."""
-    chance = random.Random(seed)
-    with _small_disk(room.folder / f"disk-{seed}", 4) as disk:
-        path, effects = disk / "db", room.folder / f"effects-{seed}"
+class _Filled:
+    """A file system without room for anything."""
+
+    def __init__(self, disk: pathlib.Path):
+        self._filler = disk / "filler"
+
+    def fill(self) -> None:
+        with contextlib.suppress(OSError):
+            with self._filler.open("wb", buffering=0) as it:
+                while True:
+                    it.write(bytes(4096))
+
+    def empty(self) -> None:
+        self._filler.unlink(missing_ok=True)
+
+
+class _Limited:
+    """A limit of the size of a process's files: none of them can grow beyond the log of its database."""
+
+    def __init__(self, process: int, path: pathlib.Path):
+        self._process, self._log = process, pathlib.Path(f"{path}-wal")
+
+    def fill(self) -> None:
+        self._limit(self._log.stat().st_size if self._log.exists() else 0)
+
+    def empty(self) -> None:
+        self._limit(resource.RLIM_INFINITY)
+
+    def _limit(self, size: int) -> None:
+        with contextlib.suppress(ProcessLookupError):
+            resource.prlimit(self._process, resource.RLIMIT_FSIZE, (size, resource.RLIM_INFINITY))
+
+
+def full_disk(room: Room, seed: int, is_mounted: bool) -> Report:
+    """The disk is full for some moments: a small file system, or by a limit."""
+    chance, folder = random.Random(seed), room.folder / f"disk-{seed}-{is_mounted}"
+    folder.mkdir()
+    with _small_disk(folder, 4) if is_mounted else contextlib.nullcontext():
+        path, effects = folder / "db", room.folder / f"{folder.name}.effects"
         effects.touch()
         shutil.copy(room.folder / "begin", path)
-        arguments = (str(room.folder / f"disk-{seed}.log"), str(path), str(effects))
+        arguments = (f"{folder}.log", str(path), str(effects))
         process = _FORK.Process(target=_logged, args=arguments, kwargs={"seed": seed, "is_grouped": True, "is_checkpointed": True})
         process.start()
+        disk = _Filled(folder) if is_mounted else _Limited(process.pid, path)
         for _ in range(20):
             process.join(chance.uniform(0.02, 0.2))
-            _fill(disk / "filler")
+            disk.fill()
             process.join(chance.uniform(0.02, 0.2))
-            (disk / "filler").unlink(missing_ok=True)
+            disk.empty()
         process.join(_LONG)
         status = process.exitcode
         if status is None:
             process.kill()
             process.join()
-        log = (room.folder / f"disk-{seed}.log").read_text()
+        log = pathlib.Path(f"{folder}.log").read_text()
         if status:
             raise Wrong(f"the worker on a full disk ended with {status}: {log[-2000:]}")
         found = room.checked(path, effects, room.reference)
         return Report.of(found, full_disks=1, lost=log.count("the database is lost"))
-
-
-def _fill(file: pathlib.Path) -> None:
-    with contextlib.suppress(OSError):
-        with file.open("wb", buffering=0) as it:
-            while True:
-                it.write(bytes(4096))
 
 
 # ---- workers in processes of their own, killed at random
@@ -377,6 +405,14 @@ def _until_work(db: Plain, since: float, seconds: float = 30) -> None:
         time.sleep(0.02)
 
 
+def _logged_without_errors(folder: pathlib.Path) -> str:
+    """The log of the workers; `Wrong` if one has raised an error."""
+    log = (folder / "log").read_text()
+    if "Traceback" in log:
+        raise Wrong(f"a worker raised an error: {folder / 'log'}: {log[log.index('Traceback') :][:2000]}")
+    return log
+
+
 def kills(
     url: str,
     folder: pathlib.Path,
@@ -416,15 +452,14 @@ def kills(
                 else:
                     running.kill(at)
                     report.kills += 1
+                _logged_without_errors(folder)
             wait(db, seconds)
             time.sleep(LEASE / 3 + 0.5)  # after the last beats
         finally:
             running.end()
-        log = (folder / "log").read_text()
+        log = _logged_without_errors(folder)
         report.lost_attempts = rows(db, "SELECT COUNT(*) FROM attempts WHERE how='lost'")[0][0]
         report.fenced, report.lost = log.count("fenced:"), log.count("the database is lost")
-        if "Traceback" in log:
-            raise Wrong(f"a worker raised an error: {folder / 'log'}: {log[log.index('Traceback') :][:2000]}")
         return report + Report.of(check(db, faults * each, folder / "effects", reference))
 
 

@@ -1,4 +1,4 @@
-"""The crash tests of the gate: each scenario for a short time, side by side. `./chaos` goes on for as long as one likes.
+"""The crash tests of the gate: each scenario for a short time, side by side. `tools/chaos` goes on for as long as one likes.
 
 With PALQYTUN_TEST_THOROUGH=1 there is a death at each commit, and more of all else, which takes some minutes."""
 
@@ -9,7 +9,10 @@ import sys
 import tempfile
 import unittest
 
-sys.path.insert(0, str(pathlib.Path(__file__).parent))
+HERE = pathlib.Path(__file__).parent
+sys.path[:0] = [str(HERE), str(HERE.parent)]
+import needs  # noqa: E402
+import postgres  # noqa: E402
 import scenarios  # noqa: E402
 from checked import Wrong  # noqa: E402
 
@@ -20,6 +23,8 @@ COMMITS = range(1, 400, STEP)  # there are fewer; a test that goes so far has a 
 
 class InAFolder(unittest.TestCase):
     """A test in a folder of its own, which is there until each process of the test has ended."""
+
+    kind = "sqlite"
 
     def setUp(self) -> None:
         folder = tempfile.TemporaryDirectory(prefix="palqytun-crash-", ignore_cleanup_errors=True)
@@ -62,10 +67,11 @@ class Storms(InAFolder):
         self.assertEqual(len(list(scenarios.side_by_side(storms))), 4 * times)
 
     def test_a_full_disk(self) -> None:
-        if not scenarios.may_mount():
-            self.skipTest("a small file system can't be mounted here")
-        room = scenarios.Room(self.folder / "room", 36)
-        self.assertGreater(sum(scenarios.full_disk(room, seed).lost for seed in range(1 + IS_THOROUGH)), 0)
+        room, may_mount = scenarios.Room(self.folder / "room", 36), scenarios.may_mount()
+        for is_mounted in (True, False)[not may_mount :]:
+            with self.subTest(is_mounted=is_mounted):
+                reports = [scenarios.full_disk(room, seed, is_mounted) for seed in range(1 + IS_THOROUGH)]
+                self.assertGreater(sum(it.lost for it in reports), 0)
 
 
 class Kills(InAFolder):
@@ -78,14 +84,18 @@ class Kills(InAFolder):
         self.assertGreater(report.open_at_faults, faults)
 
 
-@unittest.skipUnless("PALQYTUN_TEST_POSTGRES" in os.environ, "PALQYTUN_TEST_POSTGRES names no database")
 class KillsOfMany(InAFolder):
     """Three workers on PostgreSQL."""
 
-    def setUp(self) -> None:
-        super().setUp()
-        self.url = os.environ["PALQYTUN_TEST_POSTGRES"]
-        self.reference = scenarios.undisturbed(self.url, self.folder / "reference", 90)
+    kind = "postgres"
+
+    @classmethod
+    def setUpClass(cls) -> None:
+        if lacks := needs.lacks_postgres():
+            raise unittest.SkipTest(lacks)
+        cls.url = postgres.url()
+        with tempfile.TemporaryDirectory(prefix="palqytun-crash-") as folder:
+            cls.reference = scenarios.undisturbed(cls.url, pathlib.Path(folder), 90)
 
     def test_kills_pauses_and_lost_connections(self) -> None:
         options = {"workers": 3, "pauses": True, "disconnects": True, "reference": self.reference}

@@ -1,7 +1,7 @@
 """What the tests stand on: this tree's package, an empty database for each test, and a worker.
 
-PALQYTUN_LIBRARY may name the shared object. PALQYTUN_TEST_POSTGRES is the URL of a database that may be emptied; without it only SQLite is
-tested. PALQYTUN_TEST_IDLE is for how many seconds attempts wait before they are suspended; 0 without it.
+PALQYTUN_LIBRARY may name the shared object. PALQYTUN_TEST_POSTGRES is the URL of a database that may be emptied, by a superuser; without it a
+temporary cluster is made. PALQYTUN_TEST_IDLE is for how many seconds attempts wait before they are suspended; 0 without it.
 """
 
 import asyncio
@@ -15,8 +15,10 @@ import tempfile
 import unittest
 
 PYTHON = pathlib.Path(__file__).parent.parent.parent
-sys.path[:0] = [str(PYTHON / "src"), str(pathlib.Path(__file__).parent)]
+sys.path[:0] = [str(PYTHON / "src"), str(PYTHON / "tests"), str(pathlib.Path(__file__).parent)]
 
+import needs  # noqa: E402
+import postgres  # noqa: E402
 import runtime_app  # noqa: E402
 from palqytun.runtime import journal  # noqa: E402
 from palqytun.runtime.database.plain import Plain  # noqa: E402
@@ -31,7 +33,7 @@ def emptied(kind, folder):
     """The URL of an empty database."""
     if kind == "sqlite":
         return str(folder / "db")
-    url = os.environ["PALQYTUN_TEST_POSTGRES"]
+    url = postgres.url()
     with Plain(url) as db:
         db.done(lambda to: to.change(f"TRUNCATE {', '.join(TABLES)}"))
     return url
@@ -52,8 +54,8 @@ class OnADatabase(InAFolder):
     kind = "sqlite"
 
     def setUp(self):
-        if self.kind == "postgres" and "PALQYTUN_TEST_POSTGRES" not in os.environ:
-            self.skipTest("PALQYTUN_TEST_POSTGRES names no database")
+        if self.kind == "postgres" and (lacks := needs.lacks_postgres()):
+            self.skipTest(lacks)
         super().setUp()
         self.url = emptied(self.kind, self.folder)
 

@@ -7,7 +7,8 @@ import unittest
 import uuid
 from typing import Any, Literal, Optional
 
-import support  # noqa: F401
+import support  # noqa: F401  isort: skip
+import needs
 from palqytun.runtime.codec import JsonCodec
 
 codec = JsonCodec()
@@ -68,10 +69,9 @@ class Codec(unittest.TestCase):
             codec.encode(object())
 
     def test_pydantic_models(self):
-        try:
-            import pydantic
-        except ImportError:
-            self.skipTest("pydantic isn't installed")
+        if lacks := needs.lacks_module("pydantic"):
+            self.skipTest(lacks)
+        import pydantic
 
         class Model(pydantic.BaseModel):
             name: str

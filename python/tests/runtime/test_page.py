@@ -2,11 +2,11 @@
 
 import asyncio
 import html.parser
-import shutil
 import subprocess
 import unittest
 
 import support  # isort: skip
+import needs
 import runtime_app
 from palqytun.runtime import inbox, invocations, journal, storing, timeline
 from palqytun.runtime.database.plain import Plain
@@ -167,7 +167,7 @@ class Requests(support.OnADatabase, unittest.TestCase):
         self.assertNotIn("a&b", dict(answers[0].headers)["set-cookie"])
 
 
-@unittest.skipUnless(shutil.which("chromium"), "chromium isn't installed")
+@unittest.skipIf(needs.lacks_browser(), needs.lacks_browser())
 class InABrowser(support.OnADatabase, unittest.TestCase):
     def test_the_picture_is_drawn(self):
         """The browser lays the picture out: its bars have places, and none of them is outside of it."""
@@ -177,7 +177,7 @@ class InABrowser(support.OnADatabase, unittest.TestCase):
         file = self.folder / "page.html"
         measured = "<script>document.title=[...document.querySelectorAll('rect')].map(e=>{const a=e.getBoundingClientRect();const b=e.ownerSVGElement.getBoundingClientRect();return a.width>0&&a.left>=b.left&&a.right<=b.right+1&&a.bottom<=b.bottom}).join()</script>"
         file.write_text(drawn(it, it.invocation["created"] + 10) + measured)
-        words = ["chromium", "--headless", "--no-sandbox", "--disable-gpu", f"--user-data-dir={self.folder}/profile", "--dump-dom", file.as_uri()]
+        words = [needs.browser(), "--headless", "--no-sandbox", "--disable-gpu", f"--user-data-dir={self.folder}/profile", "--dump-dom", file.as_uri()]
         said = subprocess.run(words, capture_output=True, text=True, timeout=120)
         self.assertIn("<title>true,true,true,true,true,true</title>", said.stdout, said.stderr)
 

@@ -4,23 +4,53 @@ import asyncio
 import os
 import random
 import socket
+import struct
 import threading
 import time
 import unittest
 from unittest import mock
 
 import support  # isort: skip
-from palqytun.runtime import App, Context, Service, inbox, journal
-from palqytun.runtime.database import Lost, connect, postgres
+import needs
+import runtime_app
+from palqytun.runtime import App, Context, Service, VirtualObject, inbox, invocations, journal
+from palqytun.runtime.claiming import Claimer
+from palqytun.runtime.database import Lost, Unsuitable, connect, postgres
+from palqytun.runtime.database.plain import Plain
+from palqytun.runtime.invocations import New
+from palqytun.runtime.lease import Growth
 from palqytun.runtime.outcome import Outcome
+from postgres import with_settings
 from support import Runtime
 
-service = Service("Postgres")
+service, account = Service("Postgres"), VirtualObject("Account")
+LEVELS = ("read committed", "repeatable read", "serializable")
+# Defaults of a server that would hurt, or that change how values are written; and what a session has in their place.
+HOSTILE = {
+    "default_transaction_isolation": ("serializable", "read committed"),
+    "default_transaction_deferrable": ("on", "on"),  # it says nothing of transactions that may write
+    "statement_timeout": ("20s", "0"),
+    "lock_timeout": ("2s", "0"),
+    "idle_session_timeout": ("20s", "0"),
+    "extra_float_digits": ("-15", "3"),
+    "synchronous_commit": ("off", "on"),
+    "client_encoding": ("LATIN1", "UTF8"),
+    "standard_conforming_strings": ("off", "off"),
+    "bytea_output": ("escape", "escape"),
+    "DateStyle": ("German", "ISO, DMY"),  # the driver's
+    "TimeZone": ("Asia/Kathmandu", "Asia/Kathmandu"),
+}
 
 
 @service.handler()
 async def collects(ctx: Context, count: int) -> list[int]:
     return [await ctx.signal("go", int) for _ in range(count)]
+
+
+@account.handler()
+async def add(ctx: Context, amount: int) -> int:
+    ctx.set("money", (await ctx.get("money", int) or 0) + amount)
+    return amount
 
 
 async def signalled(db, id, number):
@@ -156,7 +186,7 @@ class TwoWorkers(support.OnADatabase, unittest.TestCase):
             async with Runtime(App(service), self.url, **options) as one, Runtime(App(service), self.url, **options) as two:
                 db = await connect(self.url)
                 id = await one.send("Postgres/collects", count)
-                await one.until(id, "running" if idle else "suspended")
+                await one.until(id, "running" if idle > 1 else "suspended")
                 await asyncio.sleep(0.5)  # whoever was woken has looked
                 holder, other = (one, two) if id in one.engine.live else (two, one)
                 for number in range(count):
@@ -188,14 +218,157 @@ class TwoWorkers(support.OnADatabase, unittest.TestCase):
                 self.collected(idle, 40, between)
 
 
+class Settings(support.OnADatabase, unittest.TestCase):
+    """A session doesn't depend on the server's defaults. Here they are those of the user in this database."""
+
+    kind = "postgres"
+
+    def setUp(self):
+        super().setUp()
+        with Plain(self.url) as db:
+            [(database, self.user, version)] = db.rows("SELECT current_database(), current_user, current_setting('server_version_num')::int")
+            self.of_user = f'ALTER ROLE "{self.user}" IN DATABASE "{database}"'
+            self.addCleanup(self.change, f"{self.of_user} RESET ALL")
+            self.defaults = {name: it for name, it in HOSTILE.items() if version >= 140000 or name != "idle_session_timeout"}
+
+    def change(self, *statements):
+        with Plain(self.url) as db:
+            for it in statements:
+                db.change(it)
+
+    def shown(self, url):
+        with Plain(url) as db:
+            return {name: db.rows(f"SHOW {name}")[0][0] for name in self.defaults}
+
+    def test_defaults_that_hurt(self):
+        self.change(*[f"{self.of_user} SET {name} TO '{value}'" for name, (value, _) in self.defaults.items()])
+        self.assertEqual(self.shown(self.url), {name: value for name, (_, value) in self.defaults.items()})
+        values = ("a\\b'c\"\N{SNOWMAN}", bytes(range(256)), 1732857600.1234567)
+        with Plain(self.url) as db:
+            [(text, data, number)] = db.rows("SELECT ?, ?::bytea, ?::float8", values)
+            self.assertEqual((text, bytes(data), number), values)
+
+    def test_a_worker_among_defaults_that_hurt(self):
+        async def go():
+            async with Runtime(runtime_app.app, self.url) as runtime:
+                self.assertEqual(await runtime.call("S/echo", "a\\b'\N{SNOWMAN}"), "a\\b'\N{SNOWMAN}")
+
+        self.change(*[f"{self.of_user} SET {name} TO '{value}'" for name, (value, _) in self.defaults.items()])
+        asyncio.run(go())
+
+    def test_what_the_url_asks_for_stays(self):
+        asked = {"synchronous_commit": "off", "statement_timeout": "20s", "lock_timeout": "2s", "default_transaction_isolation": "serializable"}
+        shown = self.shown(with_settings(self.url, asked))
+        self.assertEqual({name: shown[name] for name in asked}, {**asked, "default_transaction_isolation": "read committed"})
+
+    def test_another_way_to_be_on_the_disk_stays(self):
+        self.change(f"{self.of_user} SET synchronous_commit TO 'local'")
+        self.assertEqual(self.shown(self.url)["synchronous_commit"], "local")
+
+    def test_a_database_of_another_encoding(self):
+        self.change("DROP DATABASE IF EXISTS palqytun_latin", "CREATE DATABASE palqytun_latin ENCODING 'LATIN1' TEMPLATE template0 LC_COLLATE 'C' LC_CTYPE 'C'")
+        self.addCleanup(self.change, "DROP DATABASE palqytun_latin")
+        with self.assertRaisesRegex(Unsuitable, "encoding is LATIN1, and has to be UTF8"):
+            Plain(f"{self.url}{'&' if '?' in self.url else '?'}dbname=palqytun_latin")
+
+    def test_no_place_for_tables(self):
+        with self.assertRaisesRegex(Unsuitable, "the search_path names no schema"):
+            Plain(with_settings(self.url, {"search_path": "nowhere"}))
+
+    def test_a_user_without_rights(self):
+        self.change("DROP ROLE IF EXISTS palqytun_guest", "CREATE ROLE palqytun_guest")
+        self.addCleanup(self.change, "DROP ROLE palqytun_guest")
+        with self.assertRaisesRegex(Unsuitable, "permission denied .*: the user has to own the tables"):
+            Plain(with_settings(self.url, {"role": "palqytun_guest"}))
+
+    def test_a_database_that_may_only_be_read(self):
+        """A command may read it. A worker says what is wrong, and tries again."""
+        url = with_settings(self.url, {"default_transaction_read_only": "on"})
+        with Plain(url) as db:
+            self.assertEqual(db.rows("SELECT * FROM invocations"), [])
+        with self.assertRaisesRegex(Lost, "this session may only read"):
+            Plain(url, opened=lambda it: connect(it, worker=True))
+
+    def test_a_server_without_fsync(self):
+        postgres._warn_of_fsync.cache_clear()
+        self.addCleanup(postgres._warn_of_fsync.cache_clear)
+        with mock.patch.object(postgres, "_CHECKED", "SELECT 'UTF8', 'public', 'off', 'off'"), self.assertLogs("palqytun") as said:
+            for _ in range(2):
+                Plain(self.url, opened=lambda it: connect(it, worker=True)).close()
+        self.assertEqual(len(said.output), 1)
+        self.assertIn("fsync is off", said.output[0])
+
+
+class Isolation(support.OnADatabase, unittest.TestCase):
+    """A statement reads all that was committed before it, whichever isolation level is the server's default. In each test a transaction goes on
+    after another worker's, as that of a group of operations does."""
+
+    kind = "postgres"
+    app = App(service, account)
+
+    def at_each_level(self, test):
+        for level in LEVELS:
+            with self.subTest(level=level):
+                url = with_settings(support.emptied("postgres", self.folder), {"default_transaction_isolation": level})
+                asyncio.run(self.with_two(url, test))
+
+    async def with_two(self, url, test):
+        """The second of the two connections is in a transaction that has read something."""
+        one, two = await connect(url), await connect(url)
+        try:
+            await one.begin()
+            await invocations.create(one, self.app, Outcome(), New("Account", "add", "k", b"1", id="inv_second"))
+            await one.commit()
+            await two.begin()
+            await two.rows("SELECT * FROM workers")
+            await test(one, two)
+        finally:
+            one.close()
+            two.close()
+
+    async def claimed(self, db, worker):
+        return (await Claimer(worker, self.app, 10).claim(db, (), 1)).claims[0]
+
+    def test_money_is_kept(self):
+        """The other worker calls an object, which has 70 from then on. The next call of it is handed these, and so adds to them."""
+
+        async def test(one, two):
+            await one.begin()
+            await invocations.create(one, self.app, Outcome(), New("Account", "add", "k", b"70", due=1, id="inv_first"))
+            self.assertEqual((await self.claimed(one, "one")).invocation, "inv_first")
+            await one.change("INSERT INTO state(service, key, name, value) VALUES ('Account', 'k', 'money', '70')")
+            await one.change("UPDATE invocations SET status='done' WHERE id='inv_first'")
+            await invocations.end(one, Outcome(), "inv_first", "Account", "k", journal.void())
+            await one.commit()
+            claim = await self.claimed(two, "two")
+            await two.commit()
+            self.assertEqual(claim.invocation, "inv_second")
+            self.assertIn(b"money" + struct.pack(">Q", 2) + b"70", claim.input)
+
+        self.at_each_level(test)
+
+    def test_a_result_reaches_who_waits(self):
+        """The other worker's invocation begins to wait for one that ends."""
+
+        async def test(one, two):
+            await one.begin()
+            await invocations.create(one, self.app, Outcome(), New("Postgres", "collects", argument=b"1", due=1))
+            waits = await self.claimed(one, "one")
+            await invocations.attach(one, Growth(waits.lease), "inv_second", 1)
+            await one.commit()
+            await invocations.end(two, Outcome(), "inv_second", "Account", "", journal.void())
+            await two.commit()
+            self.assertEqual([it for it, in await one.rows("SELECT invocation FROM inbox")], [waits.invocation])
+
+        self.at_each_level(test)
+
+
 class Silent(unittest.TestCase):
     """A server that takes connections and says nothing."""
 
     def setUp(self):
-        try:
-            postgres._Driver()
-        except postgres.NoDriver:
-            self.skipTest("psycopg2 isn't there")
+        if lacks := needs.lacks_module("psycopg2"):
+            self.skipTest(lacks)
         self.server = socket.create_server(("127.0.0.1", 0))
         self.addCleanup(self.server.close)
         self.url = f"postgresql://postgres@127.0.0.1:{self.server.getsockname()[1]}/none?sslmode=disable"

@@ -111,7 +111,7 @@ class Handlers(support.OnADatabase):
         assert await runtime.call("S/later") == 28
         while await runtime.call("O/look", key="later") == [None, None, []]:
             await asyncio.sleep(0.01)
-        assert 0.1 < time.time() - begun < 3
+        assert 0.1 < time.time() - begun < 60
 
     @with_runtime
     async def test_workflows_and_promises(self, runtime):

@@ -1,8 +1,9 @@
 //! The commands on other invocations, signals, promises, runs and time.
 ghost use Rattle.frame_lines.specs.Forms.{call_fields, call_request_fields, complete_awakeable_fields, complete_promise_fields, invocation_fields, one_way_call_fields, promise_fields, run_fields, send_signal_fields, sleep_fields};
 
-use crate::forms::{Form, print_field, values_of};
+use crate::forms::Form;
 use bytes::Bytes;
+use frame_values::fields::{print_field, values_of};
 use journal_protocol::{
     CallCommand, CallRequest, CompleteAwakeableCommand, CompletePromiseCommand, Header,
     InvocationCommand, InvocationTarget, OneWayCallCommand, PromiseCommand, RunCommand,

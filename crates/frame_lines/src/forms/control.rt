@@ -1,8 +1,9 @@
 //! The messages that begin and end an attempt, and what it tells of itself.
 ghost use Rattle.frame_lines.specs.Forms.{awaiting_on_fields, error_fields, propose_run_completion_fields, propose_run_completion_ack_fields, start_fields, suspension_fields};
 
-use crate::forms::{Form, print_field, values_of};
+use crate::forms::Form;
 use bytes::Bytes;
+use frame_values::fields::{print_field, values_of};
 use journal_protocol::{
     AwaitingOn, ErrorBehavior, ErrorMessage, Future, ProposeRunCompletion, ProposeRunCompletionAck,
     Start, Suspension, ValueOrFailure,

@@ -1,7 +1,8 @@
 //! What comes in for an attempt, and the read whose result the journal doesn't keep.
 ghost use Rattle.frame_lines.specs.Forms.{get_state_ephemeral_command_fields, get_state_ephemeral_notification_fields, notification_fields};
 
-use crate::forms::{Form, print_field, values_of};
+use crate::forms::Form;
+use frame_values::fields::{print_field, values_of};
 use journal_protocol::{
     GetStateEphemeralCommand, GetStateEphemeralNotification, Notification, NotificationId,
     NotificationResult, VoidOrValue,

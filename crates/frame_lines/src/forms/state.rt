@@ -1,8 +1,9 @@
 //! The commands on a handler's input, state and output.
 ghost use Rattle.frame_lines.specs.Forms.{clear_all_state_fields, clear_state_fields, get_eager_state_fields, get_eager_state_keys_fields, get_lazy_state_fields, get_lazy_state_keys_fields, input_fields, output_fields, set_state_fields};
 
-use crate::forms::{Form, print_field, values_of};
+use crate::forms::Form;
 use bytes::Bytes;
+use frame_values::fields::{print_field, values_of};
 use journal_protocol::{
     ClearAllStateCommand, ClearStateCommand, GetEagerStateCommand, GetEagerStateKeysCommand,
     GetLazyStateCommand, GetLazyStateKeysCommand, Header, InputCommand, OutputCommand,

@@ -1,5 +1,6 @@
 //! Trees that are as deep as is asked.
-use await_trees::{FutureKind, NotificationHandle, UnresolvedFuture, node_over};
+use await_trees::{NotificationHandle, UnresolvedFuture, node_over};
+use journal_protocol::FutureKind;
 use plain::Items;
 use std::alloc::{AllocError, Global};
 

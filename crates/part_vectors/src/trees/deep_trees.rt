@@ -1,7 +1,8 @@
 //! Deep trees alone: made, printed, copied and dropped.
 use crate::trees::deep::deep;
 use crate::trees::shown::tree_shown;
-use await_trees::{FutureKind, UnresolvedFuture, list_nodes};
+use await_trees::{UnresolvedFuture, list_nodes};
+use journal_protocol::FutureKind;
 use std::alloc::Global;
 use std::test::Fail;
 

@@ -1,16 +1,16 @@
 //! Tries of deep trees, and what is sent of them.
 use crate::trees::deep::deep;
 use crate::trees::rows::{arrive, map, mapped};
-use await_trees::{FutureKind, UnresolvedFuture};
+use await_trees::UnresolvedFuture;
 use await_tries::{Residue, Resolution, future_of, list_handles, try_future};
 use bytes::Bytes;
-use journal_protocol::Future;
+use journal_protocol::{Future, FutureKind, SignalDelivery};
 use own_bytes::Wire;
 use plain::Fault;
 use std::alloc::{AllocError, Global};
 use std::process::Abort;
 use std::test::Fail;
-use vm_parts::{AsyncResults, SignalDelivery};
+use vm_parts::AsyncResults;
 
 /// What a try leaves: its only handle, if it has one, and what is sent: how many nodes, in how many bytes, and how
 /// many nodes are read from them.

@@ -3,14 +3,14 @@ use crate::trees::notation::{arrival, id, number};
 use crate::trees::shown::{
     copy_shown, future_shown, handles_shown, left_shown, result_shown, tree_shown,
 };
-use await_trees::UnresolvedFuture;
+use await_trees::{NotificationHandle, UnresolvedFuture};
 use await_tries::{Residue, Resolution, future_of, list_handles, try_future};
-use journal_protocol::NotificationResult;
+use journal_protocol::{NotificationResult, SignalDelivery};
 use line_parts::trees::tree_of_word;
 use lines::line::Line;
 use std::alloc::Global;
 use std::test::Fail;
-use vm_parts::{AsyncResults, NotificationHandle, SignalDelivery};
+use vm_parts::AsyncResults;
 
 const TEN: &str = "1 2 3 4 5 6 7 8 9 10";
 
@@ -177,7 +177,7 @@ impl<'a> Bench<'a> {
 
     fn take(&mut self, argument: &str) -> Result<(), Fail> {
         let (handle, wanted) = handle_and_word(argument)?;
-        let found = self.results.take(self.delivery, handle);
+        let found = self.results.take(self.delivery, handle.0);
         let held = expect_result(self.row, found.as_ref(), wanted);
         drop(found);
         held

@@ -1,7 +1,7 @@
 //! What rows expect, as it is written: what is left of a tree, its handles, and the future that is sent of it.
 use await_trees::{Label, Node, UnresolvedFuture};
 use await_tries::Residue;
-use frame_lines::value::Value;
+use frame_values::value::Value;
 use journal_protocol::{Future, NotificationResult};
 use line_parts::trees::name_of_kind;
 use lines::line::Line;

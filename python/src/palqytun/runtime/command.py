@@ -15,8 +15,10 @@ import time
 from collections.abc import Awaitable, Callable
 from typing import TypeVar
 
+from palqytun._library import Library, library
+
 from . import inbox, journal, operate
-from .database import Database, Lost
+from .database import Database, Lost, Unsuitable
 from .database.plain import Plain
 from .database.postgres import NoDriver
 from .database.schema import NewerSchema, OlderSchema
@@ -29,6 +31,7 @@ from .services import App
 
 
 T = TypeVar("T")
+log = logging.getLogger("palqytun")
 
 
 class Refused(Exception):
@@ -51,7 +54,23 @@ def load(path: str) -> App:
     return found[0]
 
 
+def loaded() -> Library:
+    """The library."""
+    try:
+        return library()
+    except ImportError as error:
+        raise Refused(error) from error
+
+
+def warn_of_unproved() -> None:
+    """Logs it if the library was built without a proof."""
+    it = loaded()
+    if not it.is_proved:
+        log.warning("the library was built without a proof (%s): ./bindings/build makes one that is proved", it.build)
+
+
 async def _serve(options: argparse.Namespace) -> None:
+    warn_of_unproved()
     engine = Engine(load(options.app), options.db, name=options.name, limit=options.limit, idle=options.idle, lease=options.lease, keep=options.keep)
     for number in (signal.SIGINT, signal.SIGTERM):
         asyncio.get_running_loop().add_signal_handler(number, engine.stop)
@@ -154,8 +173,20 @@ def replay(options: argparse.Namespace) -> int:
     return 1 if different else 0
 
 
+class _Version(argparse.Action):
+    """Prints which library this is. The library is loaded only then."""
+
+    def __call__(self, parser: argparse.ArgumentParser, *_: object) -> None:
+        try:
+            print(f"palqytun {loaded().build}")
+        except Refused as error:
+            parser.exit(2, f"palqytun: {error}\n")
+        parser.exit()
+
+
 def _parser() -> argparse.ArgumentParser:
     parser = argparse.ArgumentParser("palqytun", description="Durable execution: run an app, ask for its invocations, and check a new version of it.")
+    parser.add_argument("--version", action=_Version, nargs=0, help="the version, the commit, the kit's logic, and whether the library was proved")
     commands = parser.add_subparsers(required=True)
     database = argparse.ArgumentParser(add_help=False)
     database.add_argument("--db", default="palqytun.db", help="a SQLite file, or postgresql://..; palqytun.db by default")
@@ -202,6 +233,6 @@ def main() -> int:
     logging.basicConfig(level=logging.INFO, format="%(asctime)s %(name)s %(message)s")
     try:
         return int(options.does(options))
-    except (Refused, Lost, InUse, NewerSchema, OlderSchema, NoDriver) as error:
+    except (Refused, Lost, Unsuitable, InUse, NewerSchema, OlderSchema, NoDriver) as error:
         print(f"palqytun: {error}", file=sys.stderr)
         return 2

@@ -3,7 +3,7 @@ use Rattle.std.proofs.Common.{ap, ◌∙◌}
 use Rattle.journal_protocol.specs.Frames.{type_of}
 use Rattle.frame_lines.specs.Messages.{fields_of}
 use Rattle.frame_lines.specs.Names.{type_word}
-use Rattle.frame_lines.proofs.Putting.{printed_behind}
+use Rattle.frame_values.proofs.Putting.{printed_behind}
 use Rattle.frame_lines.proofs.message.print_message.Goals as goal
 
 pub returns : goal.returns

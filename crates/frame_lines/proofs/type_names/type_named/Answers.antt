@@ -1,7 +1,8 @@
 use Rattle.std.proofs.Common.{rules, ◌≡◌, arith, sym, ap, ◌∙◌}
 use Rattle.journal_protocol.specs.Types.{type_at}
 use Rattle.frame_lines.specs.Names.{type_word}
-use Rattle.frame_lines.proofs.Naming.{none_more, same_type, unequal, unnamed}
+use Rattle.frame_lines.proofs.Naming.{none_more, same_type, unnamed}
+use Rattle.frame_values.proofs.Bracketing.{unequal}
 use Rattle.frame_lines.proofs.type_names.type_named.Goals as goal
 use Rattle.frame_lines.proofs.type_names.type_named.Goals.{in_default-via-in-None-1, in_default-via-in-Some+else-eq}
 

@@ -1,5 +1,5 @@
 use Rattle.std.proofs.Common.{◌≡◌, length}
-use Rattle.invocation_vm.specs.Frames.{frames_of}
+use Rattle.journal_entries.specs.Frames.{frames_of}
 use Rattle.held_journals.proofs.rest.ends_whole.Given as goal
 
 abbrev pub invariant-loop : goal.invariant-loop

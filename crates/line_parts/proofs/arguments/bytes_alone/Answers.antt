@@ -1,5 +1,5 @@
 use Rattle.std.proofs.Common.{arith}
-use Rattle.line_parts.proofs.Missing.{if_err_map, one_atom_blamed}
+use Rattle.lines.proofs.Missing.{if_err_map, one_atom_blamed}
 use Rattle.line_parts.proofs.arguments.bytes_alone.Goals as goal
 
 pub returns-in-len1-clause-none : goal.returns-in-len1-clause-none

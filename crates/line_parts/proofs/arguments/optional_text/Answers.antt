@@ -1,7 +1,7 @@
 use Rattle.std.proofs.Common.{◌≡◌, [], ◌∷◌, rules}
 use Rattle.lines.specs.Atoms.{IsText}
-use Rattle.line_parts.specs.Fields.{texts_named}
-use Rattle.line_parts.proofs.Missing.{optional_blamed}
+use Rattle.lines.specs.Fields.{texts_named}
+use Rattle.lines.proofs.Missing.{optional_blamed}
 use Rattle.line_parts.proofs.arguments.optional_text.Goals as goal
 
 pub returns-in-Err-text_of-clause-none : goal.returns-in-Err-text_of-clause-none

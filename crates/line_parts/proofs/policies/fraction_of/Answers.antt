@@ -1,7 +1,7 @@
 use Rattle.std.proofs.Common.{◌≡◌, ◌+◌, Err, subst, rules}
 use Rattle.lines.specs.Readings.{Blames}
-use Rattle.line_parts.specs.Words.{IsNumberOf}
-use Rattle.line_parts.proofs.Places.{behind_is}
+use Rattle.lines.specs.Words.{IsNumberOf}
+use Rattle.lines.proofs.Places.{behind_is}
 use Rattle.line_parts.proofs.Retrying.{denominator_blamed}
 use Rattle.line_parts.proofs.policies.fraction_of.Goals as goal
 

@@ -1,7 +1,7 @@
 use Rattle.std.proofs.Common.{◌≡◌, [], ◌∷◌, codes, rules}
 use Rattle.lines.specs.Atoms.{IsText}
-use Rattle.line_parts.specs.Fields.{texts_named}
-use Rattle.line_parts.proofs.Missing.{set_blamed}
+use Rattle.lines.specs.Fields.{texts_named}
+use Rattle.lines.proofs.Missing.{set_blamed}
 use Rattle.line_parts.proofs.report.stack_in.Goals as goal
 
 pub returns-in-Err-string_of-clause-none : goal.returns-in-Err-string_of-clause-none

@@ -1,7 +1,7 @@
 use Rattle.std.proofs.Common.{◌≡◌, ◌≢◌, [], Err, codes, get_or, sym, ◌∙◌, subst, rules, arith}
 use Rattle.line_parts.specs.Results.{IsRetryable}
-use Rattle.line_parts.specs.Words.{text_at}
-use Rattle.line_parts.proofs.Places.{others_are, word_at}
+use Rattle.lines.specs.Words.{text_at}
+use Rattle.lines.proofs.Places.{others_are, word_at}
 use Rattle.line_parts.proofs.Proposing.{retryable_blamed, value_blamed}
 use Rattle.line_parts.proofs.results.result_of.Goals as goal
 

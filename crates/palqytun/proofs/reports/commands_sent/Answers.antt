@@ -1,5 +1,5 @@
 use Rattle.std.proofs.Common.{◌≡◌, [], ◌∷◌, ◌++◌, sym, ap, ◌∙◌}
-use Rattle.vm_store.specs.Entries.{frame_of}
+use Rattle.journal_entries.specs.Entries.{frame_of}
 use Rattle.palqytun.proofs.Sending.{all_stored, command_next, other_next, stored_among}
 use Rattle.palqytun.proofs.reports.commands_sent.Goals as goal
 use Rattle.palqytun.proofs.reports.commands_sent.Goals.{then-is_command_frame+in_ok-encode+in_ok-push, else-is_command_frame}

@@ -1,5 +1,5 @@
 use Rattle.std.proofs.Common.{◌≡◌, ◌++◌, length}
-use Rattle.invocation_vm.specs.Frames.{frames_of}
+use Rattle.journal_entries.specs.Frames.{frames_of}
 use Rattle.palqytun.proofs.reports.frames_sent.Given as goal
 
 abbrev pub invariant-loop-decoder : goal.invariant-loop-decoder

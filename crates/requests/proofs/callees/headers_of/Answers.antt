@@ -1,7 +1,7 @@
 use Rattle.std.proofs.Common.{[], arith, codes, take}
 use Rattle.std.proofs.lemmas.Grind.{common_steps}
-use Rattle.line_parts.specs.Fields.{texts_named}
-use Rattle.line_parts.proofs.Naming.{texts_none, texts_some}
+use Rattle.lines.specs.Fields.{texts_named}
+use Rattle.lines.proofs.Naming.{texts_none, texts_some}
 use Rattle.line_parts.proofs.Pairing.{headers_more}
 use Rattle.requests.proofs.callees.headers_of.Goals.{in-Some+in_ok-key+in_ok-push, in_default}
 use Rattle.requests.proofs.callees.headers_of.Goals as goal

@@ -1,5 +1,5 @@
 use Rattle.std.proofs.Common.{codes, take}
-use Rattle.line_parts.specs.Fields.{texts_named}
+use Rattle.lines.specs.Fields.{texts_named}
 use Rattle.line_parts.specs.Targets.{AreHeaders}
 use Rattle.requests.proofs.callees.headers_of.Given as goal
 

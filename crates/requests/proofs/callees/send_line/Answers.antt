@@ -1,8 +1,8 @@
 use Rattle.std.proofs.Common.{codes, rules, arith, subst}
 use Rattle.std.proofs.lemmas.Grind.{common_steps}
-use Rattle.line_parts.specs.Fields.{IsOptional, texts_named}
+use Rattle.lines.specs.Fields.{IsOptional, texts_named}
 use Rattle.line_parts.specs.Targets.{HasCallOptions}
-use Rattle.line_parts.specs.Values.{IsTime}
+use Rattle.lines.specs.Durations.{IsTime}
 use Rattle.requests.proofs.Calling.{is_send}
 use Rattle.requests.proofs.callees.send_line.Goals as goal
 

@@ -1,7 +1,7 @@
 use Rattle.std.proofs.Common.{◌≡◌, [], codes, get_or, sym, ◌∙◌, subst, rules, arith}
 use Rattle.requests.specs.Lines.{IsContentType}
 use Rattle.line_parts.specs.VmOptions.{AreOptions}
-use Rattle.line_parts.proofs.Places.{behind_is, word_at}
+use Rattle.lines.proofs.Places.{behind_is, word_at}
 use Rattle.requests.proofs.parse.make_of_words.Goals as goal
 
 pub returns-clause-value : goal.returns-clause-value

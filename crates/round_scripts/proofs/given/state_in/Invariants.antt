@@ -1,5 +1,5 @@
 use Rattle.std.proofs.Common.{codes, take}
-use Rattle.line_parts.specs.Fields.{texts_named}
+use Rattle.lines.specs.Fields.{texts_named}
 use Rattle.round_scripts.specs.Worlds.{AreStateTexts}
 use Rattle.round_scripts.proofs.given.state_in.Given as goal
 

@@ -1,7 +1,7 @@
 use Rattle.std.proofs.Common.{[], arith, codes, take}
 use Rattle.std.proofs.lemmas.Grind.{common_steps}
-use Rattle.line_parts.specs.Fields.{texts_named}
-use Rattle.line_parts.proofs.Naming.{texts_none, texts_some}
+use Rattle.lines.specs.Fields.{texts_named}
+use Rattle.lines.proofs.Naming.{texts_none, texts_some}
 use Rattle.round_scripts.proofs.Gathering.{keys_more}
 use Rattle.round_scripts.proofs.opening.keys_in.Goals.{in-Some+in_ok-text_of+in_ok-push, in_default}
 use Rattle.round_scripts.proofs.opening.keys_in.Goals as goal

@@ -1,5 +1,5 @@
 use Rattle.std.proofs.Common.{codes, take}
-use Rattle.line_parts.specs.Fields.{texts_named}
+use Rattle.lines.specs.Fields.{texts_named}
 use Rattle.round_scripts.specs.Rounds.{AreKeys}
 use Rattle.round_scripts.proofs.opening.keys_in.Given as goal
 

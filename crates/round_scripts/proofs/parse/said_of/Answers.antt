@@ -1,6 +1,6 @@
 use Rattle.std.proofs.Common.{◌<◌, length, arith}
 use Rattle.std.proofs.lemmas.Result.{IfErr-weaker}
-use Rattle.line_parts.proofs.Places.{others_are}
+use Rattle.lines.proofs.Places.{others_are}
 use Rattle.round_scripts.proofs.Nothing.{words_say_nothing}
 use Rattle.round_scripts.proofs.parse.said_of.Goals as goal
 

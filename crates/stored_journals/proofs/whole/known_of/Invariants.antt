@@ -1,6 +1,6 @@
 use Rattle.std.proofs.Common.{[], take, drop}
-use Rattle.vm_store.specs.declared.types.RoundFault.{RoundFault}
-use Rattle.vm_store.specs.Given.{AreGiven, FirstGiven}
+use Rattle.journal_entries.specs.declared.fault.RoundFault.{RoundFault}
+use Rattle.journal_entries.specs.Given.{AreGiven, FirstGiven}
 use Rattle.stored_journals.specs.Journals.{Holds}
 use Rattle.stored_journals.proofs.whole.known_of.Given as goal
 

@@ -7,7 +7,7 @@ use Rattle.vm_store.specs.Worlds.{IsJournal, WorldView}
 use Rattle.vm_rounds.specs.Sound.{IsSoundFor}
 use Rattle.vm_rounds.proofs.Agreeing.{sound_rounds_agree}
 use Rattle.vm_rounds.proofs.Completing.{completes_once}
-use Rattle.vm_rounds.proofs.Faultless.{faults_come_from_outside}
+use Rattle.vm_rounds.proofs.Faultless.{faults_come_from_outside, stops_come_from_outside}
 use Rattle.vm_rounds.proofs.Freshness.{rounds_fresh}
 use Rattle.vm_rounds.proofs.RightKinds.{history_kinds}
 use Rattle.vm_rounds.proofs.Lists.{split_at}
@@ -30,6 +30,10 @@ returns-in-Err-clause-err g c = rounds_fault_so (g.H.Handler.meaning c.args.hand
 -- where the journal can be replayed, a fault comes from outside
 pub returns-in-Err-clause-outside : goal.returns-in-Err-clause-outside
 returns-in-Err-clause-outside g c h = faults_come_from_outside (g.H.Handler.meaning c.args.handler.now) c.args.world.setting c.args.rounds.now c.args.world.journal _ (subst (λ (w : WorldView). IsJournal w.journal) c.world.view_is c.world.invariant) h (returns-in-Err-clause-err g c)
+
+-- so does that of the event at which they are stopped
+pub returns-in-Err-clause-outside_there : goal.returns-in-Err-clause-outside_there
+returns-in-Err-clause-outside_there g c h s = stops_come_from_outside (g.H.Handler.meaning c.args.handler.now) c.args.world.setting c.args.rounds.now c.args.world.journal _ _ (subst (λ (w : WorldView). IsJournal w.journal) c.world.view_is c.world.invariant) h s
 
 pub loop-round-preserved : goal.loop-round-preserved
 loop-round-preserved g c = record {
@@ -94,3 +98,6 @@ returns-then-not-keep_report-clause-err g c = rounds_fault_so (g.H.Handler.meani
 
 pub returns-then-not-keep_report-clause-outside : goal.returns-then-not-keep_report-clause-outside
 returns-then-not-keep_report-clause-outside g c h = faults_come_from_outside (g.H.Handler.meaning c.args.handler.now) c.args.world.setting c.args.rounds.now c.args.world.journal _ (subst (λ (w : WorldView). IsJournal w.journal) c.world.view_is c.world.invariant) h (returns-then-not-keep_report-clause-err g c)
+
+pub returns-then-not-keep_report-clause-outside_there : goal.returns-then-not-keep_report-clause-outside_there
+returns-then-not-keep_report-clause-outside_there g c h s = stops_come_from_outside (g.H.Handler.meaning c.args.handler.now) c.args.world.setting c.args.rounds.now c.args.world.journal _ _ (subst (λ (w : WorldView). IsJournal w.journal) c.world.view_is c.world.invariant) h s

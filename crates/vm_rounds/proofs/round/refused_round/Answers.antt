@@ -1,5 +1,5 @@
 use Rattle.std.proofs.Common.{◌≤◌, length, arith, ap}
-use Rattle.vm_store.specs.Arrivals.{most_entries}
+use Rattle.journal_entries.specs.Arrivals.{most_entries}
 use Rattle.vm_rounds.proofs.Keeping.{arrivals_keep}
 use Rattle.vm_rounds.proofs.round.refused_round.Goals as goal
 

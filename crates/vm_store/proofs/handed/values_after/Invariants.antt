@@ -1,6 +1,6 @@
 use Rattle.std.proofs.Common.{◌≡◌, drop}
 use Rattle.vm_model.specs.Moves.{changed_by}
-use Rattle.vm_store.specs.Entries.{said_in}
+use Rattle.journal_entries.specs.Entries.{said_in}
 use Rattle.vm_store.specs.States.{state_after}
 use Rattle.vm_store.proofs.handed.values_after.Given as goal
 

@@ -15,6 +15,10 @@ class Lost(Exception):
     what stands in the database is what counts, and a worker goes on from there once the database can be used again."""
 
 
+class Unsuitable(Exception):
+    """The database is there, and can't be used as it is set up: what is wrong, and what is allowed."""
+
+
 class Database(Protocol):
     """A connection, which belongs to an event loop. Each statement belongs to the transaction that `begin` began; any of them may raise
     `Conflict` or `Lost`."""
@@ -51,15 +55,15 @@ class Database(Protocol):
 
 async def connect(url: str, *, worker: bool = False) -> Database:
     """`postgresql://..`, or the path of a SQLite file, which may be followed by `?synchronous=NORMAL`. `worker` says that this connection is
-    that of a worker; a SQLite file has one at a time."""
+    that of a worker: a SQLite file has one at a time, and a PostgreSQL database has to let it write."""
     if url.startswith(("postgres://", "postgresql://")):
         from .postgres import Postgres
 
-        return await Postgres.connected(url)
+        return await Postgres.connected(url, worker=worker)
     from .sqlite import SQLite
 
     path, _, option = url.removeprefix("sqlite:").partition("?synchronous=")
     return SQLite(path, synchronous=option or "FULL", worker=worker)
 
 
-__all__ = ["Conflict", "Database", "Lost", "connect"]
+__all__ = ["Conflict", "Database", "Lost", "Unsuitable", "connect"]

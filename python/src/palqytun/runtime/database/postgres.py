@@ -3,18 +3,21 @@ host's name is looked up at once, as libpq does, so for that time the loop stand
 
 What costs time is the round trip to the server. So statements that answer nothing are queued, and go with the next that answers something;
 a transaction's begin goes with its first statement, and its commit with the last.
+
+A session doesn't depend on the server's defaults: what matters is set when the connection is made, and what can't be set is checked.
 """
 
 from __future__ import annotations
 
 import asyncio
 import contextlib
+import functools
 import importlib
 import logging
 from collections.abc import Callable, Iterable, Iterator, Sequence
 from typing import Any
 
-from . import Conflict, Lost
+from . import Conflict, Lost, Unsuitable
 from .schema import VERSIONS, missing
 
 log = logging.getLogger("palqytun")
@@ -28,9 +31,27 @@ _TO_HOLDERS = (
     " FROM invocations WHERE id=ANY(?) AND status<>'done'"
 )
 _MIGRATING = 7_401_953  # the advisory lock of whoever migrates
-_BEGIN, _AT_ONCE = b"BEGIN", 200  # statements that go to the server together, at most
+_LEVEL = "ISOLATION LEVEL READ COMMITTED"  # each statement reads all that was committed before it; by an older snapshot changes are lost
+_BEGIN, _AT_ONCE = f"BEGIN {_LEVEL}".encode(), 200  # statements that go to the server together, at most
 _PATIENCE = 10.0  # seconds that a connection may take to be made
 _OPTIONS = {"keepalives": 1, "keepalives_idle": 5, "keepalives_interval": 2, "keepalives_count": 3, "tcp_user_timeout": 15000, "client_encoding": "UTF8"}
+# In the place of the server's defaults, but not of what the URL's options say. A server lacks what its version doesn't have.
+_SETTINGS = {
+    "statement_timeout": "0",  # a statement that is ended loses the session: the next one would be no quicker
+    "lock_timeout": "0",
+    "transaction_timeout": "0",
+    "idle_session_timeout": "0",  # the connection that listens is idle
+    "extra_float_digits": "3",  # a time is read as it was written
+    "synchronous_commit": "on",
+}
+_ENOUGH = ("local", "remote_write", "remote_apply")  # of synchronous_commit: what is committed is on the disk with these too
+_SET_UP = (
+    f"SET SESSION CHARACTERISTICS AS TRANSACTION {_LEVEL};"
+    f" SELECT set_config(name, value, false) FROM (VALUES {', '.join(map(str, _SETTINGS.items()))}) AS wanted(name, value)"
+    f" JOIN pg_settings USING (name) WHERE source<>'client' AND NOT (name='synchronous_commit' AND setting IN {_ENOUGH})"
+)
+_CHECKED = "SELECT current_setting('server_encoding'), current_schema(), current_setting('transaction_read_only'), current_setting('fsync')"
+_ENCODINGS = ("UTF8", "SQL_ASCII")
 
 
 class NoDriver(ImportError):
@@ -49,7 +70,7 @@ class _Driver:
         except ImportError as error:
             raise NoDriver() from error
         errors, extensions = importlib.import_module("psycopg2.errors"), importlib.import_module("psycopg2.extensions")
-        self.error = self.psycopg2.Error
+        self.error, self.forbidden = self.psycopg2.Error, errors.InsufficientPrivilege
         self._conflicts = (errors.DeadlockDetected, errors.SerializationFailure, errors.LockNotAvailable)
         self._statement = (self.psycopg2.IntegrityError, self.psycopg2.ProgrammingError, self.psycopg2.DataError)
         self._ok, self._reads = extensions.POLL_OK, extensions.POLL_READ
@@ -67,11 +88,11 @@ class _Driver:
             raise Lost(str(error).strip() or type(error).__name__) from error
 
     async def connected(self, url: str) -> Any:
-        """A new connection."""
+        """A new connection, with the settings of a session."""
         with self.named():
             connection = self.psycopg2.connect(url, async_=1, **_OPTIONS)
             try:
-                await asyncio.wait_for(self.ready(connection), _PATIENCE)
+                await asyncio.wait_for(self._set_up(connection), _PATIENCE)
             except asyncio.TimeoutError:
                 connection.close()
                 raise Lost(f"the server hasn't answered for {_PATIENCE} seconds") from None
@@ -80,10 +101,22 @@ class _Driver:
                 raise
         return connection
 
+    async def _set_up(self, connection: Any) -> None:
+        await self.ready(connection)
+        cursor = connection.cursor()  # it is kept until the answer is there
+        cursor.execute(_SET_UP)
+        await self.ready(connection)
+
     async def ready(self, connection: Any) -> None:
         """Waits until a connection has done what was asked last, and raises what is wrong with it."""
         while (state := connection.poll()) != self._ok:
             await _moved(connection.fileno(), state == self._reads)
+
+
+@functools.cache
+def _warn_of_fsync() -> None:
+    """Once in a process."""
+    log.warning("the server's fsync is off: when its machine stops, it may lose what was committed")
 
 
 async def _moved(number: int, reads: bool) -> None:
@@ -116,16 +149,32 @@ class Postgres:
         self._queue: list[bytes] = []
 
     @staticmethod
-    async def connected(url: str) -> Postgres:
-        """A connection to a database of the newest version."""
+    async def connected(url: str, *, worker: bool = False) -> Postgres:
+        """A connection to a database of the newest version. A worker has to write there."""
         driver = _Driver()
         found = Postgres(url, driver, await driver.connected(url))
         try:
+            await found._check(worker)
             await found._migrate()
+        except driver.forbidden as error:
+            found.close()
+            raise Unsuitable(f"{str(error).strip()}: the user has to own the tables, and to have CREATE on their schema") from error
         except BaseException:
             found.close()
             raise
         return found
+
+    async def _check(self, worker: bool) -> None:
+        """Refuses a database that can't be used as it is set up."""
+        [(encoding, schema, read_only, fsync)] = await self.rows(_CHECKED)
+        if encoding not in _ENCODINGS:
+            raise Unsuitable(f"the database's encoding is {encoding}, and has to be UTF8: CREATE DATABASE .. ENCODING 'UTF8' TEMPLATE template0")
+        if schema is None:
+            raise Unsuitable("the search_path names no schema that is there and that the user may use, so there is no place for the tables")
+        if worker and read_only == "on":
+            raise Lost("a worker has to write, and this session may only read: the server is a standby, or default_transaction_read_only is on")
+        if worker and fsync == "off":
+            _warn_of_fsync()
 
     async def _migrate(self) -> None:
         await self.begin()

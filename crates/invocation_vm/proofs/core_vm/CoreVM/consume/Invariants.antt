@@ -1,5 +1,5 @@
 use Rattle.std.proofs.Common.{◌≡◌, None, length}
-use Rattle.invocation_vm.specs.Frames.{frames_of}
+use Rattle.journal_entries.specs.Frames.{frames_of}
 use Rattle.invocation_vm.specs.Views.{HaveCome, consumed}
 use Rattle.invocation_vm.proofs.core_vm.CoreVM.consume.Given as goal
 

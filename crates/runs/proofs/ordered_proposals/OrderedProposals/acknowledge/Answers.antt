@@ -3,7 +3,7 @@ use Rattle.std.specs.BTreeMap.{is_at}
 use Rattle.std.specs.Map.{lookup, values_of}
 use Rattle.std.specs.Option.{option_map}
 use Rattle.std.proofs.lemmas.Map.{none_passes_from_lookup}
-use Rattle.vm_parts.specs.declared.run_state.KeptProposal.{KeptProposal}
+use Rattle.journal_entries.specs.declared.proposals.KeptProposal.{KeptProposal}
 use Rattle.runs.specs.Firsts.{without_first}
 use Rattle.runs.specs.Kept.{is_for, result_of}
 use Rattle.runs.proofs.Entries.{SayTheSame, found, removed}

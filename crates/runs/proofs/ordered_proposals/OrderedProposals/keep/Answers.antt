@@ -1,7 +1,7 @@
 use Rattle.std.proofs.Common.{ℕ, ◌∷◌, [], ◌++◌, Option, Some, ap, sym, subst, nat_cmp, ◌∙◌}
 use Rattle.std.specs.BTreeMap.{is_at}
 use Rattle.std.specs.Map.{lookup, values_of}
-use Rattle.vm_parts.specs.declared.run_state.KeptProposal.{KeptProposal}
+use Rattle.journal_entries.specs.declared.proposals.KeptProposal.{KeptProposal}
 use Rattle.runs.proofs.Entries.{added, values_added}
 use Rattle.runs.proofs.Numbered.{AtNum, NoneFor, one_more, others_lead, unless_some}
 use Rattle.runs.proofs.ordered_proposals.OrderedProposals.keep.Goals as goal

@@ -3,7 +3,7 @@ use Rattle.std.specs.BTreeMap.{is_at}
 use Rattle.std.specs.List.Sorted.{IsStrictlySortedBy}
 use Rattle.std.specs.Map.{keys_of, values_of}
 use Rattle.std.specs.Ordering.{nat_cmp}
-use Rattle.vm_parts.specs.declared.run_state.PendingRun.{PendingRun}
+use Rattle.runs.specs.declared.pending.PendingRun.{PendingRun}
 use Rattle.runs.specs.Firsts.{with_first}
 use Rattle.runs.specs.Pending.{has_handle, run_started}
 use Rattle.runs.proofs.Entries.{changed, unchanged}

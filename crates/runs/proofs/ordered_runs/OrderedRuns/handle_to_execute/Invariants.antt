@@ -1,7 +1,7 @@
 use Rattle.std.proofs.Common.{◌≡◌, take}
 use Rattle.std.specs.List.{find}
 use Rattle.std.specs.Option.{option_map}
-use Rattle.vm_parts.specs.declared.run_state.PendingRun.{PendingRun}
+use Rattle.runs.specs.declared.pending.PendingRun.{PendingRun}
 use Rattle.runs.specs.Pending.{may_execute}
 use Rattle.runs.proofs.ordered_runs.OrderedRuns.handle_to_execute.Given as goal
 

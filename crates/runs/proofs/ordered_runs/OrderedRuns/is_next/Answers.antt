@@ -3,7 +3,7 @@ use Rattle.std.specs.List.{AllByRecursion}
 use Rattle.std.specs.Map.{keys_of}
 use Rattle.std.proofs.lemmas.Bool.Decides.{nat_tests}
 use Rattle.std.proofs.lemmas.List.Elements.{recursion_from_All}
-use Rattle.vm_parts.specs.declared.run_state.PendingRun.{PendingRun}
+use Rattle.runs.specs.declared.pending.PendingRun.{PendingRun}
 use Rattle.runs.proofs.Rising.{all_below}
 use Rattle.runs.proofs.ordered_runs.OrderedRuns.is_next.Goals as goal
 

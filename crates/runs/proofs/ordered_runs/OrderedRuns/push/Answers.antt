@@ -1,7 +1,7 @@
 use Rattle.std.proofs.Common.{ap, sym, subst, refl, ◌<◌, ◌∙◌, ◌∷◌, [], ◌++◌}
 use Rattle.std.specs.List.{AllByRecursion}
 use Rattle.std.specs.Map.{values_of}
-use Rattle.vm_parts.specs.declared.run_state.PendingRun.{PendingRun}
+use Rattle.runs.specs.declared.pending.PendingRun.{PendingRun}
 use Rattle.runs.proofs.Entries.{added, values_added}
 use Rattle.runs.proofs.Rising.{AtHandles, at_added, keys_below}
 use Rattle.runs.proofs.ordered_runs.OrderedRuns.push.Goals as goal

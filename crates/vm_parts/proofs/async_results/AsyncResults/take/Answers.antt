@@ -12,4 +12,4 @@ returns-in_err-taken c =
     let id = c.in_ok-id.id.now in
     let none = sym c.in_err-taken.was ∙ c.or.ensures ∙ (λ i. option_or (c.take_delivered-delivered.ensures.found i) (c.take_eager-eager.ensures.found i)) in
     rw (← c.self.view_is, c.take_delivered-delivered.ensures.left, c.take_eager-eager.ensures.left)
-    (none_taken c.args.delivery c.args.handle.0 v id c.from_residual-in_err-taken.result (left_ready c.args.delivery id v.ready) c.in_ok-id.ensures none refl c.from_residual-in_err-taken.ensures)
+    (none_taken c.args.delivery c.args.handle v id c.from_residual-in_err-taken.result (left_ready c.args.delivery id v.ready) c.in_ok-id.ensures none refl c.from_residual-in_err-taken.ensures)

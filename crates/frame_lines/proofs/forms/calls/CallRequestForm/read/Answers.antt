@@ -1,6 +1,6 @@
 use Rattle.std.proofs.Common.{◌≡◌, Err, rules}
 use Rattle.frame_lines.specs.Forms.{call_request_fields}
-use Rattle.frame_lines.proofs.Refusing.{form_blamed}
+use Rattle.frame_values.proofs.Refusing.{form_blamed}
 use Rattle.frame_lines.proofs.forms.calls.CallRequestForm.read.Goals as goal
 
 pub returns-in_err-service_name-clause-none : goal.returns-in_err-service_name-clause-none

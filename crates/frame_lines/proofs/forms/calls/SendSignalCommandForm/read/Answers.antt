@@ -1,6 +1,6 @@
 use Rattle.std.proofs.Common.{◌≡◌, Err, rules}
 use Rattle.frame_lines.specs.Forms.{send_signal_fields}
-use Rattle.frame_lines.proofs.Refusing.{form_blamed}
+use Rattle.frame_values.proofs.Refusing.{form_blamed}
 use Rattle.frame_lines.proofs.forms.calls.SendSignalCommandForm.read.Goals as goal
 
 pub returns-in_err-target_invocation_id-clause-none : goal.returns-in_err-target_invocation_id-clause-none

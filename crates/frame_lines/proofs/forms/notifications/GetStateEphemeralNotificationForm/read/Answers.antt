@@ -1,6 +1,6 @@
 use Rattle.std.proofs.Common.{◌≡◌, Err, rules}
 use Rattle.frame_lines.specs.Forms.{get_state_ephemeral_notification_fields}
-use Rattle.frame_lines.proofs.Refusing.{form_blamed}
+use Rattle.frame_values.proofs.Refusing.{form_blamed}
 use Rattle.frame_lines.proofs.forms.notifications.GetStateEphemeralNotificationForm.read.Goals as goal
 
 pub returns-in_err-id-clause-none : goal.returns-in_err-id-clause-none

@@ -1,6 +1,6 @@
 use Rattle.std.proofs.Common.{◌≡◌, Err, rules}
 use Rattle.frame_lines.specs.Forms.{clear_state_fields}
-use Rattle.frame_lines.proofs.Refusing.{form_blamed}
+use Rattle.frame_values.proofs.Refusing.{form_blamed}
 use Rattle.frame_lines.proofs.forms.state.ClearStateCommandForm.read.Goals as goal
 
 pub returns-in_err-name-clause-none : goal.returns-in_err-name-clause-none

@@ -1,6 +1,6 @@
 use Rattle.std.proofs.Common.{◌≡◌, Err, rules}
 use Rattle.frame_lines.specs.Forms.{get_eager_state_keys_fields}
-use Rattle.frame_lines.proofs.Refusing.{form_blamed}
+use Rattle.frame_values.proofs.Refusing.{form_blamed}
 use Rattle.frame_lines.proofs.forms.state.GetEagerStateKeysCommandForm.read.Goals as goal
 
 pub returns-in_err-value-clause-none : goal.returns-in_err-value-clause-none

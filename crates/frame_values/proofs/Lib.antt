@@ -1,0 +1,11 @@
+pub mod Bracketing
+pub mod Choosing
+pub mod Listing
+pub mod Nesting
+pub mod Opening
+pub mod Parting
+pub mod Putting
+pub mod Reading
+pub mod Refusing
+pub mod Saying
+pub mod Wholes

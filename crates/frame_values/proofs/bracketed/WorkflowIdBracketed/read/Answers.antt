@@ -1,0 +1,10 @@
+use Rattle.std.proofs.Common.{◌≡◌, Err, rules}
+use Rattle.frame_values.specs.Choices.{workflow_id_fields}
+use Rattle.frame_values.proofs.Refusing.{form_blamed}
+use Rattle.frame_values.proofs.bracketed.WorkflowIdBracketed.read.Goals as goal
+
+pub returns-in_err-name-clause-none : goal.returns-in_err-name-clause-none
+returns-in_err-name-clause-none c =
+    let is : c.from_residual.result ≡ Err c.in_err-name.field-0.0 = search rules in
+    let none = c.in_err-name.ensures.none in
+    rw is (λ exact. form_blamed workflow_id_fields c.args.words.now _ (none exact))

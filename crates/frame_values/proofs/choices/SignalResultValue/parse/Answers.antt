@@ -1,0 +1,38 @@
+use Rattle.std.proofs.Common.{◌≡◌, ◌≢◌, Err, sym, ◌∙◌, refl, rules}
+use Rattle.std.specs.Prelude.{codes}
+use Rattle.frame_values.specs.Choices.{failure_fields}
+use Rattle.frame_values.specs.Notation.{bytes_notation}
+use Rattle.frame_values.proofs.Bracketing.{fields_blamed, fields_of_another, held_blamed, held_by_another, no_fields, not_alone, unheld}
+use Rattle.frame_values.proofs.Choosing.{signal_result_blamed}
+use Rattle.frame_values.proofs.Bracketing.{unequal}
+use Rattle.frame_values.proofs.choices.SignalResultValue.parse.Goals as goal
+
+pub returns-in_err-value_in-clause-none : goal.returns-in_err-value_in-clause-none
+returns-in_err-value_in-clause-none c =
+    let is : c.from_residual.result ≡ Err c.in_err-value_in.field-0.0 = search rules in
+    let inside = c.in-Some.inside.now in
+    let behind = c.in-Some.ensures.inside in
+    let none = c.in_err-value_in.ensures.none in
+    rw is (λ exact. signal_result_blamed c.args.text.now _
+    (not_alone (codes "void") (codes "value") c.args.text.now inside refl (λ rest. refl) refl behind)
+    (held_blamed (codes "value") bytes_notation c.args.text.now _ inside behind (none (search rules)))
+    (fields_of_another (codes "failure") failure_fields c.args.text.now _ (codes "value") inside (λ rest. refl) (λ rest. refl) refl behind))
+
+pub returns-in_err-form_in-clause-none : goal.returns-in_err-form_in-clause-none
+returns-in_err-form_in-clause-none c =
+    let is : c.from_residual-in_err-form_in.result ≡ Err c.in_err-form_in.field-0.0 = search rules in
+    let inside = c.in-Some-held.inside.now in
+    let behind = c.in-Some-held.ensures.inside in
+    let none = c.in_err-form_in.ensures.none in
+    rw is (λ exact. signal_result_blamed c.args.text.now _
+    (not_alone (codes "void") (codes "failure") c.args.text.now inside refl (λ rest. refl) refl behind)
+    (held_by_another (codes "value") bytes_notation c.args.text.now _ (codes "failure") inside (λ rest. refl) (λ rest. refl) refl behind)
+    (fields_blamed (codes "failure") failure_fields c.args.text.now _ inside behind (none (search rules))))
+
+pub returns-clause-none : goal.returns-clause-none
+returns-clause-none c =
+    let void : c.args.text.now ≢ codes "void" = λ e. unequal c.args.text.now c.as_slice.result.now (sym c.eq.ensures ∙ c.if-eq.false) (e ∙ (search rules)) in
+    λ exact. signal_result_blamed c.args.text.now _
+    void
+    (unheld (codes "value") bytes_notation c.args.text.now _ c.in_default.ensures.none)
+    (no_fields (codes "failure") failure_fields c.args.text.now _ c.in_default-held.ensures.none)

@@ -1,0 +1,33 @@
+use Rattle.std.proofs.Common.{◌≡◌, Err, refl, rules}
+use Rattle.std.specs.Prelude.{codes}
+use Rattle.frame_values.specs.Choices.{failure_fields}
+use Rattle.frame_values.specs.Notation.{bytes_notation}
+use Rattle.frame_values.proofs.Bracketing.{fields_blamed, fields_of_another, held_blamed, held_by_another, no_fields, unheld}
+use Rattle.frame_values.proofs.Choosing.{value_or_failure_blamed}
+use Rattle.frame_values.proofs.choices.ValueOrFailureValue.parse.Goals as goal
+
+pub returns-in_err-value_in-clause-none : goal.returns-in_err-value_in-clause-none
+returns-in_err-value_in-clause-none c =
+    let is : c.from_residual.result ≡ Err c.in_err-value_in.field-0.0 = search rules in
+    let inside = c.in-Some.inside.now in
+    let behind = c.in-Some.ensures.inside in
+    let none = c.in_err-value_in.ensures.none in
+    rw is (λ exact. value_or_failure_blamed c.args.text.now _
+    (held_blamed (codes "value") bytes_notation c.args.text.now _ inside behind (none (search rules)))
+    (fields_of_another (codes "failure") failure_fields c.args.text.now _ (codes "value") inside (λ rest. refl) (λ rest. refl) refl behind))
+
+pub returns-in_err-form_in-clause-none : goal.returns-in_err-form_in-clause-none
+returns-in_err-form_in-clause-none c =
+    let is : c.from_residual-in_err-form_in.result ≡ Err c.in_err-form_in.field-0.0 = search rules in
+    let inside = c.in-Some-held.inside.now in
+    let behind = c.in-Some-held.ensures.inside in
+    let none = c.in_err-form_in.ensures.none in
+    rw is (λ exact. value_or_failure_blamed c.args.text.now _
+    (held_by_another (codes "value") bytes_notation c.args.text.now _ (codes "failure") inside (λ rest. refl) (λ rest. refl) refl behind)
+    (fields_blamed (codes "failure") failure_fields c.args.text.now _ inside behind (none (search rules))))
+
+pub returns-clause-none : goal.returns-clause-none
+returns-clause-none c =
+    λ exact. value_or_failure_blamed c.args.text.now _
+    (unheld (codes "value") bytes_notation c.args.text.now _ c.in_default.ensures.none)
+    (no_fields (codes "failure") failure_fields c.args.text.now _ c.in_default-held.ensures.none)

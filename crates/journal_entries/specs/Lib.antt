@@ -1,0 +1,11 @@
+pub mod Frames
+pub mod Journal
+pub mod JournalFrames
+pub mod Carried
+pub mod Entries
+pub mod Arrivals
+pub mod Completions
+pub mod Given
+pub mod Storing
+pub mod NextFrames
+pub mod Proposals

@@ -1,9 +1,0 @@
-use Rattle.std.proofs.Common.{IfOk, ap, subst, ◌∙◌}
-use Rattle.line_parts.specs.Words.{IsNumberOf}
-use Rattle.line_parts.proofs.Places.{word_at}
-use Rattle.line_parts.proofs.words.u16_in.Goals as goal
-
-pub returns-in-Some-clause-value : goal.returns-in-Some-clause-value
-returns-in-Some-clause-value c =
-    let found = c.in-Some.ensures.lookup in
-    subst (λ text. IfOk c.u16_of.result (IsNumberOf 16 text)) (ap (λ word. word.now) found.1 ∙ word_at c.args.words.now c.args.place c.in-Some.word.now found.3.0) c.u16_of.ensures.value

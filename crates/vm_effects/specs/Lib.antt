@@ -1,0 +1,2 @@
+pub mod Awakeables
+pub mod Effects

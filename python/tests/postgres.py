@@ -1,0 +1,232 @@
+"""A PostgreSQL server for tests: a temporary cluster of an installed server, which is removed when whoever made it has ended, however it ends.
+
+usage: postgres.py [--set NAME=VALUE].. COMMAND [WORD..]   runs a command beside a cluster, whose URL is in PALQYTUN_TEST_POSTGRES
+
+The cluster is in a new folder. It listens on a Unix socket in this folder alone, or if the socket's path is too long on a free port of the
+loopback. PostgreSQL refuses to run as root: if this process is root, the server is run by the user `postgres`, or else `nobody`.
+"""
+
+from __future__ import annotations
+
+import argparse
+import atexit
+import contextlib
+import functools
+import os
+import pathlib
+import pwd
+import re
+import shutil
+import signal
+import socket
+import subprocess
+import sys
+import tempfile
+import time
+import urllib.parse
+from collections.abc import Iterator, Mapping
+from dataclasses import dataclass
+from typing import Any
+
+VARIABLE = "PALQYTUN_TEST_POSTGRES"
+INSTALL = "no PostgreSQL server: apt-get install postgresql"
+_FOLDERS = ("/usr/lib/postgresql/*/bin", "/usr/pgsql-*/bin", "/usr/local/pgsql*/bin", "/opt/*/bin", "/opt/*/*/bin")
+_PROGRAMS = ("initdb", "pg_ctl", "postgres")
+_USERS = ("postgres", "nobody")  # who run the server for root
+_LONGEST_PATH = 107  # bytes of a Unix socket's path
+_SECONDS = 120  # that the server may take to start, on a machine that is busy with other things
+_OWNER = "palqytun"  # the database's superuser
+
+
+class NoServer(Exception):
+    """There is no PostgreSQL server that can be started here, and why."""
+
+
+# ---- an installed server
+
+
+def _version(folder: pathlib.Path) -> tuple[int, ...]:
+    """The version of the server in a folder of programs; none if it lacks one or doesn't run."""
+    if not all(os.access(folder / it, os.X_OK) for it in _PROGRAMS):
+        return ()
+    try:
+        said = subprocess.run([folder / "postgres", "--version"], capture_output=True, text=True, timeout=20).stdout
+    except (OSError, subprocess.TimeoutExpired):
+        return ()
+    found = re.search(r"\d+(?:\.\d+)*", said)
+    return tuple(map(int, found[0].split("."))) if found else ()
+
+
+@functools.cache
+def programs() -> pathlib.Path:
+    """The folder of an installed server's programs: that of `initdb` on the PATH, or else the newest in the usual folders."""
+    on_path = shutil.which("initdb")
+    beside = [pathlib.Path(on_path).resolve().parent] if on_path else []
+    usual = [it for pattern in _FOLDERS for it in pathlib.Path("/").glob(pattern[1:])]
+    for found in (beside, sorted(usual, key=_version, reverse=True)):
+        for folder in found:
+            if _version(folder):
+                return folder
+    raise NoServer(INSTALL)
+
+
+def _user() -> str | None:
+    """Who runs the server: another user if this is root."""
+    if os.geteuid() != 0:
+        return None
+    for name in _USERS:
+        with contextlib.suppress(KeyError):
+            return pwd.getpwnam(name).pw_name
+    raise NoServer(f"PostgreSQL doesn't run as root, and there is no user {' or '.join(_USERS)}")
+
+
+def _ran(words: list[str | pathlib.Path], user: str | None, folder: pathlib.Path) -> None:
+    """Runs a program of the server as its user."""
+    environment = {name: it for name, it in os.environ.items() if not name.startswith("PG")} | {"LC_ALL": "C", "TZ": "UTC"}
+    own: dict[str, Any] = {"user": user, "group": pwd.getpwnam(user).pw_gid, "extra_groups": []} if user else {}
+    log = folder / "said"
+    with log.open("wb") as said:
+        how: dict[str, Any] = {"cwd": folder, "stdin": subprocess.DEVNULL, "stdout": said, "stderr": said, "timeout": _SECONDS + 30}
+        done = subprocess.run(words, env=environment, **how, **own)
+    if done.returncode:
+        server = folder / "log"
+        raise NoServer(f"{words[0]} failed: {log.read_text()[-2000:]}{server.read_text()[-2000:] if server.exists() else ''}")
+
+
+# ---- a cluster
+
+
+@dataclass(frozen=True)
+class Cluster:
+    """A cluster that runs: its folder, and the URL of its database."""
+
+    folder: pathlib.Path
+    url: str
+
+
+def _room(user: str | None) -> pathlib.Path:
+    """A new folder that belongs to the server's user, who has to reach it."""
+    folder = pathlib.Path(tempfile.mkdtemp(prefix="palqytun-pg-"))
+    if user is not None and not all(it.stat().st_mode & 0o001 for it in folder.parents):
+        folder.rmdir()
+        folder = pathlib.Path(tempfile.mkdtemp(prefix="palqytun-pg-", dir="/tmp"))
+    if user is not None:
+        shutil.chown(folder, user)
+    return folder
+
+
+def _listening(folder: pathlib.Path) -> tuple[dict[str, str], str]:
+    """The settings of where the server listens, and the URL."""
+    if len(os.fsencode(folder / ".s.PGSQL.5432.lock")) <= _LONGEST_PATH:
+        place = {"listen_addresses": "", "port": "5432", "unix_socket_directories": str(folder)}
+        return place, f"postgresql://{_OWNER}@/postgres?host={urllib.parse.quote(str(folder), safe='')}"
+    with socket.create_server(("127.0.0.1", 0)) as free:
+        port = free.getsockname()[1]
+    place = {"listen_addresses": "127.0.0.1", "port": str(port), "unix_socket_directories": ""}
+    return place, f"postgresql://{_OWNER}@127.0.0.1:{port}/postgres"
+
+
+def _made(folder: pathlib.Path, user: str | None, settings: Mapping[str, str]) -> Cluster:
+    """Makes a cluster in a folder, and starts its server."""
+    bin = programs()
+    data = folder / "data"
+    _ran([bin / "initdb", "-D", data, "-U", _OWNER, "-A", "trust", "-E", "UTF8", "--locale=C", "--no-sync", "--no-instructions"], user, folder)
+    place, url = _listening(folder)
+    with (data / "postgresql.conf").open("a") as file:
+        for name, value in {**place, **settings}.items():
+            quoted = value.replace("'", "''")
+            file.write(f"{name} = '{quoted}'\n")
+    _ran([bin / "pg_ctl", "start", "-w", "-t", str(_SECONDS), "-D", data, "-l", folder / "log"], user, folder)
+    return Cluster(folder, url)
+
+
+def _removed(folder: pathlib.Path) -> None:
+    """Ends the server of a folder, and removes the folder."""
+    file = folder / "data" / "postmaster.pid"
+    with contextlib.suppress(OSError, ValueError, IndexError):
+        server = int(file.read_text().splitlines()[0])
+        os.kill(server, signal.SIGQUIT)  # at once: nothing of it is needed any more
+        until = time.monotonic() + 20
+        while time.monotonic() < until:
+            os.kill(server, 0)
+            time.sleep(0.02)
+        os.kill(server, signal.SIGKILL)
+    shutil.rmtree(folder, ignore_errors=True)
+
+
+@contextlib.contextmanager
+def cluster(settings: Mapping[str, str] | None = None) -> Iterator[Cluster]:
+    """A cluster with these settings beside the server's defaults. A process of its own removes it at the end, or when this one has ended, even by
+    SIGKILL."""
+    user = _user()
+    programs()
+    folder = _room(user)
+    words = [sys.executable, __file__, "--remove", str(folder)]
+    guard = subprocess.Popen(words, stdin=subprocess.PIPE, start_new_session=True)
+    try:
+        yield _made(folder, user, settings or {})
+    finally:
+        with contextlib.suppress(BrokenPipeError):
+            guard.communicate(b".", timeout=60)  # a child of this process may have the pipe too, so closing it isn't enough
+
+
+_open = contextlib.ExitStack()
+atexit.register(_open.close)
+
+
+@functools.cache
+def url() -> str:
+    """The database of these tests: that which PALQYTUN_TEST_POSTGRES names, or else one of a temporary cluster, until this process ends."""
+    given = os.environ.get(VARIABLE)
+    if given:
+        return given
+    found = _open.enter_context(cluster()).url
+    os.environ[VARIABLE] = found  # for programs that tests start
+    return found
+
+
+def options(settings: Mapping[str, str]) -> str:
+    """Settings of a session, in libpq's words."""
+    return " ".join(f"-c {name}=" + re.sub(r"([ \\])", r"\\\1", value) for name, value in settings.items())
+
+
+def with_settings(url: str, settings: Mapping[str, str]) -> str:
+    """The same database, for sessions with these settings in the place of the server's."""
+    return f"{url}{'&' if '?' in url else '?'}options={urllib.parse.quote(options(settings))}"
+
+
+# ---- the program
+
+
+def _remove_at_the_end(folder: pathlib.Path) -> None:
+    """Waits until whoever made the cluster says so, or has ended."""
+    for number in (signal.SIGINT, signal.SIGTERM, signal.SIGHUP):
+        signal.signal(number, signal.SIG_IGN)
+    sys.stdin.buffer.read(1)
+    _removed(folder)
+
+
+def main() -> int:
+    parser = argparse.ArgumentParser("postgres.py", description="Runs a command beside a temporary PostgreSQL cluster.")
+    parser.add_argument("--set", action="append", default=[], metavar="NAME=VALUE", help="a setting of the server")
+    parser.add_argument("--remove", metavar="FOLDER", help=argparse.SUPPRESS)
+    parser.add_argument("command", nargs=argparse.REMAINDER)
+    asked = parser.parse_args()
+    if asked.remove:
+        _remove_at_the_end(pathlib.Path(asked.remove))
+        return 0
+    if not asked.command:
+        parser.error("there is no command to run")
+    if not all("=" in it for it in asked.set):
+        parser.error("--set takes NAME=VALUE")
+    signal.signal(signal.SIGTERM, lambda *_: sys.exit(143))
+    try:
+        with cluster(dict(it.split("=", 1) for it in asked.set)) as found:
+            return subprocess.run(asked.command, env={**os.environ, VARIABLE: found.url}).returncode
+    except NoServer as error:
+        print(f"postgres.py: {error}", file=sys.stderr)
+        return 2
+
+
+if __name__ == "__main__":
+    sys.exit(main())

@@ -1,0 +1,113 @@
+"""What the tests stand on: a temporary PostgreSQL that is removed, how tests are counted, and which interpreter runs them."""
+
+import os
+import pathlib
+import signal
+import subprocess
+import sys
+import time
+import unittest
+from unittest import mock
+
+import support  # isort: skip
+import needs
+import postgres
+from support import PYTHON
+
+TESTS = """\
+import unittest
+class Some(unittest.TestCase):
+    kind = "sqlite"
+    def test_good(self):
+        pass
+    def test_bad(self):
+        for n in range(3):
+            with self.subTest(n):
+                self.assertEqual(n, 0)
+    def test_skipped(self):
+        self.skipTest("no such thing: apt-get install thing")
+class Other(unittest.TestCase):
+    kind = "postgres"
+    @classmethod
+    def setUpClass(cls):
+        raise {error}
+    def test(self):
+        pass
+"""
+
+
+class Temporary(support.InAFolder, unittest.TestCase):
+    def setUp(self):
+        super().setUp()
+        if lacks := needs.lacks_postgres():
+            self.skipTest(lacks)
+
+    def test_it_goes_when_its_maker_is_killed(self):
+        """In a folder whose path is too long for a socket."""
+        deep = self.folder / ("long" * 25)
+        deep.mkdir()
+        for it in (self.folder, deep):
+            it.chmod(0o755)
+        code = "import os, sys; print(os.environ['PALQYTUN_TEST_POSTGRES'], os.getppid(), flush=True); sys.stdin.read()"
+        words = [sys.executable, postgres.__file__, "--set", "work_mem=5MB", sys.executable, "-c", code]
+        with subprocess.Popen(words, env={**os.environ, "TMPDIR": str(deep)}, stdin=subprocess.PIPE, stdout=subprocess.PIPE, text=True) as maker:
+            url, parent = maker.stdout.readline().split()
+            self.assertRegex(url, r"^postgresql://palqytun@127\.0\.0\.1:\d+/postgres$")
+            with support.Plain(url) as db:
+                self.assertEqual(db.rows("SHOW work_mem"), [("5MB",)])
+            [room] = deep.iterdir()
+            server = int((room / "data" / "postmaster.pid").read_text().splitlines()[0])
+            self.assertNotEqual(os.stat(f"/proc/{server}").st_uid, 0)
+            os.kill(int(parent), signal.SIGKILL)
+        until = time.monotonic() + 60
+        while time.monotonic() < until and (list(deep.iterdir()) or pathlib.Path(f"/proc/{server}").exists()):
+            time.sleep(0.05)
+        self.assertEqual((list(deep.iterdir()), pathlib.Path(f"/proc/{server}").exists()), ([], False))
+
+    def test_no_server(self):
+        postgres.programs.cache_clear()
+        self.addCleanup(postgres.programs.cache_clear)
+        with mock.patch.dict(os.environ, {"PATH": str(self.folder)}), mock.patch.object(postgres, "_FOLDERS", (str(self.folder / "*"),)):
+            with self.assertRaisesRegex(postgres.NoServer, "^no PostgreSQL server: apt-get install postgresql$"), postgres.cluster():
+                pass
+
+    def test_a_setting_that_is_wrong(self):
+        with self.assertRaisesRegex(postgres.NoServer, "nonsense"), postgres.cluster({"work_mem": "nonsense"}):
+            pass
+
+
+class Counts(support.InAFolder, unittest.TestCase):
+    def counted(self, error, *options):
+        (self.folder / "test_it.py").write_text(TESTS.format(error=error))
+        done = subprocess.run([sys.executable, PYTHON / "tests" / "suite.py", *options, self.folder], capture_output=True, text=True)
+        return done.returncode, done.stdout
+
+    def test_each_test_counts_once(self):
+        status, said = self.counted("ValueError('why')")
+        self.assertEqual((status, said.splitlines()[-1]), (1, "1 passed, 2 failed, 1 skipped"))
+        self.assertIn("skipped 1: no such thing: apt-get install thing", said)
+        self.assertIn("ValueError: why", said)
+
+    def test_one_kind(self):
+        self.assertEqual(self.counted("unittest.SkipTest('no server')", "--only", "postgres")[1].splitlines()[-2:], ["skipped 1: no server", "0 passed, 0 failed, 1 skipped"])
+
+    def test_a_module_that_cannot_be_loaded(self):
+        (self.folder / "test_other.py").write_text("import nothing_of_this_name\n")
+        self.assertEqual(self.counted("unittest.SkipTest('')", "--only", "postgres")[0], 1)
+
+
+class Interpreters(unittest.TestCase):
+    def test_the_one_that_has_most(self):
+        found = {"/a": needs.Interpreter("/a", "3.12.0", ("psycopg2",)), "/usr/bin/python3": needs.Interpreter("/usr/bin/python3", "3.11.2", ())}
+        with mock.patch.object(needs, "_asked", found.get), mock.patch.object(sys, "executable", "/a"):
+            self.assertEqual(needs.interpreter().path, "/usr/bin/python3")
+            found["/usr/bin/python3"] = found["/a"]
+            self.assertRegex(str(needs.interpreter()), r"by /a \(3\.12\.0\), which lacks psycopg2: apt-get install python3-psycopg2$")
+
+    def test_one_that_is_named(self):
+        with mock.patch.dict(os.environ, {"PALQYTUN_PYTHON": "/no/python"}), self.assertRaisesRegex(SystemExit, "none of /no/python is Python 3.11"):
+            needs.interpreter()
+
+
+if __name__ == "__main__":
+    unittest.main()

@@ -1,0 +1,94 @@
+"""Runs the tests of a folder: suite.py [--only KIND] FOLDER. A line for each, with its seconds; then what failed and why, the slowest, and what
+was skipped. The last line is 'N passed, M failed, K skipped'. With --only just the tests on this database are run: sqlite or postgres."""
+
+from __future__ import annotations
+
+import argparse
+import pathlib
+import sys
+import time
+import unittest
+from collections import Counter
+from collections.abc import Iterator
+from types import TracebackType
+
+SLOW = 5.0  # seconds; the tests that take longer are named
+MOST = 10  # of them
+
+
+class Result(unittest.TestResult):
+    """Says each test with its seconds as soon as it has ended."""
+
+    def __init__(self) -> None:
+        super().__init__()
+        self.seconds: dict[str, float] = {}
+        self.counts: Counter[str] = Counter(passed=0, failed=0, skipped=0)
+        self._begun, self._before = 0.0, (0, 0)
+        self._is_running = False
+
+    def _found(self) -> tuple[int, int]:
+        """How much has failed so far, and how much was skipped."""
+        return len(self.failures) + len(self.errors) + len(self.unexpectedSuccesses), len(self.skipped)
+
+    def startTest(self, test: unittest.TestCase) -> None:
+        super().startTest(test)
+        self._begun, self._before, self._is_running = time.monotonic(), self._found(), True
+
+    def stopTest(self, test: unittest.TestCase) -> None:
+        super().stopTest(test)
+        bad, skipped = (now - before for now, before in zip(self._found(), self._before))
+        how = "failed" if bad else "skipped" if skipped else "passed"
+        self.counts[how] += 1
+        self.seconds[str(test)] = took = time.monotonic() - self._begun
+        self._is_running = False
+        print(f"{how:<7} {took:6.1f} s  {test}", flush=True)
+
+    def addError(self, test: unittest.TestCase, err: tuple[type[BaseException], BaseException, TracebackType] | tuple[None, None, None]) -> None:
+        super().addError(test, err)
+        if not self._is_running:  # a class or a module couldn't be set up
+            self.counts["failed"] += 1
+
+    def addSkip(self, test: unittest.TestCase, reason: str) -> None:
+        super().addSkip(test, reason)
+        if not self._is_running:  # a whole class
+            self.counts["skipped"] += 1
+
+    def say(self) -> None:
+        """Says what failed, the slowest, and why tests were skipped."""
+        for test, text in self.failures + self.errors:
+            print(f"\nFAILED {test}\n{text}")
+        slowest = sorted(self.seconds.items(), key=lambda it: -it[1])
+        for name, seconds in [it for it in slowest if it[1] >= SLOW][:MOST]:
+            print(f"slow: {seconds:.1f} s  {name}")
+        for why, count in Counter(why for _, why in self.skipped).items():
+            print(f"skipped {count}: {why}")
+        print(f"{self.counts['passed']} passed, {self.counts['failed']} failed, {self.counts['skipped']} skipped", flush=True)
+
+
+def tests_of(suite: unittest.TestSuite, only: str | None) -> Iterator[unittest.TestCase]:
+    """The tests of a suite; with `only` those on one database. One that couldn't be loaded is run, and fails."""
+    for it in suite:
+        if isinstance(it, unittest.TestSuite):
+            yield from tests_of(it, only)
+        elif only is None or getattr(it, "kind", None) == only or type(it).__name__ == "_FailedTest":
+            yield it
+
+
+def main() -> int:
+    parser = argparse.ArgumentParser("suite.py", description="Runs the tests of a folder.")
+    parser.add_argument("folder", type=pathlib.Path)
+    parser.add_argument("--only", choices=["sqlite", "postgres"], help="only the tests on this database")
+    options = parser.parse_args()
+    if not options.folder.is_dir():
+        parser.error(f"there is no folder {options.folder}")
+    folder = options.folder.resolve()
+    sys.path.insert(0, str(folder.parent))
+    found = unittest.TestLoader().discover(str(folder))
+    result = Result()
+    unittest.TestSuite(tests_of(found, options.only)).run(result)
+    result.say()
+    return 1 if result.counts["failed"] else 0
+
+
+if __name__ == "__main__":
+    sys.exit(main())

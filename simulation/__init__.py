@@ -1,1 +1,0 @@
-"""Random rounds of random handlers, played by `vmrounds` and judged by the rules of the journal: see ./simulate."""

@@ -1,0 +1,48 @@
+"""What jobs run in: the Python of the tests, how many cores there are, and the files that stand for programs."""
+
+from __future__ import annotations
+
+import os
+import shutil
+import sys
+from pathlib import Path
+
+from . import packages
+
+TOP = Path(__file__).resolve().parents[2]
+
+
+def write_program(path: Path, text: str) -> None:
+    """Writes a script that can be run."""
+    path.parent.mkdir(parents=True, exist_ok=True)
+    path.write_text(text, encoding="utf-8")
+    path.chmod(0o755)
+
+
+def environment(folder: Path) -> dict[str, str]:
+    """The environment of all jobs: `python3` is this Python for them, by a file in this folder, whichever is the first on the path."""
+    write_program(folder / "python3", f'#!/bin/sh\nexec "{sys.executable}" "$@"\n')
+    path = f"{folder}{os.pathsep}{os.environ['PATH']}"
+    return {**os.environ, "PATH": path, "PALQYTUN_PYTHON": sys.executable, "PYTHONDONTWRITEBYTECODE": "1"}
+
+
+def start_anew(command: str, words: list[str]) -> None:
+    """Goes on with this command in the Python of the tests, if this isn't it."""
+    python = packages.chosen_python(packages.read())
+    if "PALQYTUN_PYTHON" in os.environ or same(python, sys.executable):
+        return
+    os.environ["PALQYTUN_PYTHON"] = python
+    sys.stdout.flush()
+    os.execv(python, [python, "-B", str(TOP / command), *words])
+
+
+def same(one: str, other: str) -> bool:
+    """Whether these are one program."""
+    return os.path.realpath(shutil.which(one) or one) == os.path.realpath(other)
+
+
+def cores(kilobytes: int) -> int:
+    """How many jobs run at a time: as many as there are cores for us, if each has this much memory."""
+    with open("/proc/meminfo", encoding="ascii") as lines:
+        free = next(int(it.split()[1]) for it in lines if it.startswith("MemAvailable:"))
+    return max(1, min(len(os.sched_getaffinity(0)), free // kilobytes))

@@ -1,0 +1,147 @@
+"""The tools that tests use: which are found, and how the others are installed. The table is tools/packages.
+
+usage: python3 -m tools.gate.packages [--install]
+
+It prints what isn't found. With --install Debian's packages of these tools are installed, as root."""
+
+from __future__ import annotations
+
+import glob
+import os
+import shutil
+import subprocess
+import sys
+import tempfile
+from dataclasses import dataclass
+from pathlib import Path
+
+TABLE = Path(__file__).resolve().parents[1] / "packages"
+SERVERS = "/usr/lib/postgresql/*/bin"
+SECONDS = 60  # for one tool to say its version
+
+
+class BadTable(Exception):
+    """A row of the table that can't be read."""
+
+
+@dataclass(frozen=True)
+class Tool:
+    """A row of the table."""
+
+    name: str
+    kind: str
+    names: tuple[str, ...]
+    packages: tuple[str, ...]
+    skipped: str
+
+    def is_found(self, python: str) -> bool:
+        match self.kind:
+            case "command":
+                return all(_runs(it) for it in self.names)
+            case "server":
+                return all(_runs(it) or glob.glob(f"{SERVERS}/{it}") for it in self.names)
+            case "module":
+                return not missing_modules(python, list(self.names))
+            case _:
+                return all(_sanitizes(it) for it in self.names)
+
+    @property
+    def how(self) -> str:
+        """How it is installed."""
+        return f"{' and '.join(self.names)} not found; Debian: apt-get install {' '.join(self.packages)}"
+
+
+def read(path: Path = TABLE) -> dict[str, Tool]:
+    """Reads the table."""
+    found: dict[str, Tool] = {}
+    for number, line in enumerate(path.read_text(encoding="utf-8").splitlines(), 1):
+        if not line or line.startswith("#"):
+            continue
+        cells = [it.strip() for it in line.split("|")]
+        kind, *names = cells[1].split() if len(cells) == 4 else ("",)
+        if kind not in ("command", "server", "module", "sanitizer") or not names or not all(cells):
+            raise BadTable(f"{path.name}:{number}: a row is NAME | FOUND BY | PACKAGES | SKIPPED, not: {line}")
+        found[cells[0]] = Tool(cells[0], kind, tuple(names), tuple(cells[2].split()), cells[3])
+    return found
+
+
+def _runs(command: str) -> bool:
+    """Whether a command is on the path and says its version. One that only stands for others, as pyenv's do, fails."""
+    return _succeeds([command, "--version"]) if shutil.which(command) else False
+
+
+def _succeeds(words: list[str]) -> bool:
+    try:
+        return subprocess.run(words, stdin=subprocess.DEVNULL, capture_output=True, timeout=SECONDS).returncode == 0
+    except (OSError, subprocess.TimeoutExpired):
+        return False
+
+
+def _sanitizes(compiler: str) -> bool:
+    """Whether a compiler makes a program with its sanitizers in it that runs."""
+    with tempfile.TemporaryDirectory() as room:
+        source, program = Path(room, "empty.c"), Path(room, "empty")
+        source.write_text("int main(void) { return 0; }\n", encoding="utf-8")
+        return _succeeds([compiler, "-fsanitize=address,undefined", str(source), "-o", str(program)]) and _succeeds([str(program)])
+
+
+def missing_modules(python: str, modules: list[str]) -> list[str]:
+    """Which of these modules a Python doesn't have. One that doesn't run, or is older than 3.11, has none."""
+    code = "import sys, importlib.util as it\nassert sys.version_info >= (3, 11)\nprint(*[m for m in sys.argv[1:] if it.find_spec(m)])"
+    try:
+        words = [python, "-c", code, *modules]
+        ran = subprocess.run(words, stdin=subprocess.DEVNULL, capture_output=True, text=True, timeout=SECONDS)
+    except (OSError, subprocess.TimeoutExpired):
+        return modules
+    return [it for it in modules if it not in ran.stdout.split()] if ran.returncode == 0 else [*modules, "python"]
+
+
+def chosen_python(tools: dict[str, Tool]) -> str:
+    """The Python of the tests: that of PALQYTUN_PYTHON, else that on the path, unless the system's own has more of the modules that tests
+    use. Debian's packages are for the system's own, which needn't be the first on the path."""
+    if named := os.environ.get("PALQYTUN_PYTHON"):
+        return named
+    modules = [name for it in tools.values() if it.kind == "module" for name in it.names]
+    candidates = [it for it in (shutil.which("python3"), sys.executable, "/usr/bin/python3") if it and os.access(it, os.X_OK)]
+    return min(candidates, key=lambda it: len(missing_modules(it, modules)))
+
+
+def missing() -> list[Tool]:
+    """The tools that aren't found."""
+    tools = read()
+    python = chosen_python(tools)
+    return [it for it in tools.values() if not it.is_found(python)]
+
+
+def installed(tools: list[Tool]) -> int:
+    """Installs Debian's packages of these tools, and returns the status of what failed."""
+    names = sorted({package for it in tools for package in it.packages})
+    if not names:
+        return 0
+    if not shutil.which("apt-get") or os.geteuid() != 0:
+        print(f"only root on Debian can install {' '.join(names)} by apt-get", flush=True)
+        return 1
+    env = {**os.environ, "DEBIAN_FRONTEND": "noninteractive"}
+    how = ["-o", "DPkg::Lock::Timeout=300", "-o", "Acquire::Retries=3"]
+    for words in (["update", "-q"], ["install", "-q", "-y", "--no-install-recommends", *names]):
+        if status := subprocess.run(["apt-get", *how, *words], stdin=subprocess.DEVNULL, env=env).returncode:
+            return status
+    return 0
+
+
+def main(words: list[str]) -> int:
+    if words not in ([], ["--install"]):
+        print(__doc__, file=sys.stderr)
+        return 2
+    found = missing()
+    for it in found:
+        print(f"{it.name}: {it.how} ({it.skipped})", flush=True)
+    status = installed(found) if words else 0
+    for it in missing() if words and found else []:
+        print(f"{it.name} is still not found", flush=True)
+        status = status or 1
+    return status
+
+
+if __name__ == "__main__":
+    sys.exit(main(sys.argv[1:]))

@@ -1,0 +1,202 @@
+"""./prove: proves everything, and then tries what no proof covers over the proved builds."""
+
+from __future__ import annotations
+
+import argparse
+import json
+import os
+import re
+import shutil
+import signal
+import sys
+import time
+from collections.abc import Iterator
+from dataclasses import dataclass, replace
+from pathlib import Path
+
+from . import counts
+from .environment import TOP, cores, environment, start_anew
+from .jobs import Done, Job, Runner, total
+from .parts import has_tests, job, programs, script
+from .proofs import Processors, Proofs, read_crates, read_times
+from .show import Show, minutes
+
+OUT = "out/prove"
+TIMES = Path(OUT, "times.json")
+ARCHIVE = "crates/ffi/out/libffi.a"
+PROOFS = "proofs"
+HOURS = 6 * 3600  # that rt ci may take
+MEMORY, SMALL = 4_000_000, 1_500_000  # kilobytes for each crate that is proved, and for another job
+LOOK = 2  # seconds between two looks at the processes
+
+ABOUT = """Proves every crate and its tests, and has the prover refuse the wrong bodies of the gate (rt ci). Then each program runs once
+without each of its allocations in turn, and so do the examples in C and Python, over the library built from what is proved; and both
+builds of each program play their rows. The last line is 'N passed, M failed'. What passed is kept beside the kit, so a second run proves
+only what changed. Each part's output is kept in out/prove/logs. 'all' is the night run: ./prove all --help."""
+
+
+@dataclass(frozen=True)
+class Part:
+    """A part of ./prove."""
+
+    name: str
+    what: str
+
+
+PARTS = [
+    Part(PROOFS, "rt ci: each crate and its tests is proved, the wrong bodies in must-fail/ are refused, programs and tests are run"),
+    Part("library", "the static library, built from what is proved"),
+    Part("refused", "each program on each of its inputs, once without each allocation in turn, as both compilers build it"),
+    Part("rows", "the rows of vmscript and vmrounds, by both builds of each"),
+    Part("bindings", "the examples in C and Python over the proved library, the header, and each allocation refused in turn"),
+]
+
+
+def jobs(seconds: dict[str, float]) -> Iterator[Job]:
+    """The jobs of ./prove, with the seconds that they took last time."""
+    for it in every_job():
+        yield replace(it, seconds=max(round(seconds.get(it.name, it.seconds)), 1))
+
+
+def every_job() -> Iterator[Job]:
+    # rt ci takes all cores for itself; the library is built in its last minutes, as soon as what it stands on is proved.
+    yield replace(job(PROOFS, "rt", "ci"), seconds=2400, cores=1000, limit=HOURS)
+    log = str(Path(OUT, "logs", f"{PROOFS}.log"))
+    yield replace(script("library", "tools/static-library", "ffi", log), counts=counts.of_status, cores=0, limit=HOURS)
+    for program in programs():
+        cases = sorted(Path("crates", program, "runs").glob("*.in"))
+        for it in cases:
+            arguments = it.with_suffix(".args")
+            words = arguments.read_text(encoding="utf-8").splitlines() if arguments.is_file() else []
+            yield replace(script(f"refused/{program}-{it.stem}", "tools/refused-memory", program, str(it), *words), after=(PROOFS,))
+        if not cases:
+            yield replace(job(f"refused/{program}", "sh", "-c", f"echo crates/{program}/runs has no input; exit 1"), after=(PROOFS,))
+    yield replace(script("rows", "tools/rows"), after=(PROOFS,))
+    groups = ("examples", "header", "refused")
+    yield replace(script("bindings", "tools/bindings", "--archive", ARCHIVE, *groups, needs=("library",)), seconds=200, after=(PROOFS,))
+
+
+class ShowProofs(Show):
+    """Prints how far rt ci is, and then what follows it."""
+
+    def __init__(self, those: list[Job], proofs: Proofs, cores: int, is_strict: bool) -> None:
+        super().__init__(those, is_strict)
+        self.proofs, self.cores, self.processors = proofs, cores, Processors()
+        self.log, self.read = Path(OUT, "logs", f"{PROOFS}.log"), 0
+        self.looked = 0.0
+
+    def ticked(self) -> None:
+        if PROOFS in self.running and time.monotonic() - self.looked >= LOOK:
+            self.looked = time.monotonic()
+            self.processors.look()
+            self.proofs.spent = self.processors.by_crate()
+            self._read()
+        super().ticked()
+
+    def ended(self, done: Done) -> None:
+        if done.job.name == PROOFS:
+            self._read()
+        super().ended(done)
+
+    def _read(self) -> None:
+        """Reads the lines that rt ci has printed since."""
+        with self.log.open("rb") as it:
+            it.seek(self.read)
+            said = it.read()
+        whole = said[: said.rfind(b"\n") + 1]
+        self.read += len(whole)
+        for line in whole.decode(errors="replace").splitlines():
+            self.proofs.said(line)
+
+    def _share(self) -> float:
+        return self.proofs.done() / max(len(self.proofs.crates), 1) if PROOFS in self.running else super()._share()
+
+    def _names(self) -> str:
+        if PROOFS not in self.running:
+            return super()._names()
+        left = self.proofs.left(self.cores)
+        more = "no time is known yet" if left is None else f"about {minutes(left + self._later())} left"
+        working = ", ".join(sorted(self.processors.running)) or "rt ci"
+        return f"{self.proofs.done()} of {len(self.proofs.crates)} crates proved, {more}: {working}"
+
+    def _later(self) -> float:
+        """The seconds of what follows rt ci. The library is built beside it."""
+        return sum(seconds for name, seconds in self.seconds.items() if name not in (PROOFS, "library")) / self.cores
+
+
+def arguments(words: list[str]) -> argparse.Namespace:
+    parser = argparse.ArgumentParser("./prove", description=ABOUT)
+    parser.add_argument("--list", action="store_true", help="name the parts, with what they are for")
+    parser.add_argument("--no-skips", action="store_true", help="a skip is a failure")
+    many = f"how many crates are proved at a time, and then how many jobs run ({lanes()} and {cores(SMALL)})"
+    parser.add_argument("--jobs", type=int, metavar="N", help=many)
+    options = parser.parse_args(words)
+    if options.jobs is not None and options.jobs < 1:
+        parser.error("--jobs wants a number above 0")
+    return options
+
+
+def lanes() -> int:
+    """How many crates are proved at a time: RT_JOBS, or as many as there are cores, if each has 4 GB."""
+    named = os.environ.get("RT_JOBS", "")
+    return int(named) if re.fullmatch("[1-9][0-9]*", named) else cores(MEMORY)
+
+
+def write_times(proofs: Proofs, last: dict[str, float], done: dict[str, Done]) -> None:
+    """Keeps the seconds of crates and of jobs for the next run on this machine. A job that failed has those of last time."""
+    took = {name: round(it.ended - it.begun, 1) for name, it in done.items() if not it.counts.failed}
+    found = {**proofs.times(), **{f"job {name}": it for name, it in sorted({**last, **took}.items())}}
+    TIMES.parent.mkdir(parents=True, exist_ok=True)
+    TIMES.write_text(json.dumps(found, indent=1) + "\n", encoding="utf-8")
+
+
+def run(options: argparse.Namespace) -> int:
+    """Proves, and returns the status."""
+    times, begun = read_times(TIMES), time.monotonic()
+    of_jobs = {name.removeprefix("job "): it for name, it in times.items() if name.startswith("job ")}
+    crates = read_crates(TOP, [it.name for it in TOP.glob("crates/*") if has_tests(it)])
+    proofs = Proofs(crates, {name: it for name, it in times.items() if name in crates})
+    those = list(jobs(of_jobs))
+    at_a_time = options.jobs or lanes()
+    print(f"{len(crates)} crates, {at_a_time} at a time; logs: {OUT}/logs", flush=True)
+    show = ShowProofs(those, proofs, at_a_time, options.no_skips)
+    env = {**environment(TOP / OUT / "bin"), "RT_JOBS": str(at_a_time)}
+    runner = Runner(those, options.jobs or cores(SMALL), Path(OUT, "logs"), show, env)
+    try:
+        done = runner.run()
+    finally:
+        write_times(proofs, of_jobs, runner.done)
+    show.close()
+    found = total(done, options.no_skips)
+    print(f"./prove took {minutes(time.monotonic() - begun)}")
+    print(f"{found.passed} passed, {found.failed} failed")
+    return 1 if found.failed else 0
+
+
+def main(words: list[str]) -> int:
+    if words[:1] == ["all"]:
+        from . import night
+
+        return night.main(words[1:])
+    options = arguments(words)
+    os.chdir(TOP)
+    if options.list:
+        listed()
+        return 0
+    if shutil.which("rt") is None:
+        print("./prove: the kit's command rt is not on the path", file=sys.stderr)
+        print("0 passed, 1 failed")
+        return 1
+    start_anew("prove", words)
+    signal.signal(signal.SIGTERM, lambda *_: sys.exit(143))
+    return run(options)
+
+
+def listed() -> None:
+    """Prints the parts, and those of the night run."""
+    from . import night
+
+    for it in PARTS:
+        print(f"{it.name:14}  {it.what}")
+    for part in night.PARTS:
+        print(f"all {part.name:14}  {part.what}")

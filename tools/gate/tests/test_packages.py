@@ -1,0 +1,70 @@
+"""The table of tools, and which of them are found."""
+
+import sys
+import tempfile
+import unittest
+from pathlib import Path
+from unittest import mock
+
+from tools.gate import packages
+from tools.gate.packages import BadTable, Tool, read
+
+
+class Tables(unittest.TestCase):
+    def table(self, text: str) -> Path:
+        file = Path(self.enterContext(tempfile.TemporaryDirectory()), "packages")
+        file.write_text(text)
+        return file
+
+    def test_the_own_table(self) -> None:
+        found = read()
+        self.assertIn("valgrind", found)
+        self.assertEqual(found["psycopg2"].packages, ("python3-psycopg2",))
+
+    def test_rows(self) -> None:
+        it = read(self.table("# a remark\n\nx | command a b | p q | all of x\n"))["x"]
+        self.assertEqual(it, Tool("x", "command", ("a", "b"), ("p", "q"), "all of x"))
+        self.assertEqual(it.how, "a and b not found; Debian: apt-get install p q")
+
+    def test_bad_rows(self) -> None:
+        bad = ["x", "x | command a | p", "x | command | p | s", "x | thing a | p | s", "x | command a | | s", "x | command a | p | s | t"]
+        for row in bad:
+            with self.assertRaisesRegex(BadTable, "packages:1: a row is"):
+                read(self.table(f"{row}\n"))
+
+
+class Finding(unittest.TestCase):
+    def tool(self, kind: str, *names: str) -> Tool:
+        return Tool("x", kind, names, ("p",), "s")
+
+    def test_commands(self) -> None:
+        self.assertTrue(self.tool("command", "sh" if packages._runs("sh") else "ls").is_found(sys.executable))
+        self.assertFalse(self.tool("command", "ls", "no-such-command").is_found(sys.executable))
+
+    def test_a_command_that_only_stands_for_another_is_not_found(self) -> None:
+        room = self.enterContext(tempfile.TemporaryDirectory())
+        Path(room, "shim").write_text("#!/bin/sh\nexit 127\n")
+        Path(room, "shim").chmod(0o755)
+        with mock.patch.dict("os.environ", {"PATH": room}):
+            self.assertFalse(self.tool("command", "shim").is_found(sys.executable))
+
+    def test_modules(self) -> None:
+        self.assertTrue(self.tool("module", "json").is_found(sys.executable))
+        self.assertFalse(self.tool("module", "json", "no_such_module").is_found(sys.executable))
+        self.assertFalse(self.tool("module", "json").is_found("/no/such/python"))
+
+    def test_the_python_with_more_of_the_modules(self) -> None:
+        room = self.enterContext(tempfile.TemporaryDirectory())
+        Path(room, "python3").write_text("#!/bin/sh\nexit 1\n")
+        Path(room, "python3").chmod(0o755)
+        path = {"PATH": room}
+        with mock.patch.dict("os.environ", path, clear=True), mock.patch("sys.executable", sys.executable):
+            self.assertNotEqual(packages.chosen_python({"x": self.tool("module", "json")}), f"{room}/python3")
+
+    def test_a_python_that_is_named(self) -> None:
+        with mock.patch.dict("os.environ", {"PALQYTUN_PYTHON": "/a/python"}):
+            self.assertEqual(packages.chosen_python({}), "/a/python")
+
+
+if __name__ == "__main__":
+    unittest.main()

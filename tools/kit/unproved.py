@@ -1,0 +1,90 @@
+"""The library for C, and programs, without a proof. What was made before and is of the same sources stays."""
+
+from __future__ import annotations
+
+import tempfile
+from collections.abc import Iterator
+from pathlib import Path
+
+from .commands import run
+from .crates import Crate, Crates
+from .entry import CRATE, named, write_entry
+from .errors import Refused
+from .exports import compare, read_exports, read_prototypes
+from .linking import compile_c, compile_module, link_archive, link_program, link_shared, need
+from .lowering import module_of
+from .progress import Progress
+from .stamps import Stamp
+from .toolchain import Kit, kit
+
+TOP = Path(__file__).resolve().parents[2]
+HEADER = TOP / "bindings/palqytun.h"
+
+
+def _parts(kit: Kit, crates: list[Crate], *more: Path) -> Iterator[str | Path]:
+    """What a build depends on: the kit, this code, crates.txt, and the sources."""
+    yield kit.identity()
+    yield from sorted(Path(__file__).parent.glob("*.py"))
+    yield from (TOP / "crates.txt", *more)
+    for it in crates:
+        yield from it.sources()
+
+
+def _compile_library(kit: Kit, crates: Crates, ffi: Crate, made: Path, progress: Progress) -> None:
+    """Makes the object with the functions for C, as an archive of two."""
+    exports, prototypes = read_exports(ffi.sources()), read_prototypes(HEADER)
+    compare(exports, prototypes)
+    with tempfile.TemporaryDirectory(prefix="unproved-") as made_in:
+        room = Path(made_in)
+        write_entry(ffi.folder, exports, room / "entry")
+        progress.step("the crates are lowered to LLVM: a minute or two")
+        module = named(module_of(crates, kit, CRATE, room / "entry", ffi.uses), exports)
+        progress.step("LLVM compiles them: about a minute")
+        compile_module(kit, module, room / "lowered.o", "-fPIC")
+        between = "".join(prototypes[it.name].between() for it in exports)
+        (room / "between.c").write_text(f'#include "palqytun.h"\n{between}', encoding="utf-8")
+        compile_c(room / "between.c", room / "between.o", f"-I{HEADER.parent}")
+        made.unlink(missing_ok=True)
+        run(["ar", "rcs", made, room / "lowered.o", room / "between.o"], f"making {made.name}")
+
+
+def build_library(made: Path, progress: Progress) -> bool:
+    """Makes the shared object, and the archive beside it. Returns whether the sources were compiled."""
+    need("cc", "ar", "nm", "objcopy")
+    crates, its_kit = Crates(TOP), kit()
+    ffi = crates["ffi"]
+    made.parent.mkdir(parents=True, exist_ok=True)
+    compiled = made.with_suffix(".lowered.a")
+    stamp = Stamp(TOP, compiled, _parts(its_kit, [*crates.below(ffi.uses), ffi], HEADER))
+    is_current = stamp.is_current()
+    if not is_current:
+        stamp.forget()
+        _compile_library(its_kit, crates, ffi, compiled, progress)
+        stamp.keep()
+    archive = made.with_suffix(".a")
+    progress.step("the library is linked")
+    link_archive(TOP, its_kit, [compiled], archive, is_proved=False)
+    link_shared(TOP, archive, made)
+    return not is_current
+
+
+def build_program(name: str, made: Path, progress: Progress) -> bool:
+    """Makes a program of the repository. Returns whether its sources were compiled."""
+    crates, its_kit = Crates(TOP), kit()
+    if name not in crates.programs():
+        raise Refused(f"there is no program {name}: they are {', '.join(crates.programs())}")
+    crate = crates[name]
+    made.parent.mkdir(parents=True, exist_ok=True)
+    stamp = Stamp(TOP, made, _parts(its_kit, [*crates.below(crate.uses), crate]))
+    if stamp.is_current():
+        return False
+    stamp.forget()
+    with tempfile.TemporaryDirectory(prefix="unproved-") as room:
+        compiled = Path(room, f"{name}.o")
+        progress.step(f"{name} is lowered to LLVM: a minute or two")
+        module = module_of(crates, its_kit, name, crate.folder, crate.uses)
+        progress.step(f"LLVM compiles {name}: about a minute")
+        compile_module(its_kit, module, compiled, "-fPIE")
+        link_program(its_kit, compiled, made)
+    stamp.keep()
+    return True
