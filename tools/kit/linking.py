@@ -93,7 +93,7 @@ def link_archive(top: Path, kit: Kit, objects: Iterable[Path], made: Path, is_pr
 
 def link_shared(top: Path, archive: Path, made: Path, *more: Word) -> None:
     """Makes the shared object of an archive that `link_archive` made. Programs ask for it by a name with the number 0, which changes if a
-    function does."""
+    function does. It is a second name of the same file, since `rt ci` refuses a repository in which there is a symbolic link."""
     need("cc", "nm")
     hidden = ["-fvisibility=hidden", f"-Wl,--version-script={top / 'bindings/palqytun.map'}"]
     words: list[Word] = ["cc", "-O1", "-fPIC", *hidden, *SHARED, "-o", made, *more]
@@ -101,5 +101,5 @@ def link_shared(top: Path, archive: Path, made: Path, *more: Word) -> None:
     run([*words, "-Wl,--whole-archive", archive, "-Wl,--no-whole-archive"], f"linking {made.name}")
     link = made.with_name(f"{made.name}.0")
     link.unlink(missing_ok=True)
-    link.symlink_to(made.name)
+    link.hardlink_to(made)
     check_names(top, made, "--dynamic")
