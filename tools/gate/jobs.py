@@ -168,8 +168,8 @@ class Runner:
         return Done(job, job.counts(said, 1 if status is None else status), begun, time.monotonic(), log, used)
 
     def _ended(self, job: Job, output: int) -> tuple[int | None, float]:
-        """Runs a job's command, and returns its status, or nothing if it hadn't ended in time, and the seconds of a core. What it started ends
-        with it."""
+        """Runs a job's command, and returns its status, or nothing if it hadn't ended in time, and the seconds of a core. What it started
+        ends with it."""
         env = {**self.env, **job.env}
         if self._is_stopped:
             return 1, 0
