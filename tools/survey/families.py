@@ -42,7 +42,7 @@ FAMILIES = (
         "handler",
         "Handlers",
         "Handlers that programs know, handlers as ordinary code, and the front door for Rattle.",
-        ("handlers", "flows", "flow_handlers", "palqytun", "examples"),
+        ("handlers", "flows", "palqytun", "examples"),
         ("handler_*",),
     ),
     Family(

@@ -1,11 +1,11 @@
 //! A flow as a handler of the driver. What a flow's tree says, its handler does at every step, so all that is proved of
 //! handlers holds of it.
-#![tactic(auto)]
-
 ghost use Rattle.std.specs.Prelude.{◌≡◌, IfOk};
-ghost use Rattle.flow_handlers.specs.Meaning.{fault_failure, output_written};
+ghost use Rattle.flows.specs.Meaning.{fault_failure, output_written};
 
-use flows::{Context, Exit, Fault, Flow};
+use crate::context::Context;
+use crate::exit::{Exit, Fault};
+use crate::flow::Flow;
 use plain::{Items, Text};
 use std::alloc::{AllocError, Global};
 use vm_types::{Answer, Handler, NonEmptyValue, PayloadOptions, Step, TerminalFailure};
@@ -43,7 +43,7 @@ fn output_written(ctx: &Context<'_>, output: NonEmptyValue) -> Step
 }
 
 impl<F: Flow> Handler for Durable<F> {
-    ghost use Rattle.flow_handlers.specs.Meaning.{meaning_of};
+    ghost use Rattle.flows.specs.Meaning.{meaning_of};
 
     ghost meaning = { λ h. meaning_of (F.code h.flow) };
 
