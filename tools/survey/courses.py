@@ -55,7 +55,7 @@ COURSES = (
             Stop("vm_machine", "issue"),
             Stop("vm_parts", "write"),
             Stop("vm_attempt", "take_output"),
-            Stop("streams", "write_whole"),
+            Stop("program_runs", "write_whole"),
         ),
     ),
     Course(
@@ -68,7 +68,7 @@ COURSES = (
             Stop("invocation_vm", "command"),
             Stop("vm_machine", "issue"),
             Stop("replies", "show", back=True),
-            Stop("streams", "write_whole"),
+            Stop("program_runs", "write_whole"),
         ),
     ),
     Course(

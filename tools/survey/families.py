@@ -24,7 +24,7 @@ FAMILIES = (
         "ground",
         "Ground",
         "Values, their bytes, readers and writers. They know no message and no VM.",
-        ("plain", "wire", "streams", "run_ends", "command_lines", "loose_boxes"),
+        ("plain", "wire", "program_runs", "loose_boxes"),
     ),
     Family("journal", "Messages", "The messages of the protocol, and their frames.", ("own_bytes", "layers"), ("journal_*",)),
     Family("await", "Awaits", "What came, and the trees of handles that a handler awaits.", ("arrivals",), ("await_*",)),

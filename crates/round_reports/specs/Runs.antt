@@ -20,14 +20,14 @@ use Rattle.vm_store.specs.declared.types.Round.{Round}
 use Rattle.journal_entries.specs.declared.fault.RoundFault.{RoundFault}
 use Rattle.journal_entries.specs.declared.fault.RoundFault.TheVariants as round_fault
 use Rattle.vm_store.specs.declared.types.Setting.{Setting}
-use Rattle.streams.specs.Streams.{AppendsSome}
+use Rattle.program_runs.specs.Streams.{AppendsSome}
 use Rattle.round_scripts.specs.Scripts.{IsScriptRead, StopsAt, no_parts}
 use Rattle.round_scripts.specs.declared.given.Given.{Given}
 use Rattle.round_scripts.specs.declared.script.Script.{Script}
 use Rattle.round_reports.specs.Printed.{IsPrinted, fault_text}
-use Rattle.run_ends.specs.Ends.{Says}
-use Rattle.run_ends.specs.declared.run_end.RunEnd.{RunEnd}
-use Rattle.run_ends.specs.declared.run_end.RunEnd.TheVariants.{Refused, ReadFailed, NoMemory, WriteFailed, Written}
+use Rattle.program_runs.specs.Ends.{Says}
+use Rattle.program_runs.specs.declared.run_end.RunEnd.{RunEnd}
+use Rattle.program_runs.specs.declared.run_end.RunEnd.TheVariants.{Refused, ReadFailed, NoMemory, WriteFailed, Written}
 use Rattle.round_reports.specs.declared.run_end.Ending.{Ending}
 use Rattle.round_reports.specs.declared.run_end.Refusal.{Refusal}
 use Rattle.round_reports.specs.declared.run_end.Refusal.TheVariants.{UnknownHandler, UnknownContentType, NoMeaning}

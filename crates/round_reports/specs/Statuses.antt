@@ -1,7 +1,7 @@
 -- The exit statuses of the program.
 use Rattle.std.specs.Prelude.{Option, Some, None}
-use Rattle.run_ends.specs.declared.exit_status.ExitStatus.{ExitStatus}
-use Rattle.run_ends.specs.declared.exit_status.ExitStatus.TheVariants as status
+use Rattle.program_runs.specs.declared.exit_status.ExitStatus.{ExitStatus}
+use Rattle.program_runs.specs.declared.exit_status.ExitStatus.TheVariants as status
 use Rattle.round_reports.specs.declared.run_end.Refusal.{Refusal}
 use Rattle.round_reports.specs.declared.run_end.Refusal.TheVariants.{UnknownHandler, UnknownContentType, NoMeaning}
 use Rattle.round_reports.specs.declared.stop.Stop.{Stop}

@@ -5,16 +5,16 @@ ghost use Rattle.handlers.specs.Named.{step_in_rounds};
 ghost use Rattle.journal_protocol.specs.Versions.{version_of};
 ghost use Rattle.round_reports.specs.Runs.{ReportEnds, PlaysAll, StopsThere, RoundsSay};
 ghost use Rattle.round_reports.specs.declared.run_end.Refusal.TheVariants as refusal;
-ghost use Rattle.run_ends.specs.declared.run_end.RunEnd.TheVariants.{Refused};
+ghost use Rattle.program_runs.specs.declared.run_end.RunEnd.TheVariants.{Refused};
 
 use crate::play::{Played, play_text};
 use crate::run_end::{Ending, Refusal, RunEnd};
 use handlers::named::Named;
 use hints::place::copy_of_line;
 use journal_protocol::Version;
+use program_runs::streams::{Sink, Source};
 use round_scripts::script::Unread;
 use std::alloc::Global;
-use streams::{Sink, Source};
 use vm_types::Handler;
 
 /// Writes the report.

@@ -3,7 +3,7 @@ ghost use Rattle.std.specs.Prelude.{◌≡◌};
 ghost use Rattle.round_reports.specs.Statuses.{rounds_status, rounds_refusal_status};
 
 use crate::stop::Stop;
-use run_ends::exit_status::{ExitStatus, HasStatus};
+use program_runs::exit_status::{ExitStatus, HasStatus};
 
 /// How a script ends.
 #[derive(Clone, Copy, Debug, PartialEq, Eq)]
@@ -46,4 +46,4 @@ impl HasStatus for Refusal {
 }
 
 /// How a run ends. What it has done is that a script was played.
-pub type RunEnd = run_ends::run_end::RunEnd<Refusal, Ending>;
+pub type RunEnd = program_runs::run_end::RunEnd<Refusal, Ending>;

@@ -1,5 +1,5 @@
-use Rattle.streams.proofs.Writing.{flushed}
-use Rattle.streams.proofs.PlainSink.write_whole.Goals as goal
+use Rattle.program_runs.proofs.Writing.{flushed}
+use Rattle.program_runs.proofs.streams.PlainSink.write_whole.Goals as goal
 
 pub returns-clause-part : goal.returns-clause-part
 returns-clause-part g c =

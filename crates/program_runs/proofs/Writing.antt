@@ -4,7 +4,7 @@ use Rattle.std.proofs.Math.Seq.{take-add, take-length}
 use Rattle.std.proofs.lemmas.List.{append-nil, append_assoc, take_all}
 use Rattle.std.specs.Prelude.{Result, Ok, Err, OnErr}
 use Rattle.std.specs.Io.KnownBytes.{Appends, Keeps}
-use Rattle.streams.specs.Streams.{AppendsSome}
+use Rattle.program_runs.specs.Streams.{AppendsSome}
 
 -- nothing yet
 pub none_taken : (held : Option (List ℕ)) (bs : List ℕ) → Appends held held (take 0 bs)

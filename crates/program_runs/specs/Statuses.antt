@@ -1,9 +1,9 @@
 -- The exit statuses of the programs.
 use Rattle.std.specs.Prelude.{ℕ}
-use Rattle.run_ends.specs.declared.exit_status.ExitStatus.{ExitStatus}
-use Rattle.run_ends.specs.declared.exit_status.ExitStatus.TheVariants as status
-use Rattle.run_ends.specs.declared.run_end.RunEnd.{RunEnd}
-use Rattle.run_ends.specs.declared.run_end.RunEnd.TheVariants.{Refused, ReadFailed, NoMemory, WriteFailed, Written}
+use Rattle.program_runs.specs.declared.exit_status.ExitStatus.{ExitStatus}
+use Rattle.program_runs.specs.declared.exit_status.ExitStatus.TheVariants as status
+use Rattle.program_runs.specs.declared.run_end.RunEnd.{RunEnd}
+use Rattle.program_runs.specs.declared.run_end.RunEnd.TheVariants.{Refused, ReadFailed, NoMemory, WriteFailed, Written}
 
 -- the number of each
 abbrev pub exit_code : ExitStatus → ℕ

@@ -1,8 +1,8 @@
 use Rattle.std.proofs.Common.{rules, subst, take}
 use Rattle.std.proofs.lemmas.List.{take_rest}
 use Rattle.std.specs.Io.KnownBytes.{Appends}
-use Rattle.streams.proofs.Writing.{some_more}
-use Rattle.streams.proofs.write_all.Goals as goal
+use Rattle.program_runs.proofs.Writing.{some_more}
+use Rattle.program_runs.proofs.streams.write_all.Goals as goal
 
 pub loop-preserved : goal.loop-preserved
 loop-preserved g c =

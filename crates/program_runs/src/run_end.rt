@@ -1,6 +1,6 @@
 //! How a run ends.
 ghost use Rattle.std.specs.Prelude.{◌≡◌};
-ghost use Rattle.run_ends.specs.Statuses.{exit_code, status_of};
+ghost use Rattle.program_runs.specs.Statuses.{exit_code, status_of};
 
 use crate::exit_status::{ExitStatus, HasStatus};
 use std::io;

@@ -1,6 +1,6 @@
 //! The exit statuses of the programs.
 ghost use Rattle.std.specs.Prelude.{◌≡◌};
-ghost use Rattle.run_ends.specs.Statuses.{exit_code};
+ghost use Rattle.program_runs.specs.Statuses.{exit_code};
 
 /// What the status of a process says.
 #[derive(Clone, Copy, Debug, PartialEq, Eq)]
@@ -31,7 +31,7 @@ impl ExitStatus {
 
 /// What decides on an exit status: why a run is refused, or what it has done.
 pub trait HasStatus {
-    ghost use Rattle.run_ends.specs.declared.exit_status.ExitStatus.{ExitStatus};
+    ghost use Rattle.program_runs.specs.declared.exit_status.ExitStatus.{ExitStatus};
 
     /// The status of each value.
     ghost status: { Self → ExitStatus };
@@ -43,7 +43,7 @@ pub trait HasStatus {
 
 /// What a run has done, if there is nothing more to say of it.
 impl HasStatus for () {
-    ghost use Rattle.run_ends.specs.declared.exit_status.ExitStatus.TheVariants as exit_status;
+    ghost use Rattle.program_runs.specs.declared.exit_status.ExitStatus.TheVariants as exit_status;
 
     ghost status = { λ _. exit_status.Done };
 

@@ -1,7 +1,5 @@
 //! What the command lines of the programs have in common: each answers `--help`. The arguments come from outside, so no contract says
 //! what they are.
-#![tactic(auto)]
-
 use std::env::{self, Env};
 
 /// Whether the only argument is `--help` or `-h`. Arguments that can't be read ask for nothing.

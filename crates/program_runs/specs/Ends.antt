@@ -2,9 +2,9 @@
 use Rattle.std.specs.Prelude.{ℕ, List, Option}
 use Rattle.std.specs.Io.KnownBytes.{Appends}
 use Rattle.std.specs.declared.io.Error.{Error as IoError}
-use Rattle.streams.specs.Streams.{AppendsSome}
-use Rattle.run_ends.specs.declared.run_end.RunEnd.{RunEnd}
-use Rattle.run_ends.specs.declared.run_end.RunEnd.TheVariants.{Refused, ReadFailed, NoMemory, WriteFailed, Written}
+use Rattle.program_runs.specs.Streams.{AppendsSome}
+use Rattle.program_runs.specs.declared.run_end.RunEnd.{RunEnd}
+use Rattle.program_runs.specs.declared.run_end.RunEnd.TheVariants.{Refused, ReadFailed, NoMemory, WriteFailed, Written}
 
 -- What each end of a run says. `refuses` says why the run is refused; `does` what it has done, and
 -- what is written of its output into a writer that held and now holds these bytes; `read` that all

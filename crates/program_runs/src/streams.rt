@@ -1,12 +1,10 @@
 //! What a run reads from and writes to.
 //! Std's traits don't name their errors; these do, so that a contract can say by which error a run failed.
-#![tactic(auto)]
-
 ghost use Rattle.std.specs.Prelude.{◌≡◌, ◌≤◌, ◌++◌, List, length, take, ℕ, ⊤, IfSome, IfOk, IfErr, OnOk, OnErr};
 ghost use Rattle.std.specs.declared.option.Option.{Option};
 ghost use Rattle.std.specs.Io.KnownBytes.{Appends, IsAtEnd, Keeps};
 ghost use Rattle.std.specs.declared.io.Error.{Error as IoError};
-ghost use Rattle.streams.specs.Streams.{AppendsSome};
+ghost use Rattle.program_runs.specs.Streams.{AppendsSome};
 
 use std::io::{self, Read, Write};
 
