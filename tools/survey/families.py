@@ -36,7 +36,7 @@ FAMILIES = (
         ("vm_*",),
     ),
     Family("store", "Stored journals", "What is stored of what an attempt wrote, and what may arrive.", ("stored_journals",)),
-    Family("world", "Worlds", "Many attempts over one journal, stopped anywhere.", ("vm_store", "vm_rounds"), ("world_*",)),
+    Family("world", "Worlds", "Many attempts over one journal, stopped anywhere.", ("vm_rounds",), ("world_*",)),
     Family("engine", "The engine", "Many invocations that call each other.", ("vm_effects", "vm_inboxes", "vm_engine")),
     Family(
         "handler",

@@ -9,7 +9,7 @@ use Rattle.vm_types.specs.declared.steps.Answer.TheVariants as answer
 use Rattle.replies.specs.Answers.{answer_text}
 use Rattle.vm_rounds.specs.Inside.{report_view}
 use Rattle.vm_rounds.specs.Rounds.{ReportView}
-use Rattle.vm_store.specs.declared.types.Report.{Report}
+use Rattle.vm_rounds.specs.declared.types.Report.{Report}
 use Rattle.journal_entries.specs.declared.fault.RoundFault.{RoundFault}
 use Rattle.journal_entries.specs.declared.fault.RoundFault.TheVariants as round_fault
 

@@ -14,12 +14,12 @@ use Rattle.vm_rounds.specs.Inside.{report_view}
 use Rattle.vm_rounds.specs.Places.{RoundsStop}
 use Rattle.vm_rounds.specs.Rounds.{RoundsDo, RoundsFault}
 use Rattle.journal_entries.specs.Given.{AreGiven, FirstGiven}
-use Rattle.vm_store.specs.Worlds.{pairs_given}
-use Rattle.vm_store.specs.declared.types.Report.{Report}
-use Rattle.vm_store.specs.declared.types.Round.{Round}
+use Rattle.vm_rounds.specs.Worlds.{pairs_given}
+use Rattle.vm_rounds.specs.declared.types.Report.{Report}
+use Rattle.vm_rounds.specs.declared.types.Round.{Round}
 use Rattle.journal_entries.specs.declared.fault.RoundFault.{RoundFault}
 use Rattle.journal_entries.specs.declared.fault.RoundFault.TheVariants as round_fault
-use Rattle.vm_store.specs.declared.types.Setting.{Setting}
+use Rattle.vm_rounds.specs.declared.types.Setting.{Setting}
 use Rattle.program_runs.specs.Streams.{AppendsSome}
 use Rattle.round_scripts.specs.Scripts.{IsScriptRead, StopsAt, no_parts}
 use Rattle.round_scripts.specs.declared.given.Given.{Given}

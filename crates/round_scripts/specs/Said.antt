@@ -11,8 +11,8 @@ use Rattle.frame_lines.specs.FrameLines.{Shows}
 use Rattle.requests.specs.Lines.{says_nothing}
 use Rattle.line_parts.specs.Results.{IsProposal}
 use Rattle.lines.specs.Words.{IsNumberOf, words_after_first, text_at}
-use Rattle.vm_store.specs.declared.types.Event.{Event}
-use Rattle.vm_store.specs.declared.types.Event.TheVariants as event
+use Rattle.vm_rounds.specs.declared.types.Event.{Event}
+use Rattle.vm_rounds.specs.declared.types.Event.TheVariants as event
 use Rattle.round_scripts.specs.declared.script_line.ScriptLine.{ScriptLine}
 use Rattle.round_scripts.specs.declared.script_line.ScriptLine.TheVariants as line
 use Rattle.round_scripts.specs.Rounds.{SaysRound}

@@ -7,8 +7,8 @@ ghost use Rattle.vm_parts.specs.Entries.{entries_of as state_entries};
 ghost use Rattle.vm_model.specs.Moves.{changed_by};
 ghost use Rattle.journal_entries.specs.Arrivals.{most_entries};
 ghost use Rattle.journal_entries.specs.Entries.{said_in};
-ghost use Rattle.vm_store.specs.States.{HaveTextKeys, pairs_for, state_after};
-ghost use Rattle.vm_store.specs.Worlds.{start_message, start_of};
+ghost use Rattle.vm_rounds.specs.States.{HaveTextKeys, pairs_for, state_after};
+ghost use Rattle.vm_rounds.specs.Worlds.{start_message, start_of};
 
 use crate::types::{Identity, Round, Setting};
 use crate::values::Values;

@@ -11,12 +11,12 @@ use Rattle.vm_model.specs.Fixed.{Fixed, fixed_by}
 use Rattle.journal_entries.specs.JournalFrames.{commands_among}
 use Rattle.vm_model.specs.Setups.{setup_with}
 use Rattle.journal_entries.specs.Completions.{CompleteOnce, EachOfItsKind}
-use Rattle.vm_store.specs.declared.types.Identity.{Identity}
-use Rattle.vm_store.specs.declared.types.Round.{Round}
-use Rattle.vm_store.specs.declared.types.Setting.{Setting}
+use Rattle.vm_rounds.specs.declared.types.Identity.{Identity}
+use Rattle.vm_rounds.specs.declared.types.Round.{Round}
+use Rattle.vm_rounds.specs.declared.types.Setting.{Setting}
 use Rattle.journal_entries.specs.Arrivals.{most_entries}
 use Rattle.journal_entries.specs.Entries.{AreEntries, journal_frames, notes_in}
-use Rattle.vm_store.specs.States.{pairs_for}
+use Rattle.vm_rounds.specs.States.{pairs_for}
 
 -- a world: what all its attempts are made with, and the journal, one frame an entry
 pub record WorldView : Type 0 where

@@ -3,7 +3,7 @@ use Rattle.std.proofs.Common.{◌≡◌, ℕ, Bool, true, false, ◌&&◌, List,
 use Rattle.std.specs.List.{list_all}
 use Rattle.std.specs.Str.{IsUtf8, is_utf8}
 use Rattle.std.proofs.lemmas.Str.{is_utf8-from_IsUtf8}
-use Rattle.vm_store.specs.States.{HaveTextKeys}
+use Rattle.vm_rounds.specs.States.{HaveTextKeys}
 
 pub text_is : (bytes : List ℕ) → IsUtf8 bytes → is_utf8 bytes ≡ true
 text_is bytes h = is_utf8-from_IsUtf8 bytes h

@@ -4,7 +4,7 @@ ghost use Rattle.std.specs.Str.{is_utf8};
 ghost use Rattle.vm_parts.specs.declared.context.StateCoverage.TheVariants.{Complete};
 ghost use Rattle.vm_parts.specs.States.{state_set, state_cleared, all_cleared};
 ghost use Rattle.vm_asks.specs.Requests.{changed};
-ghost use Rattle.vm_store.specs.States.{HaveTextKeys, is_asked, is_key_listed, pairs_in};
+ghost use Rattle.vm_rounds.specs.States.{HaveTextKeys, is_asked, is_key_listed, pairs_in};
 
 use bytes::Bytes;
 use journal_protocol::Message;

@@ -1,6 +1,6 @@
 use Rattle.std.proofs.Common.{◌≡◌, ◌++◌}
-use Rattle.vm_store.specs.States.{HaveTextKeys, is_asked, pairs_in}
-use Rattle.vm_store.proofs.values.Values.pairs.Given as goal
+use Rattle.vm_rounds.specs.States.{HaveTextKeys, is_asked, pairs_in}
+use Rattle.vm_rounds.proofs.values.Values.pairs.Given as goal
 
 abbrev pub invariant-loop-key : goal.invariant-loop-key
 invariant-loop-key l = record {

@@ -8,8 +8,8 @@ use Rattle.vm_parts.specs.declared.context.StateCoverage.TheVariants.{Complete}
 use Rattle.vm_parts.specs.declared.context.StateMap.{StateMap}
 use Rattle.vm_parts.specs.Entries.{entries_of as state_entries}
 use Rattle.vm_model.specs.Moves.{changed_by}
-use Rattle.vm_store.specs.declared.types.Round.{Round}
-use Rattle.vm_store.specs.declared.types.Setting.{Setting}
+use Rattle.vm_rounds.specs.declared.types.Round.{Round}
+use Rattle.vm_rounds.specs.declared.types.Setting.{Setting}
 use Rattle.journal_entries.specs.Entries.{said_in}
 
 -- the state before any command
