@@ -49,7 +49,7 @@ FAMILIES = (
         "line",
         "Lines and scripts",
         "What people read and write: frames, calls and rounds as lines of text.",
-        ("lines", "hints", "requests", "replies", "scripts", "round_scripts", "round_reports", "plans"),
+        ("lines", "hints", "requests", "replies", "scripts", "world_scripts", "plans"),
         ("line_*", "frame_*"),
     ),
     Family(

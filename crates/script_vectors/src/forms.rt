@@ -7,9 +7,9 @@ use hints::hint::{Hint, form_word, frame_hint, round_hint};
 use journal_protocol::MessageType;
 use lines::pieces::words;
 use plain::Fault;
-use round_scripts::parse::line_of;
 use std::alloc::Global;
 use std::test::Fail;
+use world_scripts::parse::line_of;
 
 /// A line of each form of `FRAMES`, in their order.
 const FRAME_LINES: &str = r#"rest 0x00

@@ -1,12 +1,12 @@
 // Arguments that are refused, and readers and writers that fail.
 use program_runs::streams::{Plain, Sink, Source};
-use round_reports::run::run;
-use round_reports::run_end::{Ending, Refusal, RunEnd};
 use std::alloc::Global;
 use std::io::Cursor;
 use std::process::Abort;
 use std::test::Fail;
 use vectors::transports::{Breaking, Pipe};
+use world_scripts::run::run;
+use world_scripts::run_end::{Ending, Refusal, RunEnd};
 
 const V7: &str = "application/vnd.restate.invocation.v7";
 

@@ -6,12 +6,12 @@ use plain::Fault;
 use plans::reading::plan_of;
 use program_runs::command_line::asks_for_help;
 use program_runs::streams::Plain;
-use round_reports::run::{run, run_handler};
-use round_reports::run_end::{Ending, Refusal, RunEnd};
-use round_reports::stop::Stop;
 use std::env::{self, Env};
 use std::io;
 use std::process::ExitCode;
+use world_scripts::run::{run, run_handler};
+use world_scripts::run_end::{Ending, Refusal, RunEnd};
+use world_scripts::stop::Stop;
 
 const USAGE: &str =
     "usage: vmrounds <content-type> <sleeper|race|parent|counter|deadline|charge|plan STEP..> < script > report";
