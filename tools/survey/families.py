@@ -64,7 +64,7 @@ FAMILIES = (
         "test",
         "Tests",
         "Tests alone, what several of them share, and a bench. No other crate names them.",
-        ("vectors", "attempt_bench", "run_rows", "vmbench"),
+        ("vectors", "vmbench"),
         ("*_vectors", "test_*", "bench_*"),
     ),
 )
