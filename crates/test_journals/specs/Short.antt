@@ -9,7 +9,7 @@ use Rattle.journal_protocol.specs.Bodies.{message_in}
 use Rattle.journal_protocol.specs.Message.{Message}
 use Rattle.layers.specs.Layers.{Front, Whole, Partial, Malformed}
 use Rattle.layers.specs.Own.{front_if}
-use Rattle.layer_vectors.specs.declared.short.Short.{Short}
+use Rattle.test_journals.specs.declared.short.Short.{Short}
 
 abbrev pub mark_of : Bool → ℕ
 mark_of false = 0

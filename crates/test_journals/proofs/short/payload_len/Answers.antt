@@ -1,6 +1,6 @@
 use Rattle.std.proofs.Common.{arith}
-use Rattle.layer_vectors.specs.Laws.{part_of_frame, part_of_length}
-use Rattle.layer_vectors.proofs.short.payload_len.Goals as goal
+use Rattle.test_journals.specs.Laws.{part_of_frame, part_of_length}
+use Rattle.test_journals.proofs.short.payload_len.Goals as goal
 
 pub returns-in_default : goal.returns-in_default
 returns-in_default c = part_of_length c.args.bytes.now (rw c.in_default.is at c.length_at.ensures)

@@ -15,8 +15,8 @@ use Rattle.journal_protocol.proofs.Facts as alone
 use Rattle.journal_protocol.proofs.Facts.{small_number, type_found}
 use Rattle.layers.specs.Layers.{Front, Whole, Partial, Malformed}
 use Rattle.layers.specs.Own.{front_if, malformed_if, rest_if, whole_if}
-use Rattle.layer_vectors.specs.declared.short.Short.{Short}
-use Rattle.layer_vectors.specs.Short.{IsShort, body_in, mark_of, short, short_frame, short_front, sized, short_front_in}
+use Rattle.test_journals.specs.declared.short.Short.{Short}
+use Rattle.test_journals.specs.Short.{IsShort, body_in, mark_of, short, short_frame, short_front, sized, short_front_in}
 
 not_less : (m n : ℕ) → nat_lt m n ≡ false → n ≤ m
 not_less m n e = grind (arith, nat_tests)

@@ -9,8 +9,8 @@ use Rattle.journal_protocol.specs.MessageType.{MessageType}
 use Rattle.journal_protocol.specs.Message.{Message}
 use Rattle.layers.specs.Layers.{IsFrontRead, Malformed, Whole, layer_fault}
 use Rattle.layers.specs.Own.{front_if}
-use Rattle.layer_vectors.specs.Laws.{whole_frame}
-use Rattle.layer_vectors.specs.Short.{body_in, short_front, short_front_in}
+use Rattle.test_journals.specs.Laws.{whole_frame}
+use Rattle.test_journals.specs.Short.{body_in, short_front, short_front_in}
 
 -- n bytes and a number stand after the length
 pub record IsFramed (bs : List ℕ) (n : ℕ) : Type 0 where

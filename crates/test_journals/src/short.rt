@@ -5,7 +5,7 @@ ghost use Rattle.journal_protocol.specs.Types.{type_at};
 ghost use Rattle.journal_protocol.specs.Frames.{IsWhole, body, type_of};
 ghost use Rattle.layers.specs.Layers.{Partial};
 ghost use Rattle.layers.specs.declared.layer.LayerFault.TheVariants.{Memory};
-ghost use Rattle.layer_vectors.specs.Short.{body_in, short_front};
+ghost use Rattle.test_journals.specs.Short.{body_in, short_front};
 
 use bytes::Bytes;
 use journal_protocol::{Decoder, Encoder, Message, MessageType, RawMessage};
@@ -87,8 +87,8 @@ fn body_at(stream: &Bytes, len: usize) -> Result<Option<Bytes>, AllocError>
 }
 
 impl Layer for Short {
-    ghost use Rattle.layer_vectors.specs.Laws.{short_malformed_stays, short_read_back, short_rest_is_shorter, short_whole_stays};
-    ghost use Rattle.layer_vectors.specs.Short.{IsShort, short, short_front};
+    ghost use Rattle.test_journals.specs.Laws.{short_malformed_stays, short_read_back, short_rest_is_shorter, short_whole_stays};
+    ghost use Rattle.test_journals.specs.Short.{IsShort, short, short_front};
 
     ghost frame = { short };
 
