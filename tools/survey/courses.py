@@ -55,7 +55,7 @@ COURSES = (
             Stop("vm_machine", "issue"),
             Stop("vm_parts", "write"),
             Stop("vm_attempt", "take_output"),
-            Stop("streams", "write_whole"),
+            Stop("program_runs", "write_whole"),
         ),
     ),
     Course(
@@ -68,7 +68,7 @@ COURSES = (
             Stop("invocation_vm", "command"),
             Stop("vm_machine", "issue"),
             Stop("replies", "show", back=True),
-            Stop("streams", "write_whole"),
+            Stop("program_runs", "write_whole"),
         ),
     ),
     Course(
@@ -90,15 +90,15 @@ COURSES = (
         "An event of a round, and the report: vmrounds",
         (
             Stop("vmrounds", "main"),
-            Stop("round_reports", "play_text"),
-            Stop("round_scripts", "script_of"),
+            Stop("world_scripts", "play_text"),
+            Stop("world_scripts", "script_of"),
             Stop("frame_lines", "frame_of_words"),
             Stop("vm_rounds", "play_rounds"),
             Stop("vm_rounds", "happen"),
             Stop("stored_journals", "arrive"),
             Stop("vm_attempt", "feed"),
             Stop("vm_rounds", "report", back=True),
-            Stop("round_reports", "report_of"),
+            Stop("world_scripts", "report_of"),
         ),
     ),
     Course(

@@ -7,7 +7,7 @@ use plans::reading::plan_of;
 use std::alloc::{AllocError, Global};
 use std::test::Fail;
 use vm_engine::{Engine, Happening, Order, Target};
-use vm_store::types::Event;
+use vm_rounds::Event;
 use vm_types::VMOptions;
 
 pub const PARENT: &[&str] = &[

@@ -5,3 +5,4 @@ pub mod Follows
 pub mod Invocations
 pub mod Promises
 pub mod Steps
+pub mod Meaning

@@ -14,8 +14,8 @@ use Rattle.frame_runs.specs.declared.run.Unread.{Unread}
 use Rattle.frame_runs.specs.declared.run.Unread.TheVariants as unread
 use Rattle.frame_runs.specs.declared.refusal.Refusal.{Refusal}
 use Rattle.frame_runs.specs.declared.refusal.Refusal.TheVariants as refusal
-use Rattle.run_ends.specs.declared.run_end.RunEnd.{RunEnd}
-use Rattle.run_ends.specs.Ends.{Says}
+use Rattle.program_runs.specs.declared.run_end.RunEnd.{RunEnd}
+use Rattle.program_runs.specs.Ends.{Says}
 
 -- something that this holds of is added
 abbrev pub AddsToOutput : (List ℕ → Type 0) → List ℕ → List ℕ → Type 0

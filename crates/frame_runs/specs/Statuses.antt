@@ -1,6 +1,6 @@
 -- The exit status of a run that is refused.
-use Rattle.run_ends.specs.declared.exit_status.ExitStatus.{ExitStatus}
-use Rattle.run_ends.specs.declared.exit_status.ExitStatus.TheVariants as status
+use Rattle.program_runs.specs.declared.exit_status.ExitStatus.{ExitStatus}
+use Rattle.program_runs.specs.declared.exit_status.ExitStatus.TheVariants as status
 use Rattle.frame_runs.specs.declared.refusal.Refusal.{Refusal}
 use Rattle.frame_runs.specs.declared.refusal.Refusal.TheVariants.{Usage, BadLine}
 

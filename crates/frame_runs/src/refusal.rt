@@ -2,7 +2,7 @@
 ghost use Rattle.std.specs.Prelude.{◌≡◌};
 ghost use Rattle.frame_runs.specs.Statuses.{frames_refusal_status};
 
-use run_ends::exit_status::{ExitStatus, HasStatus};
+use program_runs::exit_status::{ExitStatus, HasStatus};
 
 /// Why a run is refused.
 #[derive(Debug, Drop)]
@@ -25,4 +25,4 @@ impl HasStatus for Refusal {
 }
 
 /// How a run ends. What it has done is that all that was read is turned into the other form.
-pub type RunEnd = run_ends::run_end::RunEnd<Refusal, ()>;
+pub type RunEnd = program_runs::run_end::RunEnd<Refusal, ()>;

@@ -14,8 +14,8 @@ use journal_protocol::{Decoder, RawMessage};
 use lines::line::Line;
 use lines::text::first_line;
 use plain::Fault;
+use program_runs::streams::{Sink, Source};
 use std::alloc::{AllocError, Global};
-use streams::{Sink, Source};
 
 /// Adds the line of a frame.
 fn add_frame_line(alloc: Global, raw: &RawMessage, text: &mut Line) -> Result<(), AllocError>

@@ -1,14 +1,14 @@
 //! `frames`: a stream of frames as lines that people read, and such lines as a stream of frames.
 #![tactic(auto)]
 
-use command_lines::asks_for_help;
 use frame_runs::refusal::{Refusal, RunEnd};
 use frame_runs::run::{decode, encode};
 use hints::note::frame_note;
+use program_runs::command_line::asks_for_help;
+use program_runs::streams::Plain;
 use std::env::{self, Env};
 use std::io;
 use std::process::ExitCode;
-use streams::Plain;
 
 const USAGE: &str = "usage: frames [--encode]";
 

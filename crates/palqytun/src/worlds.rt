@@ -40,7 +40,7 @@ impl Drop for WorldBuilder {
 }
 
 impl Model for WorldBuilder {
-    ghost use Rattle.vm_store.specs.Worlds.{WorldView, pairs_given};
+    ghost use Rattle.vm_rounds.specs.Worlds.{WorldView, pairs_given};
 
     ghost Value = { WorldView };
 

@@ -9,10 +9,10 @@ use frame_runs::run::{Unread, decode, encode, frames_of};
 use journal_protocol::RawMessage;
 use lines::line::Line;
 use plain::Fault;
+use program_runs::streams::Plain;
 use std::alloc::{AllocError, Global};
 use std::io::{self, Read, Write};
 use std::test::Fail;
-use streams::Plain;
 
 fn printed(alloc: Global, raw: &RawMessage) -> Result<Line, AllocError> {
     let mut line = Line::new(alloc);

@@ -19,8 +19,8 @@ use Rattle.runner.specs.declared.run_end.AttemptEnd.{AttemptEnd}
 use Rattle.runner.specs.declared.run_end.AttemptEnd.TheVariants as attempt_end
 use Rattle.runner.specs.declared.run_end.Refusal.{Refusal}
 use Rattle.runner.specs.declared.run_end.Refusal.TheVariants as refusal
-use Rattle.run_ends.specs.declared.run_end.RunEnd.{RunEnd}
-use Rattle.run_ends.specs.Ends.{Says}
+use Rattle.program_runs.specs.declared.run_end.RunEnd.{RunEnd}
+use Rattle.program_runs.specs.Ends.{Says}
 use Rattle.vm_model.specs.Fixed.{fixed_by}
 
 -- this number of steps, each of which gave the handler one answer

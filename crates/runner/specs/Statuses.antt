@@ -1,6 +1,6 @@
 -- The exit statuses of the program.
-use Rattle.run_ends.specs.declared.exit_status.ExitStatus.{ExitStatus}
-use Rattle.run_ends.specs.declared.exit_status.ExitStatus.TheVariants as status
+use Rattle.program_runs.specs.declared.exit_status.ExitStatus.{ExitStatus}
+use Rattle.program_runs.specs.declared.exit_status.ExitStatus.TheVariants as status
 use Rattle.runner.specs.declared.run_end.AttemptEnd.{AttemptEnd}
 use Rattle.runner.specs.declared.run_end.AttemptEnd.TheVariants as attempt_end
 use Rattle.runner.specs.declared.run_end.Refusal.{Refusal}

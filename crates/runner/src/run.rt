@@ -7,14 +7,14 @@ ghost use Rattle.vm_steps.specs.Stepping.{StepDoes};
 ghost use Rattle.vm_steps.specs.declared.progress.Progress.{Progress};
 ghost use Rattle.runner.specs.Runs.{SendsWhole, end_after, IsFed, Drives, IsDriven, ServesAnew, AttemptSays};
 ghost use Rattle.handlers.specs.Named.{step_named};
-ghost use Rattle.run_ends.specs.declared.run_end.RunEnd.TheVariants.{Refused};
+ghost use Rattle.program_runs.specs.declared.run_end.RunEnd.TheVariants.{Refused};
 ghost use Rattle.runner.specs.declared.run_end.Refusal.TheVariants as refusal;
 
 use crate::run_end::{AttemptEnd, Refusal, RunEnd};
 use bytes::Bytes;
 use handlers::named::Named;
+use program_runs::streams::{Sink, Source};
 use std::alloc::{AllocError, Global};
-use streams::{Sink, Source};
 use vm_attempt::{Attempt, ContentType};
 use vm_steps::Progress;
 use vm_types::{Handler, VMOptions};

@@ -3,7 +3,7 @@ ghost use Rattle.std.specs.Prelude.{◌≡◌};
 ghost use Rattle.runner.specs.Statuses.{attempt_status, runner_refusal_status};
 
 use journal_protocol::Error;
-use run_ends::exit_status::{ExitStatus, HasStatus};
+use program_runs::exit_status::{ExitStatus, HasStatus};
 
 /// How an attempt ends that is driven until a step gives its handler no answer.
 #[derive(Debug, Drop)]
@@ -51,4 +51,4 @@ impl HasStatus for Refusal {
 }
 
 /// How a run ends. What it has done is that an attempt was driven to its end.
-pub type RunEnd = run_ends::run_end::RunEnd<Refusal, AttemptEnd>;
+pub type RunEnd = program_runs::run_end::RunEnd<Refusal, AttemptEnd>;

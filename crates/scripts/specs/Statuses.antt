@@ -1,6 +1,6 @@
 -- The exit status of a run of the program.
-use Rattle.run_ends.specs.declared.exit_status.ExitStatus.{ExitStatus}
-use Rattle.run_ends.specs.declared.exit_status.ExitStatus.TheVariants as status
+use Rattle.program_runs.specs.declared.exit_status.ExitStatus.{ExitStatus}
+use Rattle.program_runs.specs.declared.exit_status.ExitStatus.TheVariants as status
 use Rattle.scripts.specs.declared.run_end.RunEnd.{RunEnd}
 use Rattle.scripts.specs.declared.run_end.RunEnd.TheVariants.{ReadFailed, NoMemory, WriteFailed, Done}
 

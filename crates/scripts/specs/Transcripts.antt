@@ -2,7 +2,7 @@
 use Rattle.std.specs.Prelude.{◌≡◌, ◌⊎◌, ℕ, List, [], ◌∷◌, ◌++◌, Option}
 use Rattle.std.proofs.Common.{Global}
 use Rattle.std.specs.Io.KnownBytes.{Appends}
-use Rattle.streams.specs.Streams.{AppendsSome}
+use Rattle.program_runs.specs.Streams.{AppendsSome}
 use Rattle.invocation_vm.specs.declared.core_vm.CoreVM.{CoreVM}
 use Rattle.requests.specs.declared.request.Request.{Request}
 use Rattle.replies.specs.declared.reply.Reply.{Reply}

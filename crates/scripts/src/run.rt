@@ -9,10 +9,10 @@ use crate::run_end::RunEnd;
 use invocation_vm::CoreVM;
 use lines::line::Line;
 use lines::text::first_line;
+use program_runs::streams::{Sink, Source};
 use replies::Shown;
 use requests::parse::parse;
 use std::alloc::{AllocError, Global};
-use streams::{Sink, Source};
 
 /// How many words a line has room for at once.
 const USUAL_WORDS: usize = 8;

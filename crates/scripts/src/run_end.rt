@@ -2,7 +2,7 @@
 ghost use Rattle.std.specs.Prelude.{◌≡◌};
 ghost use Rattle.scripts.specs.Statuses.{status_of_script};
 
-use run_ends::exit_status::ExitStatus;
+use program_runs::exit_status::ExitStatus;
 use std::io;
 
 /// How a run ends.

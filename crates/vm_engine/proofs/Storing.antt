@@ -16,8 +16,8 @@ use Rattle.journal_entries.specs.JournalFrames.{is_command_frame, notified_by}
 use Rattle.journal_entries.specs.declared.completions.Completes.{Completes}
 use Rattle.journal_entries.specs.declared.storing.Written.{Written}
 use Rattle.journal_entries.specs.declared.storing.Written.TheVariants.{Command, Proposal}
-use Rattle.vm_store.specs.declared.types.Event.{Event}
-use Rattle.vm_store.specs.declared.types.Event.TheVariants as event
+use Rattle.vm_rounds.specs.declared.types.Event.{Event}
+use Rattle.vm_rounds.specs.declared.types.Event.TheVariants as event
 use Rattle.journal_entries.specs.declared.fault.RoundFault.{RoundFault}
 use Rattle.journal_entries.specs.Arrivals.{completes_among, completes_id, proposed_fault, room_fault}
 use Rattle.journal_entries.specs.Entries.{frame_in, note_in, note_of, read_from, said_by}

@@ -3,7 +3,7 @@ use Rattle.std.specs.Prelude.{◌≡◌, ◌⊎◌, ℕ, ◌<◌, ◌≤◌, Boo
 use Rattle.vm_engine.specs.declared.engine.Engine.{Engine}
 use Rattle.vm_engine.specs.declared.engine.Invocation.{Invocation}
 use Rattle.vm_model.specs.Calls.{Meaning}
-use Rattle.vm_store.specs.declared.types.Round.{Round}
+use Rattle.vm_rounds.specs.declared.types.Round.{Round}
 use Rattle.vm_rounds.specs.Course.{BeginsRound}
 use Rattle.vm_effects.specs.declared.effect.Effect.{Effect}
 use Rattle.vm_effects.specs.declared.effect.Effect.TheVariants as effect

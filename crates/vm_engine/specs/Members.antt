@@ -10,8 +10,8 @@ use Rattle.journal_entries.specs.Entries.{note_in}
 use Rattle.vm_inboxes.specs.declared.types.Brought.{Brought}
 use Rattle.vm_inboxes.specs.Notes.{note_by}
 use Rattle.vm_rounds.specs.Course.{CourseView, HappensTo}
-use Rattle.vm_store.specs.declared.types.Event.{Event}
-use Rattle.vm_store.specs.declared.types.Event.TheVariants as event
+use Rattle.vm_rounds.specs.declared.types.Event.{Event}
+use Rattle.vm_rounds.specs.declared.types.Event.TheVariants as event
 use Rattle.vm_inboxes.specs.Deliverable.{Entered, MayBeStored, effect_at}
 use Rattle.vm_inboxes.specs.declared.types.Waiting.{Waiting}
 use Rattle.vm_inboxes.specs.declared.types.Waiting.TheVariants as waiting

@@ -7,7 +7,7 @@ ghost use Rattle.vm_engine.specs.Faults.{IsMemoryOrFull, IsNoArrival};
 ghost use Rattle.vm_engine.specs.Members.{Acts, CantCome, Delivers, GoesBy, IsOwn, MayStoreOne, StoresNextEntry, with_signal, stopped};
 ghost use Rattle.vm_inboxes.specs.Deliverable.{Entered, effect_at};
 ghost use Rattle.vm_rounds.specs.Course.{BeginsRound, HappensTo};
-ghost use Rattle.vm_store.specs.declared.types.Event.TheVariants as event;
+ghost use Rattle.vm_rounds.specs.declared.types.Event.TheVariants as event;
 
 use crate::types::{EngineFault, arrival_of, inbox_of, stored_of};
 use bytes::Bytes;

@@ -14,13 +14,13 @@ use Rattle.vm_model.specs.SoundHistories.{SoundHistory}
 use Rattle.vm_model.proofs.Lasting.{commands-append}
 use Rattle.vm_model.proofs.Honesty.{attempts_agree}
 use Rattle.vm_attempt.proofs.Replayed.{head_same}
-use Rattle.vm_store.specs.declared.types.Round.{Round}
-use Rattle.vm_store.specs.declared.types.Setting.{Setting}
+use Rattle.vm_rounds.specs.declared.types.Round.{Round}
+use Rattle.vm_rounds.specs.declared.types.Setting.{Setting}
 use Rattle.vm_rounds.specs.Courses.{attempt_of}
 use Rattle.journal_entries.specs.Entries.{journal_entries}
 use Rattle.vm_rounds.specs.Rounds.{Agree, ReplaysAndQueues, ReportView, RoundDoes, RoundsDo, TellsAlong}
-use Rattle.vm_store.specs.States.{base_of}
-use Rattle.vm_store.specs.Worlds.{IsJournal, setup_of}
+use Rattle.vm_rounds.specs.States.{base_of}
+use Rattle.vm_rounds.specs.Worlds.{IsJournal, setup_of}
 use Rattle.vm_rounds.specs.Sound.{IsSoundFor}
 use Rattle.vm_rounds.proofs.Rounding.{HandsOut, Lasts, entries_grow, hands_honest, round_gives, round_grows, round_honest, round_lasts, rounds_grow, sound_lasts}
 

@@ -9,13 +9,13 @@ use Rattle.vm_types.specs.declared.options.VMOptions.{VMOptions}
 use Rattle.vm_model.specs.Calls.{Meaning}
 use Rattle.vm_steps.specs.Record.{Record}
 use Rattle.vm_steps.specs.Stepping.{fresh_record}
-use Rattle.vm_store.specs.declared.types.Round.{Round}
+use Rattle.vm_rounds.specs.declared.types.Round.{Round}
 use Rattle.journal_entries.specs.declared.fault.RoundFault.{RoundFault}
-use Rattle.vm_store.specs.declared.types.Setting.{Setting}
+use Rattle.vm_rounds.specs.declared.types.Setting.{Setting}
 use Rattle.vm_rounds.specs.Rounds.{StaysShort, IsSupported, Ran, ReportView, RoundDoes, begin, new_now}
 use Rattle.vm_rounds.specs.Places.{FaultsAt, IsMemoryAside, RoundStops}
-use Rattle.vm_store.specs.States.{HaveTextKeys, pairs_for}
-use Rattle.vm_store.specs.Worlds.{IsJournal, fixed_in, start_message}
+use Rattle.vm_rounds.specs.States.{HaveTextKeys, pairs_for}
+use Rattle.vm_rounds.specs.Worlds.{IsJournal, fixed_in, start_message}
 use Rattle.vm_rounds.proofs.Rounding.{short_all}
 use Rattle.vm_model.specs.Fixed.{Fixed, fixed_by}
 

@@ -18,7 +18,7 @@ use Rattle.vm_model.proofs.Carried.{completions_once, input_carries, typed, othe
 use Rattle.vm_attempt.proofs.Replayed.{commands_same, head_same, notes_same, tail_same}
 use Rattle.journal_entries.specs.Entries.{journal_entries, journal_frames, notes_in}
 use Rattle.vm_rounds.specs.Rounds.{CompletesOnce}
-use Rattle.vm_store.specs.Worlds.{IsJournal}
+use Rattle.vm_rounds.specs.Worlds.{IsJournal}
 use Rattle.journal_entries.proofs.Framing.{notes_are}
 use Rattle.vm_rounds.proofs.Inputs.{input_type}
 use Rattle.vm_rounds.proofs.Once.{come_once}

@@ -11,12 +11,12 @@ use Rattle.vm_model.specs.Histories.{Honest}
 use Rattle.vm_model.specs.Fixed.{Fixed, fixed_by}
 use Rattle.vm_steps.specs.Record.{AttemptView, Record}
 use Rattle.vm_steps.specs.Stepping.{fresh_record}
-use Rattle.vm_store.specs.declared.types.Event.{Event}
-use Rattle.vm_store.specs.declared.types.Round.{Round}
-use Rattle.vm_store.specs.declared.types.Setting.{Setting}
+use Rattle.vm_rounds.specs.declared.types.Event.{Event}
+use Rattle.vm_rounds.specs.declared.types.Round.{Round}
+use Rattle.vm_rounds.specs.declared.types.Setting.{Setting}
 use Rattle.journal_entries.specs.Entries.{journal_entries}
-use Rattle.vm_store.specs.States.{HaveTextKeys, base_of, pairs_for}
-use Rattle.vm_store.specs.Worlds.{IsJournal, WorldView, fixed_in, setup_of, start_message}
+use Rattle.vm_rounds.specs.States.{HaveTextKeys, base_of, pairs_for}
+use Rattle.vm_rounds.specs.Worlds.{IsJournal, WorldView, fixed_in, setup_of, start_message}
 use Rattle.vm_rounds.specs.Rounds.{EndsTold, Happens, IsSupported, Now, ReplaysAndQueues, begin, new_now, report_of}
 use Rattle.vm_rounds.specs.declared.desk.Desk.{Desk}
 use Rattle.vm_rounds.specs.Course.{AreRun, AreRunning, BeginsRound, CourseLasts, CourseView, EndsToldBy, RoundGoesOn, live_now}

@@ -25,12 +25,12 @@ use Rattle.vm_attempt.proofs.Finishing.{acknowledged_more}
 use Rattle.vm_attempt.proofs.Pieces.{commands_append, more_frames}
 use Rattle.vm_attempt.proofs.Proposed.{arriving_append, arriving_more, arriving_notified, found_append, kept_all, none_found}
 use Rattle.vm_attempt.proofs.Replayed.{commands_same, notes_same}
-use Rattle.vm_store.specs.declared.types.Event.{Event}
-use Rattle.vm_store.specs.declared.types.Event.TheVariants as event
+use Rattle.vm_rounds.specs.declared.types.Event.{Event}
+use Rattle.vm_rounds.specs.declared.types.Event.TheVariants as event
 use Rattle.vm_rounds.specs.Courses.{brought_by, course_of, delivered, new_in}
 use Rattle.journal_entries.specs.Entries.{journal_entries, journal_frames, notes_in}
 use Rattle.vm_rounds.specs.Rounds.{Happen, Happens, Now, Pieces, StepHappens, StepsHappen}
-use Rattle.vm_store.specs.Worlds.{IsJournal}
+use Rattle.vm_rounds.specs.Worlds.{IsJournal}
 use Rattle.journal_entries.proofs.Framing.{AreFrames, entries_append, join, journal_acknowledges, journal_framed, notes_are}
 use Rattle.vm_rounds.proofs.Going.{IsOpen, Stepped, Takes, closes, fed, finishes, prefix_then, same_prefix, stepped}
 use Rattle.vm_rounds.proofs.Keeping.{Going, event_keeps, one_note}

@@ -13,10 +13,10 @@ use Rattle.vm_model.proofs.Mixed.{all_is_true, honest_enough, mixed_round, mixed
 use Rattle.vm_parts.specs.declared.context.StateMap.{StateMap}
 use Rattle.vm_parts.specs.Entries.{IsInOrder}
 use Rattle.journal_entries.specs.Entries.{journal_entries}
-use Rattle.vm_store.specs.States.{base_of}
-use Rattle.vm_store.specs.Worlds.{IsJournal, setup_of}
-use Rattle.vm_store.specs.declared.types.Round.{Round}
-use Rattle.vm_store.specs.declared.types.Setting.{Setting}
+use Rattle.vm_rounds.specs.States.{base_of}
+use Rattle.vm_rounds.specs.Worlds.{IsJournal, setup_of}
+use Rattle.vm_rounds.specs.declared.types.Round.{Round}
+use Rattle.vm_rounds.specs.declared.types.Setting.{Setting}
 use Rattle.vm_rounds.specs.Courses.{attempt_of}
 use Rattle.vm_rounds.specs.Families.{AreAlikeTo, EachCanReplay, EachIsOwn, NoneIsPartial, Played, PlayedDo, played_by}
 use Rattle.vm_rounds.specs.Rounds.{Agree, CompletesOnce, ReplaysAndQueues, ReportView, RoundDoes, RoundsDo, TellsAlong}

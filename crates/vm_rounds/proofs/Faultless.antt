@@ -39,17 +39,17 @@ use Rattle.vm_attempt.proofs.Replayed.{commands_same, notes_same}
 use Rattle.vm_attempt.proofs.Written.{Fits, frames_spelled, taken_first, written_is}
 use Rattle.vm_steps.specs.Record.{Record, heard}
 use Rattle.vm_steps.specs.Stepping.{StepDoes, fresh_record, output_taken}
-use Rattle.vm_store.specs.declared.types.Event.{Event}
-use Rattle.vm_store.specs.declared.types.Event.TheVariants as event
-use Rattle.vm_store.specs.declared.types.Round.{Round}
+use Rattle.vm_rounds.specs.declared.types.Event.{Event}
+use Rattle.vm_rounds.specs.declared.types.Event.TheVariants as event
+use Rattle.vm_rounds.specs.declared.types.Round.{Round}
 use Rattle.journal_entries.specs.declared.fault.RoundFault.{RoundFault}
 use Rattle.journal_entries.specs.declared.fault.RoundFault.TheVariants as round_fault
-use Rattle.vm_store.specs.declared.types.Setting.{Setting}
+use Rattle.vm_rounds.specs.declared.types.Setting.{Setting}
 use Rattle.journal_entries.specs.Arrivals.{arrival_fault, completes_id}
 use Rattle.journal_entries.specs.Entries.{journal_entries, journal_frames, notes_in}
-use Rattle.vm_store.specs.States.{base_of}
+use Rattle.vm_rounds.specs.States.{base_of}
 use Rattle.journal_entries.specs.Storing.{FirstFault, Stores, written_among}
-use Rattle.vm_store.specs.Worlds.{IsJournal, fixed_in, setup_of, start_for}
+use Rattle.vm_rounds.specs.Worlds.{IsJournal, fixed_in, setup_of, start_for}
 use Rattle.journal_entries.proofs.Framing.{AreFrames, frames_append, front_grows, in_front, notes_append, notes_are}
 use Rattle.journal_entries.proofs.Scanned.{written_append}
 use Rattle.vm_rounds.specs.Courses.{delivered, start_handed}

@@ -19,7 +19,7 @@ use Rattle.vm_model.specs.HonestRounds.{IsOneRun}
 use Rattle.journal_entries.specs.JournalFrames.{as_entries, commands_among, notified_by}
 use Rattle.journal_entries.specs.Completions.{CompleteOnce, NoteIsOfItsKind}
 use Rattle.journal_entries.specs.Entries.{journal_entries, frame_in, framed_by, journal_frames, may_stand, note_of, notes_in, read_from}
-use Rattle.vm_store.specs.Worlds.{IsJournal}
+use Rattle.vm_rounds.specs.Worlds.{IsJournal}
 use Rattle.journal_entries.proofs.Framing.{frame_back}
 
 first_frame : (i : InputCommand) → IsWhole (message.Input i) → frame_in (encoding (message.Input i)) ≡ Some (stored_form (message.Input i))

@@ -16,10 +16,10 @@ use Rattle.journal_entries.specs.JournalFrames.{commands_among}
 use Rattle.vm_attempt.specs.Told.{HasFreshIds, Journal, written_by}
 use Rattle.vm_attempt.proofs.Numbers.{carried_append}
 use Rattle.vm_attempt.proofs.Replayed.{head_same, tail_same}
-use Rattle.vm_store.specs.declared.types.Round.{Round}
-use Rattle.vm_store.specs.declared.types.Setting.{Setting}
+use Rattle.vm_rounds.specs.declared.types.Round.{Round}
+use Rattle.vm_rounds.specs.declared.types.Setting.{Setting}
 use Rattle.journal_entries.specs.Entries.{journal_frames}
-use Rattle.vm_store.specs.Worlds.{IsJournal, start_for}
+use Rattle.vm_rounds.specs.Worlds.{IsJournal, start_for}
 use Rattle.journal_entries.proofs.Framing.{AreFrames, journal_length, same_front}
 use Rattle.vm_rounds.specs.Fresh.{AreFresh, IsFresh, Skips, ids_in, ids_written}
 use Rattle.vm_rounds.specs.Rounds.{AttemptDoes, Now, RefusedDoes, ReportView, RoundDoes, RoundsDo, report_of}

@@ -22,7 +22,7 @@ use Rattle.journal_entries.specs.Arrivals.{completes_among, completes_id, most_e
 use Rattle.journal_entries.specs.Completions.{CompleteOnce, HasNoOther, IsOfItsKind, IsOfKind, NoteIsOfItsKind}
 use Rattle.journal_entries.specs.Entries.{frame_in, framed_by, journal_frames, may_stand, note_in, note_of, notes_in, read_from, said_by, said_in}
 use Rattle.journal_entries.specs.Given.{AreGiven, as_given, framed_fault, given_fault, given_note_fault, may_be_given, noted_fault, place_fault}
-use Rattle.vm_store.specs.Worlds.{IsJournal}
+use Rattle.vm_rounds.specs.Worlds.{IsJournal}
 use Rattle.journal_entries.proofs.Framing.{command_no_note, entries_join, frames_append, notes_append, notes_are}
 use Rattle.vm_rounds.proofs.Keeping.{one_note}
 use Rattle.vm_rounds.proofs.Once.{absent, completed_carried, each_more, kind_of, not_done, not_most, not_nothing}

@@ -23,10 +23,10 @@ use Rattle.vm_asks.specs.Requests.{changed}
 use Rattle.vm_model.specs.Histories.{IsAllOf, IsTrueOf}
 use Rattle.vm_model.specs.Moves.{changed_by}
 use Rattle.vm_model.proofs.States.{many_in_order, one_key_list}
-use Rattle.vm_store.specs.declared.types.Round.{Round}
-use Rattle.vm_store.specs.declared.types.Setting.{Setting}
+use Rattle.vm_rounds.specs.declared.types.Round.{Round}
+use Rattle.vm_rounds.specs.declared.types.Setting.{Setting}
 use Rattle.journal_entries.specs.Entries.{said_in}
-use Rattle.vm_store.specs.States.{base_of, is_asked, pairs_in, state_after}
+use Rattle.vm_rounds.specs.States.{base_of, is_asked, pairs_in, state_after}
 
 -- ---- one key
 

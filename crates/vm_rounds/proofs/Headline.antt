@@ -14,11 +14,11 @@ use Rattle.journal_entries.specs.JournalFrames.{commands_among}
 use Rattle.vm_attempt.specs.Journals.{setup_for}
 use Rattle.vm_parts.specs.declared.context.StateMap.{StateMap}
 use Rattle.vm_attempt.specs.Told.{AnswersAreTold, IsKept, written_by}
-use Rattle.vm_store.specs.declared.types.Setting.{Setting}
+use Rattle.vm_rounds.specs.declared.types.Setting.{Setting}
 use Rattle.vm_rounds.specs.Courses.{delivered, start_handed}
 use Rattle.journal_entries.specs.Entries.{journal_entries}
 use Rattle.vm_rounds.specs.Rounds.{EndsTold, Now, ReplaysAndQueues}
-use Rattle.vm_store.specs.Worlds.{IsJournal, fixed_in}
+use Rattle.vm_rounds.specs.Worlds.{IsJournal, fixed_in}
 use Rattle.vm_rounds.proofs.Coursing.{Along, behind_commands, behind_first, delivered_arrived, stored_among}
 use Rattle.journal_entries.proofs.Framing.{AreFrames, entries_append}
 use Rattle.vm_rounds.proofs.Keeping.{Going}

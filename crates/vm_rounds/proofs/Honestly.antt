@@ -32,10 +32,10 @@ use Rattle.vm_attempt.proofs.Pieces.{commands_append}
 use Rattle.vm_attempt.proofs.Replayed.{commands_same, notes_same}
 use Rattle.vm_steps.specs.Heard.{acknowledged_from, proposals_among}
 use Rattle.vm_steps.specs.Record.{all_heard, heard}
-use Rattle.vm_store.specs.declared.types.Setting.{Setting}
+use Rattle.vm_rounds.specs.declared.types.Setting.{Setting}
 use Rattle.journal_entries.specs.Entries.{AreEntries, journal_entries, frame_in, framed_by, journal_frames, may_stand, notes_in}
-use Rattle.vm_store.specs.States.{HaveTextKeys}
-use Rattle.vm_store.specs.Worlds.{IsJournal, fixed_in}
+use Rattle.vm_rounds.specs.States.{HaveTextKeys}
+use Rattle.vm_rounds.specs.Worlds.{IsJournal, fixed_in}
 use Rattle.journal_entries.proofs.Framing.{AreFrames, frames_append, journal_framed, journal_length, join, notes_append, notes_are}
 use Rattle.vm_rounds.specs.Courses.{start_handed}
 use Rattle.vm_rounds.specs.Rounds.{Now, ReplaysAndQueues}

@@ -20,13 +20,13 @@ use Rattle.vm_steps.specs.Stepping.{output_taken}
 use Rattle.vm_attempt.specs.Told.{bytes_in}
 use Rattle.vm_attempt.proofs.Pieces.{commands_append}
 use Rattle.vm_attempt.proofs.Quiet.{proposals_append}
-use Rattle.vm_store.specs.declared.types.Event.{Event}
-use Rattle.vm_store.specs.declared.types.Event.TheVariants as event
+use Rattle.vm_rounds.specs.declared.types.Event.{Event}
+use Rattle.vm_rounds.specs.declared.types.Event.TheVariants as event
 use Rattle.journal_entries.specs.Arrivals.{arrival_fault}
 use Rattle.journal_entries.specs.Entries.{AreEntries, frame_in, framed_by, journal_frames, may_stand, note_in, note_of, notes_in, read_from}
 use Rattle.vm_rounds.specs.Rounds.{ArrivalsDo, Happen, Happens, Now, Pieces, StepHappens}
 use Rattle.journal_entries.specs.Storing.{Stores, stored_as, waits_behind, written_among}
-use Rattle.vm_store.specs.Worlds.{IsJournal}
+use Rattle.vm_rounds.specs.Worlds.{IsJournal}
 use Rattle.journal_entries.proofs.Framing.{AreFrames, entry_framed, frames_append, front_grows, in_front, join, note_no_command, notes_append}
 use Rattle.vm_rounds.proofs.Going.{Hears, IsOpen, Stepped, Takes, TakesAll, all_fed, closes, fed, finishes, keeps_all, prefix_then, stepped}
 use Rattle.vm_rounds.proofs.Once.{has_room, is_new}

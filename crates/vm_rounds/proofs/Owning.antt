@@ -30,13 +30,13 @@ use Rattle.vm_attempt.proofs.Replayed.{honest_fails}
 use Rattle.vm_steps.specs.declared.progress.Progress.{Progress}
 use Rattle.vm_steps.specs.Record.{Record, all_heard, all_said}
 use Rattle.vm_steps.specs.Stepping.{StepDoes, fresh_record}
-use Rattle.vm_store.specs.declared.types.Event.{Event}
-use Rattle.vm_store.specs.declared.types.Event.TheVariants as event
-use Rattle.vm_store.specs.declared.types.Round.{Round}
-use Rattle.vm_store.specs.declared.types.Setting.{Setting}
+use Rattle.vm_rounds.specs.declared.types.Event.{Event}
+use Rattle.vm_rounds.specs.declared.types.Event.TheVariants as event
+use Rattle.vm_rounds.specs.declared.types.Round.{Round}
+use Rattle.vm_rounds.specs.declared.types.Setting.{Setting}
 use Rattle.journal_entries.specs.Entries.{journal_entries}
-use Rattle.vm_store.specs.States.{HaveTextKeys, base_of}
-use Rattle.vm_store.specs.Worlds.{IsJournal, fixed_in, setup_of, start_for}
+use Rattle.vm_rounds.specs.States.{HaveTextKeys, base_of}
+use Rattle.vm_rounds.specs.Worlds.{IsJournal, fixed_in, setup_of, start_for}
 use Rattle.journal_entries.proofs.Framing.{AreFrames}
 use Rattle.vm_rounds.specs.Inside.{may_go_on}
 use Rattle.vm_rounds.specs.Owning.{AreOwn, BringsOwn, OwnOf}

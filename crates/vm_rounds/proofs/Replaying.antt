@@ -33,11 +33,11 @@ use Rattle.invocation_vm.specs.Making.{made}
 use Rattle.vm_steps.specs.Heard.{Heard}
 use Rattle.vm_steps.specs.Record.{Record, heard}
 use Rattle.vm_steps.specs.Stepping.{FeedDoes, StepDoes, fresh_record}
-use Rattle.vm_store.specs.declared.types.Round.{Round}
-use Rattle.vm_store.specs.declared.types.Setting.{Setting}
+use Rattle.vm_rounds.specs.declared.types.Round.{Round}
+use Rattle.vm_rounds.specs.declared.types.Setting.{Setting}
 use Rattle.journal_entries.specs.Entries.{journal_entries, journal_frames}
-use Rattle.vm_store.specs.States.{base_of}
-use Rattle.vm_store.specs.Worlds.{IsJournal, fixed_in, setup_of, start_for, start_message}
+use Rattle.vm_rounds.specs.States.{base_of}
+use Rattle.vm_rounds.specs.Worlds.{IsJournal, fixed_in, setup_of, start_for, start_message}
 use Rattle.journal_entries.proofs.Framing.{AreFrames, join, journal_framed, journal_length, same_front}
 use Rattle.vm_rounds.specs.Rounds.{CompletesOnce, ReplaysAndQueues}
 use Rattle.vm_rounds.proofs.Rounding.{start_framed, start_reads}

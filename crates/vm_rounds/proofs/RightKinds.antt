@@ -29,7 +29,7 @@ use Rattle.journal_entries.specs.declared.completions.Completes.TheVariants as c
 use Rattle.journal_entries.specs.Arrivals.{completes_among, completes_by, if_same, is_invocation_id}
 use Rattle.journal_entries.specs.Completions.{EachOfItsKind, IsOfItsKind, IsOfKind, NoteIsOfItsKind}
 use Rattle.journal_entries.specs.Entries.{journal_entries, journal_frames, note_in, notes_in, said_in}
-use Rattle.vm_store.specs.Worlds.{IsJournal}
+use Rattle.vm_rounds.specs.Worlds.{IsJournal}
 use Rattle.journal_entries.proofs.Framing.{frames_append, said_are}
 use Rattle.vm_rounds.proofs.Completing.{input_carries_none}
 use Rattle.vm_rounds.proofs.Once.{completes_none, completes_not}

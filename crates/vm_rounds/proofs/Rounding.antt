@@ -31,16 +31,16 @@ use Rattle.vm_attempt.specs.Told.{bytes_in}
 use Rattle.vm_attempt.proofs.Advanced.{made_new}
 use Rattle.vm_attempt.proofs.Coming.{made_comes}
 use Rattle.vm_attempt.proofs.Replayed.{commands_same}
-use Rattle.vm_store.specs.declared.types.Event.{Event}
-use Rattle.vm_store.specs.declared.types.Round.{Round}
+use Rattle.vm_rounds.specs.declared.types.Event.{Event}
+use Rattle.vm_rounds.specs.declared.types.Round.{Round}
 use Rattle.journal_entries.specs.declared.fault.RoundFault.{RoundFault}
-use Rattle.vm_store.specs.declared.types.Setting.{Setting}
+use Rattle.vm_rounds.specs.declared.types.Setting.{Setting}
 use Rattle.vm_rounds.specs.Courses.{AreHonest, attempt_of, attempts_of, course_of, start_handed}
 use Rattle.journal_entries.specs.Entries.{journal_entries, journal_frames, notes_in}
 use Rattle.vm_rounds.specs.Rounds.{AreWhole, AttemptDoes, StaysShort, RefusedDoes, ReplaysAndQueues, ReportView, RoundDoes, RoundFaults, RoundsDo, RoundsFault, begin, new_now}
 use Rattle.vm_rounds.specs.Sound.{IsSoundFor}
-use Rattle.vm_store.specs.States.{base_of, state_after}
-use Rattle.vm_store.specs.Worlds.{IsJournal, fixed_in, setup_of, start_for, start_message}
+use Rattle.vm_rounds.specs.States.{base_of, state_after}
+use Rattle.vm_rounds.specs.Worlds.{IsJournal, fixed_in, setup_of, start_for, start_message}
 use Rattle.vm_rounds.proofs.Coursing.{Along, events_go_along}
 use Rattle.journal_entries.proofs.Framing.{AreFrames, entries_append, one_framed, said_are, none_framed}
 use Rattle.vm_rounds.proofs.Handing.{base_in_order, round_all, round_true}

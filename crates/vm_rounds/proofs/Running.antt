@@ -38,13 +38,13 @@ use Rattle.vm_attempt.proofs.Pieces.{commands_append}
 use Rattle.vm_attempt.proofs.Proposed.{arriving_append, arriving_notified, kept_all}
 use Rattle.vm_attempt.proofs.Replayed.{commands_same, head_same, notes_same, tail_same}
 use Rattle.vm_attempt.proofs.Written.{taken_first}
-use Rattle.vm_store.specs.declared.types.Event.{Event}
-use Rattle.vm_store.specs.declared.types.Event.TheVariants as event
-use Rattle.vm_store.specs.declared.types.Setting.{Setting}
+use Rattle.vm_rounds.specs.declared.types.Event.{Event}
+use Rattle.vm_rounds.specs.declared.types.Event.TheVariants as event
+use Rattle.vm_rounds.specs.declared.types.Setting.{Setting}
 use Rattle.vm_rounds.specs.Courses.{delivered, start_handed}
 use Rattle.journal_entries.specs.Entries.{journal_entries, journal_frames, notes_in}
 use Rattle.vm_rounds.specs.Rounds.{Happen, Happens, Now, Pieces, ReplaysAndQueues, StepHappens, StepsHappen}
-use Rattle.vm_store.specs.Worlds.{IsJournal, fixed_in}
+use Rattle.vm_rounds.specs.Worlds.{IsJournal, fixed_in}
 use Rattle.vm_rounds.proofs.Completing.{carried_behind}
 use Rattle.vm_rounds.proofs.Coursing.{delivered_arrived, fed_frames, new_behind}
 use Rattle.journal_entries.proofs.Framing.{AreFrames, frames_append, journal_acknowledges, journal_length, notes_append, notes_are, same_front}

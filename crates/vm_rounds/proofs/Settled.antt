@@ -40,7 +40,7 @@ use Rattle.journal_entries.specs.Arrivals.{completes_among, completes_id, most_e
 use Rattle.journal_entries.specs.Completions.{CompleteOnce, IsOfKind, NoteIsOfItsKind}
 use Rattle.journal_entries.specs.Entries.{AreEntries, frame_in, frame_of, framed_by, journal_frames, may_stand, note_in, note_of, notes_in, read_from, said_in}
 use Rattle.journal_entries.specs.Storing.{StoredCanBeRead, NoneFaults, acknowledgement, answer_to, completion_message, kept_of, proposal_of, stored_as, storing_fault, waits_behind, written_among, written_before}
-use Rattle.vm_store.specs.Worlds.{IsJournal}
+use Rattle.vm_rounds.specs.Worlds.{IsJournal}
 use Rattle.journal_entries.proofs.Framing.{AreFrames, command_no_note, entries_join, frame_back, frames_append, join, none_framed, note_acknowledges_nothing, notes_append, notes_are, one_framed}
 use Rattle.vm_rounds.proofs.Once.{IsNew, absent, carried_more, completed_carried, each_more, not_most, once_more}
 

@@ -15,10 +15,10 @@ use Rattle.vm_model.specs.Versions.{AgreeOn}
 use Rattle.vm_model.proofs.Agreeing.{one_run_same, sound_same}
 use Rattle.vm_model.proofs.Ended.{rounds_are_quiet}
 use Rattle.journal_entries.specs.Entries.{journal_entries}
-use Rattle.vm_store.specs.States.{base_of}
-use Rattle.vm_store.specs.Worlds.{IsJournal, setup_of}
-use Rattle.vm_store.specs.declared.types.Round.{Round}
-use Rattle.vm_store.specs.declared.types.Setting.{Setting}
+use Rattle.vm_rounds.specs.States.{base_of}
+use Rattle.vm_rounds.specs.Worlds.{IsJournal, setup_of}
+use Rattle.vm_rounds.specs.declared.types.Round.{Round}
+use Rattle.vm_rounds.specs.declared.types.Setting.{Setting}
 use Rattle.vm_rounds.specs.Courses.{attempts_of}
 use Rattle.vm_rounds.specs.Rounds.{ReplaysAndQueues, ReportView, RoundsDo}
 use Rattle.vm_rounds.specs.Sound.{IsSoundFor}

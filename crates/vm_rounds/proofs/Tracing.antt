@@ -10,10 +10,10 @@ use Rattle.journal_entries.specs.JournalFrames.{notified_by}
 use Rattle.vm_steps.specs.Heard.{proposals_among, proposals_in}
 use Rattle.vm_attempt.proofs.Quiet.{proposals_append}
 use Rattle.journal_entries.specs.declared.storing.Written.{Written}
-use Rattle.vm_store.specs.declared.types.Event.{Event}
-use Rattle.vm_store.specs.declared.types.Event.TheVariants as event
-use Rattle.vm_store.specs.declared.types.Round.{Round}
-use Rattle.vm_store.specs.declared.types.Setting.{Setting}
+use Rattle.vm_rounds.specs.declared.types.Event.{Event}
+use Rattle.vm_rounds.specs.declared.types.Event.TheVariants as event
+use Rattle.vm_rounds.specs.declared.types.Round.{Round}
+use Rattle.vm_rounds.specs.declared.types.Setting.{Setting}
 use Rattle.journal_entries.specs.Entries.{note_in, notes_in}
 use Rattle.journal_entries.specs.Storing.{Stores, stored_as, written_among, written_from}
 use Rattle.journal_entries.proofs.Framing.{front_grows, in_front, notes_append}

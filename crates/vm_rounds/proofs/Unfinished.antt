@@ -11,8 +11,8 @@ use Rattle.vm_attempt.specs.Courses.OneCall.{Feeding, Closing, Stepping, Telling
 use Rattle.vm_attempt.proofs.Ahead.{HasRunOf}
 use Rattle.vm_attempt.proofs.Executing.{ExecutesNone, call_keeps}
 use Rattle.vm_steps.specs.Record.{Record}
-use Rattle.vm_store.specs.declared.types.Event.{Event}
-use Rattle.vm_store.specs.declared.types.Event.TheVariants as event
+use Rattle.vm_rounds.specs.declared.types.Event.{Event}
+use Rattle.vm_rounds.specs.declared.types.Event.TheVariants as event
 use Rattle.journal_entries.specs.Arrivals.{completes_id}
 use Rattle.vm_rounds.specs.Rounds.{Happen, Happens, Now, Pieces, StepHappens, StepsHappen}
 use Rattle.vm_rounds.proofs.Pending.{ArePending}

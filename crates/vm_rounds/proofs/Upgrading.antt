@@ -23,10 +23,10 @@ use Rattle.vm_model.specs.Histories.{Honest, Knowledge, Made}
 use Rattle.vm_model.specs.HonestRounds.{IsOneRun}
 use Rattle.vm_model.specs.SoundHistories.{SoundHistory}
 use Rattle.vm_model.proofs.Runs.{and_then_some}
-use Rattle.vm_store.specs.declared.types.Setting.{Setting}
+use Rattle.vm_rounds.specs.declared.types.Setting.{Setting}
 use Rattle.journal_entries.specs.Entries.{journal_entries}
-use Rattle.vm_store.specs.States.{base_of}
-use Rattle.vm_store.specs.Worlds.{setup_of}
+use Rattle.vm_rounds.specs.States.{base_of}
+use Rattle.vm_rounds.specs.Worlds.{setup_of}
 use Rattle.vm_rounds.specs.Sound.{IsSoundFor}
 
 -- what a step asks for is the same

@@ -7,12 +7,12 @@ use Rattle.vm_model.specs.Calls.{Meaning}
 use Rattle.vm_steps.specs.Record.{AttemptView}
 use Rattle.invocation_vm.specs.Making.{supported}
 use Rattle.vm_attempt.specs.Fixed.{fixed_of}
-use Rattle.vm_store.specs.declared.types.Event.{Event}
-use Rattle.vm_store.specs.declared.types.Round.{Round}
+use Rattle.vm_rounds.specs.declared.types.Event.{Event}
+use Rattle.vm_rounds.specs.declared.types.Round.{Round}
 use Rattle.journal_entries.specs.declared.fault.RoundFault.{RoundFault}
-use Rattle.vm_store.specs.declared.types.Setting.{Setting}
-use Rattle.vm_store.specs.States.{HaveTextKeys, pairs_for}
-use Rattle.vm_store.specs.Worlds.{IsJournal, start_message}
+use Rattle.vm_rounds.specs.declared.types.Setting.{Setting}
+use Rattle.vm_rounds.specs.States.{HaveTextKeys, pairs_for}
+use Rattle.vm_rounds.specs.Worlds.{IsJournal, start_message}
 use Rattle.vm_rounds.specs.declared.desk.Desk.{Desk}
 use Rattle.vm_rounds.specs.Inside.{the_now}
 use Rattle.vm_rounds.specs.Rounds.{EndsTold, Faults, Happen, Happens, IsRefusal, IsSupported, Now, ReportView, RoundsDo, begin}

@@ -14,12 +14,12 @@ use Rattle.journal_entries.specs.Journal.{Entry, Recorded, Notified}
 use Rattle.journal_protocol.specs.Version.{Version}
 use Rattle.vm_steps.specs.Record.{Record, heard}
 use Rattle.vm_attempt.specs.Told.{arrivals_of, written_by}
-use Rattle.vm_store.specs.declared.types.Event.{Event}
-use Rattle.vm_store.specs.declared.types.Round.{Round}
-use Rattle.vm_store.specs.declared.types.Setting.{Setting}
+use Rattle.vm_rounds.specs.declared.types.Event.{Event}
+use Rattle.vm_rounds.specs.declared.types.Round.{Round}
+use Rattle.vm_rounds.specs.declared.types.Setting.{Setting}
 use Rattle.journal_entries.specs.Entries.{journal_entries, notes_in}
 use Rattle.vm_rounds.specs.Rounds.{Happen, Now, ReportView, RoundDoes, RoundsDo, begin}
-use Rattle.vm_store.specs.Worlds.{setup_of, start_for}
+use Rattle.vm_rounds.specs.Worlds.{setup_of, start_for}
 
 -- The notifications that an attempt was fed after those of its journal; an acknowledgement counts
 -- as the completion of its run.

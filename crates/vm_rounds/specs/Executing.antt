@@ -9,12 +9,12 @@ use Rattle.vm_model.specs.Calls.{Meaning}
 use Rattle.vm_steps.specs.declared.progress.Progress.TheVariants.{ExecuteRun}
 use Rattle.vm_steps.specs.Record.{Record}
 use Rattle.vm_steps.specs.Stepping.{StepDoes}
-use Rattle.vm_store.specs.declared.types.Event.{Event}
-use Rattle.vm_store.specs.declared.types.Round.{Round}
-use Rattle.vm_store.specs.declared.types.Setting.{Setting}
+use Rattle.vm_rounds.specs.declared.types.Event.{Event}
+use Rattle.vm_rounds.specs.declared.types.Round.{Round}
+use Rattle.vm_rounds.specs.declared.types.Setting.{Setting}
 use Rattle.journal_entries.specs.Arrivals.{completes_id}
 use Rattle.journal_entries.specs.Entries.{notes_in}
-use Rattle.vm_store.specs.Worlds.{start_message}
+use Rattle.vm_rounds.specs.Worlds.{start_message}
 use Rattle.vm_rounds.specs.Rounds.{Happen, Now, StepsHappen, begin}
 
 -- At a moment of a round over this journal, after some of its events and some steps, the next step

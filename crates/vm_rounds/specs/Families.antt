@@ -4,9 +4,9 @@ use Rattle.std.specs.Prelude.{◌≡◌, ℕ, false, List, [], ◌∷◌}
 use Rattle.std.specs.List.{AllByRecursion}
 use Rattle.vm_model.specs.Alike.{AlikeHandlers}
 use Rattle.vm_model.specs.Calls.{Meaning}
-use Rattle.vm_store.specs.Worlds.{setup_of}
-use Rattle.vm_store.specs.declared.types.Round.{Round}
-use Rattle.vm_store.specs.declared.types.Setting.{Setting}
+use Rattle.vm_rounds.specs.Worlds.{setup_of}
+use Rattle.vm_rounds.specs.declared.types.Round.{Round}
+use Rattle.vm_rounds.specs.declared.types.Setting.{Setting}
 use Rattle.vm_rounds.specs.Owning.{OwnOf}
 use Rattle.vm_rounds.specs.Rounds.{ReportView, RoundDoes}
 use Rattle.vm_rounds.specs.Sound.{IsSoundFor}

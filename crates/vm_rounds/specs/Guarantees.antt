@@ -8,12 +8,12 @@ use Rattle.vm_model.specs.Histories.{EagerFrom, History, Honest, Whole, after_he
 use Rattle.journal_entries.specs.Journal.{commands_in}
 use Rattle.vm_model.specs.HonestRounds.{IsOneRun}
 use Rattle.journal_entries.specs.Entries.{journal_entries, journal_frames, notes_in}
-use Rattle.vm_store.specs.States.{base_of}
-use Rattle.vm_store.specs.Worlds.{WorldView, setup_of}
-use Rattle.vm_store.specs.declared.types.Report.{Report}
-use Rattle.vm_store.specs.declared.types.Round.{Round}
+use Rattle.vm_rounds.specs.States.{base_of}
+use Rattle.vm_rounds.specs.Worlds.{WorldView, setup_of}
+use Rattle.vm_rounds.specs.declared.types.Report.{Report}
+use Rattle.vm_rounds.specs.declared.types.Round.{Round}
 use Rattle.journal_entries.specs.declared.fault.RoundFault.{RoundFault}
-use Rattle.vm_store.specs.declared.types.Setting.{Setting}
+use Rattle.vm_rounds.specs.declared.types.Setting.{Setting}
 use Rattle.vm_rounds.specs.Courses.{AreHonest}
 use Rattle.vm_rounds.specs.Fresh.{AreFresh}
 use Rattle.vm_rounds.specs.Inside.{report_view}

@@ -5,7 +5,7 @@ use Rattle.vm_steps.specs.declared.progress.Progress.{Progress}
 use Rattle.vm_steps.specs.declared.progress.Progress.TheVariants as progress
 use Rattle.vm_steps.specs.Record.{Record}
 use Rattle.vm_rounds.specs.declared.desk.Desk.{Desk}
-use Rattle.vm_store.specs.declared.types.Report.{Report}
+use Rattle.vm_rounds.specs.declared.types.Report.{Report}
 use Rattle.vm_rounds.specs.Rounds.{Now, ReportView}
 
 -- a round on its way

@@ -10,3 +10,5 @@ pub mod Guarantees
 pub mod Executing
 pub mod Families
 pub mod Origins
+pub mod States
+pub mod Worlds

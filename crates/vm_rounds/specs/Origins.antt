@@ -8,8 +8,8 @@ use Rattle.vm_steps.specs.Heard.{proposals_in}
 use Rattle.journal_entries.specs.Entries.{note_in, notes_in}
 use Rattle.journal_entries.specs.Storing.{stored_as, written_from}
 use Rattle.journal_entries.specs.declared.storing.Written.{Written}
-use Rattle.vm_store.specs.declared.types.Event.TheVariants as event
-use Rattle.vm_store.specs.declared.types.Round.{Round}
+use Rattle.vm_rounds.specs.declared.types.Event.TheVariants as event
+use Rattle.vm_rounds.specs.declared.types.Round.{Round}
 use Rattle.vm_rounds.specs.Rounds.{ReportView}
 
 -- the item stands in this list

@@ -7,10 +7,10 @@ use Rattle.invocation_vm.specs.Making.{supported}
 use Rattle.vm_model.specs.Calls.{Meaning}
 use Rattle.vm_steps.specs.Record.{all_heard, all_said}
 use Rattle.vm_attempt.specs.Blames.{IsOwnError}
-use Rattle.vm_store.specs.declared.types.Event.{Event}
-use Rattle.vm_store.specs.declared.types.Round.{Round}
-use Rattle.vm_store.specs.declared.types.Setting.{Setting}
-use Rattle.vm_store.specs.Worlds.{fixed_in}
+use Rattle.vm_rounds.specs.declared.types.Event.{Event}
+use Rattle.vm_rounds.specs.declared.types.Round.{Round}
+use Rattle.vm_rounds.specs.declared.types.Setting.{Setting}
+use Rattle.vm_rounds.specs.Worlds.{fixed_in}
 use Rattle.vm_rounds.specs.Rounds.{Happen, IsRefusal, Now, ReportView, RoundDoes, RoundsDo, begin}
 
 -- On this course of a round's events: the event that brought the round's error brought this one,

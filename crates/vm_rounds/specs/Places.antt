@@ -5,12 +5,12 @@ use Rattle.journal_protocol.specs.Error.{Error}
 use Rattle.journal_protocol.specs.Frames.{IsWhole}
 use Rattle.invocation_vm.specs.Making.{supported}
 use Rattle.vm_model.specs.Calls.{Meaning}
-use Rattle.vm_store.specs.declared.types.Event.{Event}
-use Rattle.vm_store.specs.declared.types.Round.{Round}
+use Rattle.vm_rounds.specs.declared.types.Event.{Event}
+use Rattle.vm_rounds.specs.declared.types.Round.{Round}
 use Rattle.journal_entries.specs.declared.fault.RoundFault.{RoundFault}
 use Rattle.journal_entries.specs.declared.fault.RoundFault.TheVariants as round_fault
-use Rattle.vm_store.specs.declared.types.Setting.{Setting}
-use Rattle.vm_store.specs.Worlds.{start_message}
+use Rattle.vm_rounds.specs.declared.types.Setting.{Setting}
+use Rattle.vm_rounds.specs.Worlds.{start_message}
 use Rattle.vm_rounds.specs.declared.placed.PlacedFault.{PlacedFault}
 use Rattle.vm_rounds.specs.Rounds.{ArrivalsDo, ArrivalsFault, Faults, Happen, IsRefusal, IsSupported, Now, OutsideFault, ReportView, RoundsDo, begin}
 

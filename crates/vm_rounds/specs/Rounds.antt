@@ -25,17 +25,17 @@ use Rattle.vm_steps.specs.Heard.{proposals_in}
 use Rattle.vm_steps.specs.Record.{Record, bytes_written, heard}
 use Rattle.vm_attempt.specs.Told.{AnswersAreTold, NumbersFreshly, Premises, written_by}
 use Rattle.vm_steps.specs.Stepping.{CloseDoes, FeedDoes, FinishDoes, StepDoes, fresh_record, output_taken}
-use Rattle.vm_store.specs.declared.types.Event.{Event}
-use Rattle.vm_store.specs.declared.types.Event.TheVariants as event
-use Rattle.vm_store.specs.declared.types.Round.{Round}
+use Rattle.vm_rounds.specs.declared.types.Event.{Event}
+use Rattle.vm_rounds.specs.declared.types.Event.TheVariants as event
+use Rattle.vm_rounds.specs.declared.types.Round.{Round}
 use Rattle.journal_entries.specs.declared.fault.RoundFault.{RoundFault}
 use Rattle.journal_entries.specs.declared.fault.RoundFault.TheVariants as round_fault
-use Rattle.vm_store.specs.declared.types.Setting.{Setting}
+use Rattle.vm_rounds.specs.declared.types.Setting.{Setting}
 use Rattle.journal_entries.specs.Arrivals.{arrival_fault, most_entries}
 use Rattle.journal_entries.specs.Entries.{journal_entries}
-use Rattle.vm_store.specs.States.{HaveTextKeys, pairs_for}
+use Rattle.vm_rounds.specs.States.{HaveTextKeys, pairs_for}
 use Rattle.journal_entries.specs.Storing.{FirstFault, Stores, written_from}
-use Rattle.vm_store.specs.Worlds.{fixed_in, start_message}
+use Rattle.vm_rounds.specs.Worlds.{fixed_in, start_message}
 use Rattle.vm_model.specs.Fixed.{Fixed}
 
 -- ---- a round on its way

@@ -2,10 +2,10 @@
 use Rattle.std.specs.Prelude.{ℕ, List}
 use Rattle.vm_model.specs.Calls.{Meaning}
 use Rattle.vm_model.specs.SoundHistories.{SoundHistory}
-use Rattle.vm_store.specs.declared.types.Setting.{Setting}
+use Rattle.vm_rounds.specs.declared.types.Setting.{Setting}
 use Rattle.journal_entries.specs.Entries.{journal_entries}
-use Rattle.vm_store.specs.States.{base_of}
-use Rattle.vm_store.specs.Worlds.{setup_of}
+use Rattle.vm_rounds.specs.States.{base_of}
+use Rattle.vm_rounds.specs.Worlds.{setup_of}
 use Rattle.vm_rounds.specs.Rounds.{ReplaysAndQueues}
 
 -- In this setting recorded commands are replayed and signals queue, and the journal is a sound

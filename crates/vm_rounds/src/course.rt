@@ -10,6 +10,7 @@ ghost use Rattle.vm_rounds.specs.Course.{AreRun, BeginsRound, EndsToldBy, Faults
 
 use crate::desk::{Desk, happen};
 use crate::round::{new_attempt, waiting_bytes};
+use crate::types::{Event, Round, Setting};
 use crate::world::World;
 use bytes::{Bytes, BytesMut};
 use journal_entries::RoundFault;
@@ -18,7 +19,6 @@ use std::alloc::Global;
 use std::marker::Model;
 use stored_journals::WholeJournal;
 use vm_attempt::Attempt;
-use vm_store::types::{Event, Round, Setting};
 use vm_types::Handler;
 
 /// A world's rounds, of which the last may not have ended: its attempt lives then.

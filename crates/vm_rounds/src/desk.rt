@@ -2,10 +2,11 @@
 ghost use Rattle.std.specs.Prelude.{◌≡◌, ◌⊎◌, false, [], ◌∷◌, ◌++◌, drop, take, Some, None, IfOk, IfErr, OnOk};
 ghost use Rattle.journal_entries.specs.Arrivals.{arrival_fault};
 ghost use Rattle.vm_rounds.specs.Rounds.{first_error, memory_of, Happens, EventOutcome};
-ghost use Rattle.vm_store.specs.declared.types.Event.TheVariants as event;
+ghost use Rattle.vm_rounds.specs.declared.types.Event.TheVariants as event;
 ghost use Rattle.journal_entries.specs.declared.fault.RoundFault.TheVariants as round_fault;
 ghost use Rattle.vm_rounds.specs.Inside.{may_go_on, the_now};
 
+use crate::types::Event;
 use await_trees::NotificationHandle;
 use bytes::{Bytes, BytesMut};
 use journal_entries::RoundFault;
@@ -15,7 +16,6 @@ use std::alloc::{AllocError, Global};
 use stored_journals::WholeJournal;
 use vm_attempt::Attempt;
 use vm_steps::Progress;
-use vm_store::types::Event;
 use vm_types::{Handler, RunExitResult, VMResult};
 
 /// A round on its way, but for its attempt.

@@ -1,16 +1,19 @@
-//! A world: an invocation's journal, and rounds of attempts of its handler over it, stopped anywhere. After each list of
-//! rounds the journal is one history of the handler.
+//! A world: an invocation's journal, what a round hands out of it, and rounds of attempts of its handler over it, stopped anywhere. After
+//! each list of rounds the journal is one history of the handler.
 #![tactic(auto)]
 
 mod answers;
 mod course;
 mod desk;
+pub mod handed;
 mod laws;
 mod placed;
 mod played;
 mod replay;
 mod round;
 mod rounds;
+mod types;
+mod values;
 mod world;
 
 pub use course::Course;
@@ -23,5 +26,5 @@ pub use placed::{PlacedFault, StoppedRounds};
 pub use played::play_rounds;
 pub use replay::can_replay;
 pub use rounds::run_rounds;
-pub use vm_store::types::{Event, Identity, Report, Round, Setting};
+pub use types::{Event, Identity, Report, Round, Setting};
 pub use world::World;

@@ -1,8 +1,8 @@
 //! A fault of rounds with its place, and what there is of rounds that it has stopped.
 
+use crate::types::Report;
 use journal_entries::RoundFault;
 use std::fmt;
-use vm_store::types::Report;
 
 /// A fault of rounds, and where it is. Printed for people it counts from 1.
 #[derive(Clone, Copy, Debug, PartialEq, Eq)]

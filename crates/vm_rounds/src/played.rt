@@ -9,8 +9,8 @@ ghost use Rattle.vm_rounds.specs.Rounds.{AreWhole, ReplaysAndQueues, RoundsDo, R
 
 use crate::placed::{PlacedFault, StoppedRounds};
 use crate::round::{EventFault, out_of_memory, run_round};
+use crate::types::{Report, Round};
 use crate::world::World;
-use vm_store::types::{Report, Round};
 use vm_types::Handler;
 
 /// Keeps a report, if there is memory.

@@ -9,11 +9,11 @@ ghost use Rattle.vm_rounds.specs.Guarantees.{HasOneResultEach, HasRightReads, Is
 ghost use Rattle.vm_rounds.specs.Rounds.{ReplaysAndQueues};
 
 use crate::round::{new_attempt, waiting_bytes};
+use crate::types::Round;
 use crate::world::World;
 use journal_entries::RoundFault;
 use plain::Items;
 use vm_attempt::Attempt;
-use vm_store::types::Round;
 use vm_types::Handler;
 
 /// Steps of the attempt until no recorded command is left. `false` if it fails before that, or if this many steps don't do.

@@ -9,19 +9,19 @@ ghost use Rattle.vm_rounds.specs.Inside.{the_now, report_view};
 ghost use Rattle.vm_attempt.specs.Fixed.{fixed_of};
 ghost use Rattle.vm_rounds.specs.Places.{ArrivalFaultsAt, FaultsAt, IsMemoryAside, RefusedStops, RoundStops};
 ghost use Rattle.vm_rounds.specs.Rounds.{new_now, report_of, ArrivalsDo, ArrivalsFault, EndsTold, Happen, IsRefusal, StaysShort, IsSupported, Ran, RefusedDoes, RoundDoes};
-ghost use Rattle.vm_store.specs.States.{HaveTextKeys, pairs_for};
-ghost use Rattle.vm_store.specs.Worlds.{IsJournal, start_message};
+ghost use Rattle.vm_rounds.specs.States.{HaveTextKeys, pairs_for};
+ghost use Rattle.vm_rounds.specs.Worlds.{IsJournal, start_message};
 
 use crate::answers::copy_answers;
 use crate::desk::{Desk, happen};
+use crate::handed::start_bytes;
+use crate::types::{Event, Report, Round, Setting};
 use bytes::{Bytes, BytesMut};
 use journal_entries::RoundFault;
 use journal_protocol::{Decoder, Error, Version};
 use std::alloc::{AllocError, Global};
 use stored_journals::WholeJournal;
 use vm_attempt::{Attempt, ContentType};
-use vm_store::handed::start_bytes;
-use vm_store::types::{Event, Report, Round, Setting};
 use vm_types::{Handler, VMResult};
 
 /// A fault in a round, at the event of this place, counted from 0; without one it is out of memory, before the first event or after

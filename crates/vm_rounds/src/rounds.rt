@@ -6,9 +6,9 @@ ghost use Rattle.vm_rounds.specs.Guarantees.{AttemptsAgree, CanBeReplayed, Error
 ghost use Rattle.vm_rounds.specs.Rounds.{AreWhole, ReplaysAndQueues, RoundsDo, RoundsFault};
 
 use crate::played::play_rounds;
+use crate::types::{Report, Round};
 use crate::world::World;
 use journal_entries::RoundFault;
-use vm_store::types::{Report, Round};
 use vm_types::Handler;
 
 /// Rounds of a handler over a world's journal, one after another, each with a report. The first event that has a fault stops

@@ -2,8 +2,9 @@
 ghost use Rattle.std.specs.Prelude.{◌≡◌, [], ◌∷◌, IfOk, OnOk};
 ghost use Rattle.journal_protocol.specs.Frames.{encoding, IsWhole};
 ghost use Rattle.journal_protocol.specs.Message.TheVariants as message;
-ghost use Rattle.vm_store.specs.Worlds.{pairs_given};
+ghost use Rattle.vm_rounds.specs.Worlds.{pairs_given};
 
+use crate::types::{Identity, Setting};
 use bytes::Bytes;
 use journal_entries::RoundFault;
 use journal_protocol::{Encoder, InputCommand, Message, Version};
@@ -11,7 +12,6 @@ use plain::{Items, Text};
 use std::alloc::{AllocError, Global};
 use std::marker::Model;
 use stored_journals::WholeJournal;
-use vm_store::types::{Identity, Setting};
 use vm_types::VMOptions;
 
 /// An invocation: what all its attempts are made with, and the journal, one frame an entry.
@@ -23,7 +23,7 @@ pub struct World {
 }
 
 impl Model for World {
-    ghost use Rattle.vm_store.specs.Worlds.{IsJournal, WorldView};
+    ghost use Rattle.vm_rounds.specs.Worlds.{IsJournal, WorldView};
 
     ghost Value = { WorldView };
 
@@ -91,8 +91,8 @@ impl World {
     ghost use Rattle.vm_model.specs.Histories.{Honest, Whole};
     ghost use Rattle.vm_model.specs.HonestRounds.{IsOneRun};
     ghost use Rattle.journal_entries.specs.Entries.{journal_entries};
-    ghost use Rattle.vm_store.specs.States.{base_of};
-    ghost use Rattle.vm_store.specs.Worlds.{setup_of};
+    ghost use Rattle.vm_rounds.specs.States.{base_of};
+    ghost use Rattle.vm_rounds.specs.Worlds.{setup_of};
     ghost use Rattle.journal_entries.specs.declared.fault.RoundFault.TheVariants as round_fault;
 
     /// A world whose journal is one Input command, with this state before any command; of several pairs of one key the last

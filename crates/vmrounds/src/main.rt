@@ -1,17 +1,17 @@
 //! `vmrounds`: plays rounds of one invocation from a script on standard input, and prints their report.
 #![tactic(auto)]
 
-use command_lines::asks_for_help;
 use hints::note::round_note;
 use plain::Fault;
 use plans::reading::plan_of;
-use round_reports::run::{run, run_handler};
-use round_reports::run_end::{Ending, Refusal, RunEnd};
-use round_reports::stop::Stop;
+use program_runs::command_line::asks_for_help;
+use program_runs::streams::Plain;
 use std::env::{self, Env};
 use std::io;
 use std::process::ExitCode;
-use streams::Plain;
+use world_scripts::run::{run, run_handler};
+use world_scripts::run_end::{Ending, Refusal, RunEnd};
+use world_scripts::stop::Stop;
 
 const USAGE: &str =
     "usage: vmrounds <content-type> <sleeper|race|parent|counter|deadline|charge|plan STEP..> < script > report";

@@ -1,13 +1,13 @@
 //! `vmrun`: runs one attempt of a handler over the journal on standard input, and writes what the attempt sends.
 #![tactic(auto)]
 
-use command_lines::asks_for_help;
-use run_ends::exit_status::ExitStatus;
+use program_runs::command_line::asks_for_help;
+use program_runs::exit_status::ExitStatus;
+use program_runs::streams::Plain;
 use runner::run::run;
 use std::env::{self, Env};
 use std::io;
 use std::process::ExitCode;
-use streams::Plain;
 
 const USAGE: &str = "usage: vmrun <content-type> <sleeper|race|parent|counter|deadline>";
 

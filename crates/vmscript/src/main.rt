@@ -1,13 +1,13 @@
 //! `vmscript`: drives one VM from a script on standard input, and prints an answer for each of its lines.
 #![tactic(auto)]
 
-use command_lines::asks_for_help;
-use run_ends::exit_status::ExitStatus;
+use program_runs::command_line::asks_for_help;
+use program_runs::exit_status::ExitStatus;
+use program_runs::streams::Plain;
 use scripts::run::run;
 use std::env::{self, Env};
 use std::io;
 use std::process::ExitCode;
-use streams::Plain;
 
 const USAGE: &str = "usage: vmscript < script > transcript";
 

@@ -1,15 +1,15 @@
 // One attempt of a handler, from the bytes of its journal to the bytes of its commands.
 // Rows say what happens to it in turn.
-use attempt_bench::asker::Asker;
-use attempt_bench::frames::AWAITING_ON_SIGNAL_17;
-use attempt_bench::napper::Napper;
-use attempt_bench::told::{
-    Told, attempt_of, expect_answers, expect_error, expect_frames, feed_copy,
-};
 use bytes::Bytes;
 use std::alloc::Global;
 use std::process::Abort;
 use std::test::Fail;
+use test_attempts::asker::Asker;
+use test_attempts::frames::AWAITING_ON_SIGNAL_17;
+use test_attempts::napper::Napper;
+use test_attempts::told::{
+    Told, attempt_of, expect_answers, expect_error, expect_frames, feed_copy,
+};
 use vectors::frames::{
     AWAITING_ON_1, COMPLETION_1, END, ERROR_INPUT_CLOSED, ERROR_KNOWN_ENTRIES, INPUT_TILL,
     OUTPUT_EMPTY, SIGNAL_17, SLEEP_TO_1000, SLEEP_TO_2024, START_0, START_1, START_2, START_3,

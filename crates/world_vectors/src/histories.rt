@@ -1,15 +1,15 @@
 // Whole runs of handlers, replayed from each beginning of their entries.
 // Recorded and written commands together are those of the uncut run, and the answers are the same.
 use crate::cuts::assert_replays;
-use attempt_bench::chooser::Chooser;
-use attempt_bench::frames::{
+use std::test::Fail;
+use test_attempts::chooser::Chooser;
+use test_attempts::frames::{
     CLEAR_A, COMPLETE_1, SET_B, SIGNAL_17_EMPTY, SIGNAL_17_FAILURE, SIGNAL_17_X,
     SUSPENSION_ON_SIGNAL_17,
 };
-use attempt_bench::keeper::Keeper;
-use attempt_bench::told::Told;
-use attempt_bench::whole_runs::{Ending, Entry, Run};
-use std::test::Fail;
+use test_attempts::keeper::Keeper;
+use test_attempts::told::Told;
+use test_attempts::whole_runs::{Ending, Entry, Run};
 use vectors::frames::{
     COMPLETION_1, INPUT_TILL, OUTPUT_EMPTY, OUTPUT_X, SIGNAL_17, SLEEP_TO_1000, SUSPENSION_ON_1,
 };

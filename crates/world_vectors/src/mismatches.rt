@@ -1,16 +1,16 @@
 // Journals of another handler: at each of its commands a handler makes another call than the journal has.
 // It is refused there with one Error frame, and the answers so far stay.
 use crate::cuts::assert_recorded;
-use attempt_bench::chooser::Chooser;
-use attempt_bench::frames::{
+use std::test::Fail;
+use test_attempts::chooser::Chooser;
+use test_attempts::frames::{
     ANOTHER_CLEAR_AT_1, ANOTHER_COMPLETE_AT_1, ANOTHER_OUTPUT_AT_2, ANOTHER_SET_AT_2, CLEAR_A,
     CLEAR_C, COMPLETE_1, COMPLETE_2, NO_CLEAR_AT_1, NO_OUTPUT_AT_2, NO_OUTPUT_AT_4, NO_SET_AT_2,
     NO_SLEEP_AT_2, NO_SLEEP_AT_3, OUTPUT_Y, SET_B, SET_B_TO_Y, SIGNAL_17_X,
 };
-use attempt_bench::keeper::Keeper;
-use attempt_bench::told::Told;
-use attempt_bench::whole_runs::{Ending, Entry, Run};
-use std::test::Fail;
+use test_attempts::keeper::Keeper;
+use test_attempts::told::Told;
+use test_attempts::whole_runs::{Ending, Entry, Run};
 use vectors::frames::{
     COMPLETION_1, ERROR_STATE, INPUT_TILL, OUTPUT_EMPTY, OUTPUT_X, SIGNAL_17, SLEEP_TO_1000,
 };

@@ -1,18 +1,18 @@
 // A handler that is out of memory: the attempt answers that to each further step, and does nothing more.
 // What was written before stays, and no Error frame is added.
 use crate::histories::{CHOSE_SUCCESS, KEPT};
-use attempt_bench::chooser::Chooser;
-use attempt_bench::frames::{CLEAR_A, COMPLETE_1, SET_B};
-use attempt_bench::keeper::Keeper;
-use attempt_bench::starving::Starving;
-use attempt_bench::told::{
-    Told, attempt_of, drive, expect_answers, expect_error, expect_frames, feed_copy,
-};
-use attempt_bench::whole_runs::Run;
 use bytes::Bytes;
 use std::alloc::Global;
 use std::process::Abort;
 use std::test::Fail;
+use test_attempts::chooser::Chooser;
+use test_attempts::frames::{CLEAR_A, COMPLETE_1, SET_B};
+use test_attempts::keeper::Keeper;
+use test_attempts::starving::Starving;
+use test_attempts::told::{
+    Told, attempt_of, drive, expect_answers, expect_error, expect_frames, feed_copy,
+};
+use test_attempts::whole_runs::Run;
 use vectors::frames::{CLEAR_ALL, OUTPUT_EMPTY, OUTPUT_X, SLEEP_TO_1000};
 use vm_attempt::Attempt;
 use vm_types::Handler;

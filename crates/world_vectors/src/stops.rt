@@ -2,12 +2,12 @@
 // nothing stops, each once.
 use crate::bench::Happens::{self, Arrive, Feed, Step, Store};
 use crate::bench::{assert_journal, played};
-use attempt_bench::chooser::Chooser;
-use attempt_bench::frames::{CLEAR_A, COMPLETE_1, SET_B, SIGNAL_17_X};
-use attempt_bench::keeper::Keeper;
 use std::alloc::Global;
 use std::process::Abort;
 use std::test::Fail;
+use test_attempts::chooser::Chooser;
+use test_attempts::frames::{CLEAR_A, COMPLETE_1, SET_B, SIGNAL_17_X};
+use test_attempts::keeper::Keeper;
 use vectors::frames::{COMPLETION_1, INPUT_TILL, OUTPUT_EMPTY, OUTPUT_X, SLEEP_TO_1000};
 use vm_types::Handler;
 

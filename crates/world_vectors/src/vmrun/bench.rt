@@ -1,10 +1,10 @@
 // What rows over runs of `vmrun` share.
-use run_ends::exit_status::ExitStatus;
+use program_runs::exit_status::ExitStatus;
+use program_runs::streams::Plain;
 use runner::run::run;
 use std::alloc::Global;
 use std::io::Cursor;
 use std::process::Abort;
-use streams::Plain;
 
 pub const V7: &str = "application/vnd.restate.invocation.v7";
 

@@ -6,7 +6,7 @@ use crate::vmrun::frames::{
     OUTPUT_TIMEOUT, PARENT_WAITS, PARENT_WAITS_FOR_4, RACE_WAITS, RESULT_2, RESULT_3, RESULT_4,
     START_5, START_6, START_7, SUSPENSION_FOR_1, SUSPENSION_FOR_2, SUSPENSION_FOR_3, VOID_3,
 };
-use run_ends::exit_status::ExitStatus;
+use program_runs::exit_status::ExitStatus;
 use std::alloc::Global;
 use std::process::Abort;
 use std::test::Fail;

@@ -1,7 +1,7 @@
 // Runs of the handler `counter` over the counts that it finds. The frames are put together from the layout: the type's
 // number in two bytes, and the body with its length in eight bytes in front, as each text has.
 use crate::vmrun::bench::assert_written;
-use run_ends::exit_status::ExitStatus;
+use program_runs::exit_status::ExitStatus;
 use std::alloc::{AllocError, Global};
 use std::process::Abort;
 use std::test::Fail;

@@ -1,13 +1,13 @@
 // Runs over readers and writers in memory: how each ends, and what it read and wrote.
 use crate::vmrun::bench::V7;
-use run_ends::exit_status::ExitStatus;
+use program_runs::exit_status::ExitStatus;
+use program_runs::streams::{Plain, Sink, Source};
 use runner::run::run;
 use runner::run_end::{AttemptEnd, Refusal, RunEnd};
 use std::alloc::Global;
 use std::io::{self, Cursor, ErrorKind, Read, Write};
 use std::process::Abort;
 use std::test::Fail;
-use streams::{Plain, Sink, Source};
 use vectors::frames::{
     COMPLETION_1, END, ERROR_INPUT_CLOSED, INPUT_TILL, OUTPUT_EMPTY, SLEEP_TO_1000, SLEEP_TO_2024,
     START_1, START_2, START_3, SUSPENSION_ON_1, TYPE_MISMATCH, UNCOMPLETED,

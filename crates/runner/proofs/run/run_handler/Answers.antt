@@ -1,7 +1,7 @@
 use Rattle.std.proofs.Common.{Some, refl, subst}
 use Rattle.std.specs.Io.KnownBytes.{Appends}
 use Rattle.invocation_vm.specs.Making.{version_in}
-use Rattle.streams.specs.Streams.{AppendsSome}
+use Rattle.program_runs.specs.Streams.{AppendsSome}
 use Rattle.runner.proofs.Driving.{all_left, served_of}
 use Rattle.runner.proofs.run.run_handler.Goals as goal
 

@@ -1,6 +1,6 @@
 use Rattle.vm_rounds.proofs.Completing.{completes_once_too}
-use Rattle.vm_store.specs.States.{base_of}
-use Rattle.vm_store.specs.Worlds.{setup_of}
+use Rattle.vm_rounds.specs.States.{base_of}
+use Rattle.vm_rounds.specs.Worlds.{setup_of}
 use Rattle.vm_rounds.proofs.Takeover.{one_run_over, replayable_over, rounds_over, reads_over, undisturbed_over}
 use Rattle.vm_rounds.proofs.laws.versions_take_over.Goals as goal
 

@@ -3,7 +3,7 @@ use Rattle.std.proofs.lemmas.List.{take_all}
 use Rattle.vm_rounds.specs.Rounds.{RoundDoes, RoundsDo}
 use Rattle.vm_rounds.specs.Places.{RoundStops}
 use Rattle.vm_rounds.specs.Inside.{report_view}
-use Rattle.vm_store.specs.Worlds.{IsJournal, WorldView}
+use Rattle.vm_rounds.specs.Worlds.{IsJournal, WorldView}
 use Rattle.vm_rounds.specs.Sound.{IsSoundFor}
 use Rattle.vm_rounds.proofs.Agreeing.{sound_rounds_agree}
 use Rattle.vm_rounds.proofs.Completing.{completes_once}

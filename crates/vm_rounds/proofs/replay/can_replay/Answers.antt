@@ -2,8 +2,8 @@ use Rattle.std.proofs.Common.{false, rules, ap, ◌∙◌, sym, subst}
 use Rattle.vm_model.specs.Histories.{EagerFrom, History, after_head}
 use Rattle.journal_entries.specs.Journal.{commands_in}
 use Rattle.journal_entries.specs.Entries.{journal_entries}
-use Rattle.vm_store.specs.States.{base_of}
-use Rattle.vm_store.specs.Worlds.{IsJournal, WorldView, setup_of}
+use Rattle.vm_rounds.specs.States.{base_of}
+use Rattle.vm_rounds.specs.Worlds.{IsJournal, WorldView, setup_of}
 use Rattle.vm_rounds.specs.Rounds.{CompletesOnce, ReplaysAndQueues}
 use Rattle.vm_rounds.proofs.Completing.{completes_once_too}
 use Rattle.vm_rounds.proofs.Replaying.{checked_history}

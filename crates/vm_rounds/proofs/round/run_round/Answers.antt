@@ -2,7 +2,7 @@ use Rattle.std.proofs.Common.{◌⊎◌, inr, subst}
 use Rattle.vm_rounds.specs.Inside.{report_view}
 use Rattle.vm_rounds.specs.Rounds.{Ran, RefusedDoes, RoundDoes, new_now}
 use Rattle.vm_rounds.specs.Places.{FaultsAt, IsMemoryAside, RoundStops}
-use Rattle.vm_store.specs.Worlds.{IsJournal}
+use Rattle.vm_rounds.specs.Worlds.{IsJournal}
 use Rattle.vm_rounds.proofs.Beginning.{if_err_then, if_ok_then, round_does, round_short, round_stops}
 use Rattle.vm_rounds.proofs.Rounding.{round_grows}
 use Rattle.vm_rounds.proofs.round.run_round.Goals as goal

@@ -1,5 +1,5 @@
 use Rattle.std.proofs.Common.{◌≡◌}
-use Rattle.vm_store.specs.Worlds.{pairs_given}
+use Rattle.vm_rounds.specs.Worlds.{pairs_given}
 use Rattle.vm_rounds.proofs.world.base_pairs.Given as goal
 
 abbrev pub invariant-loop-key : goal.invariant-loop-key

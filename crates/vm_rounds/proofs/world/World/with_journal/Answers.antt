@@ -1,5 +1,5 @@
 use Rattle.std.proofs.Common.{sym, subst}
-use Rattle.vm_store.specs.Worlds.{IsJournal}
+use Rattle.vm_rounds.specs.Worlds.{IsJournal}
 use Rattle.vm_rounds.proofs.Given.{given_is}
 use Rattle.vm_rounds.proofs.RightKinds.{history_kinds}
 use Rattle.vm_rounds.proofs.world.World.with_journal.Goals as goal

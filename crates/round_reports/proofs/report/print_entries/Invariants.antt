@@ -1,5 +1,0 @@
-use Rattle.round_reports.specs.Printed.{AddsSome}
-use Rattle.round_reports.proofs.report.print_entries.Given as goal
-
-abbrev pub invariant-loop-entry : goal.invariant-loop-entry
-invariant-loop-entry l = AddsSome l.initial.report l.report

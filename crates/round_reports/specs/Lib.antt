@@ -1,3 +1,0 @@
-pub mod Statuses
-pub mod Printed
-pub mod Runs

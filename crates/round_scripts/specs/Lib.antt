@@ -1,4 +1,0 @@
-pub mod Worlds
-pub mod Rounds
-pub mod Said
-pub mod Scripts

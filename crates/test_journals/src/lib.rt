@@ -1,0 +1,9 @@
+//! Journals as their writers know them. Rows of stored journals: what is loaded, arrives and was written, with the entries, answers and
+//! faults that the rules of storing give. And a second layer of bytes below the same interface, with one attempt over it, whole.
+#![tactic(auto)]
+
+#[cfg(test)]
+mod attempts;
+#[cfg(test)]
+mod rows;
+pub mod short;

@@ -1,0 +1,14 @@
+use Rattle.std.proofs.Common.{[], arith, codes, take}
+use Rattle.std.proofs.lemmas.Grind.{common_steps}
+use Rattle.lines.specs.Fields.{texts_named}
+use Rattle.lines.proofs.Naming.{texts_none, texts_some}
+use Rattle.world_scripts.proofs.Gathering.{keys_more}
+use Rattle.world_scripts.proofs.opening.keys_in.Goals.{in-Some+in_ok-text_of+in_ok-push, in_default}
+use Rattle.world_scripts.proofs.opening.keys_in.Goals as goal
+
+pub loop-word-preserved : goal.loop-word-preserved
+loop-word-preserved c = elim c.match-text_behind.branch [
+  | in-Some+in_ok-text_of+in_ok-push w ↦ keys_more (texts_named (codes "key=") (take c.loop-word.word-index c.args.words.now)) _ w.in-Some.text.now c.loop-word.keys c.match-text_behind.keys w.in_ok-text_of.field-0
+      c.loop-word.invariant (texts_some (codes "key=") c.args.words.now c.loop-word.word-index (record { ref_ptr = (0, 0); now = [] }) w.in-Some.text.now (grind (arith, common_steps)) (grind (arith, common_steps))) w.in_ok-text_of.ensures.value (grind (arith, common_steps))
+  | in_default w ↦ grind (arith, common_steps, texts_none)
+]
