@@ -1,5 +1,5 @@
-//! A VM, and a stored journal, for callers of C: the functions that C calls. What each does stands in `sessions`, `typed_calls`,
-//! `held_journals` and `frame_calls`.
+//! A VM, and a stored journal, for callers of C: the functions that C calls. What each does stands in `sessions`, `session_lines`,
+//! `typed_calls`, `held_journals` and `frame_calls`.
 #![tactic(auto)]
 
 mod frames;
@@ -7,9 +7,11 @@ mod journals;
 mod typed;
 
 ghost use Rattle.std.specs.Prelude.{◌≡◌, ◌≤◌, None};
-ghost use Rattle.sessions.specs.Sessions.{AnswerRead, InputFed, IsNewSession, LineSent, OutputTaken};
+ghost use Rattle.session_lines.specs.Lines.{LineSent};
+ghost use Rattle.sessions.specs.Sessions.{AnswerRead, InputFed, IsNewSession, OutputTaken};
 ghost use Rattle.sessions.specs.Statuses.{status_named};
 
+use session_lines::perform_line;
 use sessions::{Told, Vm, calls};
 use std::alloc::Global;
 
@@ -29,7 +31,7 @@ pub extern "C" fn palqytun_line(alloc: Global, vm: &mut Vm, line: &[u8]) -> Told
         vm.new.value }
     ensures known { result.status ≤ 9 }
 {
-    calls::perform_line(alloc, vm, line)
+    perform_line(alloc, vm, line)
 }
 
 /// Writes the last answer to the front of `out`, if it has room for it. Returns the answer's length either way.

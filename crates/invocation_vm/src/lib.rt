@@ -11,4 +11,5 @@ mod vm;
 
 pub use core_vm::CoreVM;
 pub use feed::any_cut;
+pub use versions::version_in;
 pub use vm::VM;

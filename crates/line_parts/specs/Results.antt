@@ -6,7 +6,6 @@ use Rattle.journal_protocol.specs.Error.{Error}
 use Rattle.retries.specs.declared.policy.RetryPolicy.TheVariants as policy
 use Rattle.vm_types.specs.declared.runs.RunExitResult.{RunExitResult}
 use Rattle.vm_types.specs.declared.runs.RunExitResult.TheVariants as exit
-use Rattle.vm_types.specs.declared.values.NonEmptyValue.{NonEmptyValue}
 use Rattle.vm_types.specs.declared.values.NonEmptyValue.TheVariants as value
 use Rattle.line_parts.specs.declared.results.Proposal.{Proposal}
 use Rattle.lines.specs.Fields.{IsSet, are_named, is_named, texts_named}
@@ -29,11 +28,6 @@ pub record IsRetryable (words : List (Bor (List ℕ))) (failed : Duration × Err
   pub duration : IsTime (text_at 0 words) failed.0
   pub error : IsError (drop 1 words) failed.1
   pub only : are_named retryable_names (drop 3 words) ≡ true
-
--- the result that a value is
-abbrev pub exit_of_value : NonEmptyValue → RunExitResult
-exit_of_value (value.Success bytes) = exit.Success bytes
-exit_of_value (value.Failure failure) = exit.TerminalFailure failure
 
 -- the words are a result, with or without a policy: a value, in front of the policy, or `retryable`
 -- and the failure's details

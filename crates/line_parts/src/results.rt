@@ -2,7 +2,7 @@
 ghost use Rattle.std.specs.Prelude.{◌≡◌, IfErr, IfOk};
 ghost use Rattle.lines.specs.Readings.{Blames};
 ghost use Rattle.lines.specs.Fields.{are_named};
-ghost use Rattle.line_parts.specs.Results.{IsProposal, IsResult, IsRetryable, is_policy, retryable_names, exit_of_value};
+ghost use Rattle.line_parts.specs.Results.{IsProposal, IsResult, IsRetryable, is_policy, retryable_names};
 ghost use Rattle.line_parts.specs.Values.{but_last};
 
 use crate::policies::policy_in;
@@ -16,7 +16,7 @@ use plain::Fault;
 use retries::RetryPolicy;
 use std::alloc::Global;
 use std::time::Duration;
-use vm_types::{NonEmptyValue, RunExitResult};
+use vm_types::RunExitResult;
 
 /// The result of a run, as it is proposed.
 #[derive(Drop)]
@@ -60,16 +60,6 @@ fn before_policy<'w, 'a>(words: &'w [&'a [u8]]) -> &'w [&'a [u8]]
     words
 }
 
-/// The result that a value is.
-fn settled(value: NonEmptyValue) -> RunExitResult
-    ensures { result ≡ exit_of_value value }
-{
-    match value {
-        NonEmptyValue::Success(bytes) => RunExitResult::Success(bytes),
-        NonEmptyValue::Failure(failure) => RunExitResult::TerminalFailure(failure),
-    }
-}
-
 /// `V`, or `retryable` and the failure's details, with or without a policy.
 #[tactic(auto, using(crate::proofs::Proposing::retryable_blamed, crate::proofs::Proposing::value_blamed, crate::proofs::Proposing::nothing_blamed))]
 fn result_of(alloc: Global, words: &[&[u8]]) -> Result<RunExitResult, Fault>
@@ -87,7 +77,7 @@ fn result_of(alloc: Global, words: &[&[u8]]) -> Result<RunExitResult, Fault>
         });
     }
     let value = value_of(alloc, before_policy(words))?;
-    Ok(settled(value))
+    Ok(RunExitResult::of_value(value))
 }
 
 /// `H RESULT [policy=P]`.

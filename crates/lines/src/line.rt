@@ -5,6 +5,7 @@ ghost use Rattle.std.specs.Fmt.{decimal};
 ghost use Rattle.std.specs.List.{flat_map};
 ghost use Rattle.lines.specs.Atoms.{in_hex, printed_byte, quoted, hexed};
 
+use plain::Text;
 use std::alloc::{AllocError, Global};
 use std::marker::Model;
 
@@ -71,6 +72,13 @@ impl Line {
         ensures { result.now ≡ self.now }
     {
         self.text.as_str()
+    }
+
+    /// What was written, as a text.
+    pub fn into_text(self) -> Text
+        ensures { result ≡ self }
+    {
+        Text::from_string(self.text)
     }
 
     /// Writes a word as it is.

@@ -1,6 +1,6 @@
 //! A text by its lines, one after another.
-ghost use Rattle.std.specs.Prelude.{◌<◌, length};
-ghost use Rattle.lines.specs.Text.{IsFirstLine};
+ghost use Rattle.std.specs.Prelude.{◌≡◌, ◌<◌, length};
+ghost use Rattle.lines.specs.Text.{IsFirstLine, says_nothing};
 
 use memchr::memchr;
 
@@ -15,4 +15,12 @@ pub fn first_line(text: &[u8]) -> (&[u8], &[u8])
         Some(at) => (&text[..at], &text[at + 1..]),
         None => (text, &text[text.len()..]),
     }
+}
+
+/// Whether a line without blanks at its ends is empty or a comment.
+#[tactic(auto, unfolding(crate::specs::Text::says_nothing))]
+pub fn is_silent(line: &[u8]) -> bool
+    ensures { result ≡ says_nothing line.now }
+{
+    line.is_empty() || line.starts_with(b"#")
 }

@@ -3,9 +3,9 @@ use Rattle.std.specs.Prelude.{◌≡◌, ◌⊎◌, ℕ, List, string_bytes}
 use Rattle.std.specs.List.{AllZip}
 use Rattle.std.proofs.Common.{Global}
 use Rattle.std.specs.declared.string.String.{String}
-use Rattle.requests.specs.Lines.{IsRequestLine}
-use Rattle.requests.specs.declared.request.Call.TheVariants as call
-use Rattle.requests.specs.declared.request.Request.TheVariants as request
+use Rattle.call_lines.specs.Lines.{IsRequestLine}
+use Rattle.vm_types.specs.declared.call.Call.TheVariants as call
+use Rattle.call_lines.specs.declared.request.Request.TheVariants as request
 use Rattle.vm_types.specs.declared.steps.Step.{Step}
 use Rattle.vm_types.specs.declared.steps.Step.TheVariants as step
 use Rattle.plans.specs.declared.planned.Planned.{Planned}

@@ -4,11 +4,11 @@ ghost use Rattle.plans.specs.Said.{AreSaid, SaysStep};
 
 use crate::plan::Plan;
 use crate::planned::Planned;
+use call_lines::parse::parse;
+use call_lines::request::Request;
 use plain::Fault;
-use requests::parse::parse;
-use requests::request::{Call, Request};
 use std::alloc::Global;
-use vm_types::Step;
+use vm_types::{Call, Step};
 
 /// The step that a line says. `Malformed` if it says none.
 fn step_of(alloc: Global, line: &str) -> Result<Step, Fault>

@@ -4,10 +4,10 @@ use Rattle.std.proofs.Common.{Global}
 use Rattle.std.specs.Io.KnownBytes.{Appends}
 use Rattle.program_runs.specs.Streams.{AppendsSome}
 use Rattle.invocation_vm.specs.declared.core_vm.CoreVM.{CoreVM}
-use Rattle.requests.specs.declared.request.Request.{Request}
-use Rattle.replies.specs.declared.reply.Reply.{Reply}
-use Rattle.requests.specs.Lines.{IsRequestLine}
-use Rattle.replies.specs.Replies.{reply_text}
+use Rattle.call_lines.specs.declared.request.Request.{Request}
+use Rattle.vm_types.specs.declared.reply.Reply.{Reply}
+use Rattle.call_lines.specs.Lines.{IsRequestLine}
+use Rattle.call_lines.specs.Replies.{reply_text}
 use Rattle.lines.specs.Text.{AreFirstLines, IsFirstLine}
 use Rattle.scripts.specs.Performed.{Performed}
 

@@ -6,12 +6,12 @@ ghost use Rattle.scripts.specs.Transcripts.{IsUnanswered, Transcribes};
 
 use crate::perform::perform;
 use crate::run_end::RunEnd;
+use call_lines::Shown;
+use call_lines::parse::parse;
 use invocation_vm::CoreVM;
 use lines::line::Line;
 use lines::text::first_line;
 use program_runs::streams::{Sink, Source};
-use replies::Shown;
-use requests::parse::parse;
 use std::alloc::{AllocError, Global};
 
 /// How many words a line has room for at once.

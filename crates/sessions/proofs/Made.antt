@@ -4,7 +4,7 @@ use Rattle.std.specs.Prelude.{Result, Ok, Err}
 use Rattle.invocation_vm.specs.declared.core_vm.CoreVM.{CoreVM}
 use Rattle.invocation_vm.specs.Seen.{seen}
 use Rattle.invocation_vm.specs.Views.{View}
-use Rattle.replies.specs.declared.reply.Reply.{Reply}
+use Rattle.vm_types.specs.declared.reply.Reply.{Reply}
 use Rattle.sessions.specs.declared.replied.Replied.{Replied}
 use Rattle.sessions.specs.declared.status.Status.{Status}
 use Rattle.sessions.specs.Calls.{IsCalled}

@@ -4,11 +4,11 @@ use Rattle.std.proofs.Common.{Global}
 use Rattle.journal_protocol.specs.Error.{Error}
 use Rattle.journal_protocol.specs.Version.{Version}
 use Rattle.vm_types.specs.declared.options.VMOptions.{VMOptions}
-use Rattle.scripts.specs.Performed.{VmIsMade}
+use Rattle.vm_calls.specs.Making.{VmIsMade}
 use Rattle.invocation_vm.specs.declared.core_vm.CoreVM.{CoreVM}
 use Rattle.invocation_vm.specs.Seen.{seen}
 use Rattle.invocation_vm.specs.Views.{View}
-use Rattle.replies.specs.declared.reply.Reply.{Reply}
+use Rattle.vm_types.specs.declared.reply.Reply.{Reply}
 use Rattle.sessions.specs.declared.replied.Replied.{Replied}
 use Rattle.sessions.specs.declared.session.Session.{Session}
 use Rattle.sessions.specs.declared.status.Status.{Status}

@@ -17,8 +17,8 @@ use Rattle.vm_types.specs.declared.values.Input.{Input}
 use Rattle.vm_types.specs.declared.values.TerminalFailure.{TerminalFailure}
 use Rattle.vm_types.specs.declared.values.Value.{Value}
 use Rattle.vm_types.specs.declared.values.Value.TheVariants as value
-use Rattle.replies.specs.declared.reply.Reply.{Reply}
-use Rattle.replies.specs.declared.reply.Reply.TheVariants as reply
+use Rattle.vm_types.specs.declared.reply.Reply.{Reply}
+use Rattle.vm_types.specs.declared.reply.Reply.TheVariants as reply
 use Rattle.sessions.specs.declared.kind.Kind.{Kind}
 use Rattle.sessions.specs.declared.kind.Kind.TheVariants as kind
 use Rattle.sessions.specs.declared.replied.Replied.{Replied}

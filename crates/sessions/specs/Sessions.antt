@@ -1,13 +1,11 @@
 -- What a call from C does to the session that it is given.
 use Rattle.std.specs.Prelude.{◌≡◌, ◌⊎◌, ◌<◌, ◌++◌, ℕ, List, [], length, drop, Option, Some, None, Ok}
 use Rattle.std.specs.List.{concat}
-use Rattle.std.proofs.Common.{Global}
 use Rattle.vm_parts.specs.Outboxes.{len_of}
 use Rattle.invocation_vm.specs.declared.core_vm.CoreVM.{CoreVM}
 use Rattle.invocation_vm.specs.Seen.{seen}
 use Rattle.invocation_vm.specs.Views.{StarvesAmong, TakesOutput, after_input, messages_in_bytes}
-use Rattle.scripts.specs.Transcripts.{IsUnanswered, Transcribes}
-use Rattle.replies.specs.declared.reply.Reply.TheVariants as reply
+use Rattle.vm_types.specs.declared.reply.Reply.TheVariants as reply
 use Rattle.sessions.specs.declared.session.Session.{Session}
 use Rattle.sessions.specs.declared.status.Status.{Status}
 use Rattle.sessions.specs.declared.status.Status.TheVariants as status
@@ -21,22 +19,6 @@ abbrev pub IsNewSession : Status → Option Session → Type 0
 IsNewSession status.Done (Some made) = IsEmpty made
 IsNewSession status.NoMemory None = Unit {0}
 IsNewSession told made = ⊥
-
--- A line was performed on the session's VM, and its answer is the session's. Without memory the
--- last answer stays, and the VM is as it was, or the line was performed.
-abbrev pub LineDone : Global → List ℕ → Status → Session → Session → Type 0
-LineDone alloc line status.Done old new =
-    Transcribes alloc old.vm new.vm line new.answer × (new.reply ≡ old.reply)
-LineDone alloc line status.NoMemory old new =
-    (new.answer ≡ old.answer) × IsUnanswered alloc old.vm new.vm line × (new.reply ≡ old.reply)
-LineDone alloc line told old new = ⊥
-
--- A line is performed on the session that there is; `len` is the length of its answer.
-abbrev pub LineSent : Global → List ℕ → Status → ℕ → Option Session → Option Session → Type 0
-LineSent alloc line status.NoSession len None None = len ≡ 0
-LineSent alloc line told len (Some old) (Some new) = LineDone alloc line told old new
-    × (len ≡ length new.answer)
-LineSent alloc line told len old new = ⊥
 
 -- The last answer is written to the front of the room for it, if there is so much.
 abbrev pub AnswerRead : Status → ℕ → List ℕ → List ℕ → Option Session → Type 0

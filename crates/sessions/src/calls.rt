@@ -1,7 +1,7 @@
-//! What each call from C does: a line is performed on a session's VM, and answered by a line; bytes go in and come out as they are.
+//! What each call from C does: bytes go in and come out as they are, and the answer to the last line is read.
 ghost use Rattle.std.specs.Prelude.{◌≡◌, ◌≤◌, None, Some};
 ghost use Rattle.std.specs.Option.{MatchOption};
-ghost use Rattle.sessions.specs.Sessions.{AnswerRead, InputFed, IsNewSession, LineSent, OutputTaken};
+ghost use Rattle.sessions.specs.Sessions.{AnswerRead, InputFed, IsNewSession, OutputTaken};
 ghost use Rattle.sessions.specs.Statuses.{status_named};
 
 use crate::held::{Vm, empty, hide, show};
@@ -19,7 +19,7 @@ pub struct Told {
 }
 
 /// What a call returns to C: a status, and a length.
-pub(crate) fn tell(status: Status, len: usize) -> Told
+pub fn tell(status: Status, len: usize) -> Told
     ensures status { status_named result.status ≡ status }
     ensures known { result.status ≤ 9 }
     ensures len { result.len ≡ len }
@@ -31,7 +31,7 @@ pub(crate) fn tell(status: Status, len: usize) -> Told
 }
 
 /// Takes the session out of the hands of C.
-pub(crate) fn take(alloc: Global, vm: &mut Vm) -> Option<Box<Session>>
+pub fn take(alloc: Global, vm: &mut Vm) -> Option<Box<Session>>
     ensures emptied { vm.new.value ≡ None }
     ensures taken { MatchOption result (vm.old.value ≡ None) (λ session. vm.old.value
         ≡ Some session.value) }
@@ -43,7 +43,7 @@ pub(crate) fn take(alloc: Global, vm: &mut Vm) -> Option<Box<Session>>
 }
 
 /// Puts a session into the hands of C. One that was there is dropped.
-pub(crate) fn give(alloc: Global, vm: &mut Vm, session: Box<Session>)
+pub fn give(alloc: Global, vm: &mut Vm, session: Box<Session>)
     ensures { vm.new.value ≡ Some session.value }
 {
     let former = std::mem::replace(vm, hide(Loose::of(session)));
@@ -64,23 +64,6 @@ pub fn open(alloc: Global, vm: &mut Vm) -> u32
             Status::Done.code()
         }
         Err(_) => Status::NoMemory.code(),
-    }
-}
-
-/// Performs a line. Returns the length of its answer, which `read_answer` reads.
-pub fn perform_line(alloc: Global, vm: &mut Vm, line: &[u8]) -> Told
-    ensures sent { LineSent alloc line.now (status_named result.status) result.len vm.old.value
-        vm.new.value }
-    ensures known { result.status ≤ 9 }
-{
-    match take(alloc, vm) {
-        Some(mut session) => {
-            let status = session.send(alloc, line);
-            let len = session.answer.as_str().len();
-            give(alloc, vm, session);
-            tell(status, len)
-        }
-        None => tell(Status::NoSession, 0),
     }
 }
 

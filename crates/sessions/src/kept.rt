@@ -1,7 +1,7 @@
 //! The reply to a call is kept in the place of the last, and summed up for C.
 ghost use Rattle.std.specs.Prelude.{◌≡◌};
-ghost use Rattle.replies.specs.declared.reply.Reply.TheVariants as reply;
-ghost use Rattle.scripts.specs.Called.{reply_of};
+ghost use Rattle.vm_types.specs.declared.reply.Reply.TheVariants as reply;
+ghost use Rattle.vm_calls.specs.Called.{reply_of};
 ghost use Rattle.sessions.specs.Replies.{in_taken, part_len, part_of, summary};
 ghost use Rattle.vm_types.specs.declared.steps.Answer.TheVariants as answer;
 
@@ -9,9 +9,8 @@ use crate::kind::Kind;
 use crate::parts::{in_taken, part_of};
 use crate::replied::{Replied, numbered, tell, tell_response, tell_taken};
 use await_trees::NotificationHandle;
-use replies::Reply;
 use std::mem::{forget, replace};
-use vm_types::{Answer, AwaitResponse, VMResult, Value};
+use vm_types::{Answer, AwaitResponse, Reply, VMResult, Value};
 
 /// Whether a reply may own memory: `false` only if it is known to be of numbers alone.
 fn may_hold_memory(reply: &Reply) -> bool {

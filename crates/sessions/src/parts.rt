@@ -5,8 +5,7 @@ ghost use Rattle.sessions.specs.Replies.{one_part, in_answer, in_error, in_failu
 
 use journal_protocol::{Error, Header};
 use plain::Text;
-use replies::Reply;
-use vm_types::{Answer, Input, TerminalFailure, Value};
+use vm_types::{Answer, Input, Reply, TerminalFailure, Value};
 
 /// The bytes of a text.
 fn bytes_of(text: &Text) -> &[u8]

@@ -5,8 +5,7 @@ ghost use Rattle.sessions.specs.Replies.{with_rows, error_told, error_numbers, f
 use crate::kind::Kind;
 use crate::status::Status;
 use journal_protocol::{Error, Version};
-use replies::Reply;
-use vm_types::{Answer, AwaitResponse, State, Value};
+use vm_types::{Answer, AwaitResponse, Reply, State, Value};
 
 /// What C is given at once of a reply: how the call ended, what the reply is, the numbers in it, how many keys or pairs it has, and the
 /// length of its first part.

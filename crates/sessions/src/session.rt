@@ -1,11 +1,11 @@
 //! One VM, its last answer to a line, and its last reply to a call.
 ghost use Rattle.std.specs.Prelude.{◌≡◌, Some, codes};
 ghost use Rattle.invocation_vm.specs.Making.{version_in};
-ghost use Rattle.requests.specs.ContentTypes.{header_under};
-ghost use Rattle.scripts.specs.Performed.{VmIsMade};
+ghost use Rattle.vm_types.specs.ContentTypes.{header_under};
+ghost use Rattle.vm_calls.specs.Making.{VmIsMade};
 ghost use Rattle.sessions.specs.Calls.{OnVm, Written, part_read};
 ghost use Rattle.sessions.specs.Replies.{part_of, summary};
-ghost use Rattle.sessions.specs.Sessions.{AnswerRead, Drained, Fed, IsEmpty, LineDone};
+ghost use Rattle.sessions.specs.Sessions.{AnswerRead, Drained, Fed, IsEmpty};
 
 use crate::kept::keep;
 use crate::parts::part_of;
@@ -14,19 +14,16 @@ use crate::status::Status;
 use crate::vm_call::VmCall;
 use bytes::Bytes;
 use invocation_vm::{CoreVM, VM};
-use lines::line::Line;
-use replies::Reply;
-use requests::content_type::ContentType;
-use scripts::perform::make_anew;
-use scripts::run::answer;
+use plain::Text;
 use std::alloc::Global;
-use vm_types::VMOptions;
+use vm_calls::making::make_anew;
+use vm_types::{ContentType, Reply, VMOptions};
 
 /// One VM, if it was made, the answer to the last line, and the reply to the last call.
 #[derive(Drop)]
 pub struct Session {
     pub vm: Option<CoreVM>,
-    pub answer: Line,
+    pub answer: Text,
     pub reply: Reply,
 }
 
@@ -74,21 +71,8 @@ impl Session {
     {
         Session {
             vm: None,
-            answer: Line::new(alloc),
+            answer: Text::empty(alloc),
             reply: Reply::Nothing,
-        }
-    }
-
-    /// Performs a line, and keeps its answer. Out of memory, the last answer stays, and the line may have been performed.
-    pub fn send(&mut self, alloc: Global, line: &[u8]) -> Status
-        ensures { LineDone alloc line.now result self.old self.new }
-    {
-        match answer(alloc, &mut self.vm, line) {
-            Ok(answer) => {
-                self.answer = answer;
-                Status::Done
-            }
-            Err(_) => Status::NoMemory,
         }
     }
 

@@ -1,7 +1,7 @@
 //! Calls of a session's VM from C, whichever they are.
 ghost use Rattle.std.specs.Prelude.{◌≡◌, ◌≤◌, codes};
 ghost use Rattle.invocation_vm.specs.Making.{version_in};
-ghost use Rattle.requests.specs.ContentTypes.{header_under};
+ghost use Rattle.vm_types.specs.ContentTypes.{header_under};
 ghost use Rattle.sessions.specs.Calls.{CalledFromC, MadeFromC, PartRead};
 ghost use Rattle.sessions.specs.Statuses.{status_named};
 
@@ -10,17 +10,15 @@ use crate::held::Vm;
 use crate::replied::{Replied, tell_status};
 use crate::status::Status;
 use invocation_vm::CoreVM;
-use replies::Reply;
-use requests::content_type::ContentType;
 use std::alloc::Global;
-use vm_types::VMOptions;
+use vm_types::{ContentType, Reply, VMOptions};
 
 /// A call of a VM, with what C gave for it.
 pub trait VmCall: Drop {
     ghost use Rattle.std.specs.Prelude.{Result};
     ghost use Rattle.invocation_vm.specs.Seen.{seen};
     ghost use Rattle.invocation_vm.specs.Views.{View};
-    ghost use Rattle.replies.specs.declared.reply.Reply.{Reply};
+    ghost use Rattle.vm_types.specs.declared.reply.Reply.{Reply};
     ghost use Rattle.sessions.specs.Calls.{IsMadeOf};
     ghost use Rattle.sessions.specs.declared.status.Status.{Status};
 

@@ -4,8 +4,8 @@ use Rattle.std.proofs.Common.{Global}
 use Rattle.std.specs.Prelude.{Option, Some, codes}
 use Rattle.vm_types.specs.declared.options.VMOptions.{VMOptions}
 use Rattle.invocation_vm.specs.Making.{version_in}
-use Rattle.requests.specs.ContentTypes.{header_under}
-use Rattle.requests.specs.declared.content_type.ContentType.{ContentType}
+use Rattle.vm_types.specs.ContentTypes.{header_under}
+use Rattle.vm_types.specs.declared.content_type.ContentType.{ContentType}
 use Rattle.sessions.specs.Calls.{MadeFromC}
 use Rattle.sessions.specs.Replies.{kept_told}
 use Rattle.sessions.specs.declared.replied.Replied.{Replied}

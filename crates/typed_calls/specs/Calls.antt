@@ -18,10 +18,10 @@ use Rattle.vm_machine.specs.Signals.{signal_step}
 use Rattle.vm_machine.specs.Takes.{is_completed, take_step}
 use Rattle.invocation_vm.specs.Calls.{CallsAllFor, CallsCommand, CallsFlatAwait, CallsFor, CallsProposal, CallsRead, CallsRun, CallsUnit, new_awakeable_step}
 use Rattle.invocation_vm.specs.Views.{View, after_closing, after_error}
-use Rattle.replies.specs.declared.reply.Reply.{Reply}
-use Rattle.replies.specs.declared.reply.Reply.TheVariants as reply
-use Rattle.line_parts.specs.Results.{exit_of_value}
-use Rattle.scripts.specs.Called.{Answers, Drains, FeedsVm, RepliesWith, TellsHead, TellsReady}
+use Rattle.vm_types.specs.declared.reply.Reply.{Reply}
+use Rattle.vm_types.specs.declared.reply.Reply.TheVariants as reply
+use Rattle.vm_types.specs.Exits.{exit_of_value}
+use Rattle.vm_calls.specs.Called.{Answers, Drains, FeedsVm, RepliesWith, TellsHead, TellsReady}
 use Rattle.sessions.specs.declared.status.Status.{Status}
 use Rattle.typed_calls.specs.declared.callees.GivenTarget.{GivenTarget}
 use Rattle.typed_calls.specs.declared.nodes.Node.{Node}

@@ -10,8 +10,8 @@ use Rattle.vm_types.specs.declared.values.Input.{Input}
 use Rattle.vm_types.specs.declared.values.Value.{Value}
 use Rattle.std.specs.Prelude.{Option}
 use Rattle.invocation_vm.specs.Views.{View}
-use Rattle.replies.specs.declared.reply.Reply.{Reply}
-use Rattle.replies.specs.declared.reply.Reply.TheVariants as reply
+use Rattle.vm_types.specs.declared.reply.Reply.{Reply}
+use Rattle.vm_types.specs.declared.reply.Reply.TheVariants as reply
 use Rattle.sessions.specs.declared.status.Status.{Status}
 use Rattle.sessions.specs.declared.status.Status.TheVariants as status
 use Rattle.typed_calls.specs.Given.{CannotCopy}

@@ -15,8 +15,8 @@ use Rattle.vm_types.specs.declared.options.NonDeterministicChecksOption.TheVaria
 use Rattle.journal_protocol.specs.SignalDelivery.{SignalDelivery}
 use Rattle.journal_protocol.specs.SignalDelivery.TheVariants as delivery
 use Rattle.invocation_vm.specs.Making.{version_in}
-use Rattle.requests.specs.ContentTypes.{header_under}
-use Rattle.requests.specs.declared.content_type.ContentType.{ContentType}
+use Rattle.vm_types.specs.ContentTypes.{header_under}
+use Rattle.vm_types.specs.declared.content_type.ContentType.{ContentType}
 use Rattle.sessions.specs.Calls.{MadeFromC}
 use Rattle.sessions.specs.Replies.{kept_told}
 use Rattle.sessions.specs.declared.replied.Replied.{Replied}

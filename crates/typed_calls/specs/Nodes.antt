@@ -7,9 +7,9 @@ use Rattle.await_trees.specs.Tree.{Tree, Forest, leaf, node, none, more, tree_of
 use Rattle.await_trees.specs.declared.tree.UnresolvedFuture.{UnresolvedFuture}
 use Rattle.invocation_vm.specs.Calls.{CallsFlatAwait}
 use Rattle.invocation_vm.specs.Views.{View}
-use Rattle.replies.specs.declared.reply.Reply.{Reply}
-use Rattle.replies.specs.declared.reply.Reply.TheVariants as reply
-use Rattle.scripts.specs.Called.{RepliesWith}
+use Rattle.vm_types.specs.declared.reply.Reply.{Reply}
+use Rattle.vm_types.specs.declared.reply.Reply.TheVariants as reply
+use Rattle.vm_calls.specs.Called.{RepliesWith}
 use Rattle.sessions.specs.declared.status.Status.{Status}
 use Rattle.sessions.specs.declared.status.Status.TheVariants as status
 use Rattle.typed_calls.specs.declared.nodes.Node.{Node}

@@ -3,9 +3,9 @@
 use crate::nodes::{Node, future_of};
 use await_trees::{NotificationHandle, UnresolvedFuture};
 use invocation_vm::{CoreVM, VM};
-use replies::Reply;
 use sessions::{Replied, Status, VmCall, keep_awaited, keep_taken};
 use std::alloc::Global;
+use vm_types::Reply;
 
 /// A handle is awaited.
 #[derive(Clone, Copy)]

@@ -1,6 +1,6 @@
 //! Calls of other handlers.
 ghost use Rattle.std.specs.Prelude.{◌≡◌, IfOk, IfErr, string_bytes};
-ghost use Rattle.scripts.specs.Called.{reply_of};
+ghost use Rattle.vm_calls.specs.Called.{reply_of};
 ghost use Rattle.typed_calls.specs.Callees.{given_target, texts_of_call, texts_of_target};
 ghost use Rattle.typed_calls.specs.Given.{CannotCopy};
 ghost use Rattle.typed_calls.specs.Makes.{all_handles, call_handles_told, sent};
@@ -11,10 +11,9 @@ use crate::given::{
 use crate::values::payload;
 use bytes::Bytes;
 use invocation_vm::{CoreVM, VM};
-use replies::Reply;
 use sessions::{Replied, Status, VmCall, keep};
 use std::alloc::Global;
-use vm_types::{Answer, CallHandle, DeadlineCallHandle, SendHandle, Target, VMResult};
+use vm_types::{Answer, CallHandle, DeadlineCallHandle, Reply, SendHandle, Target, VMResult};
 
 /// Which handler is called, and how.
 #[repr(C)]

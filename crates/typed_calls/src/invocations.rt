@@ -6,10 +6,9 @@ ghost use Rattle.typed_calls.specs.Invocations.{idempotency_of, invocation_of, t
 use crate::given::{Lent, MayLend, optional_text, text_of};
 use invocation_vm::{CoreVM, VM};
 use journal_protocol::{IdempotencyId, WorkflowId};
-use replies::Reply;
 use sessions::{Replied, Status, VmCall, keep_handle};
 use std::alloc::Global;
-use vm_types::AttachInvocationTarget;
+use vm_types::{AttachInvocationTarget, Reply};
 
 /// Which invocation is meant.
 #[repr(C)]

@@ -3,10 +3,10 @@
 use crate::given::{Lent, string_of, time_of, two_strings};
 use crate::values::{GivenValue, given_value, payload};
 use invocation_vm::{CoreVM, VM};
-use replies::Reply;
-use scripts::perform::awakeable;
 use sessions::{Replied, Status, VmCall, keep, keep_ended, keep_handle};
 use std::alloc::Global;
+use vm_calls::replies::awakeable;
+use vm_types::Reply;
 
 /// A sleep until a time, in milliseconds since the Unix epoch. An empty name is none.
 #[derive(Clone, Copy)]

@@ -7,13 +7,12 @@ ghost use Rattle.typed_calls.specs.Making.{AreOptionsOf, IsFoundOf, MakesAsGiven
 
 use crate::given::{MayLend, string_of};
 use journal_protocol::SignalDelivery;
-use requests::content_type::ContentType;
 use sessions::vm_call::make;
 use sessions::{Replied, Status, Vm, tell_status};
 use std::alloc::Global;
 use vm_types::{
-    AwaitingOnPolicy, ImplicitCancellationOption, JournalMismatchRetryBehavior, JournalReplay,
-    NonDeterministicChecksOption, VMOptions,
+    AwaitingOnPolicy, ContentType, ImplicitCancellationOption, JournalMismatchRetryBehavior,
+    JournalReplay, NonDeterministicChecksOption, VMOptions,
 };
 
 /// What a VM is asked to do in another way. Each is 0 by default.

@@ -2,11 +2,10 @@
 
 use await_trees::NotificationHandle;
 use invocation_vm::{CoreVM, VM};
-use replies::Reply;
-use scripts::perform::{fed, head, input, output, ready};
 use sessions::{Replied, Status, VmCall, keep};
 use std::alloc::Global;
-use vm_types::Answer;
+use vm_calls::replies::{fed, head, input, output, ready};
+use vm_types::{Answer, Reply};
 
 /// The head of the response.
 #[derive(Clone, Copy)]

@@ -7,11 +7,10 @@ use crate::given::{Lent, MayLend, optional_span, optional_text, two_strings};
 use invocation_vm::{CoreVM, VM};
 use journal_protocol::{Error, ErrorBehavior};
 use plain::Text;
-use replies::Reply;
-use scripts::perform::fed;
 use sessions::{Replied, Status, VmCall, keep};
 use std::alloc::Global;
-use vm_types::{CommandRelationship, CommandType};
+use vm_calls::replies::fed;
+use vm_types::{CommandRelationship, CommandType, Reply};
 
 /// An error. Its texts are UTF-8.
 #[repr(C)]

@@ -1,6 +1,4 @@
 //! Runs: effects that the caller executes, and their results.
-ghost use Rattle.std.specs.Prelude.{◌≡◌};
-ghost use Rattle.line_parts.specs.Results.{exit_of_value};
 
 use crate::given::{Lent, span_of, string_of};
 use crate::policies::{GivenPolicy, policy_of};
@@ -8,11 +6,10 @@ use crate::reports::{GivenError, error_of};
 use crate::values::{GivenValue, given_value};
 use await_trees::NotificationHandle;
 use invocation_vm::{CoreVM, VM};
-use replies::Reply;
-use scripts::perform::ran;
 use sessions::{Replied, Status, VmCall, keep, keep_ended};
 use std::alloc::Global;
-use vm_types::{NonEmptyValue, RunExitResult};
+use vm_calls::replies::ran;
+use vm_types::{Reply, RunExitResult};
 
 /// A run is called.
 #[derive(Clone, Copy)]
@@ -28,16 +25,6 @@ impl<'a> VmCall for RunCall<'a> {
     fn make(self, alloc: Global, vm: &mut CoreVM, kept: &mut Reply) -> Result<Replied, Status> {
         let name = string_of(alloc, self.name.bytes)?;
         Ok(keep(kept, ran(vm.sys_run(name))))
-    }
-}
-
-/// The result of a run.
-fn settled(value: NonEmptyValue) -> RunExitResult
-    ensures { result ≡ exit_of_value value }
-{
-    match value {
-        NonEmptyValue::Success(bytes) => RunExitResult::Success(bytes),
-        NonEmptyValue::Failure(failure) => RunExitResult::TerminalFailure(failure),
     }
 }
 
@@ -64,7 +51,7 @@ impl<'a> VmCall for ProposeCall<'a> {
                 let handle = NotificationHandle(self.handle);
                 Ok(keep_ended(
                     kept,
-                    vm.propose_run_completion(handle, settled(value), policy),
+                    vm.propose_run_completion(handle, RunExitResult::of_value(value), policy),
                 ))
             }
             Err(status) => Err(status),

@@ -3,11 +3,10 @@
 use crate::given::{Lent, bytes_of, string_of, two_strings};
 use crate::values::payload;
 use invocation_vm::{CoreVM, VM};
-use replies::Reply;
-use scripts::perform::ephemeral;
 use sessions::{Replied, Status, VmCall, keep, keep_ended, keep_handle, keep_taken};
 use std::alloc::Global;
-use vm_types::EphemeralCompletionId;
+use vm_calls::replies::ephemeral;
+use vm_types::{EphemeralCompletionId, Reply};
 
 /// A key is given a value. An empty name is none.
 #[derive(Clone, Copy)]

@@ -2,7 +2,8 @@
 ghost use Rattle.std.specs.Prelude.{◌≡◌, Some};
 ghost use Rattle.invocation_vm.specs.Making.{version_in};
 
-use journal_protocol::{Error, HeaderMap, NamedFault, Version};
+use invocation_vm::version_in;
+use journal_protocol::{Error, HeaderMap, Version};
 use std::convert::Infallible;
 
 /// A request's content type.
@@ -14,15 +15,7 @@ impl ContentType<'_> {
     pub fn version(&self) -> Result<Version, Error>
         ensures { result ≡ version_in (Some (Some self.now.0.now)) }
     {
-        let Some(version) = Version::of_content_type(self.0) else {
-            return Err(Error::named(NamedFault::BadContentType, None));
-        };
-        match version {
-            Version::V1 | Version::V2 | Version::V3 | Version::V4 => {
-                Err(Error::named(NamedFault::UnsupportedMediaType, None))
-            }
-            _ => Ok(version),
-        }
+        version_in(self)
     }
 }
 

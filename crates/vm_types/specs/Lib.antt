@@ -1,4 +1,5 @@
 pub mod CommandTypes
+pub mod ContentTypes
 pub mod Exits
 pub mod Options
 pub mod Values

@@ -1,10 +1,14 @@
-//! The public types of the VM: options, values, results of runs, what a handler is, what its step asks for and what it is answered.
+//! The public types of the VM: options, values, results of runs, calls as values and their replies, what a handler is, what its step asks
+//! for and what it is answered.
 #![tactic(auto)]
 
 pub mod boxed;
+mod call;
 pub mod command_type;
+mod content_type;
 pub mod handler;
 pub mod options;
+mod reply;
 pub mod runs;
 mod same;
 pub mod steps;
@@ -12,13 +16,16 @@ pub mod types;
 pub mod values;
 
 pub use boxed::Boxed;
+pub use call::Call;
 pub use command_type::{CommandRelationship, CommandType};
+pub use content_type::ContentType;
 pub use handler::Handler;
 pub use journal_protocol::InvocationTarget as AttachInvocationTarget;
 pub use options::{
     AwaitingOnPolicy, ImplicitCancellationOption, JournalMismatchRetryBehavior, JournalReplay,
     NonDeterministicChecksOption, PayloadOptions, VMOptions,
 };
+pub use reply::Reply;
 pub use runs::{RunExitResult, RunHandle};
 pub use steps::{Answer, Step};
 pub use types::{

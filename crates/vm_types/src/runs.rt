@@ -1,8 +1,8 @@
 //! The handle of a run, and the result of executing it.
 ghost use Rattle.std.specs.Prelude.{◌≡◌};
-ghost use Rattle.vm_types.specs.Exits.{exit_has_metadata};
+ghost use Rattle.vm_types.specs.Exits.{exit_has_metadata, exit_of_value};
 
-use crate::values::TerminalFailure;
+use crate::values::{NonEmptyValue, TerminalFailure};
 use await_trees::NotificationHandle;
 use bytes::Bytes;
 use journal_protocol::Error;
@@ -29,6 +29,16 @@ pub enum RunExitResult {
 }
 
 impl RunExitResult {
+    /// The result that a value is.
+    pub fn of_value(value: NonEmptyValue) -> RunExitResult
+        ensures { result ≡ exit_of_value value }
+    {
+        match value {
+            NonEmptyValue::Success(bytes) => RunExitResult::Success(bytes),
+            NonEmptyValue::Failure(failure) => RunExitResult::TerminalFailure(failure),
+        }
+    }
+
     /// Whether it is a failure with metadata.
     pub fn has_metadata(&self) -> bool
         ensures { result ≡ exit_has_metadata self.now }

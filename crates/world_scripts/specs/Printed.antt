@@ -6,7 +6,7 @@ use Rattle.lines.specs.Atoms.{quoted}
 use Rattle.journal_protocol.specs.Error.{Error}
 use Rattle.vm_types.specs.declared.steps.Answer.{Answer}
 use Rattle.vm_types.specs.declared.steps.Answer.TheVariants as answer
-use Rattle.replies.specs.Answers.{answer_text}
+use Rattle.call_lines.specs.Answers.{answer_text}
 use Rattle.vm_rounds.specs.Inside.{report_view}
 use Rattle.vm_rounds.specs.Rounds.{ReportView}
 use Rattle.vm_rounds.specs.declared.types.Report.{Report}

@@ -8,7 +8,7 @@ use Rattle.std.specs.Str.{IsTrimAscii, IsUtf8}
 use Rattle.lines.specs.Atoms.{IsAtom}
 use Rattle.lines.specs.Pieces.{AreWords, outside, place}
 use Rattle.frame_lines.specs.FrameLines.{Shows}
-use Rattle.requests.specs.Lines.{says_nothing}
+use Rattle.lines.specs.Text.{says_nothing}
 use Rattle.line_parts.specs.Results.{IsProposal}
 use Rattle.lines.specs.Words.{IsNumberOf, words_after_first, text_at}
 use Rattle.vm_rounds.specs.declared.types.Event.{Event}

@@ -1,7 +1,7 @@
 //! A line of a script, read as a whole: one row a kind of line.
 ghost use Rattle.std.specs.Prelude.{◌≡◌, false, codes, IfErr, IfOk};
 ghost use Rattle.lines.specs.Readings.{Blames};
-ghost use Rattle.requests.specs.Lines.{says_nothing};
+ghost use Rattle.lines.specs.Text.{says_nothing};
 ghost use Rattle.plain.specs.declared.fault.Fault.TheVariants.{Malformed};
 ghost use Rattle.world_scripts.specs.Said.{AreSteps, IsCount, IsOneCount, IsUnread, SaysLine, SayNothing, IsScriptLine, SaysBehind, SaysEvent, SaysNothing, SaysWords, ShowsBytes, are_bytes, are_rest};
 
@@ -13,6 +13,7 @@ use frame_lines::entry::frame_of_words;
 use line_parts::results::{Proposal, proposal_of};
 use lines::atoms::u64_of;
 use lines::pieces::words;
+use lines::text::is_silent;
 use lines::words::bytes_in;
 use plain::Fault;
 use std::alloc::Global;
@@ -194,14 +195,6 @@ fn row_of(alloc: Global, line: &[u8]) -> Result<ScriptLine, Fault>
 {
     let words = words(alloc, line)?;
     said_of(alloc, words.as_slice())
-}
-
-/// Whether a line is empty or a comment.
-#[tactic(auto, unfolding(requests::specs::Lines::says_nothing))]
-fn is_silent(line: &[u8]) -> bool
-    ensures { result ≡ says_nothing line.now }
-{
-    line.is_empty() || line.starts_with(b"#")
 }
 
 /// What a line says; blanks at its ends don't count. `Malformed` where it has no meaning, as where it is no UTF-8.

@@ -5,12 +5,12 @@ ghost use Rattle.vm_rounds.specs.Inside.{report_view};
 ghost use Rattle.world_scripts.specs.Printed.{AddsSuch, AddsSome, AreRoundTexts, IsJournalText, IsPrinted, IsRoundText, answer_line, answer_lines, answer_value, answer_word, count_text, error_line, fault_name, fault_text};
 
 use bytes::Bytes;
+use call_lines::Shown;
 use frame_lines::entry::{print_frame, print_rest};
 use journal_entries::RoundFault;
 use journal_protocol::{Decoder, Error, RawMessage};
 use lines::line::Line;
 use plain::Fault;
-use replies::Shown;
 use std::alloc::{AllocError, Global};
 use vm_rounds::{Report, World};
 use vm_types::Answer;

@@ -7,7 +7,7 @@ returns-in-Ok c = (
     c.in-Some.ensures,
     record {
       given = c.propose_run_completion.result;
-      calls = rw (c.settled.ensures, c.in-Ok.ensures.ok) at c.propose_run_completion.ensures;
+      calls = rw (c.of_value.ensures, c.in-Ok.ensures.ok) at c.propose_run_completion.ensures;
       told = c.keep_ended.ensures.kept;
     },
   ),

@@ -1,0 +1,5 @@
+pub mod Answers
+pub mod Lines
+pub mod Replies
+pub mod Texts
+pub mod Verbs

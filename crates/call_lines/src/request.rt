@@ -1,0 +1,16 @@
+//! What a line of the script asks for.
+use vm_types::{Call, ContentType, VMOptions};
+
+/// A line of the script, read as a whole.
+#[derive(Debug, Drop)]
+pub enum Request {
+    /// Nothing: a blank line or a comment.
+    Nothing,
+    /// A line without a meaning.
+    Bad,
+    /// A `vm` line without a meaning, which drops the VM.
+    BadMake,
+    /// A new VM in the place of the last.
+    Make(ContentType, VMOptions),
+    Call(Call),
+}

@@ -1,3 +1,0 @@
-pub mod ContentTypes
-pub mod Verbs
-pub mod Lines

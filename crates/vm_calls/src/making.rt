@@ -1,0 +1,49 @@
+//! A VM that is made in the place of the last.
+ghost use Rattle.std.specs.Prelude.{◌≡◌, codes};
+ghost use Rattle.invocation_vm.specs.Making.{version_in};
+ghost use Rattle.vm_types.specs.ContentTypes.{header_under};
+ghost use Rattle.vm_calls.specs.Making.{VmIsMade};
+
+use invocation_vm::{CoreVM, VM};
+use std::alloc::Global;
+use vm_types::{ContentType, Reply, VMOptions};
+
+/// Puts a VM, or none, in the place of the last, which is dropped.
+fn replace(vm: &mut Option<CoreVM>, new: Option<CoreVM>)
+    ensures { vm.new ≡ new }
+{
+    *vm = new;
+}
+
+/// Makes a new VM. Answers its version, or why it wasn't made.
+#[tactic(auto, using(crate::proofs::Making::made_as_asked))]
+fn make(alloc: Global, content_type: ContentType, options: VMOptions) -> (Reply, Option<CoreVM>)
+    ensures { VmIsMade alloc options (version_in (header_under content_type (codes "content-type")))
+        result.0
+        result.1 }
+{
+    match CoreVM::new(alloc, content_type, options) {
+        Ok(new) => {
+            let version = new.version();
+            (Reply::Made(version), Some(new))
+        }
+        Err(error) => (Reply::Refused(error), None),
+    }
+}
+
+/// Puts a new VM in the place of the last, which is dropped first.
+pub fn make_anew(
+    alloc: Global,
+    vm: &mut Option<CoreVM>,
+    content_type: ContentType,
+    options: VMOptions,
+) -> Reply
+    ensures { VmIsMade alloc options (version_in (header_under content_type (codes "content-type")))
+        result
+        vm.new }
+{
+    replace(vm, None);
+    let (reply, made) = make(alloc, content_type, options);
+    replace(vm, made);
+    reply
+}
