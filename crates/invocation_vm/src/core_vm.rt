@@ -39,7 +39,8 @@ use vm_types::{
 /// The invocation VM.
 pub struct CoreVM {
     pub(crate) decoder: Decoder,
-    pub(crate) machine: Machine,
+    /// The record that each call's contract speaks of. It may be any machine: no contract of a call asks how the VM came to it.
+    pub machine: Machine,
 }
 
 /// Written out, so that who lets a VM go calls this: a derived drop is proved once more in each crate above.
