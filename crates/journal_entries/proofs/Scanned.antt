@@ -12,7 +12,7 @@ use Rattle.journal_protocol.specs.Frames.{Whole, Partial, Malformed, next_of}
 use Rattle.journal_protocol.proofs.Facts.{whole_shorter}
 use Rattle.journal_entries.specs.Frames.{Tail, frames_from, frames_of}
 use Rattle.journal_entries.proofs.Cuts.{frames_of-next}
-use Rattle.journal_entries.specs.declared.proposals.KeptProposal.{KeptProposal}
+use Rattle.journal_protocol.specs.ProposeRunCompletion.{ProposeRunCompletion}
 use Rattle.journal_entries.specs.JournalFrames.{is_command_frame}
 use Rattle.journal_entries.specs.declared.storing.Written.{Written}
 use Rattle.journal_entries.specs.declared.storing.Written.TheVariants.{Command, Proposal}
@@ -72,7 +72,7 @@ one_readable : (version : Version) (raw : RawMessage) (item : Written) → lengt
 one_readable version raw (Proposal p) fits is whole = whole
 one_readable version raw (Command c) fits is whole = by_test (is_command_frame raw) (proposal_of raw) is
   where
-    by_test : (b : Bool) (o : Option KeptProposal) → cond b (Some (Command raw)) (option_map Proposal o) ≡ Some (Command c) → length c.body < 2 ^ 64
+    by_test : (b : Bool) (o : Option ProposeRunCompletion) → cond b (Some (Command raw)) (option_map Proposal o) ≡ Some (Command c) → length c.body < 2 ^ 64
     by_test true o h = let same : raw ≡ c = cc in subst (λ (x : RawMessage). length x.body < 2 ^ 64) same fits
     by_test false None h = absurd (cc)
     by_test false (Some p) h = absurd (cc)

@@ -10,5 +10,5 @@ pub mod storing;
 
 pub use completions::Completes;
 pub use fault::RoundFault;
-pub use proposals::{KeptProposal, completion_result};
+pub use proposals::completion_result;
 pub use storing::Written;

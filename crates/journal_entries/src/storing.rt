@@ -9,9 +9,10 @@ ghost use Rattle.journal_entries.specs.declared.fault.RoundFault.TheVariants as 
 
 use crate::entry::is_command_frame;
 use crate::fault::RoundFault;
-use crate::proposals::KeptProposal;
 use bytes::Bytes;
-use journal_protocol::{Decoder, Encoder, Message, ProposeRunCompletionAck, RawMessage, Version};
+use journal_protocol::{
+    Decoder, Encoder, Message, ProposeRunCompletion, ProposeRunCompletionAck, RawMessage, Version,
+};
 use plain::Fault;
 use std::alloc::{AllocError, Global};
 
@@ -21,7 +22,7 @@ pub enum Written {
     /// A command, as it was written.
     Command(RawMessage),
     /// A run's result, as its completion.
-    Proposal(KeptProposal),
+    Proposal(ProposeRunCompletion),
 }
 
 /// Whether the frame is one of a proposal.
@@ -32,17 +33,14 @@ fn is_proposal(raw: &RawMessage) -> bool
 }
 
 /// The proposal that a frame is, if it is one and can be read.
-fn proposal_of(alloc: Global, raw: &RawMessage) -> Result<Option<KeptProposal>, AllocError>
+fn proposal_of(alloc: Global, raw: &RawMessage) -> Result<Option<ProposeRunCompletion>, AllocError>
     ensures { IfOk result (λ proposal. proposal ≡ proposal_of raw.now) }
 {
     if !is_proposal(raw) {
         return Ok(None);
     }
     match raw.read_proposal(alloc) {
-        Ok(proposal) => Ok(Some(KeptProposal {
-            completion_id: proposal.id,
-            result: proposal.result,
-        })),
+        Ok(proposal) => Ok(Some(proposal)),
         Err(Fault::Memory) => Err(AllocError),
         Err(Fault::Malformed) => Ok(None),
     }

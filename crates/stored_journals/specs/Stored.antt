@@ -20,7 +20,7 @@ fits_in (Proposal p) = Unit {0}
 -- the fault of storing it
 abbrev pub storing_by : Written → JournalView → Option RoundFault
 storing_by (Command raw) view = room_at view.entries
-storing_by (Proposal p) view = proposing_fault p.completion_id view
+storing_by (Proposal p) view = proposing_fault p.id view
 
 -- it is the next entry, and what answers it is fed
 pub record StoresBy (version : Version) (w : Written) (old : JournalView) (entries : List (List ℕ))

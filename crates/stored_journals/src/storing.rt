@@ -16,18 +16,18 @@ use crate::journal::StoredJournal;
 use bytes::{Bytes, BytesMut};
 use journal_entries::entry::frame_bytes;
 use journal_entries::storing::{Written, answer_bytes, next_written, written_as};
-use journal_entries::{KeptProposal, RoundFault, completion_result};
+use journal_entries::{RoundFault, completion_result};
 use journal_protocol::{
     Decoder, Encoder, Message, Notification, NotificationId, RawMessage, Version,
 };
 use std::alloc::{AllocError, Global};
 
 /// The completion with the proposed result.
-fn completion_of(proposal: KeptProposal) -> Notification
-    ensures { result ≡ acknowledged_completion proposal.completion_id proposal }
+fn completion_of(proposal: ProposeRunCompletion) -> Notification
+    ensures { result ≡ acknowledged_completion proposal.id proposal }
 {
     Notification {
-        id: NotificationId::CompletionId(proposal.completion_id),
+        id: NotificationId::CompletionId(proposal.id),
         result: completion_result(proposal.result),
     }
 }
@@ -118,20 +118,20 @@ fn settle(
     journal: &mut StoredJournal,
     entries: &mut Vec<Bytes>,
     feed: &mut BytesMut,
-    proposal: KeptProposal,
+    proposal: ProposeRunCompletion,
 ) -> Result<(), AllocError>
     requires { journal.old.entries < 4_294_967_295 }
     ensures stored { OnOk result (entries.new.items ≡ entries.old.items
         ++ encoding (completion_message proposal) ∷ []) }
     ensures waits { OnOk result (feed.new.items ≡ feed.old.items ++ answer_to version proposal) }
     ensures appended { OnOk result
-        (Appends None (Some (acknowledged_completion proposal.completion_id proposal)) journal.old
+        (Appends None (Some (acknowledged_completion proposal.id proposal)) journal.old
         journal.new) }
     ensures whole { OnOk result (IsWhole (completion_message proposal)
-        × (is_from_v7 version ≡ true → IsWhole (acknowledgement proposal.completion_id))) }
+        × (is_from_v7 version ≡ true → IsWhole (acknowledgement proposal.id))) }
     ensures kept { IsSameKept journal.old journal.new }
 {
-    let id = proposal.completion_id;
+    let id = proposal.id;
     let completion = append_completion(alloc, journal, entries, completion_of(proposal))?;
     let answer = answer_bytes(alloc, version, id, &completion)?;
     feed.extend_from_slice(answer.as_slice())?;
@@ -145,7 +145,7 @@ fn store_proposal(
     journal: &mut StoredJournal,
     entries: &mut Vec<Bytes>,
     feed: &mut BytesMut,
-    proposal: KeptProposal,
+    proposal: ProposeRunCompletion,
 ) -> Result<(), RoundFault>
     ensures ok { OnOk result (StoresBy version (written.Proposal proposal)
         journal.old entries.old.items feed.old.items journal.new entries.new.items feed.new.items) }
@@ -153,7 +153,7 @@ fn store_proposal(
         (f ≡ round_fault.Memory) ⊎ (storing_by (written.Proposal proposal) journal.old ≡ Some f)) }
     ensures kept { IsSameKept journal.old journal.new }
 {
-    match journal.proposing_fault(proposal.completion_id) {
+    match journal.proposing_fault(proposal.id) {
         Some(fault) => return Err(fault),
         None => {}
     }
