@@ -15,7 +15,7 @@ use Rattle.journal_protocol.specs.Bodies.{proposal_in}
 use Rattle.journal_entries.specs.JournalFrames.{is_command_frame, is_proposal}
 use Rattle.journal_entries.specs.declared.storing.Written.{Written}
 use Rattle.journal_entries.specs.declared.storing.Written.TheVariants.{Command, Proposal}
-use Rattle.journal_entries.specs.declared.fault.RoundFault.{RoundFault}
+use Rattle.journal_entries.specs.declared.fault.JournalFault.{JournalFault}
 use Rattle.journal_entries.specs.Arrivals.{stored_proposal_fault, room_fault}
 use Rattle.journal_entries.specs.Entries.{frame_of}
 
@@ -70,7 +70,7 @@ waits_behind version (Command raw) = []
 waits_behind version (Proposal p) = answer_to version p
 
 -- the fault of storing it, out of memory aside
-abbrev pub storing_fault : Written → List (List ℕ) → Option RoundFault
+abbrev pub storing_fault : Written → List (List ℕ) → Option JournalFault
 storing_fault (Command raw) journal = room_fault journal
 storing_fault (Proposal p) journal = stored_proposal_fault p.id journal
 
@@ -87,7 +87,7 @@ StoredCanBeRead version (Proposal p) = IsWhole (completion_message p)
     × (is_from_v7 version ≡ true → IsWhole (acknowledgement p.id))
 
 -- the first of these that has a fault has this one, and those before it can be read back
-abbrev pub FirstFault : Version → List Written → List (List ℕ) → RoundFault → Type 0
+abbrev pub FirstFault : Version → List Written → List (List ℕ) → JournalFault → Type 0
 FirstFault version [] journal f = ⊥
 FirstFault version (w ∷ ws) journal f = (storing_fault w journal ≡ Some f)
     ⊎ ((storing_fault w journal ≡ None) × StoredCanBeRead version w

@@ -5,10 +5,10 @@ ghost use Rattle.journal_protocol.specs.Versions.{is_from_v7};
 ghost use Rattle.journal_entries.specs.JournalFrames.{is_proposal};
 ghost use Rattle.journal_entries.specs.NextFrames.{NextWritten};
 ghost use Rattle.journal_entries.specs.Storing.{acknowledgement, proposal_of, written_as};
-ghost use Rattle.journal_entries.specs.declared.fault.RoundFault.TheVariants as round_fault;
+ghost use Rattle.journal_entries.specs.declared.fault.JournalFault.TheVariants as journal_fault;
 
 use crate::entry::is_command_frame;
-use crate::fault::RoundFault;
+use crate::fault::JournalFault;
 use bytes::Bytes;
 use journal_protocol::{
     Decoder, Encoder, Message, ProposeRunCompletion, ProposeRunCompletionAck, RawMessage, Version,
@@ -88,13 +88,13 @@ pub fn answer_bytes(
 }
 
 /// The next frame that was written, if it is whole.
-pub fn next_written(unstored: &mut Decoder) -> Result<Option<RawMessage>, RoundFault>
+pub fn next_written(unstored: &mut Decoder) -> Result<Option<RawMessage>, JournalFault>
     ensures ok { IfOk result (λ o. NextWritten unstored.old o unstored.new) }
-    ensures err { IfErr result (λ f. f ≡ round_fault.Memory) }
+    ensures err { IfErr result (λ f. f ≡ journal_fault.Memory) }
 {
     match unstored.next_frame() {
         Ok(raw) => Ok(raw),
-        Err(Fault::Memory) => Err(RoundFault::Memory),
+        Err(Fault::Memory) => Err(JournalFault::Memory),
         Err(Fault::Malformed) => Ok(None),
     }
 }

@@ -16,7 +16,7 @@ use Rattle.journal_entries.specs.Journal.{stored_form}
 use Rattle.journal_entries.specs.JournalFrames.{is_command_frame}
 use Rattle.journal_entries.specs.declared.storing.Written.{Written}
 use Rattle.journal_entries.specs.declared.storing.Written.TheVariants.{Command, Proposal}
-use Rattle.journal_entries.specs.declared.fault.RoundFault.{RoundFault}
+use Rattle.journal_entries.specs.declared.fault.JournalFault.{JournalFault}
 use Rattle.journal_entries.specs.Entries.{frame_of, note_in, note_of as note_by, read_from, said_at, said_by}
 use Rattle.journal_entries.specs.NextFrames.{HasFault, NextFaults, StoresItem, StoresOne, StoresRaw}
 use Rattle.journal_entries.specs.Storing.{FirstFault, Stores, completion_message, proposal_of, stored_as, storing_fault, written_as, written_from}
@@ -125,7 +125,7 @@ module _ (version : Version) (n : ℕ) (u : List ℕ) (first : JournalView) (es 
   pub going_done : left ≤ 0 → (before : List (List ℕ)) → Holds first (before ++ es) → Stores version n u (before ++ es) fed (before ++ entries) feed rest × Holds now (before ++ entries)
   going_done none before h = (stands_done version n u (before ++ es) fed left (before ++ entries) feed rest (g.stands before h) none, g.holds before h)
 
-  pub going_fault : (f : RoundFault) → NextFaultsBy rest now f → 0 < left → (before : List (List ℕ)) → Holds first (before ++ es) → FirstFault version (take n (written_from u)) (before ++ es) f
+  pub going_fault : (f : JournalFault) → NextFaultsBy rest now f → 0 < left → (before : List (List ℕ)) → Holds first (before ++ es) → FirstFault version (take n (written_from u)) (before ++ es) f
   going_fault f h some before begun =
       let has : HasFault h.raw (before ++ entries) f = record { item = h.has.item; is = h.has.is; fault = sym (storing_is now (before ++ entries) (g.holds before begun) h.has.item) ∙ h.has.fault } in
       let next : NextFaults rest (before ++ entries) f = record { raw = h.raw; rest = h.rest; next = h.next; has = has } in

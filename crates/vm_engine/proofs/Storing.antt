@@ -18,7 +18,7 @@ use Rattle.journal_entries.specs.declared.storing.Written.{Written}
 use Rattle.journal_entries.specs.declared.storing.Written.TheVariants.{Command, Proposal}
 use Rattle.vm_store.specs.declared.types.Event.{Event}
 use Rattle.vm_store.specs.declared.types.Event.TheVariants as event
-use Rattle.journal_entries.specs.declared.fault.RoundFault.{RoundFault}
+use Rattle.journal_entries.specs.declared.fault.JournalFault.{JournalFault}
 use Rattle.journal_entries.specs.Arrivals.{completes_among, completes_id, proposed_fault, room_fault}
 use Rattle.journal_entries.specs.Entries.{frame_in, note_in, note_of, read_from, said_by}
 use Rattle.journal_protocol.specs.ProposeRunCompletion.{ProposeRunCompletion}
@@ -83,7 +83,7 @@ proper [] = tt
 proper (raw ∷ raws) = before_proper (written_as raw) (written_among raws) (written_proper raw) (proper raws)
 
 -- the id of a proposal that has no fault is carried
-faultless_carried : (o : Option Completes) (done : Bool) (room : Option RoundFault) → proposed_fault o done room ≡ None → is_some o ≡ true
+faultless_carried : (o : Option Completes) (done : Bool) (room : Option JournalFault) → proposed_fault o done room ≡ None → is_some o ≡ true
 faultless_carried None done room e = absurd (cc)
 faultless_carried (Some kind) done room e = refl
 

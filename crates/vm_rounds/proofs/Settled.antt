@@ -34,7 +34,7 @@ use Rattle.journal_entries.specs.declared.completions.Completes.{Completes}
 use Rattle.journal_entries.specs.declared.completions.Completes.TheVariants as completes
 use Rattle.journal_entries.specs.declared.storing.Written.{Written}
 use Rattle.journal_entries.specs.declared.storing.Written.TheVariants.{Command, Proposal}
-use Rattle.journal_entries.specs.declared.fault.RoundFault.{RoundFault}
+use Rattle.journal_entries.specs.declared.fault.JournalFault.{JournalFault}
 use Rattle.journal_entries.specs.Arrivals.{completes_among, completes_id, most_entries, stored_proposal_fault, proposed_fault, room_fault}
 use Rattle.journal_entries.specs.Completions.{CompleteOnce, IsOfKind, NoteIsOfItsKind}
 use Rattle.journal_entries.specs.Entries.{AreEntries, frame_in, frame_of, framed_by, journal_frames, may_stand, note_in, note_of, notes_in, read_from, said_in}
@@ -159,23 +159,23 @@ entered version (Proposal p) h = completion_entered p h.0
 
 -- ---- the journal
 
-done_by : (kind : Option Completes) (done : Bool) (room : Option RoundFault) → proposed_fault kind done room ≡ None → done ≡ false
+done_by : (kind : Option Completes) (done : Bool) (room : Option JournalFault) → proposed_fault kind done room ≡ None → done ≡ false
 done_by None done room e = absurd (cc)
 done_by (Some kind) true room e = absurd (cc)
 done_by (Some kind) false room e = refl
 
-kind_by : (kind : Option Completes) (done : Bool) (room : Option RoundFault) → proposed_fault kind done room ≡ None → kind ≡ None → ⊥
+kind_by : (kind : Option Completes) (done : Bool) (room : Option JournalFault) → proposed_fault kind done room ≡ None → kind ≡ None → ⊥
 kind_by None done room e is = absurd (cc)
 kind_by (Some kind) done room e is = absurd (cc)
 
-room_of : (kind : Option Completes) (done : Bool) (room : Option RoundFault) → proposed_fault kind done room ≡ None → room ≡ None
+room_of : (kind : Option Completes) (done : Bool) (room : Option JournalFault) → proposed_fault kind done room ≡ None → room ≡ None
 room_of None done room e = absurd (cc)
 room_of (Some kind) true room e = absurd (cc)
 room_of (Some completes.InvocationId) false room e = absurd (cc)
 room_of (Some completes.Proposal) false room e = e
 room_of (Some completes.AnyResult) false room e = e
 
-kind_by_proposal : (kind : Option Completes) (done : Bool) (room : Option RoundFault) (result : NotificationResult) → proposed_fault kind done room ≡ None → IsOfKind kind result
+kind_by_proposal : (kind : Option Completes) (done : Bool) (room : Option JournalFault) (result : NotificationResult) → proposed_fault kind done room ≡ None → IsOfKind kind result
 kind_by_proposal None done room result e = absurd (cc)
 kind_by_proposal (Some kind) true room result e = absurd (cc)
 kind_by_proposal (Some completes.InvocationId) false room result e = absurd (cc)

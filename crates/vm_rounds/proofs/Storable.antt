@@ -24,8 +24,8 @@ use Rattle.journal_entries.specs.declared.completions.Completes.{Completes}
 use Rattle.journal_entries.specs.declared.completions.Completes.TheVariants as completes
 use Rattle.journal_entries.specs.declared.storing.Written.{Written}
 use Rattle.journal_entries.specs.declared.storing.Written.TheVariants.{Command, Proposal}
-use Rattle.journal_entries.specs.declared.fault.RoundFault.{RoundFault}
-use Rattle.journal_entries.specs.declared.fault.RoundFault.TheVariants as round_fault
+use Rattle.journal_entries.specs.declared.fault.JournalFault.{JournalFault}
+use Rattle.journal_entries.specs.declared.fault.JournalFault.TheVariants as journal_fault
 use Rattle.journal_entries.specs.Arrivals.{arrival_fault, completes_among, completes_by, completion_fault, if_same, completes_id, is_of, most_entries, note_fault, stored_proposal_fault, proposed_fault, read_fault, room_fault}
 use Rattle.journal_entries.specs.Entries.{journal_frames, note_in, notes_in, said_in}
 use Rattle.journal_entries.specs.Storing.{StoredCanBeRead, FirstFault, proposal_of, stored_as, written_among, written_before}
@@ -230,10 +230,10 @@ module _ (version : Version) (ns : List Notification) (first : RawMessage) where
 
   -- ---- faults
 
-  room_full : (journal : List (List ℕ)) (f : RoundFault) → room_fault journal ≡ Some f → f ≡ round_fault.JournalFull
+  room_full : (journal : List (List ℕ)) (f : JournalFault) → room_fault journal ≡ Some f → f ≡ journal_fault.JournalFull
   room_full journal f = by_test (length journal == most_entries)
     where
-      by_test : (b : Bool) → (if b then Some round_fault.JournalFull else None) ≡ Some f → f ≡ round_fault.JournalFull
+      by_test : (b : Bool) → (if b then Some journal_fault.JournalFull else None) ≡ Some f → f ≡ journal_fault.JournalFull
       by_test true h = cc
       by_test false h = absurd (cc)
 
@@ -244,7 +244,7 @@ module _ (version : Version) (ns : List Notification) (first : RawMessage) where
       by_read None = run_completes 1 id cs None rises run
       by_read (Some m) = run_completes 1 id cs (completes_by id m None) rises run
 
-  proposal_full : (p : ProposeRunCompletion) (ws : List Written) (journal : List (List ℕ)) (cs : List RawMessage) (ps : List ℕ) (f : RoundFault) → Stands ns first journal cs ps (Proposal p ∷ ws) → stored_proposal_fault p.id journal ≡ Some f → f ≡ round_fault.JournalFull
+  proposal_full : (p : ProposeRunCompletion) (ws : List Written) (journal : List (List ℕ)) (cs : List RawMessage) (ps : List ℕ) (f : JournalFault) → Stands ns first journal cs ps (Proposal p ∷ ws) → stored_proposal_fault p.id journal ≡ Some f → f ≡ journal_fault.JournalFull
   proposal_full p ws journal cs ps f s e =
       let id = p.id in
       let may = s.well.0 in
@@ -267,7 +267,7 @@ module _ (version : Version) (ns : List Notification) (first : RawMessage) where
   all_so [] = tt
   all_so (raw ∷ raws) = so_by (is_command_frame raw) raw (proposal_of raw) (written_among raws) refl (all_so raws)
 
-  first_full : (n : ℕ) (ws : List Written) (journal : List (List ℕ)) (cs : List RawMessage) (ps : List ℕ) (f : RoundFault) → AllByRecursion IsSo ws → Stands ns first journal cs ps ws → FirstFault version (take n ws) journal f → f ≡ round_fault.JournalFull
+  first_full : (n : ℕ) (ws : List Written) (journal : List (List ℕ)) (cs : List RawMessage) (ps : List ℕ) (f : JournalFault) → AllByRecursion IsSo ws → Stands ns first journal cs ps ws → FirstFault version (take n ws) journal f → f ≡ journal_fault.JournalFull
   first_full zero ws journal cs ps f so s h = absurd h
   first_full (suc n) [] journal cs ps f so s h = absurd h
   first_full (suc n) (Command raw ∷ ws) journal cs ps f so s h =
@@ -284,12 +284,12 @@ module _ (version : Version) (ns : List Notification) (first : RawMessage) where
       h
 
   -- the first fault of what is stored is that of a full journal
-  pub storing_full : (n : ℕ) (raws : List RawMessage) (journal : List (List ℕ)) (cs : List RawMessage) (ps : List ℕ) (f : RoundFault) → Stands ns first journal cs ps (written_among raws) → FirstFault version (take n (written_among raws)) journal f → f ≡ round_fault.JournalFull
+  pub storing_full : (n : ℕ) (raws : List RawMessage) (journal : List (List ℕ)) (cs : List RawMessage) (ps : List ℕ) (f : JournalFault) → Stands ns first journal cs ps (written_among raws) → FirstFault version (take n (written_among raws)) journal f → f ≡ journal_fault.JournalFull
   storing_full n raws journal cs ps f s h = first_full n (written_among raws) journal cs ps f (all_so raws) s h
 
   -- ---- arrivals
 
-  not_proposed : (kind : Option Completes) (done : Bool) (brings : NotificationResult) (room : Option RoundFault) → completion_fault kind done brings room ≡ None → kind ≡ Some completes.Proposal → ⊥
+  not_proposed : (kind : Option Completes) (done : Bool) (brings : NotificationResult) (room : Option JournalFault) → completion_fault kind done brings room ≡ None → kind ≡ Some completes.Proposal → ⊥
   not_proposed None done brings room e is = absurd (cc)
   not_proposed (Some kind) true brings room e is = absurd (cc)
   not_proposed (Some completes.InvocationId) false brings room e is = absurd (cc)
