@@ -14,7 +14,6 @@ pub mod values;
 pub use boxed::Boxed;
 pub use command_type::{CommandRelationship, CommandType};
 pub use handler::Handler;
-pub use journal_protocol::InvocationTarget as AttachInvocationTarget;
 pub use options::{
     AwaitingOnPolicy, ImplicitCancellationOption, JournalMismatchRetryBehavior, JournalReplay,
     NonDeterministicChecksOption, PayloadOptions, VMOptions,
