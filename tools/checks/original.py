@@ -1,7 +1,7 @@
 """Holds docs/DIFFERENCES.md against the original's public items, which stand in tools/checks/original.items with the form of its lines.
 
 Sources are those of the crate that has the VM, and of the crates below it. The module `vm` of the crate `palqytun` passes on each item that is
-the same. A type that is the same may have further public functions: the page names each of them in backquotes."""
+the same, some under another name. A type that is the same may have further public functions: the page names each of them in backquotes."""
 
 from __future__ import annotations
 
@@ -62,6 +62,11 @@ def crates_below(crates: str, top: str) -> list[str]:
     return sorted(below)
 
 
+def aliases_in(text: str) -> dict[str, str]:
+    """Returns the other names under which a file passes types on, each with the type's own name."""
+    return {other: name for item in re.findall(r"^pub use [^;]*;", text, re.MULTILINE) for name, other in ALIAS.findall(item)}
+
+
 @dataclass
 class Sources:
     """The public items of the VM's crate and of those below it, by name."""
@@ -85,7 +90,8 @@ class Sources:
                 item = found.setdefault(it["name"], Found())
                 item.traits.update([it["trait"]] * (it["trait"] is not None))
                 item.bodies.extend([body_at(text, it.end())] * (it["trait"] is None))
-            aliases.update({other: name for line in re.findall(r"^pub use .*$", text, re.MULTILINE) for name, other in ALIAS.findall(line)})
+            aliases.update(aliases_in(text))
+        aliases.update(aliases_in((self.root / FACADE).read_text(encoding="utf-8")))
         return found | {other: found[name] for other, name in aliases.items() if name in found and other not in found}
 
     @cached_property

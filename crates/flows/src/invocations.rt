@@ -9,17 +9,18 @@ use crate::context::{Context, target};
 use crate::exit::Exit;
 use await_trees::{NotificationHandle, UnresolvedFuture};
 use bytes::Bytes;
+use journal_protocol::InvocationTarget;
 use plain::Text;
 use std::alloc::{AllocError, Global};
 use std::time::Duration;
-use vm_types::{AttachInvocationTarget, Boxed, PayloadOptions, Step};
+use vm_types::{Boxed, PayloadOptions, Step};
 
 /// The invocation of this id.
-fn invocation(alloc: Global, id: &str) -> Result<Boxed<AttachInvocationTarget>, AllocError>
+fn invocation(alloc: Global, id: &str) -> Result<Boxed<InvocationTarget>, AllocError>
     ensures { IfOk result (λ boxed. boxed ≡ target.InvocationId id.now) }
 {
     let id = Text::from_str(alloc, id)?;
-    Boxed::new(alloc, AttachInvocationTarget::InvocationId(id))
+    Boxed::new(alloc, InvocationTarget::InvocationId(id))
 }
 
 impl<'a> Context<'a> {

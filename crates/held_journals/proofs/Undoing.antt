@@ -2,7 +2,7 @@
 -- when nothing was to be appended before.
 use Rattle.std.proofs.Common.{◌≡◌, ℕ, List, [], length, Bool, sym, ◌∙◌, subst}
 use Rattle.journal_protocol.specs.Version.{Version}
-use Rattle.journal_entries.specs.declared.fault.RoundFault.{RoundFault}
+use Rattle.journal_entries.specs.declared.fault.JournalFault.{JournalFault}
 use Rattle.stored_journals.specs.Ids.{known_kept}
 use Rattle.stored_journals.specs.Known.{IsKnown}
 use Rattle.stored_journals.specs.Journals.{IsSameKept, Kept, JournalView}
@@ -34,5 +34,5 @@ pub stores_first : (version : Version) (output : List ℕ) (whole : Bool) (old :
 stores_first version output whole old rows feed new rows' feed' e f s = subst (λ (x : List (List ℕ) × List ℕ). StoresAll version output whole old x.0 x.1 new rows' feed') (λ i. (e i, f i)) s
 
 -- the fault is the first one of the output
-pub faults_first : (version : Version) (output : List ℕ) (old : JournalView) (rows : List (List ℕ)) (f : RoundFault) → rows ≡ [] → IsStoringFault version (length output) output old rows f → IsStoringFault version (length output) output old [] f
+pub faults_first : (version : Version) (output : List ℕ) (old : JournalView) (rows : List (List ℕ)) (f : JournalFault) → rows ≡ [] → IsStoringFault version (length output) output old rows f → IsStoringFault version (length output) output old [] f
 faults_first version output old rows f e s = subst (λ rows. IsStoringFault version (length output) output old rows f) e s

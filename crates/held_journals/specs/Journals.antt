@@ -2,8 +2,8 @@
 use Rattle.std.specs.Prelude.{◌≡◌, ◌≢◌, ◌<◌, ◌++◌, ℕ, Bool, true, false, List, [], length, drop, map, slice_get, Option, Some, None}
 use Rattle.journal_protocol.specs.Version.{Version}
 use Rattle.journal_entries.specs.Frames.{Rest, frames_of}
-use Rattle.journal_entries.specs.declared.fault.RoundFault.{RoundFault}
-use Rattle.journal_entries.specs.declared.fault.RoundFault.TheVariants as round_fault
+use Rattle.journal_entries.specs.declared.fault.JournalFault.{JournalFault}
+use Rattle.journal_entries.specs.declared.fault.JournalFault.TheVariants as journal_fault
 use Rattle.std.specs.List.{flat_map}
 use Rattle.journal_entries.specs.Storing.{NoneFaults, stored_as, waits_behind, written_from}
 use Rattle.stored_journals.specs.Journals.{Enters, Holds, IsFault, IsSameKept, Kept, JournalView}
@@ -48,7 +48,7 @@ pub record SameRows (old new : HeldJournal) : Type 0 where
 -- ---- an entry
 
 -- the entry is appended, and this is its row
-pub record EntryAppended (fault : List (List ℕ) → Option RoundFault) (entry : List ℕ) (row : Row)
+pub record EntryAppended (fault : List (List ℕ) → Option JournalFault) (entry : List ℕ) (row : Row)
     (old new : HeldJournal) : Type 0 where
   pub enters : Enters fault entry old.journal new.journal
   pub kept : IsSameKept old.journal new.journal
@@ -56,7 +56,7 @@ pub record EntryAppended (fault : List (List ℕ) → Option RoundFault) (entry 
   pub answer : row ≡ row_in entry
 
 -- the entry has this fault, and what came since the last commit is taken back
-pub record EntryRefused (fault : List (List ℕ) → Option RoundFault) (f : RoundFault) (row : Row)
+pub record EntryRefused (fault : List (List ℕ) → Option JournalFault) (f : JournalFault) (row : Row)
     (old new : HeldJournal) : Type 0 where
   pub found : IsFault fault old.journal f
   pub undone : IsUndone old new
@@ -64,7 +64,7 @@ pub record EntryRefused (fault : List (List ℕ) → Option RoundFault) (f : Rou
 
 -- An entry is appended, if it has no fault of this kind; else what came since the last commit is
 -- taken back.
-abbrev pub EntryDone : (List (List ℕ) → Option RoundFault) → List ℕ → Status → Row → HeldJournal
+abbrev pub EntryDone : (List (List ℕ) → Option JournalFault) → List ℕ → Status → Row → HeldJournal
     → HeldJournal → Type 0
 EntryDone fault entry status.Done row old new = EntryAppended fault entry row old new
 EntryDone fault entry (status.Refused f) row old new = EntryRefused fault f row old new
@@ -140,7 +140,7 @@ OutputDone version output named stored old new = ⊥
 abbrev pub RowFound : Option (List ℕ) → Status → Row → Type 0
 RowFound (Some entry) status.Done row = row ≡ row_in entry
 RowFound (Some entry) (status.Refused f) row =
-    (f ≡ round_fault.Memory) × (row ≡ no_row (status.Refused f))
+    (f ≡ journal_fault.Memory) × (row ≡ no_row (status.Refused f))
 RowFound None status.NoRow row = row ≡ no_row status.NoRow
 RowFound found named row = ⊥
 
@@ -163,7 +163,7 @@ RowWritten None named len before after = ⊥
 -- a journal was made, and it is empty; or no memory was found, and there is none
 abbrev pub IsNewJournal : Status → Option HeldJournal → Type 0
 IsNewJournal status.Done (Some made) = IsEmptyJournal made
-IsNewJournal (status.Refused f) None = f ≡ round_fault.Memory
+IsNewJournal (status.Refused f) None = f ≡ journal_fault.Memory
 IsNewJournal named made = ⊥
 
 -- how many entries it has
@@ -173,7 +173,7 @@ HasEntries status.NoJournal count None = count ≡ 0
 HasEntries named count j = ⊥
 
 -- An entry is appended to the journal that there is.
-abbrev pub EntryAnswered : (List (List ℕ) → Option RoundFault) → List ℕ → Status → Row
+abbrev pub EntryAnswered : (List (List ℕ) → Option JournalFault) → List ℕ → Status → Row
     → Option HeldJournal → Option HeldJournal → Type 0
 EntryAnswered fault entry named row (Some old) (Some new) = EntryDone fault entry named row old new
 EntryAnswered fault entry named row None None =
@@ -201,7 +201,7 @@ OutputAnswered None output named stored old new =
 abbrev pub CommitAnswered : Status → Option HeldJournal → Option HeldJournal → Type 0
 CommitAnswered status.Done (Some old) (Some new) =
     KeepsAll old.journal new.journal × SameRows old new
-CommitAnswered (status.Refused f) (Some old) None = f ≡ round_fault.Memory
+CommitAnswered (status.Refused f) (Some old) None = f ≡ journal_fault.Memory
 CommitAnswered status.NoJournal None None = Unit {0}
 CommitAnswered named old new = ⊥
 

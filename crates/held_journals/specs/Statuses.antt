@@ -3,21 +3,21 @@
 use Rattle.std.specs.Prelude.{ℕ, ◌==◌, if◌then◌else◌, Option, Some, None}
 use Rattle.journal_protocol.specs.Version.{Version}
 use Rattle.journal_protocol.specs.Version.TheVariants as version
-use Rattle.journal_entries.specs.declared.fault.RoundFault.{RoundFault}
-use Rattle.journal_entries.specs.declared.fault.RoundFault.TheVariants as round_fault
+use Rattle.journal_entries.specs.declared.fault.JournalFault.{JournalFault}
+use Rattle.journal_entries.specs.declared.fault.JournalFault.TheVariants as journal_fault
 use Rattle.held_journals.specs.declared.status.Status.{Status}
 use Rattle.held_journals.specs.declared.status.Status.TheVariants as status
 
 -- 1: no memory was found; from 11 on the faults
-abbrev pub fault_code : RoundFault → ℕ
-fault_code round_fault.Memory = 1
-fault_code round_fault.NotANotification = 11
-fault_code round_fault.NoSuchId = 12
-fault_code round_fault.SecondCompletion = 13
-fault_code round_fault.WrongKind = 14
-fault_code round_fault.RunIsProposed = 15
-fault_code round_fault.JournalFull = 16
-fault_code round_fault.BadJournal = 17
+abbrev pub fault_code : JournalFault → ℕ
+fault_code journal_fault.Memory = 1
+fault_code journal_fault.NotANotification = 11
+fault_code journal_fault.NoSuchId = 12
+fault_code journal_fault.SecondCompletion = 13
+fault_code journal_fault.WrongKind = 14
+fault_code journal_fault.RunIsProposed = 15
+fault_code journal_fault.JournalFull = 16
+fault_code journal_fault.BadJournal = 17
 
 -- 0: it was done; 2: there is no journal; 4: there is no room; 8: a number names no version; 9:
 -- there is no such row; 10: an output isn't whole frames
@@ -34,19 +34,19 @@ status_number (status.Refused fault) = fault_code fault
 abbrev pub status_by : ℕ → Status
 status_by n =
     if n == 0 then status.Done
-    else if n == 1 then status.Refused round_fault.Memory
+    else if n == 1 then status.Refused journal_fault.Memory
     else if n == 2 then status.NoJournal
     else if n == 4 then status.NoRoom
     else if n == 8 then status.BadNumber
     else if n == 9 then status.NoRow
     else if n == 10 then status.BadOutput
-    else if n == 11 then status.Refused round_fault.NotANotification
-    else if n == 12 then status.Refused round_fault.NoSuchId
-    else if n == 13 then status.Refused round_fault.SecondCompletion
-    else if n == 14 then status.Refused round_fault.WrongKind
-    else if n == 15 then status.Refused round_fault.RunIsProposed
-    else if n == 16 then status.Refused round_fault.JournalFull
-    else status.Refused round_fault.BadJournal
+    else if n == 11 then status.Refused journal_fault.NotANotification
+    else if n == 12 then status.Refused journal_fault.NoSuchId
+    else if n == 13 then status.Refused journal_fault.SecondCompletion
+    else if n == 14 then status.Refused journal_fault.WrongKind
+    else if n == 15 then status.Refused journal_fault.RunIsProposed
+    else if n == 16 then status.Refused journal_fault.JournalFull
+    else status.Refused journal_fault.BadJournal
 
 -- the version of a number: those that a VM is made for
 abbrev pub version_named : ℕ → Option Version

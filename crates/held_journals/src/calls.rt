@@ -10,7 +10,7 @@ use crate::held::{Journal, empty, hide, show};
 use crate::journal::HeldJournal;
 use crate::row::{Row, Stored, answer_store, no_row};
 use crate::status::Status;
-use journal_entries::RoundFault;
+use journal_entries::JournalFault;
 use journal_protocol::Version;
 use loose_boxes::Loose;
 use std::alloc::Global;
@@ -81,7 +81,7 @@ pub fn open(alloc: Global, held: &mut Journal) -> u32
             give(alloc, held, made);
             Status::Done.code()
         }
-        Err(_) => Status::Refused(RoundFault::Memory).code(),
+        Err(_) => Status::Refused(JournalFault::Memory).code(),
     }
 }
 
@@ -178,7 +178,7 @@ pub fn keep(alloc: Global, held: &mut Journal) -> u32
                 give(alloc, held, journal);
                 Status::Done.code()
             }
-            Err(_) => Status::Refused(RoundFault::Memory).code(),
+            Err(_) => Status::Refused(JournalFault::Memory).code(),
         },
         None => Status::NoJournal.code(),
     }

@@ -13,7 +13,7 @@ use crate::rest::ends_whole;
 use crate::row::{Row, Stored, answer_store, no_row, row_in};
 use crate::status::Status;
 use bytes::{Bytes, BytesMut};
-use journal_entries::RoundFault;
+use journal_entries::JournalFault;
 use journal_protocol::{Decoder, Version};
 use std::alloc::{AllocError, Global};
 use stored_journals::{StoredJournal, store_from};
@@ -39,7 +39,7 @@ fn write(bytes: &[u8], out: &mut [u8]) -> (Status, usize)
 }
 
 /// The next entry of a journal that is loaded, as a row, if it has no fault.
-fn load(alloc: Global, journal: &mut StoredJournal, entry: &[u8]) -> Result<Row, RoundFault>
+fn load(alloc: Global, journal: &mut StoredJournal, entry: &[u8]) -> Result<Row, JournalFault>
     ensures ok { OnOk result (Enters (given_fault entry.now) entry.now journal.old journal.new) }
     ensures row { IfOk result (λ row. row ≡ row_in entry.now) }
     ensures done { IfOk result (λ row. status_by row.status ≡ Done) }
@@ -47,10 +47,10 @@ fn load(alloc: Global, journal: &mut StoredJournal, entry: &[u8]) -> Result<Row,
     ensures kept { IsSameKept journal.old journal.new }
 {
     let Ok(bytes) = Bytes::copy_from_slice(alloc, entry) else {
-        return Err(RoundFault::Memory);
+        return Err(JournalFault::Memory);
     };
     let Ok(row) = row_in(alloc, &bytes) else {
-        return Err(RoundFault::Memory);
+        return Err(JournalFault::Memory);
     };
     match journal.entry(alloc, &bytes) {
         Ok(()) => Ok(row),
@@ -59,7 +59,7 @@ fn load(alloc: Global, journal: &mut StoredJournal, entry: &[u8]) -> Result<Row,
 }
 
 /// A notification arrives, as a row, if it has no fault.
-fn arrive(alloc: Global, journal: &mut StoredJournal, entry: &[u8]) -> Result<Row, RoundFault>
+fn arrive(alloc: Global, journal: &mut StoredJournal, entry: &[u8]) -> Result<Row, JournalFault>
     ensures ok { OnOk result (Enters (arrival_fault entry.now) entry.now journal.old journal.new) }
     ensures row { IfOk result (λ row. row ≡ row_in entry.now) }
     ensures done { IfOk result (λ row. status_by row.status ≡ Done) }
@@ -67,10 +67,10 @@ fn arrive(alloc: Global, journal: &mut StoredJournal, entry: &[u8]) -> Result<Ro
     ensures kept { IsSameKept journal.old journal.new }
 {
     let Ok(bytes) = Bytes::copy_from_slice(alloc, entry) else {
-        return Err(RoundFault::Memory);
+        return Err(JournalFault::Memory);
     };
     let Ok(row) = row_in(alloc, &bytes) else {
-        return Err(RoundFault::Memory);
+        return Err(JournalFault::Memory);
     };
     match journal.arrive(alloc, &bytes) {
         Ok(()) => Ok(row),
@@ -86,7 +86,7 @@ fn store_all(
     rows: &mut Vec<Bytes>,
     feed: &mut BytesMut,
     output: &[u8],
-) -> Result<bool, RoundFault>
+) -> Result<bool, JournalFault>
     ensures ok { IfOk result (λ whole. StoresAll version output.now whole journal.old
         rows.old.items feed.old.items journal.new rows.new.items feed.new.items) }
     ensures err { IfErr result (λ f. IsStoringFault version (length output.now) output.now
@@ -96,10 +96,10 @@ fn store_all(
     let n = output.len();
     let mut unstored = Decoder::new(alloc);
     let Ok(bytes) = Bytes::copy_from_slice(alloc, output) else {
-        return Err(RoundFault::Memory);
+        return Err(JournalFault::Memory);
     };
     if unstored.push(bytes).is_err() {
-        return Err(RoundFault::Memory);
+        return Err(JournalFault::Memory);
     }
     match store_from(alloc, version, journal, rows, feed, &mut unstored, n) {
         Ok(()) => ends_whole(&mut unstored),
@@ -116,7 +116,7 @@ fn store_only(
     rows: &mut Vec<Bytes>,
     feed: &mut BytesMut,
     output: &[u8],
-) -> Result<bool, RoundFault>
+) -> Result<bool, JournalFault>
     ensures ok { IfOk result (λ whole. StoresAll version output.now whole journal.old [] []
         journal.new rows.new.items feed.new.items) }
     ensures err { IfErr result (λ f. IsStoringFault version (length output.now) output.now
@@ -226,7 +226,7 @@ impl HeldJournal {
             None => no_row(Status::NoRow),
             Some(entry) => match row_in(alloc, entry) {
                 Ok(row) => row,
-                Err(_) => no_row(Status::Refused(RoundFault::Memory)),
+                Err(_) => no_row(Status::Refused(JournalFault::Memory)),
             },
         }
     }

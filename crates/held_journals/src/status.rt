@@ -2,7 +2,7 @@
 ghost use Rattle.std.specs.Prelude.{◌≡◌, ◌≤◌};
 ghost use Rattle.held_journals.specs.Statuses.{status_number, fault_code, status_by};
 
-use journal_entries::RoundFault;
+use journal_entries::JournalFault;
 
 /// How a call from C ended.
 #[derive(Clone, Copy, Debug, PartialEq, Eq)]
@@ -20,22 +20,22 @@ pub enum Status {
     /// The output isn't whole frames.
     BadOutput,
     /// It has this fault.
-    Refused(RoundFault),
+    Refused(JournalFault),
 }
 
 /// The number of a fault.
-fn fault_code(fault: RoundFault) -> u32
+fn fault_code(fault: JournalFault) -> u32
     ensures { result ≡ fault_code fault }
 {
     match fault {
-        RoundFault::Memory => 1,
-        RoundFault::NotANotification => 11,
-        RoundFault::NoSuchId => 12,
-        RoundFault::SecondCompletion => 13,
-        RoundFault::WrongKind => 14,
-        RoundFault::RunIsProposed => 15,
-        RoundFault::JournalFull => 16,
-        RoundFault::BadJournal => 17,
+        JournalFault::Memory => 1,
+        JournalFault::NotANotification => 11,
+        JournalFault::NoSuchId => 12,
+        JournalFault::SecondCompletion => 13,
+        JournalFault::WrongKind => 14,
+        JournalFault::RunIsProposed => 15,
+        JournalFault::JournalFull => 16,
+        JournalFault::BadJournal => 17,
     }
 }
 

@@ -19,7 +19,7 @@ use crate::versions::{response_head, version_in};
 use crate::vm::VM;
 use await_trees::{NotificationHandle, UnresolvedFuture};
 use bytes::Bytes;
-use journal_protocol::{Decoder, Error, HeaderMap, NamedFault, Version};
+use journal_protocol::{Decoder, Error, HeaderMap, InvocationTarget, NamedFault, Version};
 use plain::Text;
 use retries::RetryPolicy;
 use std::alloc::{AllocError, Global};
@@ -31,15 +31,16 @@ use vm_inputs::close_input;
 use vm_machine::Machine;
 use vm_parts::{StateKey, TrackedCall};
 use vm_types::{
-    AttachInvocationTarget, AwaitResponse, AwakeableHandle, CallHandle, CommandRelationship,
-    DeadlineCallHandle, EphemeralCompletionId, Input, NonEmptyValue, PayloadOptions, ResponseHead,
-    RunExitResult, RunHandle, SendHandle, State, Step, Target, VMOptions, VMResult, Value,
+    AwaitResponse, AwakeableHandle, CallHandle, CommandRelationship, DeadlineCallHandle,
+    EphemeralCompletionId, Input, NonEmptyValue, PayloadOptions, ResponseHead, RunExitResult,
+    RunHandle, SendHandle, State, Step, Target, VMOptions, VMResult, Value,
 };
 
 /// The invocation VM.
 pub struct CoreVM {
     pub(crate) decoder: Decoder,
-    pub(crate) machine: Machine,
+    /// The record that each call's contract speaks of. It may be any machine: no contract of a call asks how the VM came to it.
+    pub machine: Machine,
 }
 
 /// Written out, so that who lets a VM go calls this: a derived drop is proved once more in each crate above.
@@ -553,17 +554,14 @@ impl VM for CoreVM {
         self.command(asks::complete_promise(Text::from_string(key), value, options, version))
     }
 
-    fn sys_attach_invocation(
-        &mut self,
-        target: AttachInvocationTarget,
-    ) -> VMResult<NotificationHandle> {
+    fn sys_attach_invocation(&mut self, target: InvocationTarget) -> VMResult<NotificationHandle> {
         let version = self.machine.version;
         self.command(asks::attach_invocation(target, version))
     }
 
     fn sys_get_invocation_output(
         &mut self,
-        target: AttachInvocationTarget,
+        target: InvocationTarget,
     ) -> VMResult<NotificationHandle> {
         let version = self.machine.version;
         self.command(asks::get_invocation_output(target, version))

@@ -2,8 +2,6 @@
 #![tactic(auto)]
 
 mod core_vm;
-#[cfg(test)]
-mod counters;
 mod feed;
 mod shared;
 mod versions;

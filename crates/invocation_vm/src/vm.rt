@@ -18,14 +18,14 @@ ghost use Rattle.invocation_vm.specs.Views.{View, Calls, Leaves, TakesOutput, af
 
 use await_trees::{NotificationHandle, UnresolvedFuture};
 use bytes::Bytes;
-use journal_protocol::{Error, HeaderMap};
+use journal_protocol::{Error, HeaderMap, InvocationTarget};
 use retries::RetryPolicy;
 use std::alloc::{AllocError, Global};
 use std::time::Duration;
 use vm_types::{
-    AttachInvocationTarget, AwaitResponse, AwakeableHandle, CallHandle, CommandRelationship,
-    DeadlineCallHandle, EphemeralCompletionId, Input, NonEmptyValue, PayloadOptions, ResponseHead,
-    RunExitResult, RunHandle, SendHandle, State, Target, VMOptions, VMResult, Value,
+    AwaitResponse, AwakeableHandle, CallHandle, CommandRelationship, DeadlineCallHandle,
+    EphemeralCompletionId, Input, NonEmptyValue, PayloadOptions, ResponseHead, RunExitResult,
+    RunHandle, SendHandle, State, Target, VMOptions, VMResult, Value,
 };
 
 /// One attempt of an invocation: the bytes of its journal come in, the handler's calls are answered, and the bytes
@@ -261,10 +261,7 @@ pub trait VM: Sized {
             (view self.old).machine.version) result (view self.old) (view self.new) };
 
     /// Attaches to another invocation, and answers the handle of its result. An empty scope is refused; a scope needs V7.
-    fn sys_attach_invocation(
-        &mut self,
-        target: AttachInvocationTarget,
-    ) -> VMResult<NotificationHandle>
+    fn sys_attach_invocation(&mut self, target: InvocationTarget) -> VMResult<NotificationHandle>
         ensures { CallsCommand (attach_invocation_command target (view self.old).machine.version)
             result (view self.old) (view self.new) };
 
@@ -272,7 +269,7 @@ pub trait VM: Sized {
     /// scope needs V7.
     fn sys_get_invocation_output(
         &mut self,
-        target: AttachInvocationTarget,
+        target: InvocationTarget,
     ) -> VMResult<NotificationHandle>
         ensures { CallsCommand (get_invocation_output_command target
             (view self.old).machine.version) result (view self.old) (view self.new) };

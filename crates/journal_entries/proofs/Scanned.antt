@@ -12,11 +12,11 @@ use Rattle.journal_protocol.specs.Frames.{Whole, Partial, Malformed, next_of}
 use Rattle.journal_protocol.proofs.Facts.{whole_shorter}
 use Rattle.journal_entries.specs.Frames.{Tail, frames_from, frames_of}
 use Rattle.journal_entries.proofs.Cuts.{frames_of-next}
-use Rattle.journal_entries.specs.declared.proposals.KeptProposal.{KeptProposal}
+use Rattle.journal_protocol.specs.ProposeRunCompletion.{ProposeRunCompletion}
 use Rattle.journal_entries.specs.JournalFrames.{is_command_frame}
 use Rattle.journal_entries.specs.declared.storing.Written.{Written}
 use Rattle.journal_entries.specs.declared.storing.Written.TheVariants.{Command, Proposal}
-use Rattle.journal_entries.specs.declared.fault.RoundFault.{RoundFault}
+use Rattle.journal_entries.specs.declared.fault.JournalFault.{JournalFault}
 use Rattle.journal_entries.specs.NextFrames.{IsWholeItem, NextFaults, StoresItem, StoresOne}
 use Rattle.journal_entries.specs.Storing.{StoredCanBeRead, FirstFault, NoneFaults, Stores, proposal_of, stored_as, storing_fault, waits_behind, written_among, written_as, written_before, written_from}
 use Rattle.journal_entries.proofs.Framing.{in_front, next_framed}
@@ -45,7 +45,7 @@ faultless_more [] w j h e = (ap (storing_fault w) (sym (append-nil j)) ∙ e, tt
 faultless_more (x ∷ xs) w j h e = (h.0, faultless_more xs w (j ++ stored_as x ∷ []) h.1 (ap (storing_fault w) (behind_one j x xs) ∙ e))
 
 -- the first fault is that of an item after others that have none
-first_fault : (version : Version) (ws : List Written) (w : Written) (more : List Written) (j : List (List ℕ)) (f : RoundFault) → NoneFaults ws j → AllByRecursion (StoredCanBeRead version) ws → storing_fault w (j ++ map stored_as ws) ≡ Some f → FirstFault version (ws ++ w ∷ more) j f
+first_fault : (version : Version) (ws : List Written) (w : Written) (more : List Written) (j : List (List ℕ)) (f : JournalFault) → NoneFaults ws j → AllByRecursion (StoredCanBeRead version) ws → storing_fault w (j ++ map stored_as ws) ≡ Some f → FirstFault version (ws ++ w ∷ more) j f
 first_fault version [] w more j f h k e = inl (ap (storing_fault w) (sym (append-nil j)) ∙ e)
 first_fault version (x ∷ xs) w more j f h k e = inr (h.0, k.0, first_fault version xs w more (j ++ stored_as x ∷ []) f h.1 k.1 (ap (storing_fault w) (behind_one j x xs) ∙ e))
 
@@ -72,7 +72,7 @@ one_readable : (version : Version) (raw : RawMessage) (item : Written) → lengt
 one_readable version raw (Proposal p) fits is whole = whole
 one_readable version raw (Command c) fits is whole = by_test (is_command_frame raw) (proposal_of raw) is
   where
-    by_test : (b : Bool) (o : Option KeptProposal) → cond b (Some (Command raw)) (option_map Proposal o) ≡ Some (Command c) → length c.body < 2 ^ 64
+    by_test : (b : Bool) (o : Option ProposeRunCompletion) → cond b (Some (Command raw)) (option_map Proposal o) ≡ Some (Command c) → length c.body < 2 ^ 64
     by_test true o h = let same : raw ≡ c = cc in subst (λ (x : RawMessage). length x.body < 2 ^ 64) same fits
     by_test false None h = absurd (cc)
     by_test false (Some p) h = absurd (cc)
@@ -160,7 +160,7 @@ module _ (version : Version) (n : ℕ) (u : List ℕ) (j : List (List ℕ)) (w :
   then_next o stored b j'' w'' u'' is is' h some = stands_next b j'' w'' u'' (subst (λ t. StoresOne version j' w' u' t j'' w'' u'') (is ∙ ap Some is') h) some
 
   -- what is stored of the next frame has a fault
-  pub stands_fault : (f : RoundFault) → NextFaults u' j' f → 0 < left → FirstFault version (take n (written_from u)) j f
+  pub stands_fault : (f : JournalFault) → NextFaults u' j' f → 0 < left → FirstFault version (take n (written_from u)) j f
   stands_fault f h some =
       let W = written_among s.seen in
       let item = h.has.item in

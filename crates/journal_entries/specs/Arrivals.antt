@@ -10,8 +10,8 @@ use Rattle.journal_protocol.specs.NotificationResult.{NotificationResult}
 use Rattle.journal_protocol.specs.NotificationResult.TheVariants as result
 use Rattle.journal_entries.specs.declared.completions.Completes.{Completes}
 use Rattle.journal_entries.specs.declared.completions.Completes.TheVariants as completes
-use Rattle.journal_entries.specs.declared.fault.RoundFault.{RoundFault}
-use Rattle.journal_entries.specs.declared.fault.RoundFault.TheVariants as round_fault
+use Rattle.journal_entries.specs.declared.fault.JournalFault.{JournalFault}
+use Rattle.journal_entries.specs.declared.fault.JournalFault.TheVariants as journal_fault
 use Rattle.journal_entries.specs.Entries.{note_in, notes_in, said_in}
 
 -- the most entries of a journal
@@ -77,21 +77,21 @@ is_invocation_id (result.Failure failure) = false
 is_invocation_id (result.StateKeys keys) = false
 
 -- the fault of a journal that is full
-abbrev pub room_fault : List (List ℕ) → Option RoundFault
-room_fault journal = if length journal == most_entries then Some round_fault.JournalFull else None
+abbrev pub room_fault : List (List ℕ) → Option JournalFault
+room_fault journal = if length journal == most_entries then Some journal_fault.JournalFull else None
 
 -- the fault of a completion: by what completes its id, whether it was completed, and what it brings
-abbrev pub completion_fault : Option Completes → Bool → NotificationResult → Option RoundFault
-    → Option RoundFault
-completion_fault None done brings room = Some round_fault.NoSuchId
-completion_fault (Some kind) true brings room = Some round_fault.SecondCompletion
+abbrev pub completion_fault : Option Completes → Bool → NotificationResult → Option JournalFault
+    → Option JournalFault
+completion_fault None done brings room = Some journal_fault.NoSuchId
+completion_fault (Some kind) true brings room = Some journal_fault.SecondCompletion
 completion_fault (Some completes.InvocationId) false brings room = if is_invocation_id brings
-    then room else Some round_fault.WrongKind
-completion_fault (Some completes.Proposal) false brings room = Some round_fault.RunIsProposed
+    then room else Some journal_fault.WrongKind
+completion_fault (Some completes.Proposal) false brings room = Some journal_fault.RunIsProposed
 completion_fault (Some completes.AnyResult) false brings room = room
 
 -- the fault of a notification
-abbrev pub note_fault : NotificationId → NotificationResult → List (List ℕ) → Option RoundFault
+abbrev pub note_fault : NotificationId → NotificationResult → List (List ℕ) → Option JournalFault
 note_fault (CompletionId id) brings journal = completion_fault
     (completes_among id (said_in journal) None) (completes_id id (notes_in journal)) brings
     (room_fault journal)
@@ -99,30 +99,30 @@ note_fault (SignalId id) brings journal = room_fault journal
 note_fault (SignalName name) brings journal = room_fault journal
 
 -- the fault of what may be a notification
-abbrev pub read_fault : Option Notification → List (List ℕ) → Option RoundFault
-read_fault None journal = Some round_fault.NotANotification
+abbrev pub read_fault : Option Notification → List (List ℕ) → Option JournalFault
+read_fault None journal = Some journal_fault.NotANotification
 read_fault (Some n) journal = note_fault n.id n.result journal
 
 -- The first fault of an arrival on a journal, out of memory aside: it is no notification, no
 -- stored command carries its id, the id was completed, an invocation's id is completed by
 -- something else, the result is a run's, the journal is full.
-abbrev pub arrival_fault : List ℕ → List (List ℕ) → Option RoundFault
+abbrev pub arrival_fault : List ℕ → List (List ℕ) → Option JournalFault
 arrival_fault bytes journal = read_fault (note_in bytes) journal
 
 -- ---- proposals
 
 -- the fault of a proposal: by what completes its id, and whether it was completed; a run's result
 -- is no invocation's id
-abbrev pub proposed_fault : Option Completes → Bool → Option RoundFault → Option RoundFault
-proposed_fault None done room = Some round_fault.NoSuchId
-proposed_fault (Some kind) true room = Some round_fault.SecondCompletion
-proposed_fault (Some completes.InvocationId) false room = Some round_fault.WrongKind
+abbrev pub proposed_fault : Option Completes → Bool → Option JournalFault → Option JournalFault
+proposed_fault None done room = Some journal_fault.NoSuchId
+proposed_fault (Some kind) true room = Some journal_fault.SecondCompletion
+proposed_fault (Some completes.InvocationId) false room = Some journal_fault.WrongKind
 proposed_fault (Some completes.Proposal) false room = room
 proposed_fault (Some completes.AnyResult) false room = room
 
 -- The first fault of a proposal for the run of this id, which is stored as a completion, out of
 -- memory aside: no stored command carries its id, the id was completed, an invocation's id is
 -- expected, the journal is full.
-abbrev pub stored_proposal_fault : ℕ → List (List ℕ) → Option RoundFault
+abbrev pub stored_proposal_fault : ℕ → List (List ℕ) → Option JournalFault
 stored_proposal_fault id journal = proposed_fault (completes_among id (said_in journal) None)
     (completes_id id (notes_in journal)) (room_fault journal)

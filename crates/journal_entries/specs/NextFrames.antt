@@ -6,7 +6,7 @@ use Rattle.journal_protocol.specs.RawMessage.{RawMessage}
 use Rattle.journal_protocol.specs.Frames.{Whole, Partial, Malformed, next_of}
 use Rattle.journal_entries.specs.declared.storing.Written.{Written}
 use Rattle.journal_entries.specs.declared.storing.Written.TheVariants.{Command, Proposal}
-use Rattle.journal_entries.specs.declared.fault.RoundFault.{RoundFault}
+use Rattle.journal_entries.specs.declared.fault.JournalFault.{JournalFault}
 use Rattle.journal_entries.specs.Storing.{StoredCanBeRead, stored_as, storing_fault, waits_behind, written_as}
 
 -- the next frame was taken; or none is whole
@@ -46,13 +46,13 @@ StoresOne version journal waiting unstored (Some b) journal' waiting' unstored' 
     × StoresRaw version raw b journal waiting journal' waiting'
 
 -- what is stored of a frame has this fault
-pub record HasFault (raw : RawMessage) (journal : List (List ℕ)) (f : RoundFault) : Type 0 where
+pub record HasFault (raw : RawMessage) (journal : List (List ℕ)) (f : JournalFault) : Type 0 where
   pub item : Written
   pub is : written_as raw ≡ Some item
   pub fault : storing_fault item journal ≡ Some f
 
 -- what is stored of the next frame has this fault
-pub record NextFaults (unstored : List ℕ) (journal : List (List ℕ)) (f : RoundFault) : Type 0 where
+pub record NextFaults (unstored : List ℕ) (journal : List (List ℕ)) (f : JournalFault) : Type 0 where
   pub raw : RawMessage
   pub rest : List ℕ
   pub next : next_of unstored ≡ Whole raw rest

@@ -9,26 +9,21 @@ use Rattle.journal_protocol.specs.Message.TheVariants as message
 use Rattle.journal_protocol.specs.RawMessage.{RawMessage}
 use Rattle.journal_protocol.specs.Frames.{IsWhole, encoding}
 use Rattle.journal_entries.specs.Frames.{frames_of}
-use Rattle.journal_entries.specs.declared.proposals.KeptProposal.{KeptProposal}
 use Rattle.journal_entries.specs.Proposals.{acknowledged_completion}
 use Rattle.journal_protocol.specs.Versions.{is_from_v7}
 use Rattle.journal_protocol.specs.Bodies.{proposal_in}
 use Rattle.journal_entries.specs.JournalFrames.{is_command_frame, is_proposal}
 use Rattle.journal_entries.specs.declared.storing.Written.{Written}
 use Rattle.journal_entries.specs.declared.storing.Written.TheVariants.{Command, Proposal}
-use Rattle.journal_entries.specs.declared.fault.RoundFault.{RoundFault}
+use Rattle.journal_entries.specs.declared.fault.JournalFault.{JournalFault}
 use Rattle.journal_entries.specs.Arrivals.{stored_proposal_fault, room_fault}
 use Rattle.journal_entries.specs.Entries.{frame_of}
 
 -- ---- what is stored of frames
 
--- what a proposal proposes
-abbrev pub kept_of : ProposeRunCompletion → KeptProposal
-kept_of p = record { completion_id = p.id; result = p.result }
-
 -- the proposal that a frame is, if it is one and can be read
-abbrev pub proposal_of : RawMessage → Option KeptProposal
-proposal_of raw = cond (is_proposal raw) (option_map kept_of (proposal_in raw.body)) None
+abbrev pub proposal_of : RawMessage → Option ProposeRunCompletion
+proposal_of raw = cond (is_proposal raw) (proposal_in raw.body) None
 
 -- what is stored of a frame: a command, or a run's result
 abbrev pub written_as : RawMessage → Option Written
@@ -52,8 +47,8 @@ written_from bytes = written_among (frames_of bytes).0
 -- ---- how it is stored
 
 -- the completion of a run, with the result that is proposed
-abbrev pub completion_message : KeptProposal → Message
-completion_message p = message.Notification (acknowledged_completion p.completion_id p)
+abbrev pub completion_message : ProposeRunCompletion → Message
+completion_message p = message.Notification (acknowledged_completion p.id p)
 
 -- the acknowledgement of a proposal
 abbrev pub acknowledgement : ℕ → Message
@@ -65,8 +60,8 @@ stored_as (Command raw) = frame_of raw
 stored_as (Proposal p) = encoding (completion_message p)
 
 -- what answers a proposal: from version 7 on its acknowledgement, before it the completion
-abbrev pub answer_to : Version → KeptProposal → List ℕ
-answer_to version p = if is_from_v7 version then encoding (acknowledgement p.completion_id)
+abbrev pub answer_to : Version → ProposeRunCompletion → List ℕ
+answer_to version p = if is_from_v7 version then encoding (acknowledgement p.id)
     else encoding (completion_message p)
 
 -- what waits once it is stored: nothing after a command, after a proposal what answers it
@@ -75,9 +70,9 @@ waits_behind version (Command raw) = []
 waits_behind version (Proposal p) = answer_to version p
 
 -- the fault of storing it, out of memory aside
-abbrev pub storing_fault : Written → List (List ℕ) → Option RoundFault
+abbrev pub storing_fault : Written → List (List ℕ) → Option JournalFault
 storing_fault (Command raw) journal = room_fault journal
-storing_fault (Proposal p) journal = stored_proposal_fault p.completion_id journal
+storing_fault (Proposal p) journal = stored_proposal_fault p.id journal
 
 -- none of these has a fault, where they are stored one after another
 abbrev pub NoneFaults : List Written → List (List ℕ) → Type 0
@@ -89,10 +84,10 @@ NoneFaults (w ∷ ws) journal = (storing_fault w journal ≡ None)
 abbrev pub StoredCanBeRead : Version → Written → Type 0
 StoredCanBeRead version (Command raw) = length raw.body < 2 ^ 64
 StoredCanBeRead version (Proposal p) = IsWhole (completion_message p)
-    × (is_from_v7 version ≡ true → IsWhole (acknowledgement p.completion_id))
+    × (is_from_v7 version ≡ true → IsWhole (acknowledgement p.id))
 
 -- the first of these that has a fault has this one, and those before it can be read back
-abbrev pub FirstFault : Version → List Written → List (List ℕ) → RoundFault → Type 0
+abbrev pub FirstFault : Version → List Written → List (List ℕ) → JournalFault → Type 0
 FirstFault version [] journal f = ⊥
 FirstFault version (w ∷ ws) journal f = (storing_fault w journal ≡ Some f)
     ⊎ ((storing_fault w journal ≡ None) × StoredCanBeRead version w

@@ -2,10 +2,10 @@
 
 use std::fmt;
 
-/// Why rounds stopped, or why no world was made: the first event, or the first given entry, that has a fault has this one, of several the first
-/// in this list.
+/// Why a journal refuses an entry, an arrival or what an attempt wrote. Rounds stop at the first event that has such a fault, and no world is made
+/// of a journal whose entry has one; of several faults it is the first in this list.
 #[derive(Clone, Copy, Debug, PartialEq, Eq)]
-pub enum RoundFault {
+pub enum JournalFault {
     /// An arrival isn't one whole frame of a notification.
     NotANotification = 1,
     /// No stored command carries the id of a completion.
@@ -25,20 +25,20 @@ pub enum RoundFault {
     BadJournal = 8,
 }
 
-impl fmt::Display for RoundFault {
+impl fmt::Display for JournalFault {
     fn fmt<W: fmt::Write>(&self, f: &mut fmt::Formatter<W>) -> fmt::Result {
         f.write_str(match self {
-            RoundFault::NotANotification => "an arrival isn't one whole frame of a notification",
-            RoundFault::NoSuchId => "no stored command has the id of a completion",
-            RoundFault::SecondCompletion => "a completion comes for an id that is completed",
-            RoundFault::WrongKind => "the id of an invocation is completed by something else",
-            RoundFault::RunIsProposed =>
+            JournalFault::NotANotification => "an arrival isn't one whole frame of a notification",
+            JournalFault::NoSuchId => "no stored command has the id of a completion",
+            JournalFault::SecondCompletion => "a completion comes for an id that is completed",
+            JournalFault::WrongKind => "the id of an invocation is completed by something else",
+            JournalFault::RunIsProposed =>
                 "the result of a run arrives, but the attempt that ran it proposes it",
-            RoundFault::Memory => "out of memory",
-            RoundFault::JournalFull => "the journal is full",
-            RoundFault::BadJournal => "an entry of the given journal can't stand there",
+            JournalFault::Memory => "out of memory",
+            JournalFault::JournalFull => "the journal is full",
+            JournalFault::BadJournal => "an entry of the given journal can't stand there",
         })
     }
 }
 
-impl std::error::Error for RoundFault {}
+impl std::error::Error for JournalFault {}

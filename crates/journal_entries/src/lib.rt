@@ -9,6 +9,6 @@ pub mod proposals;
 pub mod storing;
 
 pub use completions::Completes;
-pub use fault::RoundFault;
-pub use proposals::{KeptProposal, completion_result};
+pub use fault::JournalFault;
+pub use proposals::completion_result;
 pub use storing::Written;

@@ -5,13 +5,14 @@ ghost use Rattle.journal_protocol.specs.Versions.{is_from_v7};
 ghost use Rattle.journal_entries.specs.JournalFrames.{is_proposal};
 ghost use Rattle.journal_entries.specs.NextFrames.{NextWritten};
 ghost use Rattle.journal_entries.specs.Storing.{acknowledgement, proposal_of, written_as};
-ghost use Rattle.journal_entries.specs.declared.fault.RoundFault.TheVariants as round_fault;
+ghost use Rattle.journal_entries.specs.declared.fault.JournalFault.TheVariants as journal_fault;
 
 use crate::entry::is_command_frame;
-use crate::fault::RoundFault;
-use crate::proposals::KeptProposal;
+use crate::fault::JournalFault;
 use bytes::Bytes;
-use journal_protocol::{Decoder, Encoder, Message, ProposeRunCompletionAck, RawMessage, Version};
+use journal_protocol::{
+    Decoder, Encoder, Message, ProposeRunCompletion, ProposeRunCompletionAck, RawMessage, Version,
+};
 use plain::Fault;
 use std::alloc::{AllocError, Global};
 
@@ -21,7 +22,7 @@ pub enum Written {
     /// A command, as it was written.
     Command(RawMessage),
     /// A run's result, as its completion.
-    Proposal(KeptProposal),
+    Proposal(ProposeRunCompletion),
 }
 
 /// Whether the frame is one of a proposal.
@@ -32,17 +33,14 @@ fn is_proposal(raw: &RawMessage) -> bool
 }
 
 /// The proposal that a frame is, if it is one and can be read.
-fn proposal_of(alloc: Global, raw: &RawMessage) -> Result<Option<KeptProposal>, AllocError>
+fn proposal_of(alloc: Global, raw: &RawMessage) -> Result<Option<ProposeRunCompletion>, AllocError>
     ensures { IfOk result (λ proposal. proposal ≡ proposal_of raw.now) }
 {
     if !is_proposal(raw) {
         return Ok(None);
     }
     match raw.read_proposal(alloc) {
-        Ok(proposal) => Ok(Some(KeptProposal {
-            completion_id: proposal.id,
-            result: proposal.result,
-        })),
+        Ok(proposal) => Ok(Some(proposal)),
         Err(Fault::Memory) => Err(AllocError),
         Err(Fault::Malformed) => Ok(None),
     }
@@ -90,13 +88,13 @@ pub fn answer_bytes(
 }
 
 /// The next frame that was written, if it is whole.
-pub fn next_written(unstored: &mut Decoder) -> Result<Option<RawMessage>, RoundFault>
+pub fn next_written(unstored: &mut Decoder) -> Result<Option<RawMessage>, JournalFault>
     ensures ok { IfOk result (λ o. NextWritten unstored.old o unstored.new) }
-    ensures err { IfErr result (λ f. f ≡ round_fault.Memory) }
+    ensures err { IfErr result (λ f. f ≡ journal_fault.Memory) }
 {
     match unstored.next_frame() {
         Ok(raw) => Ok(raw),
-        Err(Fault::Memory) => Err(RoundFault::Memory),
+        Err(Fault::Memory) => Err(JournalFault::Memory),
         Err(Fault::Malformed) => Ok(None),
     }
 }

@@ -4,11 +4,10 @@ ghost use Rattle.lines.specs.Readings.{Blames};
 ghost use Rattle.line_parts.specs.Targets.{HasKeyAndScope, HasScope, IsCallOf, IsWorkflow, NamesBehind, NamesInvocation};
 
 use crate::arguments::{optional_text, text_alone, three_texts, two_texts};
-use journal_protocol::{IdempotencyId, WorkflowId};
+use journal_protocol::{IdempotencyId, InvocationTarget, WorkflowId};
 use lines::fields::are_named;
 use plain::{Fault, Text};
 use std::alloc::Global;
-use vm_types::AttachInvocationTarget;
 
 /// `[scope=T]` alone.
 fn scope_of(alloc: Global, words: &[&[u8]]) -> Result<Option<Text>, Fault>
@@ -75,46 +74,42 @@ fn call_of(alloc: Global, words: &[&[u8]]) -> Result<IdempotencyId, Fault>
 
 /// `T` after `id`.
 #[tactic(auto, using(crate::proofs::Targeting::id_blamed))]
-fn target_by_id(alloc: Global, words: &[&[u8]]) -> Result<AttachInvocationTarget, Fault>
+fn target_by_id(alloc: Global, words: &[&[u8]]) -> Result<InvocationTarget, Fault>
     ensures value { IfOk result (NamesBehind (codes "id") words.now) }
     ensures none { IfErr result (Blames (NamesBehind (codes "id") words.now)) }
 {
     match text_alone(alloc, words) {
-        Ok(id) => Ok(AttachInvocationTarget::InvocationId(id)),
+        Ok(id) => Ok(InvocationTarget::InvocationId(id)),
         Err(fault) => Err(fault),
     }
 }
 
 /// `T T [scope=T]` after `workflow`.
 #[tactic(auto, using(crate::proofs::Targeting::workflow_blamed))]
-fn target_by_workflow(alloc: Global, words: &[&[u8]]) -> Result<AttachInvocationTarget, Fault>
+fn target_by_workflow(alloc: Global, words: &[&[u8]]) -> Result<InvocationTarget, Fault>
     ensures value { IfOk result (NamesBehind (codes "workflow") words.now) }
     ensures none { IfErr result (Blames (NamesBehind (codes "workflow") words.now)) }
 {
     match workflow_of(alloc, words) {
-        Ok(workflow) => Ok(AttachInvocationTarget::WorkflowId(workflow)),
+        Ok(workflow) => Ok(InvocationTarget::WorkflowId(workflow)),
         Err(fault) => Err(fault),
     }
 }
 
 /// `T T T [skey=T] [scope=T]` after `idem`.
 #[tactic(auto, using(crate::proofs::Targeting::call_blamed))]
-fn target_by_call(alloc: Global, words: &[&[u8]]) -> Result<AttachInvocationTarget, Fault>
+fn target_by_call(alloc: Global, words: &[&[u8]]) -> Result<InvocationTarget, Fault>
     ensures value { IfOk result (NamesBehind (codes "idem") words.now) }
     ensures none { IfErr result (Blames (NamesBehind (codes "idem") words.now)) }
 {
     match call_of(alloc, words) {
-        Ok(call) => Ok(AttachInvocationTarget::IdempotencyId(call)),
+        Ok(call) => Ok(InvocationTarget::IdempotencyId(call)),
         Err(fault) => Err(fault),
     }
 }
 
 /// The invocation that this word and those after it name.
-fn target_behind(
-    alloc: Global,
-    word: &[u8],
-    others: &[&[u8]],
-) -> Result<AttachInvocationTarget, Fault>
+fn target_behind(alloc: Global, word: &[u8], others: &[&[u8]]) -> Result<InvocationTarget, Fault>
     ensures value { IfOk result (NamesBehind word.now others.now) }
     ensures none { IfErr result (Blames (NamesBehind word.now others.now)) }
 {
@@ -131,7 +126,7 @@ fn target_behind(
 }
 
 /// `id T`, `workflow T T [scope=T]` or `idem T T T [skey=T] [scope=T]`.
-pub fn target_of(alloc: Global, words: &[&[u8]]) -> Result<AttachInvocationTarget, Fault>
+pub fn target_of(alloc: Global, words: &[&[u8]]) -> Result<InvocationTarget, Fault>
     ensures value { IfOk result (NamesInvocation words.now) }
     ensures none { IfErr result (Blames (NamesInvocation words.now)) }
 {

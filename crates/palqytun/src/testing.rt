@@ -13,7 +13,7 @@ pub use crate::reports::{Ending, commands_sent, ending_of};
 pub use crate::worlds::WorldBuilder;
 use await_trees::NotificationHandle;
 use bytes::Bytes;
-pub use journal_entries::RoundFault;
+pub use journal_entries::JournalFault;
 use plain::Items;
 use retries::RetryPolicy;
 use std::alloc::{AllocError, Global};
@@ -23,7 +23,7 @@ pub use vm_rounds::{
 };
 use vm_types::{Handler, RunExitResult};
 
-fn no_world(fault: RoundFault) -> Fail {
+fn no_world(fault: JournalFault) -> Fail {
     Fail::new(format_args!("there is no world: {fault}"))
 }
 

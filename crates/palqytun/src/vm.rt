@@ -3,14 +3,15 @@
 pub use await_trees::{CANCEL_NOTIFICATION_HANDLE, NotificationHandle, UnresolvedFuture};
 pub use invocation_vm::{CoreVM, VM};
 pub use journal_protocol::{
-    Error, ErrorBehavior, Header, HeaderMap, IdempotencyId, SignalDelivery, Version, WorkflowId,
+    Error, ErrorBehavior, Header, HeaderMap, IdempotencyId,
+    InvocationTarget as AttachInvocationTarget, SignalDelivery, Version, WorkflowId,
 };
 pub use plain::{Items, Text};
 pub use retries::{EntryRetryInfo, Fraction, OnMaxAttempts, RetryPolicy};
 pub use vm_types::{
-    AttachInvocationTarget, AwaitResponse, AwaitingOnPolicy, AwakeableHandle, CallHandle,
-    CommandRelationship, CommandType, DeadlineCallHandle, EphemeralCompletionId,
-    ImplicitCancellationOption, Input, JournalMismatchRetryBehavior, JournalReplay,
-    NonDeterministicChecksOption, NonEmptyValue, PayloadOptions, ResponseHead, RunExitResult,
-    RunHandle, SendHandle, State, Target, TerminalFailure, VMOptions, VMResult, Value,
+    AwaitResponse, AwaitingOnPolicy, AwakeableHandle, CallHandle, CommandRelationship, CommandType,
+    DeadlineCallHandle, EphemeralCompletionId, ImplicitCancellationOption, Input,
+    JournalMismatchRetryBehavior, JournalReplay, NonDeterministicChecksOption, NonEmptyValue,
+    PayloadOptions, ResponseHead, RunExitResult, RunHandle, SendHandle, State, Target,
+    TerminalFailure, VMOptions, VMResult, Value,
 };

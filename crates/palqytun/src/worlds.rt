@@ -4,7 +4,7 @@ ghost use Rattle.palqytun.specs.Worlds.{test_identity};
 
 use crate::frames::input;
 use bytes::Bytes;
-use journal_entries::RoundFault;
+use journal_entries::JournalFault;
 use journal_protocol::Version;
 use plain::Text;
 use std::alloc::{AllocError, Global};
@@ -73,7 +73,7 @@ fn test_identity(alloc: Global) -> Result<Identity, AllocError>
 impl WorldBuilder {
     ghost use Rattle.palqytun.specs.Worlds.{test_setting, test_world};
     ghost use Rattle.journal_entries.specs.Given.{GivenFaults};
-    ghost use Rattle.journal_entries.specs.declared.fault.RoundFault.TheVariants as round_fault;
+    ghost use Rattle.journal_entries.specs.declared.fault.JournalFault.TheVariants as journal_fault;
 
     /// An invocation "test" in version 7 with this input, the options' defaults, no key and no state.
     pub fn new(alloc: Global, bytes: &'static [u8]) -> Result<WorldBuilder, AllocError>
@@ -169,10 +169,10 @@ impl WorldBuilder {
     }
 
     /// The world. The first entry that can't stand in a journal decides its fault.
-    pub fn build(self) -> Result<World, RoundFault>
+    pub fn build(self) -> Result<World, JournalFault>
         ensures world { IfOk result (λ w. w ≡ self) }
         ensures err { IfErr result
-            (λ f. (f ≡ round_fault.Memory) ⊎ GivenFaults self.journal f) }
+            (λ f. (f ≡ journal_fault.Memory) ⊎ GivenFaults self.journal f) }
     {
         let Self {
             alloc,

@@ -5,16 +5,16 @@ use Rattle.std.specs.Map.{lookup}
 use Rattle.std.specs.BTreeMap.{is_at}
 use Rattle.std.specs.Ordering.{nat_cmp}
 use Rattle.journal_protocol.specs.ValueOrFailure.{ValueOrFailure}
-use Rattle.journal_entries.specs.declared.proposals.KeptProposal.{KeptProposal}
+use Rattle.journal_protocol.specs.ProposeRunCompletion.{ProposeRunCompletion}
 
 -- of the run that this id completes
-abbrev pub is_for : ℕ → KeptProposal → Bool
-is_for id kept = kept.completion_id == id
+abbrev pub is_for : ℕ → ProposeRunCompletion → Bool
+is_for id kept = kept.id == id
 
-abbrev pub result_of : KeptProposal → ValueOrFailure
+abbrev pub result_of : ProposeRunCompletion → ValueOrFailure
 result_of kept = kept.result
 
 -- each proposal's number, by its completion id, is the one at which it stands
-abbrev pub AtNumbers : List (ℕ × ℕ) → List (ℕ × KeptProposal) → Type 0
+abbrev pub AtNumbers : List (ℕ × ℕ) → List (ℕ × ProposeRunCompletion) → Type 0
 AtNumbers numbers es = AllByRecursion
-    (λ e. lookup (is_at (nat_cmp e.1.completion_id)) numbers ≡ Some e.0) es
+    (λ e. lookup (is_at (nat_cmp e.1.id)) numbers ≡ Some e.0) es

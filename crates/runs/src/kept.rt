@@ -5,22 +5,21 @@ ghost use Rattle.runs.specs.Firsts.{without_first};
 ghost use Rattle.runs.specs.Kept.{is_for, result_of};
 
 use crate::ordered_proposals::OrderedProposals;
-use journal_entries::KeptProposal;
-use journal_protocol::ValueOrFailure;
+use journal_protocol::{ProposeRunCompletion, ValueOrFailure};
 use std::alloc::{AllocError, Global};
 use std::marker::Model;
 
 /// The proposals that were made after one whose id was kept already: in a machine there are none. Contracts see their list.
 #[derive(Drop)]
 struct LateProposals {
-    kept: Vec<KeptProposal>,
+    kept: Vec<ProposeRunCompletion>,
 }
 
 impl Model for LateProposals {
     ghost use Rattle.std.specs.Prelude.{List};
-    ghost use Rattle.journal_entries.specs.declared.proposals.KeptProposal.{KeptProposal};
+    ghost use Rattle.journal_protocol.specs.ProposeRunCompletion.{ProposeRunCompletion};
 
-    ghost Value = { List KeptProposal };
+    ghost Value = { List ProposeRunCompletion };
 
     ghost view = { λ proposals. proposals.kept.items };
 }
@@ -37,11 +36,11 @@ impl LateProposals {
 
     fn keep(&mut self, completion_id: u32, proposed: ValueOrFailure) -> Result<(), AllocError>
         ensures ok { OnOk result (self.new ≡ self.old
-            ++ record { completion_id = completion_id; result = proposed } ∷ []) }
+            ++ record { id = completion_id; result = proposed } ∷ []) }
         ensures err { OnErr result (self.new ≡ self.old) }
     {
-        self.kept.push(KeptProposal {
-            completion_id,
+        self.kept.push(ProposeRunCompletion {
+            id: completion_id,
             result: proposed,
         })?;
         Ok(())
@@ -57,9 +56,7 @@ impl LateProposals {
     fn place_of(&self, completion_id: u32) -> Option<usize>
         ensures { result ≡ position (is_for completion_id) self.now }
     {
-        self.kept
-            .iter()
-            .position(|kept| kept.completion_id == completion_id)
+        self.kept.iter().position(|kept| kept.id == completion_id)
     }
 
     fn acknowledge(&mut self, completion_id: u32) -> Option<ValueOrFailure>
@@ -80,9 +77,9 @@ pub struct KeptProposals {
 
 impl Model for KeptProposals {
     ghost use Rattle.std.specs.Prelude.{◌++◌, List};
-    ghost use Rattle.journal_entries.specs.declared.proposals.KeptProposal.{KeptProposal};
+    ghost use Rattle.journal_protocol.specs.ProposeRunCompletion.{ProposeRunCompletion};
 
-    ghost Value = { List KeptProposal };
+    ghost Value = { List ProposeRunCompletion };
 
     ghost view = { λ proposals. proposals.ordered ++ proposals.late };
 }
@@ -101,7 +98,7 @@ impl KeptProposals {
     /// The result is kept until its id is acknowledged.
     pub fn keep(&mut self, completion_id: u32, proposed: ValueOrFailure) -> Result<(), AllocError>
         ensures ok { OnOk result (self.new ≡ self.old
-            ++ record { completion_id = completion_id; result = proposed } ∷ []) }
+            ++ record { id = completion_id; result = proposed } ∷ []) }
         ensures err { OnErr result (self.new ≡ self.old) }
     {
         if !self.late.is_empty() {

@@ -7,8 +7,7 @@ ghost use Rattle.std.specs.Option.{option_map};
 ghost use Rattle.runs.specs.Firsts.{without_first};
 ghost use Rattle.runs.specs.Kept.{AtNumbers, is_for, result_of};
 
-use journal_entries::KeptProposal;
-use journal_protocol::ValueOrFailure;
+use journal_protocol::{ProposeRunCompletion, ValueOrFailure};
 use std::alloc::{AllocError, Global};
 use std::collections::BTreeMap;
 use std::marker::Model;
@@ -17,7 +16,7 @@ use std::marker::Model;
 #[derive(Drop)]
 pub struct OrderedProposals {
     /// Each by its number: they were made in the order of their numbers.
-    kept: BTreeMap<u64, KeptProposal>,
+    kept: BTreeMap<u64, ProposeRunCompletion>,
     /// The number of each by its completion id. A proposal that found no memory may leave a number here that none has.
     numbers: BTreeMap<u32, u64>,
 }
@@ -27,10 +26,10 @@ impl Model for OrderedProposals {
     ghost use Rattle.std.specs.List.Sorted.{IsStrictlySortedBy};
     ghost use Rattle.std.specs.Map.{keys_of, values_of};
     ghost use Rattle.std.specs.Ordering.{nat_cmp};
-    ghost use Rattle.journal_entries.specs.declared.proposals.KeptProposal.{KeptProposal};
+    ghost use Rattle.journal_protocol.specs.ProposeRunCompletion.{ProposeRunCompletion};
     ghost use Rattle.runs.specs.Kept.{AtNumbers};
 
-    ghost Value = { List KeptProposal };
+    ghost Value = { List ProposeRunCompletion };
 
     ghost view = { λ proposals. values_of proposals.kept.entries };
 
@@ -39,7 +38,7 @@ impl Model for OrderedProposals {
 }
 
 /// A number above those of all proposals, if there is one.
-fn next_number(kept: &BTreeMap<u64, KeptProposal>) -> Option<u64>
+fn next_number(kept: &BTreeMap<u64, ProposeRunCompletion>) -> Option<u64>
     ensures { IfSome result (λ n. AllByRecursion (λ e. e.0 < n) kept.now.entries) }
 {
     match kept.last_key_value() {
@@ -55,7 +54,7 @@ fn next_number(kept: &BTreeMap<u64, KeptProposal>) -> Option<u64>
 
 /// The number of the proposal with this id.
 fn number_of(
-    kept: &BTreeMap<u64, KeptProposal>,
+    kept: &BTreeMap<u64, ProposeRunCompletion>,
     numbers: &BTreeMap<u32, u64>,
     completion_id: u32,
 ) -> Option<u64>
@@ -68,7 +67,7 @@ fn number_of(
     let _ = kept.len();
     let number = *numbers.get(&completion_id)?;
     let found = kept.get(&number)?;
-    if found.completion_id == completion_id {
+    if found.id == completion_id {
         Some(number)
     } else {
         None
@@ -94,7 +93,7 @@ impl OrderedProposals {
         proposed: ValueOrFailure,
     ) -> Result<Option<ValueOrFailure>, AllocError>
         ensures kept { IfOk result (λ back. IfNone back (self.new ≡ self.old
-            ++ record { completion_id = completion_id; result = proposed } ∷ [])) }
+            ++ record { id = completion_id; result = proposed } ∷ [])) }
         ensures back { IfOk result (λ back. IfSome back (λ p. (p ≡ proposed)
             × (self.new ≡ self.old))) }
         ensures err { OnErr result (self.new ≡ self.old) }
@@ -108,8 +107,8 @@ impl OrderedProposals {
         self.numbers.insert(completion_id, number)?;
         self.kept.insert(
             number,
-            KeptProposal {
-                completion_id,
+            ProposeRunCompletion {
+                id: completion_id,
                 result: proposed,
             },
         )?;

@@ -14,8 +14,8 @@ use Rattle.journal_entries.specs.Journal.{read_before}
 use Rattle.journal_entries.specs.JournalFrames.{is_notification, notified_by}
 use Rattle.journal_entries.specs.declared.completions.Completes.{Completes}
 use Rattle.journal_entries.specs.declared.completions.Completes.TheVariants as completes
-use Rattle.journal_entries.specs.declared.fault.RoundFault.{RoundFault}
-use Rattle.journal_entries.specs.declared.fault.RoundFault.TheVariants as round_fault
+use Rattle.journal_entries.specs.declared.fault.JournalFault.{JournalFault}
+use Rattle.journal_entries.specs.declared.fault.JournalFault.TheVariants as journal_fault
 use Rattle.journal_entries.specs.Arrivals.{arrival_fault, completes_among, completes_by, completion_fault, completes_id, is_invocation_id, is_of, most_entries, note_fault, stored_proposal_fault, proposed_fault, read_fault, room_fault}
 use Rattle.journal_entries.specs.Entries.{frame_in, note_in, note_of as note_by, notes_in, read_from, said_at, said_by, said_in}
 use Rattle.journal_entries.specs.Given.{as_given, frame_fault, framed_fault, given_fault as fault_given, given_note_fault as note_given, noted_fault as noted_given, place_fault}
@@ -131,14 +131,14 @@ pub not_full : (n : ℕ) → n ≤ most_entries → room_at n ≡ None → n < m
 not_full n l e = by_test (n == most_entries) refl
   where
     by_test : (b : Bool) → (n == most_entries) ≡ b → n < most_entries
-    by_test true t = absurd (let z : Some round_fault.JournalFull ≡ None = sym (ap (λ (b : Bool). if b then Some round_fault.JournalFull else None) t) ∙ e in cc)
+    by_test true t = absurd (let z : Some journal_fault.JournalFull ≡ None = sym (ap (λ (b : Bool). if b then Some journal_fault.JournalFull else None) t) ∙ e in cc)
     by_test false t = grind (arith, nat_tests)
 
-kind_room : (b : Bool) (room : Option RoundFault) → (if b then room else Some round_fault.WrongKind) ≡ None → room ≡ None
+kind_room : (b : Bool) (room : Option JournalFault) → (if b then room else Some journal_fault.WrongKind) ≡ None → room ≡ None
 kind_room true room e = e
 kind_room false room e = absurd (cc)
 
-completion_room : (kind : Option Completes) (done : Bool) (brings : NotificationResult) (room : Option RoundFault) → completion_fault kind done brings room ≡ None → room ≡ None
+completion_room : (kind : Option Completes) (done : Bool) (brings : NotificationResult) (room : Option JournalFault) → completion_fault kind done brings room ≡ None → room ≡ None
 completion_room None done brings room e = absurd (cc)
 completion_room (Some kind) true brings room e = absurd (cc)
 completion_room (Some completes.InvocationId) false brings room e = kind_room (is_invocation_id brings) room e
@@ -159,7 +159,7 @@ given_room raw read view l e =
     let place = place_fault (by.may_be_loaded (view.entries == 0) raw read) in
     not_full view.entries l (neither (room_at view.entries) place (neither (optional_note_fault (note_of_part read) view) (option_or (room_at view.entries) place) e).1).0
 
-proposed_room : (kind : Option Completes) (done : Bool) (room : Option RoundFault) → proposed_fault kind done room ≡ None → room ≡ None
+proposed_room : (kind : Option Completes) (done : Bool) (room : Option JournalFault) → proposed_fault kind done room ≡ None → room ≡ None
 proposed_room None done room e = absurd (cc)
 proposed_room (Some kind) true room e = absurd (cc)
 proposed_room (Some completes.InvocationId) false room e = absurd (cc)

@@ -10,13 +10,13 @@ use Rattle.journal_protocol.specs.Frames.{IsWhole, encoding}
 use Rattle.journal_protocol.specs.Bodies.{message_in, notification_in}
 use Rattle.journal_protocol.proofs.Facts.{read_back, whole_shorter}
 use Rattle.journal_protocol.specs.Notification.{Notification}
-use Rattle.journal_entries.specs.declared.proposals.KeptProposal.{KeptProposal}
+use Rattle.journal_protocol.specs.ProposeRunCompletion.{ProposeRunCompletion}
 use Rattle.journal_entries.specs.Proposals.{acknowledged_completion}
 use Rattle.journal_entries.specs.Journal.{stored_form}
 use Rattle.journal_entries.specs.JournalFrames.{is_command_frame}
 use Rattle.journal_entries.specs.declared.storing.Written.{Written}
 use Rattle.journal_entries.specs.declared.storing.Written.TheVariants.{Command, Proposal}
-use Rattle.journal_entries.specs.declared.fault.RoundFault.{RoundFault}
+use Rattle.journal_entries.specs.declared.fault.JournalFault.{JournalFault}
 use Rattle.journal_entries.specs.Entries.{frame_of, note_in, note_of as note_by, read_from, said_at, said_by}
 use Rattle.journal_entries.specs.NextFrames.{HasFault, NextFaults, StoresItem, StoresOne, StoresRaw}
 use Rattle.journal_entries.specs.Storing.{FirstFault, Stores, completion_message, proposal_of, stored_as, storing_fault, written_as, written_from}
@@ -49,15 +49,15 @@ note_read n whole = ap (read_from note_by) (frame_back (stored_form (message.Not
 note_said : (n : Notification) → IsWhole (message.Notification n) → said_at (encoding (message.Notification n)) ≡ None
 note_said n whole = ap (read_from said_by) (frame_back (stored_form (message.Notification n)) whole.1)
 
-pub completion_appends : (p : KeptProposal) (old new : JournalView) → IsWhole (completion_message p) → Appends None (Some (acknowledged_completion p.completion_id p)) old new
+pub completion_appends : (p : ProposeRunCompletion) (old new : JournalView) → IsWhole (completion_message p) → Appends None (Some (acknowledged_completion p.id p)) old new
     → Appends (said_at (encoding (completion_message p))) (note_in (encoding (completion_message p))) old new
 completion_appends p old new whole a =
-    let n = acknowledged_completion p.completion_id p in
+    let n = acknowledged_completion p.id p in
     subst (λ (o : Option Message). Appends o (note_in (encoding (completion_message p))) old new) (sym (note_said n whole)) (subst (λ (o : Option Notification). Appends None o old new) (sym (note_read n whole)) a)
 
 -- ---- one item
 
-fits_by : (b : Bool) (raw : RawMessage) (o : Option KeptProposal) (w : Written) → cond b (Some (Command raw)) (option_map Proposal o) ≡ Some w → length raw.body < 2 ^ 64 → fits_in w
+fits_by : (b : Bool) (raw : RawMessage) (o : Option ProposeRunCompletion) (w : Written) → cond b (Some (Command raw)) (option_map Proposal o) ≡ Some w → length raw.body < 2 ^ 64 → fits_in w
 fits_by true raw o (Command c) e l = let same : raw ≡ c = cc in subst (λ (r : RawMessage). length r.body < 2 ^ 64) same l
 fits_by true raw o (Proposal p) e l = tt
 fits_by false raw None w e l = absurd (cc)
@@ -70,7 +70,7 @@ item_fits raw w e l = fits_by (is_command_frame raw) raw (proposal_of raw) w e l
 module _ (view : JournalView) (journal : List (List ℕ)) (h : Holds view journal) where
   pub storing_is : (w : Written) → storing_by w view ≡ storing_fault w journal
   storing_is (Command raw) = room_is view journal h
-  storing_is (Proposal p) = proposing_is view journal h p.completion_id
+  storing_is (Proposal p) = proposing_is view journal h p.id
 
 module _ (version : Version) (before : List (List ℕ)) (old : JournalView) (entries : List (List ℕ)) (feed : List ℕ) (new : JournalView) (entries' : List (List ℕ)) (feed' : List ℕ) (h : Holds old (before ++ entries)) where
   abbrev J : List (List ℕ)
@@ -125,7 +125,7 @@ module _ (version : Version) (n : ℕ) (u : List ℕ) (first : JournalView) (es 
   pub going_done : left ≤ 0 → (before : List (List ℕ)) → Holds first (before ++ es) → Stores version n u (before ++ es) fed (before ++ entries) feed rest × Holds now (before ++ entries)
   going_done none before h = (stands_done version n u (before ++ es) fed left (before ++ entries) feed rest (g.stands before h) none, g.holds before h)
 
-  pub going_fault : (f : RoundFault) → NextFaultsBy rest now f → 0 < left → (before : List (List ℕ)) → Holds first (before ++ es) → FirstFault version (take n (written_from u)) (before ++ es) f
+  pub going_fault : (f : JournalFault) → NextFaultsBy rest now f → 0 < left → (before : List (List ℕ)) → Holds first (before ++ es) → FirstFault version (take n (written_from u)) (before ++ es) f
   going_fault f h some before begun =
       let has : HasFault h.raw (before ++ entries) f = record { item = h.has.item; is = h.has.is; fault = sym (storing_is now (before ++ entries) (g.holds before begun) h.has.item) ∙ h.has.fault } in
       let next : NextFaults rest (before ++ entries) f = record { raw = h.raw; rest = h.rest; next = h.next; has = has } in

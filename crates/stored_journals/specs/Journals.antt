@@ -9,8 +9,8 @@ use Rattle.journal_protocol.specs.NotificationId.TheVariants.{CompletionId, Sign
 use Rattle.journal_protocol.specs.NotificationResult.{NotificationResult}
 use Rattle.journal_entries.specs.Journal.{input_read_from}
 use Rattle.journal_entries.specs.declared.completions.Completes.{Completes}
-use Rattle.journal_entries.specs.declared.fault.RoundFault.{RoundFault}
-use Rattle.journal_entries.specs.declared.fault.RoundFault.TheVariants as round_fault
+use Rattle.journal_entries.specs.declared.fault.JournalFault.{JournalFault}
+use Rattle.journal_entries.specs.declared.fault.JournalFault.TheVariants as journal_fault
 use Rattle.journal_entries.specs.Arrivals.{completes_by, completion_fault, is_of, most_entries, proposed_fault}
 use Rattle.journal_entries.specs.Entries.{note_of as note_by, said_by}
 use Rattle.journal_entries.specs.Given.{as_given, frame_fault, place_fault}
@@ -64,16 +64,16 @@ pub record Appends (said : Option Message) (note : Option Notification) (old : J
 -- ---- what comes of an entry
 
 -- after each journal that is known the entry has no fault, and with it the journal is known
-abbrev pub Enters : (List (List ℕ) → Option RoundFault) → List ℕ → JournalView → JournalView
+abbrev pub Enters : (List (List ℕ) → Option JournalFault) → List ℕ → JournalView → JournalView
     → Type 0
 Enters fault entry old new =
     (journal : List (List ℕ)) → Holds old journal → (fault journal ≡ None)
     × Holds new (journal ++ entry ∷ [])
 
 -- it is out of memory, or the fault after each journal that is known
-abbrev pub IsFault : (List (List ℕ) → Option RoundFault) → JournalView → RoundFault → Type 0
+abbrev pub IsFault : (List (List ℕ) → Option JournalFault) → JournalView → JournalFault → Type 0
 IsFault fault view f =
-    (f ≡ round_fault.Memory)
+    (f ≡ journal_fault.Memory)
     ⊎ ((journal : List (List ℕ)) → Holds view journal → fault journal ≡ Some f)
 
 -- after each journal that is known the frame has no fault, and it is appended
@@ -97,35 +97,35 @@ note_of_part (part.Arrived note) = Some note
 note_of_part part.Other = None
 
 -- the fault of a journal that is full
-abbrev pub room_at : ℕ → Option RoundFault
-room_at entries = if entries == most_entries then Some round_fault.JournalFull else None
+abbrev pub room_at : ℕ → Option JournalFault
+room_at entries = if entries == most_entries then Some journal_fault.JournalFull else None
 
 -- the fault of a completion, by what is known of its id
-abbrev pub known_fault : Known → NotificationResult → Option RoundFault → Option RoundFault
+abbrev pub known_fault : Known → NotificationResult → Option JournalFault → Option JournalFault
 known_fault known brings room =
     completion_fault known.kind known.done brings room
 
 -- the same in a journal that is given
-abbrev pub known_given : Known → NotificationResult → Option RoundFault → Option RoundFault
+abbrev pub known_given : Known → NotificationResult → Option JournalFault → Option JournalFault
 known_given known brings room =
     completion_fault (as_given known.kind) known.done brings room
 
 -- the fault of a notification
-abbrev pub arriving_fault : NotificationId → NotificationResult → JournalView → Option RoundFault
+abbrev pub arriving_fault : NotificationId → NotificationResult → JournalView → Option JournalFault
 arriving_fault (CompletionId id) brings view = known_fault (known_now view.ids id) brings
     (room_at view.entries)
 arriving_fault (SignalId id) brings view = room_at view.entries
 arriving_fault (SignalName name) brings view = room_at view.entries
 
 -- the fault of a notification in a journal that is given
-abbrev pub loaded_note_fault : NotificationId → NotificationResult → JournalView → Option RoundFault
+abbrev pub loaded_note_fault : NotificationId → NotificationResult → JournalView → Option JournalFault
 loaded_note_fault (CompletionId id) brings view = known_given (known_now view.ids id) brings
     (room_at view.entries)
 loaded_note_fault (SignalId id) brings view = room_at view.entries
 loaded_note_fault (SignalName name) brings view = room_at view.entries
 
 -- the fault of a notification in a journal that is given, if it is one
-abbrev pub optional_note_fault : Option Notification → JournalView → Option RoundFault
+abbrev pub optional_note_fault : Option Notification → JournalView → Option JournalFault
 optional_note_fault None view = None
 optional_note_fault (Some note) view = loaded_note_fault note.id note.result view
 
@@ -135,11 +135,11 @@ may_be_loaded true raw read = is_some (input_read_from raw)
 may_be_loaded false raw read = is_some (command_of_part read) || is_some (note_of_part read)
 
 -- the fault of a frame in a journal that is given, and of what was read from it
-abbrev pub loaded_fault : RawMessage → Part → JournalView → Option RoundFault
+abbrev pub loaded_fault : RawMessage → Part → JournalView → Option JournalFault
 loaded_fault raw read view = option_or (optional_note_fault (note_of_part read) view)
     (option_or (room_at view.entries) (place_fault (may_be_loaded (view.entries == 0) raw read)))
 
 -- the fault of a proposal
-abbrev pub proposing_fault : ℕ → JournalView → Option RoundFault
+abbrev pub proposing_fault : ℕ → JournalView → Option JournalFault
 proposing_fault id view = proposed_fault (known_now view.ids id).kind
     (known_now view.ids id).done (room_at view.entries)

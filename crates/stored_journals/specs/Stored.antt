@@ -5,8 +5,8 @@ use Rattle.journal_protocol.specs.RawMessage.{RawMessage}
 use Rattle.journal_protocol.specs.Frames.{Whole, Partial, Malformed, next_of}
 use Rattle.journal_entries.specs.declared.storing.Written.{Written}
 use Rattle.journal_entries.specs.declared.storing.Written.TheVariants.{Command, Proposal}
-use Rattle.journal_entries.specs.declared.fault.RoundFault.{RoundFault}
-use Rattle.journal_entries.specs.declared.fault.RoundFault.TheVariants as round_fault
+use Rattle.journal_entries.specs.declared.fault.JournalFault.{JournalFault}
+use Rattle.journal_entries.specs.declared.fault.JournalFault.TheVariants as journal_fault
 use Rattle.journal_entries.specs.Entries.{note_in, said_at}
 use Rattle.journal_entries.specs.NextFrames.{IsWholeItem}
 use Rattle.journal_entries.specs.Storing.{FirstFault, Stores, stored_as, waits_behind, written_as, written_from}
@@ -18,9 +18,9 @@ fits_in (Command raw) = length raw.body < 2 ^ 64
 fits_in (Proposal p) = Unit {0}
 
 -- the fault of storing it
-abbrev pub storing_by : Written → JournalView → Option RoundFault
+abbrev pub storing_by : Written → JournalView → Option JournalFault
 storing_by (Command raw) view = room_at view.entries
-storing_by (Proposal p) view = proposing_fault p.completion_id view
+storing_by (Proposal p) view = proposing_fault p.id view
 
 -- it is the next entry, and what answers it is fed
 pub record StoresBy (version : Version) (w : Written) (old : JournalView) (entries : List (List ℕ))
@@ -52,13 +52,13 @@ StoresOneBy version unstored (Some b) unstored' old entries feed new entries' fe
     × StoresRawBy version raw b old entries feed new entries' feed'
 
 -- what is stored of a frame has this fault
-pub record FaultsBy (raw : RawMessage) (view : JournalView) (f : RoundFault) : Type 0 where
+pub record FaultsBy (raw : RawMessage) (view : JournalView) (f : JournalFault) : Type 0 where
   pub item : Written
   pub is : written_as raw ≡ Some item
   pub fault : storing_by item view ≡ Some f
 
 -- what is stored of the next frame has this fault
-pub record NextFaultsBy (unstored : List ℕ) (view : JournalView) (f : RoundFault) : Type 0 where
+pub record NextFaultsBy (unstored : List ℕ) (view : JournalView) (f : JournalFault) : Type 0 where
   pub raw : RawMessage
   pub rest : List ℕ
   pub next : next_of unstored ≡ Whole raw rest
@@ -76,8 +76,8 @@ StoresNext version n unstored unstored' old entries feed new entries' feed' =
 
 -- it is out of memory, or the fault of the first that has one, after each journal that is known and
 -- ends with these entries
-abbrev pub IsStoringFault : Version → ℕ → List ℕ → JournalView → List (List ℕ) → RoundFault → Type 0
+abbrev pub IsStoringFault : Version → ℕ → List ℕ → JournalView → List (List ℕ) → JournalFault → Type 0
 IsStoringFault version n unstored old entries f =
-    (f ≡ round_fault.Memory)
+    (f ≡ journal_fault.Memory)
     ⊎ ((before : List (List ℕ)) → Holds old (before ++ entries)
     → FirstFault version (take n (written_from unstored)) (before ++ entries) f)

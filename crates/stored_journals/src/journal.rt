@@ -2,14 +2,14 @@
 ghost use Rattle.std.specs.Prelude.{◌≡◌, ◌⊎◌, ◌<◌, ◌≤◌, ◌==◌, ℕ, List, [], IfOk, IfErr, OnOk, None, Some};
 ghost use Rattle.journal_entries.specs.Arrivals.{arrival_fault, most_entries};
 ghost use Rattle.journal_entries.specs.Given.{frame_fault, given_fault as fault_given};
-ghost use Rattle.journal_entries.specs.declared.fault.RoundFault.TheVariants as round_fault;
+ghost use Rattle.journal_entries.specs.declared.fault.JournalFault.TheVariants as journal_fault;
 ghost use Rattle.stored_journals.specs.Journals.{Appends, Enters, Holds, IsFault, IsSameKept, Kept, Loads, arriving_fault, loaded_fault, loaded_note_fault, may_be_loaded, note_of_part, optional_note_fault, proposing_fault, room_at, command_of_part};
 
 use crate::carried::{Carried, ids_in};
 use crate::frames::{Part, part_of};
 use crate::ids::Ids;
 use bytes::Bytes;
-use journal_entries::RoundFault;
+use journal_entries::JournalFault;
 use journal_entries::entry::{frame_in, is_input, note_in};
 use journal_protocol::{Message, Notification, NotificationId, RawMessage};
 use std::alloc::{AllocError, Global};
@@ -54,19 +54,19 @@ impl StoredJournal {
     }
 
     /// The fault of a journal that is full.
-    pub(crate) fn room(&self) -> Option<RoundFault>
+    pub(crate) fn room(&self) -> Option<JournalFault>
         ensures room { result ≡ room_at self.now.entries }
         ensures small { self.now.entries ≤ most_entries }
     {
         if self.entries == u32::MAX {
-            Some(RoundFault::JournalFull)
+            Some(JournalFault::JournalFull)
         } else {
             None
         }
     }
 
     /// The fault of a notification.
-    fn arriving_fault(&self, note: &Notification) -> Option<RoundFault>
+    fn arriving_fault(&self, note: &Notification) -> Option<JournalFault>
         ensures fault { result ≡ arriving_fault note.now.id note.now.result self.now }
         ensures small { self.now.entries ≤ most_entries }
     {
@@ -82,7 +82,7 @@ impl StoredJournal {
     }
 
     /// The fault of a notification in a journal that is given.
-    fn given_note_fault(&self, note: &Notification) -> Option<RoundFault>
+    fn given_note_fault(&self, note: &Notification) -> Option<JournalFault>
         ensures { result ≡ loaded_note_fault note.now.id note.now.result self.now }
     {
         match &note.id {
@@ -95,7 +95,7 @@ impl StoredJournal {
     }
 
     /// The fault of a notification in a journal that is given, if it is one.
-    fn noted_fault(&self, read: &Part) -> Option<RoundFault>
+    fn noted_fault(&self, read: &Part) -> Option<JournalFault>
         ensures { result ≡ optional_note_fault (note_of_part read.now) self.now }
     {
         match read {
@@ -126,7 +126,7 @@ impl StoredJournal {
         alloc: Global,
         raw: &RawMessage,
         read: &Part,
-    ) -> Result<Option<RoundFault>, AllocError>
+    ) -> Result<Option<JournalFault>, AllocError>
         ensures fault { IfOk result (λ fault. fault ≡ loaded_fault raw.now read.now self.now) }
         ensures small { self.now.entries ≤ most_entries }
     {
@@ -140,12 +140,12 @@ impl StoredJournal {
         match self.may_be_given(alloc, raw, read) {
             Err(error) => Err(error),
             Ok(true) => Ok(None),
-            Ok(false) => Ok(Some(RoundFault::BadJournal)),
+            Ok(false) => Ok(Some(JournalFault::BadJournal)),
         }
     }
 
     /// The fault of a proposal for the run of this id.
-    pub(crate) fn proposing_fault(&self, id: u32) -> Option<RoundFault>
+    pub(crate) fn proposing_fault(&self, id: u32) -> Option<JournalFault>
         ensures fault { result ≡ proposing_fault id self.now }
         ensures small { self.now.entries ≤ most_entries }
     {
@@ -194,10 +194,10 @@ impl StoredJournal {
     }
 
     /// A notification is appended, if it has no fault.
-    fn arrive_read(&mut self, note: &Notification) -> Result<(), RoundFault>
+    fn arrive_read(&mut self, note: &Notification) -> Result<(), JournalFault>
         ensures ok { OnOk result ((arriving_fault note.now.id note.now.result self.old ≡ None)
             × Appends None (Some note.now) self.old self.new) }
-        ensures err { IfErr result (λ f. (f ≡ round_fault.Memory)
+        ensures err { IfErr result (λ f. (f ≡ journal_fault.Memory)
             ⊎ (arriving_fault note.now.id note.now.result self.old ≡ Some f)) }
         ensures kept { IsSameKept self.old self.new }
     {
@@ -205,65 +205,65 @@ impl StoredJournal {
             Some(fault) => Err(fault),
             None => match self.note(note) {
                 Ok(()) => Ok(()),
-                Err(_) => Err(RoundFault::Memory),
+                Err(_) => Err(JournalFault::Memory),
             },
         }
     }
 
     /// A notification arrives, as one frame: it is the next entry, if it has no fault. After an error `undo` leads back to the last commit.
-    pub fn arrive(&mut self, alloc: Global, entry: &Bytes) -> Result<(), RoundFault>
+    pub fn arrive(&mut self, alloc: Global, entry: &Bytes) -> Result<(), JournalFault>
         ensures ok { OnOk result (Enters (arrival_fault entry.now) entry.now self.old self.new) }
         ensures err { IfErr result (λ f. IsFault (arrival_fault entry.now) self.old f) }
         ensures kept { IsSameKept self.old self.new }
     {
         match note_in(alloc, entry) {
-            Err(_) => Err(RoundFault::Memory),
-            Ok(None) => Err(RoundFault::NotANotification),
+            Err(_) => Err(JournalFault::Memory),
+            Ok(None) => Err(JournalFault::NotANotification),
             Ok(Some(note)) => self.arrive_read(&note),
         }
     }
 
     /// A frame is the next entry of a journal that is loaded, if it has no fault.
-    fn load(&mut self, alloc: Global, raw: &RawMessage, read: &Part) -> Result<(), RoundFault>
+    fn load(&mut self, alloc: Global, raw: &RawMessage, read: &Part) -> Result<(), JournalFault>
         ensures ok { OnOk result ((loaded_fault raw.now read.now self.old ≡ None)
             × Appends (command_of_part read.now) (note_of_part read.now) self.old self.new) }
-        ensures err { IfErr result (λ f. (f ≡ round_fault.Memory)
+        ensures err { IfErr result (λ f. (f ≡ journal_fault.Memory)
             ⊎ (loaded_fault raw.now read.now self.old ≡ Some f)) }
         ensures kept { IsSameKept self.old self.new }
     {
         match self.given_fault(alloc, raw, read) {
-            Err(_) => Err(RoundFault::Memory),
+            Err(_) => Err(JournalFault::Memory),
             Ok(Some(fault)) => Err(fault),
             Ok(None) => match self.append(read) {
                 Ok(()) => Ok(()),
-                Err(_) => Err(RoundFault::Memory),
+                Err(_) => Err(JournalFault::Memory),
             },
         }
     }
 
     /// A frame is read, and is the next entry, if it has no fault.
-    fn load_raw(&mut self, alloc: Global, raw: &RawMessage) -> Result<(), RoundFault>
+    fn load_raw(&mut self, alloc: Global, raw: &RawMessage) -> Result<(), JournalFault>
         ensures ok { OnOk result (Loads raw.now self.old self.new) }
         ensures err { IfErr result (λ f. IsFault (frame_fault raw.now) self.old f) }
         ensures kept { IsSameKept self.old self.new }
     {
         match part_of(alloc, raw) {
-            Err(_) => Err(RoundFault::Memory),
+            Err(_) => Err(JournalFault::Memory),
             Ok(read) => self.load(alloc, raw, &read),
         }
     }
 
     /// The next entry of a journal that is loaded, as one frame, if it has no fault.
-    pub fn entry(&mut self, alloc: Global, entry: &Bytes) -> Result<(), RoundFault>
+    pub fn entry(&mut self, alloc: Global, entry: &Bytes) -> Result<(), JournalFault>
         ensures ok { OnOk result (Enters (fault_given entry.now) entry.now self.old self.new) }
         ensures err { IfErr result (λ f. IsFault (fault_given entry.now) self.old f) }
         ensures kept { IsSameKept self.old self.new }
     {
         match frame_in(alloc, entry) {
-            Err(_) => Err(RoundFault::Memory),
+            Err(_) => Err(JournalFault::Memory),
             Ok(None) => match self.room() {
                 Some(fault) => Err(fault),
-                None => Err(RoundFault::BadJournal),
+                None => Err(JournalFault::BadJournal),
             },
             Ok(Some(raw)) => self.load_raw(alloc, &raw),
         }

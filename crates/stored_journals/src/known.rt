@@ -3,7 +3,7 @@ ghost use Rattle.std.specs.Prelude.{◌≡◌, None, Some, false, true};
 ghost use Rattle.journal_entries.specs.Arrivals.{completion_fault, is_invocation_id, proposed_fault};
 ghost use Rattle.journal_entries.specs.Given.{as_given};
 
-use journal_entries::RoundFault;
+use journal_entries::JournalFault;
 use journal_entries::completions::{Completes, is_invocation_id};
 use journal_protocol::NotificationResult;
 
@@ -20,18 +20,18 @@ pub struct Known {
 fn kind_fault(
     kind: Completes,
     brings: &NotificationResult,
-    room: Option<RoundFault>,
-) -> Option<RoundFault>
+    room: Option<JournalFault>,
+) -> Option<JournalFault>
     ensures { result ≡ completion_fault (Some kind) false brings.now room }
 {
     match kind {
         Completes::AnyResult => room,
-        Completes::Proposal => Some(RoundFault::RunIsProposed),
+        Completes::Proposal => Some(JournalFault::RunIsProposed),
         Completes::InvocationId => {
             if is_invocation_id(brings) {
                 room
             } else {
-                Some(RoundFault::WrongKind)
+                Some(JournalFault::WrongKind)
             }
         }
     }
@@ -52,14 +52,14 @@ impl Known {
     pub(crate) fn completion_fault(
         self,
         brings: &NotificationResult,
-        room: Option<RoundFault>,
-    ) -> Option<RoundFault>
+        room: Option<JournalFault>,
+    ) -> Option<JournalFault>
         ensures { result ≡ completion_fault self.kind self.done brings.now
             room }
     {
         match (self.kind, self.done) {
-            (None, _) => Some(RoundFault::NoSuchId),
-            (Some(_), true) => Some(RoundFault::SecondCompletion),
+            (None, _) => Some(JournalFault::NoSuchId),
+            (Some(_), true) => Some(JournalFault::SecondCompletion),
             (Some(kind), false) => kind_fault(kind, brings, room),
         }
     }
@@ -68,26 +68,26 @@ impl Known {
     pub(crate) fn given_fault(
         self,
         brings: &NotificationResult,
-        room: Option<RoundFault>,
-    ) -> Option<RoundFault>
+        room: Option<JournalFault>,
+    ) -> Option<JournalFault>
         ensures { result ≡ completion_fault (as_given self.kind) self.done
             brings.now room }
     {
         match (self.kind, self.done) {
-            (None, _) => Some(RoundFault::NoSuchId),
-            (Some(_), true) => Some(RoundFault::SecondCompletion),
+            (None, _) => Some(JournalFault::NoSuchId),
+            (Some(_), true) => Some(JournalFault::SecondCompletion),
             (Some(kind), false) => kind_fault(as_given(kind), brings, room),
         }
     }
 
     /// The fault of a proposal.
-    pub(crate) fn proposed_fault(self, room: Option<RoundFault>) -> Option<RoundFault>
+    pub(crate) fn proposed_fault(self, room: Option<JournalFault>) -> Option<JournalFault>
         ensures { result ≡ proposed_fault self.kind self.done room }
     {
         match (self.kind, self.done) {
-            (None, _) => Some(RoundFault::NoSuchId),
-            (Some(_), true) => Some(RoundFault::SecondCompletion),
-            (Some(Completes::InvocationId), false) => Some(RoundFault::WrongKind),
+            (None, _) => Some(JournalFault::NoSuchId),
+            (Some(_), true) => Some(JournalFault::SecondCompletion),
+            (Some(Completes::InvocationId), false) => Some(JournalFault::WrongKind),
             (Some(Completes::Proposal), false) => room,
             (Some(Completes::AnyResult), false) => room,
         }

@@ -7,7 +7,7 @@ ghost use Rattle.journal_entries.specs.Proposals.{acknowledged_completion};
 ghost use Rattle.journal_entries.specs.Entries.{frame_of, note_in, note_of as note_by, said_at, said_by};
 ghost use Rattle.journal_entries.specs.Storing.{acknowledgement, answer_to, completion_message, proposal_of, written_as};
 ghost use Rattle.journal_entries.specs.declared.storing.Written.TheVariants as written;
-ghost use Rattle.journal_entries.specs.declared.fault.RoundFault.TheVariants as round_fault;
+ghost use Rattle.journal_entries.specs.declared.fault.JournalFault.TheVariants as journal_fault;
 ghost use Rattle.stored_journals.specs.Journals.{Appends, IsSameKept};
 ghost use Rattle.stored_journals.specs.Stored.{FaultsBy, IsStoringFault, NextFaultsBy, StoresBy, StoresNext, StoresOneBy, StoresRawBy, fits_in, storing_by};
 
@@ -16,18 +16,18 @@ use crate::journal::StoredJournal;
 use bytes::{Bytes, BytesMut};
 use journal_entries::entry::frame_bytes;
 use journal_entries::storing::{Written, answer_bytes, next_written, written_as};
-use journal_entries::{KeptProposal, RoundFault, completion_result};
+use journal_entries::{JournalFault, completion_result};
 use journal_protocol::{
     Decoder, Encoder, Message, Notification, NotificationId, RawMessage, Version,
 };
 use std::alloc::{AllocError, Global};
 
 /// The completion with the proposed result.
-fn completion_of(proposal: KeptProposal) -> Notification
-    ensures { result ≡ acknowledged_completion proposal.completion_id proposal }
+fn completion_of(proposal: ProposeRunCompletion) -> Notification
+    ensures { result ≡ acknowledged_completion proposal.id proposal }
 {
     Notification {
-        id: NotificationId::CompletionId(proposal.completion_id),
+        id: NotificationId::CompletionId(proposal.id),
         result: completion_result(proposal.result),
     }
 }
@@ -72,12 +72,12 @@ fn store_command(
     entries: &mut Vec<Bytes>,
     feed: &mut BytesMut,
     raw: RawMessage,
-) -> Result<(), RoundFault>
+) -> Result<(), JournalFault>
     requires { length raw.body < 2 ^ 64 }
     ensures ok { OnOk result (StoresBy version (written.Command raw)
         journal.old entries.old.items feed.old.items journal.new entries.new.items feed.new.items) }
     ensures err { IfErr result (λ f.
-        (f ≡ round_fault.Memory) ⊎ (storing_by (written.Command raw) journal.old ≡ Some f)) }
+        (f ≡ journal_fault.Memory) ⊎ (storing_by (written.Command raw) journal.old ≡ Some f)) }
     ensures kept { IsSameKept journal.old journal.new }
 {
     if let Some(fault) = journal.room() {
@@ -85,7 +85,7 @@ fn store_command(
     }
     match append_frame(alloc, journal, entries, &raw) {
         Ok(()) => Ok(()),
-        Err(_) => Err(RoundFault::Memory),
+        Err(_) => Err(JournalFault::Memory),
     }
 }
 
@@ -118,20 +118,20 @@ fn settle(
     journal: &mut StoredJournal,
     entries: &mut Vec<Bytes>,
     feed: &mut BytesMut,
-    proposal: KeptProposal,
+    proposal: ProposeRunCompletion,
 ) -> Result<(), AllocError>
     requires { journal.old.entries < 4_294_967_295 }
     ensures stored { OnOk result (entries.new.items ≡ entries.old.items
         ++ encoding (completion_message proposal) ∷ []) }
     ensures waits { OnOk result (feed.new.items ≡ feed.old.items ++ answer_to version proposal) }
     ensures appended { OnOk result
-        (Appends None (Some (acknowledged_completion proposal.completion_id proposal)) journal.old
+        (Appends None (Some (acknowledged_completion proposal.id proposal)) journal.old
         journal.new) }
     ensures whole { OnOk result (IsWhole (completion_message proposal)
-        × (is_from_v7 version ≡ true → IsWhole (acknowledgement proposal.completion_id))) }
+        × (is_from_v7 version ≡ true → IsWhole (acknowledgement proposal.id))) }
     ensures kept { IsSameKept journal.old journal.new }
 {
-    let id = proposal.completion_id;
+    let id = proposal.id;
     let completion = append_completion(alloc, journal, entries, completion_of(proposal))?;
     let answer = answer_bytes(alloc, version, id, &completion)?;
     feed.extend_from_slice(answer.as_slice())?;
@@ -145,21 +145,21 @@ fn store_proposal(
     journal: &mut StoredJournal,
     entries: &mut Vec<Bytes>,
     feed: &mut BytesMut,
-    proposal: KeptProposal,
-) -> Result<(), RoundFault>
+    proposal: ProposeRunCompletion,
+) -> Result<(), JournalFault>
     ensures ok { OnOk result (StoresBy version (written.Proposal proposal)
         journal.old entries.old.items feed.old.items journal.new entries.new.items feed.new.items) }
     ensures err { IfErr result (λ f.
-        (f ≡ round_fault.Memory) ⊎ (storing_by (written.Proposal proposal) journal.old ≡ Some f)) }
+        (f ≡ journal_fault.Memory) ⊎ (storing_by (written.Proposal proposal) journal.old ≡ Some f)) }
     ensures kept { IsSameKept journal.old journal.new }
 {
-    match journal.proposing_fault(proposal.completion_id) {
+    match journal.proposing_fault(proposal.id) {
         Some(fault) => return Err(fault),
         None => {}
     }
     match settle(alloc, version, journal, entries, feed, proposal) {
         Ok(()) => Ok(()),
-        Err(_) => Err(RoundFault::Memory),
+        Err(_) => Err(JournalFault::Memory),
     }
 }
 
@@ -171,11 +171,11 @@ fn store_item(
     entries: &mut Vec<Bytes>,
     feed: &mut BytesMut,
     item: Written,
-) -> Result<(), RoundFault>
+) -> Result<(), JournalFault>
     requires { fits_in item }
     ensures ok { OnOk result (StoresBy version item
         journal.old entries.old.items feed.old.items journal.new entries.new.items feed.new.items) }
-    ensures err { IfErr result (λ f. (f ≡ round_fault.Memory)
+    ensures err { IfErr result (λ f. (f ≡ journal_fault.Memory)
         ⊎ (storing_by item journal.old ≡ Some f)) }
     ensures kept { IsSameKept journal.old journal.new }
 {
@@ -196,15 +196,15 @@ fn store_raw(
     entries: &mut Vec<Bytes>,
     feed: &mut BytesMut,
     raw: RawMessage,
-) -> Result<bool, RoundFault>
+) -> Result<bool, JournalFault>
     requires { length raw.body < 2 ^ 64 }
     ensures ok { IfOk result (λ b. StoresRawBy version raw b
         journal.old entries.old.items feed.old.items journal.new entries.new.items feed.new.items) }
-    ensures err { IfErr result (λ f. (f ≡ round_fault.Memory) ⊎ FaultsBy raw journal.old f) }
+    ensures err { IfErr result (λ f. (f ≡ journal_fault.Memory) ⊎ FaultsBy raw journal.old f) }
     ensures kept { IsSameKept journal.old journal.new }
 {
     match written_as(alloc, raw) {
-        Err(_) => Err(RoundFault::Memory),
+        Err(_) => Err(JournalFault::Memory),
         Ok(None) => Ok(false),
         Ok(Some(item)) => match store_item(alloc, version, journal, entries, feed, item) {
             Ok(()) => Ok(true),
@@ -221,10 +221,10 @@ fn store_one(
     entries: &mut Vec<Bytes>,
     feed: &mut BytesMut,
     unstored: &mut Decoder,
-) -> Result<Option<bool>, RoundFault>
+) -> Result<Option<bool>, JournalFault>
     ensures ok { IfOk result (λ o. StoresOneBy version unstored.old o unstored.new
         journal.old entries.old.items feed.old.items journal.new entries.new.items feed.new.items) }
-    ensures err { IfErr result (λ f. (f ≡ round_fault.Memory)
+    ensures err { IfErr result (λ f. (f ≡ journal_fault.Memory)
         ⊎ NextFaultsBy unstored.old journal.old f) }
     ensures kept { IsSameKept journal.old journal.new }
 {
@@ -249,7 +249,7 @@ pub fn store_from(
     feed: &mut BytesMut,
     unstored: &mut Decoder,
     n: usize,
-) -> Result<(), RoundFault>
+) -> Result<(), JournalFault>
     ensures ok { OnOk result (StoresNext version n unstored.old unstored.new
         journal.old entries.old.items feed.old.items journal.new entries.new.items feed.new.items) }
     ensures err { IfErr result

@@ -3,13 +3,13 @@ ghost use Rattle.std.specs.Prelude.{◌≡◌, ◌≢◌, ◌⊎◌, ◌∷◌, 
 ghost use Rattle.journal_entries.specs.Arrivals.{arrival_fault};
 ghost use Rattle.journal_entries.specs.Given.{AreGiven, GivenFaults};
 ghost use Rattle.journal_entries.specs.Storing.{FirstFault, Stores, written_from};
-ghost use Rattle.journal_entries.specs.declared.fault.RoundFault.TheVariants as round_fault;
+ghost use Rattle.journal_entries.specs.declared.fault.JournalFault.TheVariants as journal_fault;
 ghost use Rattle.stored_journals.specs.Journals.{Holds};
 
 use crate::journal::StoredJournal;
 use crate::storing::store_from;
 use bytes::{Bytes, BytesMut};
-use journal_entries::RoundFault;
+use journal_entries::JournalFault;
 use journal_protocol::{Decoder, Version};
 use std::alloc::Global;
 use std::marker::Model;
@@ -40,36 +40,36 @@ fn arrive_in(
     known: &mut StoredJournal,
     entries: &mut Vec<Bytes>,
     entry: &Bytes,
-) -> Result<(), RoundFault>
+) -> Result<(), JournalFault>
     requires { Holds known.old entries.old.items }
     ensures ok { OnOk result ((arrival_fault entry.now entries.old.items ≡ None)
         × (entries.new.items ≡ entries.old.items ++ entry.now ∷ [])) }
     ensures holds { OnOk result (Holds known.new entries.new.items) }
-    ensures err { IfErr result (λ f. (f ≡ round_fault.Memory)
+    ensures err { IfErr result (λ f. (f ≡ journal_fault.Memory)
         ⊎ (arrival_fault entry.now entries.old.items ≡ Some f)) }
 {
     let Ok(kept) = entry.clone() else {
-        return Err(RoundFault::Memory);
+        return Err(JournalFault::Memory);
     };
     match known.arrive(alloc, entry) {
         Err(fault) => return Err(fault),
         Ok(()) => {}
     }
     if entries.push(kept).is_err() {
-        return Err(RoundFault::Memory);
+        return Err(JournalFault::Memory);
     }
     Ok(())
 }
 
 /// What is known of these entries, if none has a fault after those before it.
-fn known_of(alloc: Global, entries: &[Bytes]) -> Result<StoredJournal, RoundFault>
+fn known_of(alloc: Global, entries: &[Bytes]) -> Result<StoredJournal, JournalFault>
     ensures holds { IfOk result (λ known. Holds known entries.now) }
     ensures given { OnOk result (AreGiven [] entries.now) }
     ensures some { OnOk result (entries.now ≢ []) }
-    ensures err { IfErr result (λ f. (f ≡ round_fault.Memory) ⊎ GivenFaults entries.now f) }
+    ensures err { IfErr result (λ f. (f ≡ journal_fault.Memory) ⊎ GivenFaults entries.now f) }
 {
     if entries.is_empty() {
-        return Err(RoundFault::BadJournal);
+        return Err(JournalFault::BadJournal);
     }
     let mut known = StoredJournal::new(alloc);
     for i in 0..entries.len() {
@@ -90,12 +90,12 @@ fn store_in(
     feed: &mut BytesMut,
     unstored: &mut Decoder,
     n: usize,
-) -> Result<(), RoundFault>
+) -> Result<(), JournalFault>
     requires { Holds known.old entries.old.items }
     ensures ok { OnOk result (Stores version n unstored.old entries.old.items feed.old.items
         entries.new.items feed.new.items unstored.new) }
     ensures holds { OnOk result (Holds known.new entries.new.items) }
-    ensures err { IfErr result (λ f. (f ≡ round_fault.Memory)
+    ensures err { IfErr result (λ f. (f ≡ journal_fault.Memory)
         ⊎ FirstFault version (take n (written_from unstored.old)) entries.old.items f) }
 {
     store_from(alloc, version, known, entries, feed, unstored, n)
@@ -119,10 +119,10 @@ impl WholeJournal {
     }
 
     /// A notification arrives, as one frame: it is the next entry, if it has no fault. After an error there are no entries.
-    pub fn arrive(&mut self, alloc: Global, entry: &Bytes) -> Result<(), RoundFault>
+    pub fn arrive(&mut self, alloc: Global, entry: &Bytes) -> Result<(), JournalFault>
         ensures ok { OnOk result ((arrival_fault entry.now self.old ≡ None)
             × (self.new ≡ self.old ++ entry.now ∷ [])) }
-        ensures err { IfErr result (λ f. (f ≡ round_fault.Memory)
+        ensures err { IfErr result (λ f. (f ≡ journal_fault.Memory)
             ⊎ (arrival_fault entry.now self.old ≡ Some f)) }
         ensures none { OnErr result (self.new ≡ []) }
     {
@@ -136,11 +136,11 @@ impl WholeJournal {
     }
 
     /// The journal whose entries these are, each one whole frame, if none has a fault after those before it.
-    pub fn load(alloc: Global, entries: Vec<Bytes>) -> Result<WholeJournal, RoundFault>
+    pub fn load(alloc: Global, entries: Vec<Bytes>) -> Result<WholeJournal, JournalFault>
         ensures journal { IfOk result (λ journal. journal ≡ entries.items) }
         ensures given { OnOk result (AreGiven [] entries.items) }
         ensures some { OnOk result (entries.items ≢ []) }
-        ensures err { IfErr result (λ f. (f ≡ round_fault.Memory) ⊎ GivenFaults entries.items f) }
+        ensures err { IfErr result (λ f. (f ≡ journal_fault.Memory) ⊎ GivenFaults entries.items f) }
     {
         match known_of(alloc, entries.as_slice()) {
             Ok(known) => Ok(WholeJournal { entries, known }),
@@ -157,11 +157,11 @@ impl WholeJournal {
         feed: &mut BytesMut,
         unstored: &mut Decoder,
         n: usize,
-    ) -> Result<(), RoundFault>
+    ) -> Result<(), JournalFault>
         ensures ok { OnOk result
             (Stores version n unstored.old self.old feed.old.items self.new feed.new.items
             unstored.new) }
-        ensures err { IfErr result (λ f. (f ≡ round_fault.Memory)
+        ensures err { IfErr result (λ f. (f ≡ journal_fault.Memory)
             ⊎ FirstFault version (take n (written_from unstored.old)) self.old f) }
         ensures none { OnErr result (self.new ≡ []) }
     {

@@ -1,6 +1,6 @@
 // A journal that is loaded, and what comes to it.
 use bytes::{Bytes, BytesMut};
-use journal_entries::RoundFault;
+use journal_entries::JournalFault;
 use journal_protocol::{Decoder, Version};
 use std::alloc::Global;
 use std::test::Fail;
@@ -34,19 +34,23 @@ const ACKNOWLEDGEMENT_2: &[u8] = b"\0\x06\0\0\0\0\0\0\0\x04\
     \0\0\0\x02";
 
 /// A journal of these entries.
-fn loaded(alloc: Global, entries: &[&'static [u8]]) -> Result<StoredJournal, RoundFault> {
+fn loaded(alloc: Global, entries: &[&'static [u8]]) -> Result<StoredJournal, JournalFault> {
     let mut journal = StoredJournal::new(alloc);
     for entry in entries {
         journal.entry(alloc, &Bytes::from_static(entry))?;
     }
     if journal.keep().is_err() {
-        return Err(RoundFault::Memory);
+        return Err(JournalFault::Memory);
     }
     Ok(journal)
 }
 
 /// What a frame's arrival answers.
-fn arrives(alloc: Global, journal: &mut StoredJournal, frame: &'static [u8]) -> Option<RoundFault> {
+fn arrives(
+    alloc: Global,
+    journal: &mut StoredJournal,
+    frame: &'static [u8],
+) -> Option<JournalFault> {
     match journal.arrive(alloc, &Bytes::from_static(frame)) {
         Ok(()) => None,
         Err(fault) => Some(fault),
@@ -59,10 +63,10 @@ fn an_id_is_completed_once(rt: HostRuntime) -> Result<(), Fail> {
     let mut journal = loaded(alloc, &[INPUT_TILL, SLEEP_TO_1000])
         .ok()
         .ok_or("not loaded")?;
-    assert!(rt; arrives(alloc, &mut journal, COMPLETION_9) == Some(RoundFault::NoSuchId));
-    assert!(rt; arrives(alloc, &mut journal, INPUT_TILL) == Some(RoundFault::NotANotification));
+    assert!(rt; arrives(alloc, &mut journal, COMPLETION_9) == Some(JournalFault::NoSuchId));
+    assert!(rt; arrives(alloc, &mut journal, INPUT_TILL) == Some(JournalFault::NotANotification));
     assert!(rt; arrives(alloc, &mut journal, COMPLETION_1).is_none());
-    assert!(rt; arrives(alloc, &mut journal, COMPLETION_1) == Some(RoundFault::SecondCompletion));
+    assert!(rt; arrives(alloc, &mut journal, COMPLETION_1) == Some(JournalFault::SecondCompletion));
     assert!(rt; journal.entries() == 3);
     Ok(())
 }
@@ -90,18 +94,23 @@ fn what_was_not_committed_is_undone(rt: HostRuntime) -> Result<(), Fail> {
     journal.keep()?;
     journal.undo();
     assert!(rt; journal.entries() == 3);
-    assert!(rt; arrives(alloc, &mut journal, COMPLETION_1) == Some(RoundFault::SecondCompletion));
+    assert!(rt; arrives(alloc, &mut journal, COMPLETION_1) == Some(JournalFault::SecondCompletion));
     Ok(())
 }
 
 #[test]
 fn a_journal_begins_with_an_input(rt: HostRuntime) {
     let alloc = rt.alloc();
-    assert!(rt; matches!(loaded(alloc, &[SLEEP_TO_1000]), Err(RoundFault::BadJournal)));
+    assert!(rt;
+        matches!(
+            loaded(alloc, &[SLEEP_TO_1000]),
+            Err(JournalFault::BadJournal)
+        )
+    );
     assert!(rt;
         matches!(
             loaded(alloc, &[INPUT_TILL, COMPLETION_1]),
-            Err(RoundFault::NoSuchId)
+            Err(JournalFault::NoSuchId)
         )
     );
 }
@@ -124,7 +133,7 @@ fn a_run_is_completed_by_its_proposal(rt: HostRuntime) -> Result<(), Fail> {
         9,
     );
     assert!(rt; stored.is_ok() && entries.len() == 1 && entries[0].as_slice() == RUN_2);
-    assert!(rt; arrives(alloc, &mut journal, COMPLETION_2) == Some(RoundFault::RunIsProposed));
+    assert!(rt; arrives(alloc, &mut journal, COMPLETION_2) == Some(JournalFault::RunIsProposed));
     output.push(Bytes::from_static(PROPOSAL_2))?;
     let stored = store_from(
         alloc,
@@ -147,6 +156,6 @@ fn a_run_is_completed_by_its_proposal(rt: HostRuntime) -> Result<(), Fail> {
         &mut output,
         9,
     );
-    assert!(rt; stored == Err(RoundFault::SecondCompletion));
+    assert!(rt; stored == Err(JournalFault::SecondCompletion));
     Ok(())
 }

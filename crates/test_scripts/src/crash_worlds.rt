@@ -3,7 +3,7 @@ use handlers::counter::Counter;
 use handlers::sleeper::Sleeper;
 use palqytun::handler::Answer;
 use palqytun::testing::{
-    Report, RoundFault, WorldBuilder, expect_end, input, output, play, round, sleep, void,
+    JournalFault, Report, WorldBuilder, expect_end, input, output, play, round, sleep, void,
 };
 use palqytun::vm::{Input, VMOptions, Version};
 use std::test::Fail;
@@ -74,6 +74,6 @@ fn a_journal_from_elsewhere_begins_with_its_input(rt: HostRuntime) -> Result<(),
     let mut entries = Vec::new(alloc);
     entries.push(sleep(alloc, 1000, 1)?)?;
     let refused = WorldBuilder::with_journal(alloc, entries)?.build();
-    assert!(rt; matches!(refused, Err(RoundFault::BadJournal)));
+    assert!(rt; matches!(refused, Err(JournalFault::BadJournal)));
     Ok(())
 }

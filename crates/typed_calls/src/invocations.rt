@@ -5,10 +5,10 @@ ghost use Rattle.typed_calls.specs.Invocations.{idempotency_of, invocation_of, t
 
 use crate::given::{Lent, MayLend, optional_text, text_of};
 use invocation_vm::{CoreVM, VM};
-use journal_protocol::{IdempotencyId, WorkflowId};
+use journal_protocol::{IdempotencyId, InvocationTarget, WorkflowId};
 use sessions::{Replied, Status, VmCall, keep_handle};
 use std::alloc::Global;
-use vm_types::{AttachInvocationTarget, Reply};
+use vm_types::Reply;
 
 /// Which invocation is meant.
 #[repr(C)]
@@ -67,22 +67,22 @@ fn idempotency_of(alloc: Global, given: &GivenInvocation) -> Result<IdempotencyI
 
 /// The invocation that is meant.
 #[tactic(auto, using(crate::proofs::Refusing::misfit))]
-fn invocation_of(alloc: Global, given: &GivenInvocation) -> Result<AttachInvocationTarget, Status>
+fn invocation_of(alloc: Global, given: &GivenInvocation) -> Result<InvocationTarget, Status>
     ensures ok { IfOk result (λ target. invocation_of given.now ≡ Some target) }
     ensures err { IfErr result
         (Misfits (texts_of_invocation given.now) (invocation_of given.now ≡ None)) }
 {
     match given.kind {
         0 => match text_of(alloc, given.name.bytes) {
-            Ok(id) => Ok(AttachInvocationTarget::InvocationId(id)),
+            Ok(id) => Ok(InvocationTarget::InvocationId(id)),
             Err(status) => Err(status),
         },
         1 => match workflow_of(alloc, given) {
-            Ok(id) => Ok(AttachInvocationTarget::WorkflowId(id)),
+            Ok(id) => Ok(InvocationTarget::WorkflowId(id)),
             Err(status) => Err(status),
         },
         2 => match idempotency_of(alloc, given) {
-            Ok(id) => Ok(AttachInvocationTarget::IdempotencyId(id)),
+            Ok(id) => Ok(InvocationTarget::IdempotencyId(id)),
             Err(status) => Err(status),
         },
         _ => Err(Status::BadNumber),

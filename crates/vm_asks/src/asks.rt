@@ -22,8 +22,7 @@ use std::time::Duration;
 use vm_parts::StateKey;
 use vm_types::values::write_value;
 use vm_types::{
-    Answer, AttachInvocationTarget, CallHandle, DeadlineCallHandle, NonEmptyValue, PayloadOptions,
-    SendHandle, Step, Target,
+    Answer, CallHandle, DeadlineCallHandle, NonEmptyValue, PayloadOptions, SendHandle, Step, Target,
 };
 
 /// What a step asks for.
@@ -385,7 +384,7 @@ pub fn send(
     }
 }
 
-pub fn attach_invocation(target: AttachInvocationTarget, version: Version) -> Command
+pub fn attach_invocation(target: InvocationTarget, version: Version) -> Command
     ensures { result ≡ attach_invocation_command target version }
 {
     Command {
@@ -398,7 +397,7 @@ pub fn attach_invocation(target: AttachInvocationTarget, version: Version) -> Co
     }
 }
 
-pub fn get_invocation_output(target: AttachInvocationTarget, version: Version) -> Command
+pub fn get_invocation_output(target: InvocationTarget, version: Version) -> Command
     ensures { result ≡ get_invocation_output_command target version }
 {
     Command {

@@ -45,7 +45,7 @@ use Rattle.vm_model.specs.Moves.{longer, start, told_input}
 use Rattle.vm_model.proofs.Compared.{after_answers, attempt_is_told}
 use Rattle.vm_model.proofs.Runs.{made_after}
 use Rattle.std.specs.List.{AllByRecursion}
-use Rattle.journal_entries.specs.declared.proposals.KeptProposal.{KeptProposal}
+use Rattle.journal_protocol.specs.ProposeRunCompletion.{ProposeRunCompletion}
 use Rattle.journal_protocol.specs.Versions.{is_from_v7}
 use Rattle.vm_attempt.specs.Arrivals.{arriving, kept_after}
 use Rattle.vm_steps.specs.Heard.{acknowledged_from}
@@ -387,7 +387,7 @@ IsNew fixed r = BeforeInput fixed (heard fixed.version r) r.answers r.waiting r.
 pub nothing_acknowledged : (version : Version) → acknowledged_from version [] ≡ []
 nothing_acknowledged version = by_test (is_from_v7 version)
   where
-    nothing : List KeptProposal
+    nothing : List ProposeRunCompletion
     nothing = []
 
     by_test : (b : Bool) → (if b then nothing else []) ≡ nothing

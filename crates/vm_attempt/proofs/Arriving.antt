@@ -3,7 +3,7 @@ use Rattle.std.specs.List.{find}
 use Rattle.std.specs.Option.{option_map}
 use Rattle.runs.specs.Firsts.{without_first}
 use Rattle.runs.specs.Kept.{is_for}
-use Rattle.journal_entries.specs.declared.proposals.KeptProposal.{KeptProposal}
+use Rattle.journal_protocol.specs.ProposeRunCompletion.{ProposeRunCompletion}
 use Rattle.journal_protocol.specs.ProposeRunCompletionAck.{ProposeRunCompletionAck}
 use Rattle.std.proofs.Common.{◌≡◌, ◌⊎◌, ℕ, Bool, true, false, cond, List, [], ◌∷◌, ◌++◌, Option, Some, None, refl, sym, ap, ◌∙◌, subst, inl, inr, ⊎_elim, append_assoc, append-nil}
 use Rattle.std.specs.Prelude.{◌==◌, ◌&&◌, if◌then◌else◌, is_some, nat_le, nat_lt, IsSome}
@@ -99,7 +99,7 @@ notified_step raw Processing v e = refl
 -- ---- frames that come to a machine that agrees with a point
 
 -- these arrivals more, with these proposals kept, or a machine that has failed
-abbrev Comes : Setup → StateMap → List RawMessage → Machine → List Notification → List KeptProposal → Point → Type 0
+abbrev Comes : Setup → StateMap → List RawMessage → Machine → List Notification → List ProposeRunCompletion → Point → Type 0
 Comes s given written v ns kept p = (Agrees s given written v (later ns p) × (v.proposals ≡ kept)) ⊎ IsSome v.failure
 
 module _ (s : Setup) (given : StateMap) (written : List RawMessage) (aside : Aside) (p : Point) (identity : s.identity ≡ identity_of aside.start) where
@@ -111,7 +111,7 @@ module _ (s : Setup) (given : StateMap) (written : List RawMessage) (aside : Asi
   queued_comes (Some n) = inl (record { aside = aside; machine = refl; identity = identity }, refl)
 
   -- what was proposed is one more arrival
-  kept_comes : (id : ℕ) (o : Option KeptProposal) → Comes s given written (left_by (settled (acknowledged id o here))) (notified_by (option_map (acknowledged_completion id) o) []) (without_first (is_for id) aside.proposals) p
+  kept_comes : (id : ℕ) (o : Option ProposeRunCompletion) → Comes s given written (left_by (settled (acknowledged id o here))) (notified_by (option_map (acknowledged_completion id) o) []) (without_first (is_for id) aside.proposals) p
   kept_comes id None = inr refl
   kept_comes id (Some kept) = inl (record { aside = record aside { proposals = without_first (is_for id) aside.proposals }; machine = refl; identity = identity }, refl)
 
@@ -156,7 +156,7 @@ module _ (s : Setup) (given : StateMap) (written : List RawMessage) (aside : Asi
           let is : received raw here ≡ left_by (settled (queued (notification_in raw.body) (λ w. w) here)) = live_receives here raw refl ∙ ap (λ o. left_by (settled o)) (notification_is here raw e ∙ notified_step raw here.phase here (runs_at p.left)) in
           let brings : arrival_of aside.proposals raw ≡ notification_in raw.body = ap (λ b. if b then notification_in raw.body else if is_acknowledgement raw then acknowledged_as aside.proposals (acknowledgement_in raw.body) else None) e in
           let keeps : kept_behind aside.proposals raw ≡ aside.proposals = ap (λ b. if b then unacknowledged aside.proposals (acknowledgement_in raw.body) else aside.proposals) (not_both raw e) in
-          subst (λ (x : Machine × List Notification × List KeptProposal). Comes s given written x.0 x.1 x.2 p) (λ i. (sym is i, notified_by (sym brings i) [], sym keeps i)) (queued_comes (notification_in raw.body))
+          subst (λ (x : Machine × List Notification × List ProposeRunCompletion). Comes s given written x.0 x.1 x.2 p) (λ i. (sym is i, notified_by (sym brings i) [], sym keeps i)) (queued_comes (notification_in raw.body))
       by_kind false e =
           let is = live_receives here raw refl ∙ ap (λ o. left_by (settled o)) (other_is here raw e) in
           let brings : arrival_of aside.proposals raw ≡ (if is_acknowledgement raw then acknowledged_as aside.proposals (acknowledgement_in raw.body) else None) = ap (λ b. if b then notification_in raw.body else if is_acknowledgement raw then acknowledged_as aside.proposals (acknowledgement_in raw.body) else None) e in

@@ -1,7 +1,7 @@
 -- A frame that comes is taken in, or refused for the reason that the table of frames says.
 use Rattle.std.specs.List.{find}
 use Rattle.runs.specs.Kept.{is_for}
-use Rattle.journal_entries.specs.declared.proposals.KeptProposal.{KeptProposal}
+use Rattle.journal_protocol.specs.ProposeRunCompletion.{ProposeRunCompletion}
 use Rattle.journal_protocol.specs.ProposeRunCompletionAck.{ProposeRunCompletionAck}
 use Rattle.std.proofs.Common.{◌≡◌, ◌⊎◌, ℕ, Bool, true, false, List, [], ◌∷◌, Option, Some, None, refl, sym, ap, ◌∙◌, inl, inr, ⊎_elim}
 use Rattle.std.specs.Prelude.{◌==◌, if◌then◌else◌, is_some, IsSome}
@@ -63,7 +63,7 @@ queued_fits : (o : Option Notification) (v : Machine) → Fits (notification_fau
 queued_fits None v = (refl, refl)
 queued_fits (Some n) v = ((_, refl, (refl, (refl, refl)), (refl, refl)), (_, refl, (refl, (refl, refl)), (refl, refl)))
 
-kept_fits : (id : ℕ) (kept : Option KeptProposal) (v : Machine) → Fits (kept_fault kept) v (acknowledged id kept v)
+kept_fits : (id : ℕ) (kept : Option ProposeRunCompletion) (v : Machine) → Fits (kept_fault kept) v (acknowledged id kept v)
 kept_fits id None v = refl
 kept_fits id (Some kept) v = (_, refl, (refl, (refl, refl)), (refl, refl))
 
@@ -124,15 +124,15 @@ message_fits raw Processing v false false false d = other_fits raw Processing v 
 message_fits raw Closed v false false false d = other_fits raw Closed v d
 
 -- a frame that is refused while proposals are kept is refused for the same reason if none is kept
-kept_by : (kept : List KeptProposal) (ack : Option ProposeRunCompletionAck) (why : NamedFault) → acknowledgement_body_fault kept ack ≡ Some why → acknowledgement_body_fault [] ack ≡ Some why
+kept_by : (kept : List ProposeRunCompletion) (ack : Option ProposeRunCompletionAck) (why : NamedFault) → acknowledgement_body_fault kept ack ≡ Some why → acknowledgement_body_fault [] ack ≡ Some why
 kept_by kept None why is = is
 kept_by kept (Some ack) why is = by_kept (find (is_for ack.id) kept) is
   where
-    by_kept : (found : Option KeptProposal) → kept_fault found ≡ Some why → Some fault.BadProposeRunCompletionAck ≡ Some why
+    by_kept : (found : Option ProposeRunCompletion) → kept_fault found ≡ Some why → Some fault.BadProposeRunCompletionAck ≡ Some why
     by_kept None e = e
     by_kept (Some k) e = absurd (cc)
 
-none_kept_by : (kept : List KeptProposal) (phase : Phase) (raw : RawMessage) (a b c d : Bool) (why : NamedFault) → fault_by kept phase raw a b c d ≡ Some why → fault_by [] phase raw a b c d ≡ Some why
+none_kept_by : (kept : List ProposeRunCompletion) (phase : Phase) (raw : RawMessage) (a b c d : Bool) (why : NamedFault) → fault_by kept phase raw a b c d ≡ Some why → fault_by [] phase raw a b c d ≡ Some why
 none_kept_by kept WaitingStart raw true b c d why is = is
 none_kept_by kept WaitingStart raw false true c d why is = is
 none_kept_by kept WaitingStart raw false false true d why is = is
@@ -159,7 +159,7 @@ none_kept_by kept Closed raw false false true d why is = is
 none_kept_by kept Closed raw false false false true why is = is
 none_kept_by kept Closed raw false false false false why is = is
 
-pub none_kept : (kept : List KeptProposal) (phase : Phase) (raw : RawMessage) (why : NamedFault) → fault_among kept phase raw ≡ Some why → phase_fault phase raw ≡ Some why
+pub none_kept : (kept : List ProposeRunCompletion) (phase : Phase) (raw : RawMessage) (why : NamedFault) → fault_among kept phase raw ≡ Some why → phase_fault phase raw ≡ Some why
 none_kept kept phase raw why is = none_kept_by kept phase raw (type_number raw.ty == 1) (is_command_frame raw) (is_notification raw) (is_acknowledgement raw) why is
 
 -- one frame: it is taken in, or refused

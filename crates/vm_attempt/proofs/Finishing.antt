@@ -22,7 +22,7 @@ use Rattle.runs.specs.declared.settling.Settlement.TheVariants as settlement
 use Rattle.vm_types.specs.declared.runs.RunExitResult.{RunExitResult}
 use Rattle.runs.specs.Firsts.{without_first}
 use Rattle.runs.specs.Pending.{has_handle}
-use Rattle.journal_entries.specs.declared.proposals.KeptProposal.{KeptProposal}
+use Rattle.journal_protocol.specs.ProposeRunCompletion.{ProposeRunCompletion}
 use Rattle.runs.specs.declared.pending.PendingRun.{PendingRun}
 use Rattle.vm_types.specs.declared.steps.Answer.{Answer}
 use Rattle.vm_parts.specs.Outboxes.{WholeFrames}
@@ -75,8 +75,8 @@ abbrev proposal : ℕ → ValueOrFailure → Message
 proposal id result = message.ProposeRunCompletion (record { id = id; result = result })
 
 -- the same, as it is kept
-abbrev kept_as : ℕ → ValueOrFailure → KeptProposal
-kept_as id result = record { completion_id = id; result = result }
+abbrev kept_as : ℕ → ValueOrFailure → ProposeRunCompletion
+kept_as id result = record { id = id; result = result }
 
 -- a result is proposed, in Processing
 record IsProposed (handle : NotificationHandle) (v w : Machine) : Type 0 where
@@ -336,10 +336,10 @@ module _ (handle : NotificationHandle) (exit : RunExitResult) (policy : RetryPol
 -- ---- one proposal more
 
 -- what was received, with these proposals added
-abbrev and_proposed : Heard → List KeptProposal → Heard
+abbrev and_proposed : Heard → List ProposeRunCompletion → Heard
 and_proposed fed more = record { pieces = fed.pieces; proposed = fed.proposed ++ more }
 
-pub acknowledged_more : (version : Version) (ps more : List KeptProposal) → acknowledged_from version (ps ++ more) ≡ acknowledged_from version ps ++ acknowledged_from version more
+pub acknowledged_more : (version : Version) (ps more : List ProposeRunCompletion) → acknowledged_from version (ps ++ more) ≡ acknowledged_from version ps ++ acknowledged_from version more
 acknowledged_more version ps more = by_test (is_from_v7 version)
   where
     by_test : (b : Bool) → (if b then ps ++ more else []) ≡ (if b then ps else []) ++ (if b then more else [])
@@ -347,7 +347,7 @@ acknowledged_more version ps more = by_test (is_from_v7 version)
     by_test false = refl
 
 -- the machine once a result was proposed: its run isn't pending any more
-abbrev proposed_in : NotificationHandle → List KeptProposal → Message → Machine → Machine
+abbrev proposed_in : NotificationHandle → List ProposeRunCompletion → Message → Machine → Machine
 proposed_in handle more m v = record v { runs = without_first (has_handle handle) v.runs; proposals = v.proposals ++ more; output = v.output ++ encoding m ∷ [] }
 
 proposed_is : (handle : NotificationHandle) (id : ℕ) (result : ValueOrFailure) (v : Machine) → proposed id result (without_run handle v) ≡ proposed_in handle (acknowledged_from v.version (kept_as id result ∷ [])) (proposal id result) v
@@ -361,7 +361,7 @@ proposed_is handle id result v = by_test (is_from_v7 v.version)
     by_test true = refl
     by_test false = λ i. record u { proposals = sym (append-nil u.proposals) i; output = u.output ++ encoding (proposal id result) ∷ [] }
 
-abbrev journal_as : (fed : Heard) (more : List KeptProposal) → Journal fed → Journal (and_proposed fed more)
+abbrev journal_as : (fed : Heard) (more : List ProposeRunCompletion) → Journal fed → Journal (and_proposed fed more)
 journal_as fed more j = record {
   first_frame = j.first_frame;
   entries = j.entries;
@@ -386,7 +386,7 @@ same_behind first other xs ys h = cc
 wrote_proposal : (taken output : List (List ℕ)) (written : List RawMessage) (id : ℕ) (result : ValueOrFailure) → Wrote taken output written → Wrote taken (output ++ encoding (proposal id result) ∷ []) written
 wrote_proposal taken output written id result w = subst (Wrote taken (output ++ encoding (proposal id result) ∷ [])) (append-nil written) (wrote_more taken output (output ++ encoding (proposal id result) ∷ []) (proposal id result ∷ []) written refl w)
 
-module _ (fixed : Fixed) (fed : Heard) (answers : List Answer) (waiting : Option UnresolvedFuture) (taken : List (List ℕ)) (vm : View) (live : IsLive vm.machine) (processing : vm.machine.phase ≡ Processing) (handle : NotificationHandle) (id : ℕ) (result : ValueOrFailure) (more : List KeptProposal) where
+module _ (fixed : Fixed) (fed : Heard) (answers : List Answer) (waiting : Option UnresolvedFuture) (taken : List (List ℕ)) (vm : View) (live : IsLive vm.machine) (processing : vm.machine.phase ≡ Processing) (handle : NotificationHandle) (id : ℕ) (result : ValueOrFailure) (more : List ProposeRunCompletion) where
   abbrev after : View
   after = record vm { machine = proposed_in handle more (proposal id result) vm.machine }
 
@@ -484,7 +484,7 @@ module _ (fixed : Fixed) (handle : NotificationHandle) (exit : RunExitResult) (p
   is_live : ProposesOne handle old new → IsLive old.vm.machine
   is_live p = record { failure = p.live; phase = ap is_running p.phase }
 
-  abbrev further : ProposesOne handle old new → List KeptProposal
+  abbrev further : ProposesOne handle old new → List ProposeRunCompletion
   further p = acknowledged_from fixed.version (kept_as p.id p.result ∷ [])
 
   -- the machine, for the version of the attempt
@@ -770,7 +770,7 @@ finish_honest fixed all said answers (Err e) honest b = honest_fails fixed all s
 
 -- ---- the fields, and the record
 
-noted_with : (ps : List KeptProposal) (o : Option Error) (handle : NotificationHandle) (r : Record) → with_proposed ps (noted_at o handle r) ≡ noted_at o handle (with_proposed ps r)
+noted_with : (ps : List ProposeRunCompletion) (o : Option Error) (handle : NotificationHandle) (r : Record) → with_proposed ps (noted_at o handle r) ≡ noted_at o handle (with_proposed ps r)
 noted_with ps (Some e) handle r = refl
 noted_with ps None handle r = refl
 

@@ -16,7 +16,7 @@ use Rattle.journal_protocol.specs.Notification.{Notification}
 use Rattle.runs.specs.Kept.{is_for}
 use Rattle.journal_entries.specs.Carried.{AreBelow, AreFrom, AreGreater, all_carried}
 use Rattle.vm_parts.specs.declared.context.Counters.{Counters}
-use Rattle.journal_entries.specs.declared.proposals.KeptProposal.{KeptProposal}
+use Rattle.journal_protocol.specs.ProposeRunCompletion.{ProposeRunCompletion}
 use Rattle.vm_machine.specs.declared.machine.Machine.{Machine}
 use Rattle.vm_machine.specs.declared.phase.Phase.{Phase}
 use Rattle.vm_machine.specs.declared.phase.Phase.TheVariants.{WaitingStart, WaitingReplayEntries, Replaying, Processing, Closed}
@@ -58,7 +58,7 @@ queued_same : (o : Option Notification) (v : Machine) → SameCounters v (queued
 queued_same None v = (refl, refl)
 queued_same (Some n) v = (refl, refl)
 
-kept_same : (id : ℕ) (o : Option KeptProposal) (v : Machine) → SameCounters v (acknowledged id o v)
+kept_same : (id : ℕ) (o : Option ProposeRunCompletion) (v : Machine) → SameCounters v (acknowledged id o v)
 kept_same id None v = refl
 kept_same id (Some kept) v = refl
 

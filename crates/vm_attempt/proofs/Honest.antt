@@ -37,7 +37,7 @@ use Rattle.std.specs.List.{find}
 use Rattle.journal_protocol.specs.ProposeRunCompletionAck.{ProposeRunCompletionAck}
 use Rattle.runs.specs.Kept.{is_for}
 use Rattle.vm_model.specs.Histories.{after_head}
-use Rattle.journal_entries.specs.declared.proposals.KeptProposal.{KeptProposal}
+use Rattle.journal_protocol.specs.ProposeRunCompletion.{ProposeRunCompletion}
 use Rattle.vm_attempt.specs.Arrivals.{AllFound, FindsProposal, IsOfKept, arriving, kept_after, kept_behind}
 use Rattle.vm_attempt.specs.Blames.{kept_fault, acknowledgement_body_fault}
 use Rattle.vm_attempt.specs.Honest.{Further, further_frame, further_message}
@@ -157,15 +157,15 @@ at_place [] raw rest all = all.0
 at_place (b ∷ before) raw rest all = at_place before raw rest all.1
 
 -- an acknowledgement among frames that find theirs
-found_at : (kept : List KeptProposal) (before : List RawMessage) (raw : RawMessage) (rest : List RawMessage) → AllFound kept (before ++ raw ∷ rest) → FindsProposal (kept_after kept before) raw
+found_at : (kept : List ProposeRunCompletion) (before : List RawMessage) (raw : RawMessage) (rest : List RawMessage) → AllFound kept (before ++ raw ∷ rest) → FindsProposal (kept_after kept before) raw
 found_at kept [] raw rest all = all.0
 found_at kept (b ∷ before) raw rest all = found_at (kept_behind kept b) before raw rest all.1
 
-taken_fault : (kept : List KeptProposal) (ack : Option ProposeRunCompletionAck) → IsSome ack → IsOfKept kept ack → acknowledgement_body_fault kept ack ≡ None
+taken_fault : (kept : List ProposeRunCompletion) (ack : Option ProposeRunCompletionAck) → IsSome ack → IsOfKept kept ack → acknowledgement_body_fault kept ack ≡ None
 taken_fault kept None readable found = absurd (cc)
 taken_fault kept (Some ack) readable found = by_kept (find (is_for ack.id) kept) found
   where
-    by_kept : (o : Option KeptProposal) → IsSome o → kept_fault o ≡ None
+    by_kept : (o : Option ProposeRunCompletion) → IsSome o → kept_fault o ≡ None
     by_kept None h = absurd (cc)
     by_kept (Some k) h = refl
 

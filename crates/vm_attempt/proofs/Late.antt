@@ -1,5 +1,5 @@
 -- What comes to an attempt that is over: its VM ignores notifications, and fails by any other frame.
-use Rattle.journal_entries.specs.declared.proposals.KeptProposal.{KeptProposal}
+use Rattle.journal_protocol.specs.ProposeRunCompletion.{ProposeRunCompletion}
 use Rattle.std.proofs.Common.{◌≡◌, ◌≢◌, ℕ, ◌+◌, ◌≤◌, Bool, true, false, List, [], ◌∷◌, ◌++◌, length, Option, Some, None, Result, Ok, Err, refl, sym, ap, ◌∙◌, subst, inr, ⊎_elim, append_assoc, append-nil, length-append, arith}
 use Rattle.std.specs.Prelude.{◌⊎◌, ◌==◌, if◌then◌else◌, is_some, unwrap_or}
 use Rattle.std.proofs.lemmas.Option.{same_Some}
@@ -41,7 +41,7 @@ use Rattle.vm_model.specs.Fixed.{Fixed}
 -- ---- a frame that comes after the end
 
 -- what a closed VM refuses is refused in Processing too
-closed_fault : (kept others : List KeptProposal) (raw : RawMessage) (a b c d : Bool) (why : NamedFault) → fault_by kept Closed raw a b c d ≡ Some why → fault_by others Processing raw a b c d ≡ Some why
+closed_fault : (kept others : List ProposeRunCompletion) (raw : RawMessage) (a b c d : Bool) (why : NamedFault) → fault_by kept Closed raw a b c d ≡ Some why → fault_by others Processing raw a b c d ≡ Some why
 closed_fault kept others raw true b c d why is = is
 closed_fault kept others raw false true c d why is = is
 closed_fault kept others raw false false true d why is = absurd (cc)

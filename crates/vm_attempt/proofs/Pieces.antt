@@ -21,7 +21,7 @@ use Rattle.vm_model.specs.Histories.{Made, Knowledge, Handed}
 use Rattle.vm_model.specs.Moves.{Point, later, start}
 use Rattle.vm_model.proofs.Runs.{made_later}
 use Rattle.vm_steps.specs.Heard.{Heard, and_piece, with_pieces}
-use Rattle.journal_entries.specs.declared.proposals.KeptProposal.{KeptProposal}
+use Rattle.journal_protocol.specs.ProposeRunCompletion.{ProposeRunCompletion}
 use Rattle.std.specs.List.{AllByRecursion}
 use Rattle.vm_steps.specs.declared.progress.Fed.{Fed}
 use Rattle.vm_attempt.specs.Agreement.{Agrees, Aside}
@@ -256,7 +256,7 @@ journal_to fed to G frames j = record {
 abbrev pub more_arrivals : {fed : Heard} → Journal fed → List RawMessage → List Notification
 more_arrivals {fed} j G = arriving (kept_after fed.proposed (j.entries ++ j.others)) G
 
-pub arrivals_more : (kept : List KeptProposal) (es others G : List RawMessage) → arriving kept (es ++ (others ++ G)) ≡ arriving kept (es ++ others) ++ arriving (kept_after kept (es ++ others)) G
+pub arrivals_more : (kept : List ProposeRunCompletion) (es others G : List RawMessage) → arriving kept (es ++ (others ++ G)) ≡ arriving kept (es ++ others) ++ arriving (kept_after kept (es ++ others)) G
 arrivals_more kept es others G = ap (arriving kept) (sym (append_assoc es others G)) ∙ arriving_append kept (es ++ others) G
 
 -- the run with further arrivals

@@ -1,7 +1,7 @@
 -- In which phase each frame of an attempt comes.
 use Rattle.std.specs.List.{find}
 use Rattle.runs.specs.Kept.{is_for}
-use Rattle.journal_entries.specs.declared.proposals.KeptProposal.{KeptProposal}
+use Rattle.journal_protocol.specs.ProposeRunCompletion.{ProposeRunCompletion}
 use Rattle.journal_protocol.specs.ProposeRunCompletionAck.{ProposeRunCompletionAck}
 use Rattle.std.proofs.Common.{inl, inr, ◌≡◌, ◌≢◌, ℕ, zero, suc, ◌+◌, ◌-◌, ◌<◌, ◌≤◌, Bool, true, false, List, [], ◌∷◌, ◌++◌, length, Option, Some, None, refl, sym, ap, ◌∙◌, subst, ⊎_elim, append_assoc, append-nil, arith, length-append, Global}
 use Rattle.std.specs.Prelude.{◌==◌, if◌then◌else◌, nat_le}
@@ -101,7 +101,7 @@ queued_behind : (F : List RawMessage) (raw : RawMessage) (v : Machine) → Place
 queued_behind F raw v p None h = no_failure _ h
 queued_behind F raw v p (Some n) h = p
 
-kept_behind : (F : List RawMessage) (raw : RawMessage) (v : Machine) → Place v.phase v.entries_missing (F ++ raw ∷ []) → (id : ℕ) (kept : Option KeptProposal) → Stands (F ++ raw ∷ []) (left_by (settled (acknowledged id kept v)))
+kept_behind : (F : List RawMessage) (raw : RawMessage) (v : Machine) → Place v.phase v.entries_missing (F ++ raw ∷ []) → (id : ℕ) (kept : Option ProposeRunCompletion) → Stands (F ++ raw ∷ []) (left_by (settled (acknowledged id kept v)))
 kept_behind F raw v p id None h = no_failure _ h
 kept_behind F raw v p id (Some kept) h = p
 

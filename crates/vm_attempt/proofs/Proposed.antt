@@ -19,7 +19,7 @@ use Rattle.vm_machine.specs.Ephemerals.{completed_by, result_comes}
 use Rattle.journal_protocol.specs.Notification.{Notification}
 use Rattle.runs.specs.Firsts.{without_first}
 use Rattle.runs.specs.Kept.{is_for}
-use Rattle.journal_entries.specs.declared.proposals.KeptProposal.{KeptProposal}
+use Rattle.journal_protocol.specs.ProposeRunCompletion.{ProposeRunCompletion}
 use Rattle.vm_machine.specs.declared.machine.Machine.{Machine}
 use Rattle.vm_machine.specs.declared.phase.Phase.{Phase}
 use Rattle.vm_machine.specs.declared.phase.Phase.TheVariants.{WaitingStart, WaitingReplayEntries, Replaying, Processing, Closed}
@@ -43,22 +43,22 @@ notified_append : (o : Option Notification) (ms ns : List Notification) → noti
 notified_append None ms ns = refl
 notified_append (Some n) ms ns = refl
 
-pub arriving_append : (kept : List KeptProposal) (raws more : List RawMessage) → arriving kept (raws ++ more) ≡ arriving kept raws ++ arriving (kept_after kept raws) more
+pub arriving_append : (kept : List ProposeRunCompletion) (raws more : List RawMessage) → arriving kept (raws ++ more) ≡ arriving kept raws ++ arriving (kept_after kept raws) more
 arriving_append kept [] more = refl
 arriving_append kept (raw ∷ raws) more =
     ap (notified_by (arrival_of kept raw)) (arriving_append (kept_behind kept raw) raws more)
     ∙ notified_append (arrival_of kept raw) (arriving (kept_behind kept raw) raws) (arriving (kept_after (kept_behind kept raw) raws) more)
 
-pub kept_append : (kept : List KeptProposal) (raws more : List RawMessage) → kept_after kept (raws ++ more) ≡ kept_after (kept_after kept raws) more
+pub kept_append : (kept : List ProposeRunCompletion) (raws more : List RawMessage) → kept_after kept (raws ++ more) ≡ kept_after (kept_after kept raws) more
 kept_append kept [] more = refl
 kept_append kept (raw ∷ raws) more = kept_append (kept_behind kept raw) raws more
 
-pub found_append : (kept : List KeptProposal) (raws more : List RawMessage) → AllFound kept raws → AllFound (kept_after kept raws) more → AllFound kept (raws ++ more)
+pub found_append : (kept : List ProposeRunCompletion) (raws more : List RawMessage) → AllFound kept raws → AllFound (kept_after kept raws) more → AllFound kept (raws ++ more)
 found_append kept [] more a b = b
 found_append kept (raw ∷ raws) more a b = (a.0, found_append (kept_behind kept raw) raws more a.1 b)
 
 -- if nothing is acknowledged
-pub none_found : (kept : List KeptProposal) (raws : List RawMessage) → AllByRecursion AcknowledgesNothing raws → AllFound kept raws
+pub none_found : (kept : List ProposeRunCompletion) (raws : List RawMessage) → AllByRecursion AcknowledgesNothing raws → AllFound kept raws
 none_found kept [] all = tt
 none_found kept (raw ∷ raws) all = ((λ is. absurd (let z : false ≡ true = sym all.0 ∙ is in cc)), none_found (kept_behind kept raw) raws all.1)
 
@@ -67,30 +67,30 @@ pub none_front : (raws more : List RawMessage) → AllByRecursion AcknowledgesNo
 none_front [] more all = tt
 none_front (raw ∷ raws) more all = (all.0, none_front raws more all.1)
 
-brings_notified : (kept : List KeptProposal) (raw : RawMessage) (ns : List Notification) → AcknowledgesNothing raw → notified_by (arrival_of kept raw) ns ≡ cond (is_notification raw) (notified_by (notification_in raw.body) ns) ns
+brings_notified : (kept : List ProposeRunCompletion) (raw : RawMessage) (ns : List Notification) → AcknowledgesNothing raw → notified_by (arrival_of kept raw) ns ≡ cond (is_notification raw) (notified_by (notification_in raw.body) ns) ns
 brings_notified kept raw ns none = ap (λ d. notified_by (if is_notification raw then notification_in raw.body else if d then acknowledged_as kept (acknowledgement_in raw.body) else None) ns) none ∙ by_test (is_notification raw)
   where
     by_test : (b : Bool) → notified_by (if b then notification_in raw.body else None) ns ≡ cond b (notified_by (notification_in raw.body) ns) ns
     by_test true = refl
     by_test false = refl
 
-keeps_all : (kept : List KeptProposal) (raw : RawMessage) → AcknowledgesNothing raw → kept_behind kept raw ≡ kept
+keeps_all : (kept : List ProposeRunCompletion) (raw : RawMessage) → AcknowledgesNothing raw → kept_behind kept raw ≡ kept
 keeps_all kept raw none = ap (λ d. if d then unacknowledged kept (acknowledgement_in raw.body) else kept) none
 
 -- they bring the notifications among them, and all proposals are kept
-pub arriving_notified : (kept : List KeptProposal) (raws : List RawMessage) → AllByRecursion AcknowledgesNothing raws → arriving kept raws ≡ notifications_among raws
+pub arriving_notified : (kept : List ProposeRunCompletion) (raws : List RawMessage) → AllByRecursion AcknowledgesNothing raws → arriving kept raws ≡ notifications_among raws
 arriving_notified kept [] all = refl
 arriving_notified kept (raw ∷ raws) all =
     brings_notified kept raw (arriving (kept_behind kept raw) raws) all.0
     ∙ ap (λ ns. cond (is_notification raw) (notified_by (notification_in raw.body) ns) ns) (ap (λ l. arriving l raws) (keeps_all kept raw all.0) ∙ arriving_notified kept raws all.1)
 
-pub kept_all : (kept : List KeptProposal) (raws : List RawMessage) → AllByRecursion AcknowledgesNothing raws → kept_after kept raws ≡ kept
+pub kept_all : (kept : List ProposeRunCompletion) (raws : List RawMessage) → AllByRecursion AcknowledgesNothing raws → kept_after kept raws ≡ kept
 kept_all kept [] all = refl
 kept_all kept (raw ∷ raws) all = ap (λ l. kept_after l raws) (keeps_all kept raw all.0) ∙ kept_all kept raws all.1
 
 -- ---- a further proposal
 
-find_more : (p : KeptProposal → Bool) (kept more : List KeptProposal) → IsSome (find p kept) → find p (kept ++ more) ≡ find p kept
+find_more : (p : ProposeRunCompletion → Bool) (kept more : List ProposeRunCompletion) → IsSome (find p kept) → find p (kept ++ more) ≡ find p kept
 find_more p [] more some = absurd (cc)
 find_more p (x ∷ xs) more some = by_test (p x) (find_more p xs more) some
   where
@@ -98,7 +98,7 @@ find_more p (x ∷ xs) more some = by_test (p x) (find_more p xs more) some
     by_test true on h = refl
     by_test false on h = on h
 
-without_more : (p : KeptProposal → Bool) (kept more : List KeptProposal) → IsSome (find p kept) → without_first p (kept ++ more) ≡ without_first p kept ++ more
+without_more : (p : ProposeRunCompletion → Bool) (kept more : List ProposeRunCompletion) → IsSome (find p kept) → without_first p (kept ++ more) ≡ without_first p kept ++ more
 without_more p [] more some = absurd (cc)
 without_more p (x ∷ xs) more some = by_test (p x) (without_more p xs more) some
   where
@@ -107,7 +107,7 @@ without_more p (x ∷ xs) more some = by_test (p x) (without_more p xs more) som
     by_test true on h = refl
     by_test false on h = ap (λ l. x ∷ l) (on h)
 
-module _ (kept more : List KeptProposal) where
+module _ (kept more : List ProposeRunCompletion) where
   stands_more : (ack : Option ProposeRunCompletionAck) → IsOfKept kept ack → acknowledged_as (kept ++ more) ack ≡ acknowledged_as kept ack
   stands_more None found = refl
   stands_more (Some ack) found = ap (option_map (acknowledged_completion ack.id)) (find_more (is_for ack.id) kept more found)
@@ -138,17 +138,17 @@ module _ (kept more : List KeptProposal) where
 
 -- If each acknowledgement found its proposal, one proposal more changes no arrival and is kept
 -- after the others.
-pub arriving_more : (kept more : List KeptProposal) (raws : List RawMessage) → AllFound kept raws → arriving (kept ++ more) raws ≡ arriving kept raws
+pub arriving_more : (kept more : List ProposeRunCompletion) (raws : List RawMessage) → AllFound kept raws → arriving (kept ++ more) raws ≡ arriving kept raws
 arriving_more kept more [] found = refl
 arriving_more kept more (raw ∷ raws) found =
     (λ i. notified_by (brought_more kept more raw found.0 i) (arriving (behind_more kept more raw found.0 i) raws))
     ∙ ap (notified_by (arrival_of kept raw)) (arriving_more (kept_behind kept raw) more raws found.1)
 
-pub kept_more : (kept more : List KeptProposal) (raws : List RawMessage) → AllFound kept raws → kept_after (kept ++ more) raws ≡ kept_after kept raws ++ more
+pub kept_more : (kept more : List ProposeRunCompletion) (raws : List RawMessage) → AllFound kept raws → kept_after (kept ++ more) raws ≡ kept_after kept raws ++ more
 kept_more kept more [] found = refl
 kept_more kept more (raw ∷ raws) found = ap (λ l. kept_after l raws) (behind_more kept more raw found.0) ∙ kept_more (kept_behind kept raw) more raws found.1
 
-pub found_more : (kept more : List KeptProposal) (raws : List RawMessage) → AllFound kept raws → AllFound (kept ++ more) raws
+pub found_more : (kept more : List ProposeRunCompletion) (raws : List RawMessage) → AllFound kept raws → AllFound (kept ++ more) raws
 found_more kept more [] found = tt
 found_more kept more (raw ∷ raws) found =
     ((λ is. found_so kept more (acknowledgement_in raw.body) (found.0 is)), subst (λ l. AllFound l raws) (sym (behind_more kept more raw found.0)) (found_more (kept_behind kept raw) more raws found.1))
@@ -159,7 +159,7 @@ found_more kept more (raw ∷ raws) found =
 abbrev Keeps : RawMessage → Machine → Machine → Type 0
 Keeps raw v w = w.failure ≡ None → (w.proposals ≡ kept_behind v.proposals raw) × FindsProposal v.proposals raw
 
-kept_found : (id : ℕ) (v : Machine) (o : Option KeptProposal) → (left_by (settled (acknowledged id o v))).failure ≡ None → ((left_by (settled (acknowledged id o v))).proposals ≡ without_first (is_for id) v.proposals) × IsSome o
+kept_found : (id : ℕ) (v : Machine) (o : Option ProposeRunCompletion) → (left_by (settled (acknowledged id o v))).failure ≡ None → ((left_by (settled (acknowledged id o v))).proposals ≡ without_first (is_for id) v.proposals) × IsSome o
 kept_found id v None h = no_failure _ h
 kept_found id v (Some kept) h = (refl, refl)
 
@@ -275,7 +275,7 @@ queued_none : (o : Option Notification) (v : Machine) → v.proposals ≡ [] →
 queued_none None v none = (none, none)
 queued_none (Some n) v none = (none, none)
 
-kept_none_by : (id : ℕ) (o : Option KeptProposal) (v : Machine) → v.proposals ≡ [] → NoneKept (acknowledged id o v)
+kept_none_by : (id : ℕ) (o : Option ProposeRunCompletion) (v : Machine) → v.proposals ≡ [] → NoneKept (acknowledged id o v)
 kept_none_by id None v none = none
 kept_none_by id (Some kept) v none = ap (without_first (is_for id)) none
 

@@ -1,7 +1,6 @@
 -- Input writes no command: what it writes is one Error at most.
 use Rattle.std.specs.List.{find}
 use Rattle.runs.specs.Kept.{is_for}
-use Rattle.journal_entries.specs.declared.proposals.KeptProposal.{KeptProposal}
 use Rattle.journal_protocol.specs.ProposeRunCompletionAck.{ProposeRunCompletionAck}
 use Rattle.std.proofs.Common.{◌≡◌, ℕ, Bool, true, false, cond, List, [], ◌∷◌, ◌++◌, map, Option, Some, None, refl, sym, ap, ◌∙◌, subst, append_assoc, append-nil}
 use Rattle.std.specs.Prelude.{◌==◌, ◌&&◌, if◌then◌else◌, nat_le, nat_lt}
@@ -45,7 +44,7 @@ proposals_append (raw ∷ raws) more = by_test (proposals_append raws more) (is_
     by_test : proposals_among (raws ++ more) ≡ proposals_among raws ++ proposals_among more → (b : Bool) (o : Option ProposeRunCompletion) → cond b (proposed_by o (proposals_among (raws ++ more))) (proposals_among (raws ++ more)) ≡ cond b (proposed_by o (proposals_among raws)) (proposals_among raws) ++ proposals_among more
     by_test on false o = on
     by_test on true None = on
-    by_test on true (Some p) = ap (λ l. record { completion_id = p.id; result = p.result } ∷ l) on
+    by_test on true (Some p) = ap (λ l. p ∷ l) on
 
 -- a command proposes nothing
 pub proposes_nothing : (raw : RawMessage) → is_command_frame raw ≡ true → proposals_among (raw ∷ []) ≡ []
@@ -144,7 +143,7 @@ notification_step_silent raw Replaying v = (queued_silent (notification_in raw.b
 notification_step_silent raw Processing v = (queued_silent (notification_in raw.body) v).1
 notification_step_silent raw Closed v = refl
 
-kept_silent : (id : ℕ) (kept : Option KeptProposal) (v : Machine) → Silent v (acknowledged id kept v)
+kept_silent : (id : ℕ) (kept : Option ProposeRunCompletion) (v : Machine) → Silent v (acknowledged id kept v)
 kept_silent id None v = refl
 kept_silent id (Some kept) v = refl
 

@@ -37,7 +37,7 @@ use Rattle.journal_protocol.specs.NamedFault.TheVariants as fault
 use Rattle.journal_protocol.specs.Types.{type_number}
 use Rattle.vm_machine.specs.declared.phase.Phase.TheVariants.{Processing}
 use Rattle.vm_model.specs.Histories.{after_head}
-use Rattle.journal_entries.specs.declared.proposals.KeptProposal.{KeptProposal}
+use Rattle.journal_protocol.specs.ProposeRunCompletion.{ProposeRunCompletion}
 use Rattle.vm_attempt.specs.Arrivals.{kept_after}
 use Rattle.vm_attempt.specs.Blames.{BadFrame, fault_among, fault_by, acknowledgement_body_fault}
 use Rattle.journal_entries.specs.JournalFrames.{is_acknowledgement}
@@ -142,7 +142,7 @@ honest_refused fixed fed said answers e honest x [] is = inr (inr (inl (record {
 honest_refused fixed fed said answers e honest x (c ∷ further) is = absurd (let h = honest.history x.journal.first_frame x.journal.entries x.journal.others x.journal.start x.journal.frames x.journal.reads_start x.journal.count in history_refuses fixed fed x.journal h.0 x.moves x.written x.at x.made c further is x.why x.reason h.1)
 
 -- an acknowledgement is refused in Processing where its proposal isn't kept
-acknowledged_by_kept : (kept : List KeptProposal) (raw : RawMessage) → is_acknowledgement raw ≡ true → fault_among kept Processing raw ≡ acknowledgement_body_fault kept (acknowledgement_in raw.body)
+acknowledged_by_kept : (kept : List ProposeRunCompletion) (raw : RawMessage) → is_acknowledgement raw ≡ true → fault_among kept Processing raw ≡ acknowledgement_body_fault kept (acknowledgement_in raw.body)
 acknowledged_by_kept kept raw is = ap (λ n. fault_by kept Processing raw (n == 1) (nat_le 10 n && nat_lt n 30) (n == 30) (n == 6)) (eqb-true (type_number raw.ty) 6 is)
 
 -- if no proposal is kept, an acknowledgement is refused

@@ -14,7 +14,7 @@ use Rattle.journal_protocol.specs.Bodies.{ephemeral_notification_in, notificatio
 use Rattle.vm_machine.specs.Ephemerals.{completed_by, result_comes}
 use Rattle.journal_protocol.specs.Notification.{Notification}
 use Rattle.runs.specs.Kept.{is_for}
-use Rattle.journal_entries.specs.declared.proposals.KeptProposal.{KeptProposal}
+use Rattle.journal_protocol.specs.ProposeRunCompletion.{ProposeRunCompletion}
 use Rattle.vm_machine.specs.declared.machine.Machine.{Machine}
 use Rattle.vm_machine.specs.declared.phase.Phase.{Phase}
 use Rattle.vm_machine.specs.declared.phase.Phase.TheVariants.{WaitingStart, WaitingReplayEntries, Replaying, Processing, Closed}
@@ -39,7 +39,7 @@ queued_stays : (v : Machine) (o : Option Notification) → StaysAt v (left_by (s
 queued_stays v None = λ h. no_failure _ h
 queued_stays v (Some n) = λ h. refl
 
-kept_stays : (v : Machine) (id : ℕ) (kept : Option KeptProposal) → StaysAt v (left_by (settled (acknowledged id kept v)))
+kept_stays : (v : Machine) (id : ℕ) (kept : Option ProposeRunCompletion) → StaysAt v (left_by (settled (acknowledged id kept v)))
 kept_stays v id None = λ h. no_failure _ h
 kept_stays v id (Some kept) = λ h. refl
 

@@ -10,7 +10,7 @@ use Rattle.journal_protocol.specs.Message.{Message}
 use Rattle.journal_protocol.specs.RawMessage.{RawMessage}
 use Rattle.journal_protocol.specs.Frames.{encoding}
 use Rattle.vm_types.specs.declared.options.VMOptions.{VMOptions}
-use Rattle.journal_entries.specs.declared.proposals.KeptProposal.{KeptProposal}
+use Rattle.journal_protocol.specs.ProposeRunCompletion.{ProposeRunCompletion}
 use Rattle.vm_types.specs.declared.steps.Answer.TheVariants as answer
 use Rattle.vm_parts.specs.Outboxes.{WholeFrames}
 use Rattle.await_trees.specs.declared.tree.UnresolvedFuture.{UnresolvedFuture}
@@ -154,7 +154,7 @@ step_writes m old result new does = by_test old.starved does
 -- ---- what was proposed
 
 -- the proposals among all frames of the output
-abbrev pub all_proposed : Record → List KeptProposal
+abbrev pub all_proposed : Record → List ProposeRunCompletion
 all_proposed r = proposals_in (bytes_written r)
 
 pub wrote_of : (fixed : Fixed) (r : Record) → HasCome fixed r → (written : List RawMessage) × Wrote r.taken r.vm.machine.output written
@@ -172,7 +172,7 @@ steady old new written w f g x =
 -- ---- the fields, and the record
 
 -- the same record, in which this was proposed
-abbrev pub with_proposed : List KeptProposal → Record → Record
+abbrev pub with_proposed : List ProposeRunCompletion → Record → Record
 with_proposed ps r = record r { proposed = ps }
 
 both_steady : (fixed : Fixed) (old new : Record) → HasCome fixed (with_proposed (all_proposed old) old) → WholeFrames old.vm.machine.output → WholeFrames new.vm.machine.output → Writes old new → all_proposed new ≡ all_proposed old
@@ -180,7 +180,7 @@ both_steady fixed old new came f g x =
     let w = wrote_of fixed (with_proposed (all_proposed old) old) came in
     steady old new w.0 w.1 f g x
 
-kept_with : (ps : List KeptProposal) (o : Option Error) (ph : Phase) (piece : List ℕ) (r : Record) → with_proposed ps (kept_at o ph piece r) ≡ kept_at o ph piece (with_proposed ps r)
+kept_with : (ps : List ProposeRunCompletion) (o : Option Error) (ph : Phase) (piece : List ℕ) (r : Record) → with_proposed ps (kept_at o ph piece r) ≡ kept_at o ph piece (with_proposed ps r)
 kept_with ps (Some e) ph piece r = refl
 kept_with ps None WaitingStart piece r = refl
 kept_with ps None WaitingReplayEntries piece r = refl
@@ -188,7 +188,7 @@ kept_with ps None Replaying piece r = refl
 kept_with ps None Processing piece r = refl
 kept_with ps None Closed piece r = refl
 
-feeds_with : (ps : List KeptProposal) (piece : List ℕ) (old : Record) (result : Result Unit AllocError) (new : Record) → FeedsPiece piece old result new → FeedsPiece piece (with_proposed ps old) result (with_proposed ps new)
+feeds_with : (ps : List ProposeRunCompletion) (piece : List ℕ) (old : Record) (result : Result Unit AllocError) (new : Record) → FeedsPiece piece old result new → FeedsPiece piece (with_proposed ps old) result (with_proposed ps new)
 feeds_with ps piece old (Ok t) new does = ap (with_proposed ps) does ∙ ap (with_vm (after_input old.vm piece)) (kept_with ps old.vm.machine.failure old.vm.machine.phase piece old)
 feeds_with ps piece old (Err e) new does =
     ⊎_elim
@@ -206,7 +206,7 @@ feed_told fixed piece old result new came f g does =
     by_test true d = (d.0, ap (with_proposed (all_proposed old)) d.1)
     by_test false d = feeds_with (all_proposed old) piece old result new d
 
-closes_with : (ps : List KeptProposal) (old : Record) (result : Result Unit AllocError) (new : Record) → InputIsClosed old result new → InputIsClosed (with_proposed ps old) result (with_proposed ps new)
+closes_with : (ps : List ProposeRunCompletion) (old : Record) (result : Result Unit AllocError) (new : Record) → InputIsClosed old result new → InputIsClosed (with_proposed ps old) result (with_proposed ps new)
 closes_with ps old (Ok t) new does = ap (with_proposed ps) does
 closes_with ps old (Err e) new (w, starves, is) = (w, starves, ap (with_proposed ps) is)
 
@@ -228,7 +228,7 @@ take_told old (Ok bytes) new (is, left, whole) =
     (is, ap (λ (r : Record). with_proposed (all_proposed r) r) left ∙ ap (λ ps. with_proposed ps (output_taken old)) (taken_proposes old), whole)
 take_told old (Err e) new is = ap (λ (r : Record). with_proposed (all_proposed r) r) is
 
-replied_with : (ps : List KeptProposal) (r : Record) (future : Option UnresolvedFuture) (x : Result Reply Error) (w : View) → with_proposed ps (replied r future x w) ≡ replied (with_proposed ps r) future x w
+replied_with : (ps : List ProposeRunCompletion) (r : Record) (future : Option UnresolvedFuture) (x : Result Reply Error) (w : View) → with_proposed ps (replied r future x w) ≡ replied (with_proposed ps r) future x w
 replied_with ps r future (Ok (reply.Answer a)) w = refl
 replied_with ps r future (Ok (reply.Waiting input run)) w = refl
 replied_with ps r future (Ok (reply.Execute run)) w = refl
@@ -236,14 +236,14 @@ replied_with ps r future (Ok reply.Suspended) w = refl
 replied_with ps r future (Ok reply.Ended) w = refl
 replied_with ps r future (Err e) w = refl
 
-reads_with : (ps : List KeptProposal) (old : Record) (result : Result Progress Error) (new : Record) → InputIsRead old result new → InputIsRead (with_proposed ps old) result (with_proposed ps new)
+reads_with : (ps : List ProposeRunCompletion) (old : Record) (result : Result Progress Error) (new : Record) → InputIsRead old result new → InputIsRead (with_proposed ps old) result (with_proposed ps new)
 reads_with ps old (Ok made) new (stepped, (input, w, does, is)) = (stepped, (input, w, does, ap (with_proposed ps) is))
 reads_with ps old (Err e) new (w, does, is) = (w, does, ap (with_proposed ps) is)
 
-asks_with : (ps : List KeptProposal) (m : Meaning) (old : Record) (result : Result Progress Error) (new : Record) → MakesStep m old result new → MakesStep m (with_proposed ps old) result (with_proposed ps new)
+asks_with : (ps : List ProposeRunCompletion) (m : Meaning) (old : Record) (result : Result Progress Error) (new : Record) → MakesStep m old result new → MakesStep m (with_proposed ps old) result (with_proposed ps new)
 asks_with ps m old result new (x, w, does, is, made) = (x, w, does, ap (with_proposed ps) is ∙ replied_with ps old (future_in (step_asked m old)) x w, made)
 
-advances_with : (ps : List KeptProposal) (m : Meaning) (old : Record) (result : Result Progress Error) (new : Record) → Advances m old result new → Advances m (with_proposed ps old) result (with_proposed ps new)
+advances_with : (ps : List ProposeRunCompletion) (m : Meaning) (old : Record) (result : Result Progress Error) (new : Record) → Advances m old result new → Advances m (with_proposed ps old) result (with_proposed ps new)
 advances_with ps m old result new =
     ⊎_elim
     (λ (x : LacksMemory old result new). inl (x.0, ap (with_proposed ps) x.1))
@@ -253,14 +253,14 @@ advances_with ps m old result new =
     (λ (x : (old.answers ≢ []) × MakesStep m old result new). inr (inr (x.0, asks_with ps m old result new x.1)))
     o)
 
-step_at_with : (ps : List KeptProposal) (ph : Phase) (m : Meaning) (old : Record) (result : Result Progress Error) (new : Record) → StepAt ph m old result new → StepAt ph m (with_proposed ps old) result (with_proposed ps new)
+step_at_with : (ps : List ProposeRunCompletion) (ph : Phase) (m : Meaning) (old : Record) (result : Result Progress Error) (new : Record) → StepAt ph m old result new → StepAt ph m (with_proposed ps old) result (with_proposed ps new)
 step_at_with ps WaitingStart m old result new d = (d.0, ap (with_proposed ps) d.1)
 step_at_with ps WaitingReplayEntries m old result new d = (d.0, ap (with_proposed ps) d.1)
 step_at_with ps Closed m old result new d = (d.0, ap (with_proposed ps) d.1)
 step_at_with ps Replaying m old result new d = advances_with ps m old result new d
 step_at_with ps Processing m old result new d = advances_with ps m old result new d
 
-step_unless_with : (ps : List KeptProposal) (f : Option Error) (over : Option Progress) (m : Meaning) (old : Record) (result : Result Progress Error) (new : Record) → StepUnless f over m old result new → StepUnless f over m (with_proposed ps old) result (with_proposed ps new)
+step_unless_with : (ps : List ProposeRunCompletion) (f : Option Error) (over : Option Progress) (m : Meaning) (old : Record) (result : Result Progress Error) (new : Record) → StepUnless f over m old result new → StepUnless f over m (with_proposed ps old) result (with_proposed ps new)
 step_unless_with ps (Some e) over m old result new d = (d.0, ap (with_proposed ps) d.1)
 step_unless_with ps None (Some made) m old result new d = (d.0, ap (with_proposed ps) d.1)
 step_unless_with ps None None m old result new d = step_at_with ps old.vm.machine.phase m old result new d

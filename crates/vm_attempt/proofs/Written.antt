@@ -148,7 +148,7 @@ proposes_more taken output new written w f g ms is =
     ∙ ap (λ l. l ++ proposals_among (map stored_form ms)) (ap proposals_among (sym (output_forms taken output w.sent w.bytes w.whole f)))
 
 -- what a message proposes that can be read back
-pub proposes_one : (p : ProposeRunCompletion) → IsWhole (message.ProposeRunCompletion p) → proposals_among (stored_form (message.ProposeRunCompletion p) ∷ []) ≡ record { completion_id = p.id; result = p.result } ∷ []
+pub proposes_one : (p : ProposeRunCompletion) → IsWhole (message.ProposeRunCompletion p) → proposals_among (stored_form (message.ProposeRunCompletion p) ∷ []) ≡ p ∷ []
 proposes_one p whole = ap (λ o. proposed_by o []) (proposal_back p whole)
 
 -- the frames of messages propose what is among the messages

@@ -15,7 +15,7 @@ use Rattle.journal_protocol.specs.Frames.{encoding, frame}
 use Rattle.vm_parts.specs.declared.context.LastCommand.{LastCommand}
 use Rattle.vm_parts.specs.declared.context.StartInfo.{StartInfo}
 use Rattle.vm_parts.specs.declared.context.StateMap.{StateMap}
-use Rattle.journal_entries.specs.declared.proposals.KeptProposal.{KeptProposal}
+use Rattle.journal_protocol.specs.ProposeRunCompletion.{ProposeRunCompletion}
 use Rattle.runs.specs.declared.pending.PendingRun.{PendingRun}
 use Rattle.vm_types.specs.declared.steps.Answer.{Answer}
 use Rattle.vm_types.specs.declared.steps.Step.TheVariants as step
@@ -58,7 +58,7 @@ pub record Aside : Type 0 where
   pub input_closed : Bool
   pub entries_missing : ℕ
   pub beside : Beside
-  pub proposals : List KeptProposal
+  pub proposals : List ProposeRunCompletion
   pub output : List (List ℕ)
 
 -- there is one

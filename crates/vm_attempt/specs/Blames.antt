@@ -20,7 +20,7 @@ use Rattle.vm_types.specs.declared.runs.RunExitResult.{RunExitResult}
 use Rattle.runs.specs.Kept.{is_for}
 use Rattle.await_trees.specs.declared.handle.NotificationHandle.{NotificationHandle}
 use Rattle.await_trees.specs.declared.tree.UnresolvedFuture.{UnresolvedFuture}
-use Rattle.journal_entries.specs.declared.proposals.KeptProposal.{KeptProposal}
+use Rattle.journal_protocol.specs.ProposeRunCompletion.{ProposeRunCompletion}
 use Rattle.std.specs.List.{find}
 use Rattle.journal_protocol.specs.Types.{type_number}
 use Rattle.vm_parts.specs.declared.context.StateMap.{StateMap}
@@ -76,18 +76,19 @@ notification_fault None = Some fault.BadMessage
 notification_fault (Some n) = None
 
 -- why an acknowledgement is refused, by the kept proposal of its id
-abbrev pub kept_fault : Option KeptProposal → Option NamedFault
+abbrev pub kept_fault : Option ProposeRunCompletion → Option NamedFault
 kept_fault None = Some fault.BadProposeRunCompletionAck
 kept_fault (Some kept) = None
 
 -- why a body is refused as an acknowledgement, where these proposals are kept
-abbrev pub acknowledgement_body_fault : List KeptProposal → Option ProposeRunCompletionAck
+abbrev pub acknowledgement_body_fault : List ProposeRunCompletion → Option ProposeRunCompletionAck
     → Option NamedFault
 acknowledgement_body_fault kept None = Some fault.BadMessage
 acknowledgement_body_fault kept (Some ack) = kept_fault (find (is_for ack.id) kept)
 
 -- why an acknowledgement is refused in this phase
-abbrev pub acknowledgement_fault : List KeptProposal → Phase → RawMessage → Option NamedFault
+abbrev pub acknowledgement_fault : List ProposeRunCompletion → Phase → RawMessage
+    → Option NamedFault
 acknowledgement_fault kept Processing raw =
     acknowledgement_body_fault kept (acknowledgement_in raw.body)
 acknowledgement_fault kept Closed raw = None
@@ -116,13 +117,13 @@ unknown_fault true phase raw = ephemeral_fault phase raw
 unknown_fault false phase raw = Some fault.UnexpectedInputMessage
 
 -- why another frame is refused, by whether it is an acknowledgement
-abbrev pub other_fault : List KeptProposal → Phase → RawMessage → Bool → Option NamedFault
+abbrev pub other_fault : List ProposeRunCompletion → Phase → RawMessage → Bool → Option NamedFault
 other_fault kept phase raw true = acknowledgement_fault kept phase raw
 other_fault kept phase raw false = unknown_fault (is_ephemeral raw) phase raw
 
 -- why a frame is refused in this phase, where these proposals are kept, by whether it is a Start, a
 -- command, a notification or an acknowledgement
-abbrev pub fault_by : List KeptProposal → Phase → RawMessage → Bool → Bool → Bool → Bool
+abbrev pub fault_by : List ProposeRunCompletion → Phase → RawMessage → Bool → Bool → Bool → Bool
     → Option NamedFault
 fault_by kept WaitingStart raw true b c d = start_fault (start_in raw.body)
 fault_by kept phase raw true b c d = Some fault.UnexpectedInputMessage
@@ -134,7 +135,7 @@ fault_by kept phase raw false false true d = notification_fault (notification_in
 fault_by kept phase raw false false false d = other_fault kept phase raw d
 
 -- why a frame is refused in this phase, where these proposals are kept, if it is
-abbrev pub fault_among : List KeptProposal → Phase → RawMessage → Option NamedFault
+abbrev pub fault_among : List ProposeRunCompletion → Phase → RawMessage → Option NamedFault
 fault_among kept phase raw =
     fault_by kept phase raw (type_number raw.ty == 1) (is_command_frame raw)
     (is_notification raw) (is_acknowledgement raw)

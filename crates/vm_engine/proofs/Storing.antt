@@ -18,10 +18,10 @@ use Rattle.journal_entries.specs.declared.storing.Written.{Written}
 use Rattle.journal_entries.specs.declared.storing.Written.TheVariants.{Command, Proposal}
 use Rattle.vm_rounds.specs.declared.types.Event.{Event}
 use Rattle.vm_rounds.specs.declared.types.Event.TheVariants as event
-use Rattle.journal_entries.specs.declared.fault.RoundFault.{RoundFault}
+use Rattle.journal_entries.specs.declared.fault.JournalFault.{JournalFault}
 use Rattle.journal_entries.specs.Arrivals.{completes_among, completes_id, proposed_fault, room_fault}
 use Rattle.journal_entries.specs.Entries.{frame_in, note_in, note_of, read_from, said_by}
-use Rattle.journal_entries.specs.declared.proposals.KeptProposal.{KeptProposal}
+use Rattle.journal_protocol.specs.ProposeRunCompletion.{ProposeRunCompletion}
 use Rattle.journal_entries.specs.Proposals.{acknowledged_completion}
 use Rattle.journal_entries.specs.Storing.{NoneFaults, StoredCanBeRead, proposal_of, stored_as, storing_fault, written_among, written_as, written_before, written_from}
 use Rattle.journal_entries.proofs.Framing.{command_no_note, frame_back}
@@ -63,7 +63,7 @@ abbrev IsProperIn : Option Written → Type 0
 IsProperIn None = Unit {0}
 IsProperIn (Some w) = IsProper w
 
-proposal_proper : (o : Option KeptProposal) → IsProperIn (option_map Proposal o)
+proposal_proper : (o : Option ProposeRunCompletion) → IsProperIn (option_map Proposal o)
 proposal_proper None = tt
 proposal_proper (Some p) = tt
 
@@ -83,7 +83,7 @@ proper [] = tt
 proper (raw ∷ raws) = before_proper (written_as raw) (written_among raws) (written_proper raw) (proper raws)
 
 -- the id of a proposal that has no fault is carried
-faultless_carried : (o : Option Completes) (done : Bool) (room : Option RoundFault) → proposed_fault o done room ≡ None → is_some o ≡ true
+faultless_carried : (o : Option Completes) (done : Bool) (room : Option JournalFault) → proposed_fault o done room ≡ None → is_some o ≡ true
 faultless_carried None done room e = absurd (cc)
 faultless_carried (Some kind) done room e = refl
 
@@ -92,8 +92,8 @@ item_may : (version : Version) (w : Written) (journal : List (List ℕ)) → IsP
 item_may version (Command raw) journal is fits e =
     subst (λ o. IsCarriedNote o (known_in journal)) (sym (ap (read_from note_of) (frame_back raw fits) ∙ ap (λ b. cond b (notification_in raw.body) None) (command_no_note raw is))) tt
 item_may version (Proposal p) journal is fits e =
-    subst (λ o. IsCarriedNote o (known_in journal)) (sym (note_read (acknowledged_completion p.completion_id p) fits.0))
-    (faultless_carried ((known_in journal).kind p.completion_id) ((known_in journal).done p.completion_id) (room_fault journal) e)
+    subst (λ o. IsCarriedNote o (known_in journal)) (sym (note_read (acknowledged_completion p.id p) fits.0))
+    (faultless_carried ((known_in journal).kind p.id) ((known_in journal).done p.id) (room_fault journal) e)
 
 few : (version : Version) (ws all : List Written) (old new : List (List ℕ)) → ws ≡ take 1 all → new ≡ old ++ map stored_as ws → NoneFaults ws old → AllByRecursion (StoredCanBeRead version) ws → AllByRecursion IsProper ws → MayStoreOne old new
 few version [] all old new e stored none read is = inl (stored ∙ append-nil old)

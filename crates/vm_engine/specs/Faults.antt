@@ -1,14 +1,14 @@
 -- What the faults of rounds are to an engine.
 use Rattle.std.specs.Prelude.{◌≡◌, ◌⊎◌}
-use Rattle.journal_entries.specs.declared.fault.RoundFault.{RoundFault}
-use Rattle.journal_entries.specs.declared.fault.RoundFault.TheVariants as round_fault
+use Rattle.journal_entries.specs.declared.fault.JournalFault.{JournalFault}
+use Rattle.journal_entries.specs.declared.fault.JournalFault.TheVariants as journal_fault
 use Rattle.vm_engine.specs.declared.types.EngineFault.{EngineFault}
 use Rattle.vm_engine.specs.declared.types.EngineFault.TheVariants as fault
 
 -- what the fault of an arrival is
-abbrev pub fault_of_arrival : RoundFault → EngineFault
-fault_of_arrival round_fault.Memory = fault.Memory
-fault_of_arrival round_fault.JournalFull = fault.Full
+abbrev pub fault_of_arrival : JournalFault → EngineFault
+fault_of_arrival journal_fault.Memory = fault.Memory
+fault_of_arrival journal_fault.JournalFull = fault.Full
 fault_of_arrival f = fault.Arrival f
 
 -- it is out of memory, or a journal is full

@@ -8,7 +8,7 @@ ghost use Rattle.vm_engine.specs.Faults.{IsNoArrival};
 use crate::member::Member;
 use crate::types::{Begun, Callee, EngineFault, Order, Target};
 use bytes::Bytes;
-use journal_entries::RoundFault;
+use journal_entries::JournalFault;
 use journal_protocol::{ValueOrFailure, Version};
 use plain::{Items, Text};
 use std::alloc::{AllocError, Global};
@@ -110,11 +110,11 @@ fn id_at(alloc: Global, place: usize) -> Result<Text, AllocError> {
     Ok(Text::from_string(format!(in alloc; "inv_{place}")?))
 }
 
-fn world_fault(fault: RoundFault) -> EngineFault
+fn world_fault(fault: JournalFault) -> EngineFault
     ensures { IsNoArrival result }
 {
     match fault {
-        RoundFault::Memory => EngineFault::Memory,
+        JournalFault::Memory => EngineFault::Memory,
         other => EngineFault::Stored(other),
     }
 }

@@ -3,7 +3,7 @@ ghost use Rattle.std.specs.Prelude.{◌≡◌};
 ghost use Rattle.vm_engine.specs.Faults.{IsNoArrival, fault_of_arrival};
 
 use bytes::Bytes;
-use journal_entries::RoundFault;
+use journal_entries::JournalFault;
 use plain::Text;
 use std::fmt;
 use vm_inboxes::InboxFault;
@@ -74,9 +74,9 @@ pub enum EngineFault {
     /// A journal is full.
     Full,
     /// What came for an attempt can't stand in its journal. It never does that.
-    Arrival(RoundFault),
+    Arrival(JournalFault),
     /// What an attempt wrote can't be stored. An honest one's always can be.
-    Stored(RoundFault),
+    Stored(JournalFault),
     /// A command carries a completion id that isn't greater than those of the commands before it. An honest attempt's never does.
     IdNotNew,
     /// The result of a run completes an id that waits for something else. An honest attempt's never does.
@@ -98,23 +98,23 @@ impl fmt::Display for EngineFault {
 impl std::error::Error for EngineFault {}
 
 /// What the fault of an arrival is to the engine.
-pub fn arrival_of(fault: RoundFault) -> EngineFault
+pub fn arrival_of(fault: JournalFault) -> EngineFault
     ensures { result ≡ fault_of_arrival fault }
 {
     match fault {
-        RoundFault::Memory => EngineFault::Memory,
-        RoundFault::JournalFull => EngineFault::Full,
+        JournalFault::Memory => EngineFault::Memory,
+        JournalFault::JournalFull => EngineFault::Full,
         other => EngineFault::Arrival(other),
     }
 }
 
 /// What the fault of a store is to the engine.
-pub fn stored_of(fault: RoundFault) -> EngineFault
+pub fn stored_of(fault: JournalFault) -> EngineFault
     ensures { IsNoArrival result }
 {
     match fault {
-        RoundFault::Memory => EngineFault::Memory,
-        RoundFault::JournalFull => EngineFault::Full,
+        JournalFault::Memory => EngineFault::Memory,
+        JournalFault::JournalFull => EngineFault::Full,
         other => EngineFault::Stored(other),
     }
 }

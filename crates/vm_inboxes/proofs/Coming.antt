@@ -23,8 +23,8 @@ use Rattle.journal_entries.specs.Journal.{read_before}
 use Rattle.journal_entries.specs.JournalFrames.{is_command_frame, is_notification, notified_by}
 use Rattle.journal_entries.specs.declared.completions.Completes.{Completes}
 use Rattle.journal_entries.specs.declared.completions.Completes.TheVariants as completes
-use Rattle.journal_entries.specs.declared.fault.RoundFault.{RoundFault}
-use Rattle.journal_entries.specs.declared.fault.RoundFault.TheVariants as round_fault
+use Rattle.journal_entries.specs.declared.fault.JournalFault.{JournalFault}
+use Rattle.journal_entries.specs.declared.fault.JournalFault.TheVariants as journal_fault
 use Rattle.journal_entries.specs.Arrivals.{arrival_fault, completes_among, completes_by, completes_id, completion_fault, if_same, is_invocation_id, is_of, read_fault, room_fault}
 use Rattle.journal_entries.specs.Entries.{frame_in, note_in, note_of, notes_in, read_from, said_at, said_by, said_in}
 use Rattle.journal_entries.proofs.Framing.{command_no_note, note_no_command, notes_append}
@@ -324,9 +324,9 @@ note_said x n e = by (frame_in x) e
     by None h = absurd (none_some n h)
     by (Some raw) h = by_raw raw h
 
-brings_room : (kind : Completes) (r : NotificationResult) (room : Option RoundFault) → Brings kind r → completion_fault (Some kind) false r room ≡ room
+brings_room : (kind : Completes) (r : NotificationResult) (room : Option JournalFault) → Brings kind r → completion_fault (Some kind) false r room ≡ room
 brings_room completes.AnyResult r room h = refl
-brings_room completes.InvocationId r room h = ap (λ t. if t then room else Some round_fault.WrongKind) h
+brings_room completes.InvocationId r room h = ap (λ t. if t then room else Some journal_fault.WrongKind) h
 brings_room completes.Proposal r room h = absurd h
 
 module _ (ws : List Waiting) (next i : ℕ) (w : Waiting) (lt : i < length ws) (at : w ≡ slice_index_or ws i w) (entry : List ℕ) (journal : List (List ℕ)) (d : Deliverable journal ws next) where

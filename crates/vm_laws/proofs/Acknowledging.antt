@@ -6,7 +6,7 @@ use Rattle.journal_protocol.specs.NamedFault.TheVariants as name
 use Rattle.journal_protocol.specs.ValueOrFailure.{ValueOrFailure}
 use Rattle.runs.specs.Firsts.{without_first}
 use Rattle.runs.specs.Kept.{is_for}
-use Rattle.journal_entries.specs.declared.proposals.KeptProposal.{KeptProposal}
+use Rattle.journal_protocol.specs.ProposeRunCompletion.{ProposeRunCompletion}
 use Rattle.vm_machine.specs.declared.machine.Machine.{Machine}
 use Rattle.journal_protocol.specs.Versions.{is_from_v7}
 use Rattle.vm_machine.specs.Ephemerals.{ephemeral_notification_step}
@@ -30,11 +30,11 @@ unfolding message_step
 acknowledged_as raw id v a =
     ap (λ n. by_number raw n v) a.ty ∙ ap (λ p. acknowledgement_step raw p v) a.phase ∙ ap (λ ack. acknowledged_by ack v) a.reads ∙ ap (λ n. acknowledged n (find (is_for n) v.proposals) v) a.is
 
-pub kept_comes : (raw : RawMessage) (id : ℕ) (kept : KeptProposal) (v : Machine) → Acknowledges raw id v → find (is_for id) v.proposals ≡ Some kept → message_step raw v ≡ Done tt (enqueued (acknowledged_completion id kept) (record v { proposals = without_first (is_for id) v.proposals }))
+pub kept_comes : (raw : RawMessage) (id : ℕ) (kept : ProposeRunCompletion) (v : Machine) → Acknowledges raw id v → find (is_for id) v.proposals ≡ Some kept → message_step raw v ≡ Done tt (enqueued (acknowledged_completion id kept) (record v { proposals = without_first (is_for id) v.proposals }))
 kept_comes raw id kept v a found = acknowledged_as raw id v a ∙ ap (λ o. acknowledged id o v) found
 
 pub none_comes : (raw : RawMessage) (id : ℕ) (v : Machine) → Acknowledges raw id v → find (is_for id) v.proposals ≡ None → message_step raw v ≡ refused name.BadProposeRunCompletionAck v
 none_comes raw id v a found = acknowledged_as raw id v a ∙ ap (λ o. acknowledged id o v) found
 
 pub none_kept_early : (id : ℕ) (result : ValueOrFailure) (v : Machine) → is_from_v7 v.version ≡ false → (proposed id result v).proposals ≡ v.proposals
-none_kept_early id result v early = ap (λ b. (if b then record v { proposals = v.proposals ++ record { completion_id = id; result = result } ∷ [] } else v).proposals) early
+none_kept_early id result v early = ap (λ b. (if b then record v { proposals = v.proposals ++ record { id = id; result = result } ∷ [] } else v).proposals) early

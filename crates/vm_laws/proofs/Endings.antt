@@ -28,7 +28,7 @@ use Rattle.std.specs.List.{find, list_any}
 use Rattle.await_trees.specs.Handles.{handles_of}
 use Rattle.runs.specs.Kept.{is_for}
 use Rattle.runs.specs.Pending.{is_executing, is_executing_in, may_execute}
-use Rattle.journal_entries.specs.declared.proposals.KeptProposal.{KeptProposal}
+use Rattle.journal_protocol.specs.ProposeRunCompletion.{ProposeRunCompletion}
 use Rattle.runs.specs.declared.pending.PendingRun.{PendingRun}
 use Rattle.journal_protocol.specs.Types.{type_number}
 use Rattle.vm_types.specs.declared.command_type.CommandRelationship.{CommandRelationship}
@@ -657,7 +657,7 @@ notification_quiet raw Replaying v e = queued_quiet (notification_in raw.body) v
 notification_quiet raw Processing v e = queued_quiet (notification_in raw.body) v
 notification_quiet raw Closed v e = same v
 
-kept_quiet : (id : ℕ) (kept : Option KeptProposal) (v : Machine) → Quiet v (acknowledged id kept v)
+kept_quiet : (id : ℕ) (kept : Option ProposeRunCompletion) (v : Machine) → Quiet v (acknowledged id kept v)
 kept_quiet id None v = same v
 kept_quiet id (Some kept) v = record { output = refl; closed = refl; failure = refl }
 

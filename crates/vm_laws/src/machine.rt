@@ -23,7 +23,7 @@ ghost use Rattle.vm_laws.specs.Endings.{EventWrites, Writes, is_over, is_termina
 ghost use Rattle.journal_protocol.specs.ValueOrFailure.{ValueOrFailure};
 ghost use Rattle.runs.specs.Firsts.{without_first};
 ghost use Rattle.runs.specs.Kept.{is_for};
-ghost use Rattle.journal_entries.specs.declared.proposals.KeptProposal.{KeptProposal};
+ghost use Rattle.journal_protocol.specs.ProposeRunCompletion.{ProposeRunCompletion};
 ghost use Rattle.journal_protocol.specs.Versions.{is_from_v7};
 ghost use Rattle.vm_machine.specs.Inputs.{enqueued, close_step, end_step, input_step, malformed_step, message_step};
 ghost use Rattle.journal_entries.specs.Proposals.{acknowledged_completion};
@@ -122,7 +122,7 @@ pub fn ephemeral_reads_leave_the_journal()
 /// In Processing an acknowledgement brings the proposed result, once, as the completion of its run, and is refused if none is
 /// kept; one is kept only from version 7 on.
 pub fn acknowledgements_bring_what_was_proposed()
-    ensures kept { (raw : RawMessage) (id : ℕ) (kept : KeptProposal) (v : Machine)
+    ensures kept { (raw : RawMessage) (id : ℕ) (kept : ProposeRunCompletion) (v : Machine)
         → Acknowledges raw id v → find (is_for id) v.proposals ≡ Some kept → message_step raw v
         ≡ Done tt (enqueued (acknowledged_completion id kept)
         (record v { proposals = without_first (is_for id) v.proposals })) }

@@ -17,7 +17,7 @@ use Rattle.journal_protocol.specs.Bodies.{acknowledgement_in, start_in, input_in
 use Rattle.runs.specs.Firsts.{without_first}
 use Rattle.runs.specs.Kept.{is_for}
 use Rattle.journal_entries.specs.Proposals.{acknowledged_completion}
-use Rattle.journal_entries.specs.declared.proposals.KeptProposal.{KeptProposal}
+use Rattle.journal_protocol.specs.ProposeRunCompletion.{ProposeRunCompletion}
 use Rattle.journal_protocol.specs.Types.{type_number}
 use Rattle.vm_parts.specs.declared.context.Counters.{Counters}
 use Rattle.vm_parts.specs.declared.context.StartInfo.{StartInfo}
@@ -112,7 +112,7 @@ notification_step raw Closed v = Done tt v
 
 -- The first kept proposal of this id, if there is one, comes as the run's completion, and isn't
 -- kept any more.
-abbrev pub acknowledged : ℕ → Option KeptProposal → Machine → Outcome Unit
+abbrev pub acknowledged : ℕ → Option ProposeRunCompletion → Machine → Outcome Unit
 acknowledged id None v = refused fault.BadProposeRunCompletionAck v
 acknowledged id (Some kept) v = Done tt
     (enqueued (acknowledged_completion id kept)

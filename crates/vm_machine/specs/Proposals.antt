@@ -46,7 +46,7 @@ proposal_fault exit policy version =
 -- From V7 on a proposed result is kept until it is acknowledged.
 abbrev pub proposal_kept : ℕ → ValueOrFailure → Machine → Machine
 proposal_kept id result v = if is_from_v7 v.version
-    then record v { proposals = v.proposals ++ record { completion_id = id; result = result } ∷ [] }
+    then record v { proposals = v.proposals ++ record { id = id; result = result } ∷ [] }
     else v
 
 -- a result is proposed under the run's completion id

@@ -10,7 +10,7 @@ use Rattle.vm_model.specs.Calls.{Meaning}
 use Rattle.vm_steps.specs.Record.{Record}
 use Rattle.vm_steps.specs.Stepping.{fresh_record}
 use Rattle.vm_rounds.specs.declared.types.Round.{Round}
-use Rattle.journal_entries.specs.declared.fault.RoundFault.{RoundFault}
+use Rattle.journal_entries.specs.declared.fault.JournalFault.{JournalFault}
 use Rattle.vm_rounds.specs.declared.types.Setting.{Setting}
 use Rattle.vm_rounds.specs.Rounds.{StaysShort, IsSupported, Ran, ReportView, RoundDoes, begin, new_now}
 use Rattle.vm_rounds.specs.Places.{FaultsAt, IsMemoryAside, RoundStops}
@@ -31,7 +31,7 @@ round_does m w round old alloc waiting r version options report new speaks whole
   ran = subst (λ x. Ran (fixed_in m w) round.events x report new) (begun_is w round old alloc waiting r e f) (subst (λ (x : Fixed). Ran x round.events (new_now w.version old waiting r) report new) (λ i. fixed_by m (v i) (o i)) ran);
 })
 
-pub round_stops : (m : Meaning) (w : Setting) (round : Round) (old : List (List ℕ)) (alloc : Global) (waiting : List ℕ) (r : Record) (place : Option ℕ) (x : RoundFault) → IsSupported w.version → IsWhole (start_message w round old) → waiting ≡ encoding (start_message w round old) ++ concat old → r ≡ fresh_record (made alloc w.options w.version) → IsMemoryAside place x ⊎ FaultsAt m round.events (new_now w.version old waiting r) place x → RoundStops m w round old place x
+pub round_stops : (m : Meaning) (w : Setting) (round : Round) (old : List (List ℕ)) (alloc : Global) (waiting : List ℕ) (r : Record) (place : Option ℕ) (x : JournalFault) → IsSupported w.version → IsWhole (start_message w round old) → waiting ≡ encoding (start_message w round old) ++ concat old → r ≡ fresh_record (made alloc w.options w.version) → IsMemoryAside place x ⊎ FaultsAt m round.events (new_now w.version old waiting r) place x → RoundStops m w round old place x
 round_stops m w round old alloc waiting r place x speaks start e f h =
     ⊎_elim
     (λ (z : IsMemoryAside place x). inl z)

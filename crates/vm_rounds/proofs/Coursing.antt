@@ -14,7 +14,7 @@ use Rattle.vm_model.specs.HonestRounds.{ahead_of}
 use Rattle.journal_entries.specs.Journal.{Entry, Recorded, Notified, commands_in, notifications_in}
 use Rattle.vm_model.proofs.Lasting.{commands-append, notifications-append}
 use Rattle.journal_protocol.specs.Version.{Version}
-use Rattle.journal_entries.specs.declared.proposals.KeptProposal.{KeptProposal}
+use Rattle.journal_protocol.specs.ProposeRunCompletion.{ProposeRunCompletion}
 use Rattle.vm_attempt.specs.Arrivals.{AllFound, arriving, kept_after, kept_behind}
 use Rattle.vm_steps.specs.Heard.{acknowledged_from, proposals_among}
 use Rattle.journal_entries.specs.JournalFrames.{commands_among}
@@ -249,15 +249,15 @@ pub behind_notes : (version : Version) (start : List ℕ) (first : List (List �
 behind_notes version start first now g = notes_same (journal_frames g.added) ∙ sym (notes_are g.added)
 
 -- frames that are a beginning of others bring a beginning of their arrivals, where those find their proposals
-found_front : (kept : List KeptProposal) (raws more : List RawMessage) → AllFound kept (raws ++ more) → AllFound kept raws
+found_front : (kept : List ProposeRunCompletion) (raws more : List RawMessage) → AllFound kept (raws ++ more) → AllFound kept raws
 found_front kept [] more h = tt
 found_front kept (raw ∷ raws) more h = (h.0, found_front (kept_behind kept raw) raws more h.1)
 
-arrivals_front : (kept : List KeptProposal) (raws all : List RawMessage) → IsPrefix raws all → IsPrefix (arriving kept raws) (arriving kept all)
+arrivals_front : (kept : List ProposeRunCompletion) (raws all : List RawMessage) → IsPrefix raws all → IsPrefix (arriving kept raws) (arriving kept all)
 arrivals_front kept raws all (more, e) = (arriving (kept_after kept raws) more, ap (arriving kept) e ∙ arriving_append kept raws more)
 
 -- more frames came, and more was proposed
-arrivals_grow : (version : Version) (old new : List KeptProposal) (raws all : List RawMessage) → IsPrefix old new → IsPrefix raws all → AllFound (acknowledged_from version old) raws → IsPrefix (arriving (acknowledged_from version old) raws) (arriving (acknowledged_from version new) all)
+arrivals_grow : (version : Version) (old new : List ProposeRunCompletion) (raws all : List RawMessage) → IsPrefix old new → IsPrefix raws all → AllFound (acknowledged_from version old) raws → IsPrefix (arriving (acknowledged_from version old) raws) (arriving (acknowledged_from version new) all)
 arrivals_grow version old new raws all (more, e) longer found =
     let kept = acknowledged_from version old in
     let also = acknowledged_from version more in
@@ -284,7 +284,7 @@ module _ (m : Meaning) (version : Version) (start : List ℕ) (raw : RawMessage)
   fed_behind now g = behind_grows (frames_fed (heard version now.attempt)) (raw ∷ (journal_frames first ++ g.came)) (fed_frames now g)
 
   -- what was proposed can be acknowledged
-  abbrev proposed_to : Now → List KeptProposal
+  abbrev proposed_to : Now → List ProposeRunCompletion
   proposed_to now = acknowledged_from version now.attempt.proposed
 
   -- all that came finds its proposals, and brings the notifications of the journal

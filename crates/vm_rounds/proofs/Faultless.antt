@@ -42,8 +42,8 @@ use Rattle.vm_steps.specs.Stepping.{StepDoes, fresh_record, output_taken}
 use Rattle.vm_rounds.specs.declared.types.Event.{Event}
 use Rattle.vm_rounds.specs.declared.types.Event.TheVariants as event
 use Rattle.vm_rounds.specs.declared.types.Round.{Round}
-use Rattle.journal_entries.specs.declared.fault.RoundFault.{RoundFault}
-use Rattle.journal_entries.specs.declared.fault.RoundFault.TheVariants as round_fault
+use Rattle.journal_entries.specs.declared.fault.JournalFault.{JournalFault}
+use Rattle.journal_entries.specs.declared.fault.JournalFault.TheVariants as journal_fault
 use Rattle.vm_rounds.specs.declared.types.Setting.{Setting}
 use Rattle.journal_entries.specs.Arrivals.{arrival_fault, completes_id}
 use Rattle.journal_entries.specs.Entries.{journal_entries, journal_frames, notes_in}
@@ -358,7 +358,7 @@ module _ (m : Meaning) (w : Setting) (begin_bytes : List ℕ) (raw : RawMessage)
       }
 
   -- an event's fault comes from outside
-  fault_outside : (e : Event) (now : Now) (f : RoundFault) → IsWell now → Fault e now f → OutsideFault e now f
+  fault_outside : (e : Event) (now : Now) (f : JournalFault) → IsWell now → Fault e now f → OutsideFault e now f
   fault_outside (event.Piece n) now f x h = h
   fault_outside event.Close now f x h = h
   fault_outside event.Step now f x h = h
@@ -369,10 +369,10 @@ module _ (m : Meaning) (w : Setting) (begin_bytes : List ℕ) (raw : RawMessage)
       storing_full w.version ns past.first n (unseen now) now.journal (stored_commands x.stored.seen) (proposed_ids (written_among x.stored.seen)) f (stands now x.going x.kept x.stored x.proposes h.1)
       (subst (λ v. FirstFault v (take n (written_among (unseen now))) now.journal f) x.going.made_for h.0)
 
-  faults_outside : (e : Event) (now : Now) (f : RoundFault) → IsWell now → Faults e now f → (f ≡ round_fault.Memory) ⊎ OutsideFault e now f
-  faults_outside e now f x = ⊎_elim (λ (z : f ≡ round_fault.Memory). inl z) (λ (z : Fault e now f). inr (fault_outside e now f x z))
+  faults_outside : (e : Event) (now : Now) (f : JournalFault) → IsWell now → Faults e now f → (f ≡ journal_fault.Memory) ⊎ OutsideFault e now f
+  faults_outside e now f x = ⊎_elim (λ (z : f ≡ journal_fault.Memory). inl z) (λ (z : Fault e now f). inr (fault_outside e now f x z))
 
-  events_outside : (es : List Event) (now : Now) (f : RoundFault) → IsWell now → HappenFaults m es now f → HappenFaultsBy OutsideFault m es now f
+  events_outside : (es : List Event) (now : Now) (f : JournalFault) → IsWell now → HappenFaults m es now f → HappenFaultsBy OutsideFault m es now f
   events_outside [] now f x h = h
   events_outside (e ∷ es) now f x h =
       ⊎_elim
@@ -411,10 +411,10 @@ module _ (m : Meaning) (w : Setting) (begin_bytes : List ℕ) (raw : RawMessage)
     };
   }
 
-  round_outside : (es : List Event) (now : Now) (f : RoundFault) → Going w.version begin_bytes old now → Kept now → HasCome (fixed_in m w) now.attempt → now.journal ≡ old → now.output ≡ [] → now.unstored ≡ [] → now.attempt.taken ≡ [] → now.attempt.vm.machine.output ≡ [] → now.attempt.vm.machine.runs ≡ [] → HappenFaults m es now f → HappenFaultsBy OutsideFault m es now f
+  round_outside : (es : List Event) (now : Now) (f : JournalFault) → Going w.version begin_bytes old now → Kept now → HasCome (fixed_in m w) now.attempt → now.journal ≡ old → now.output ≡ [] → now.unstored ≡ [] → now.attempt.taken ≡ [] → now.attempt.vm.machine.output ≡ [] → now.attempt.vm.machine.runs ≡ [] → HappenFaults m es now f → HappenFaultsBy OutsideFault m es now f
   round_outside es now f g kept came_so journal output unstored taken nothing runs h = events_outside es now f (begins_well now g kept came_so journal output unstored taken nothing runs) h
 
-  place_outside : (es : List Event) (now : Now) (e : Event) (end : Now) (f : RoundFault) → Going w.version begin_bytes old now → Kept now → HasCome (fixed_in m w) now.attempt → now.journal ≡ old → now.output ≡ [] → now.unstored ≡ [] → now.attempt.taken ≡ [] → now.attempt.vm.machine.output ≡ [] → now.attempt.vm.machine.runs ≡ [] → Happen m es now end → Faults e end f → (f ≡ round_fault.Memory) ⊎ OutsideFault e end f
+  place_outside : (es : List Event) (now : Now) (e : Event) (end : Now) (f : JournalFault) → Going w.version begin_bytes old now → Kept now → HasCome (fixed_in m w) now.attempt → now.journal ≡ old → now.output ≡ [] → now.unstored ≡ [] → now.attempt.taken ≡ [] → now.attempt.vm.machine.output ≡ [] → now.attempt.vm.machine.runs ≡ [] → Happen m es now end → Faults e end f → (f ≡ journal_fault.Memory) ⊎ OutsideFault e end f
   place_outside es now e end f g kept came_so journal output unstored taken nothing runs h faults = faults_outside e end f (events_well es now end h (begins_well now g kept came_so journal output unstored taken nothing runs)) faults
 
   -- a run that is handed out has no result in the journal with which the round began
@@ -429,7 +429,7 @@ module _ (m : Meaning) (w : Setting) (begin_bytes : List ℕ) (raw : RawMessage)
 -- ---- rounds
 
 -- the fault of a round with its attempt
-attempt_outside : (m : Meaning) (w : Setting) (round : Round) (old : List (List ℕ)) (f : RoundFault) → IsJournal old → IsSoundFor m w old → AttemptFaults m w round old f → AttemptFaultsBy OutsideFault m w round old f
+attempt_outside : (m : Meaning) (w : Setting) (round : Round) (old : List (List ℕ)) (f : JournalFault) → IsJournal old → IsSoundFor m w old → AttemptFaults m w round old f → AttemptFaultsBy OutsideFault m w round old f
 attempt_outside m w round old f j h d =
     let st = start_for w round old in
     let bytes = encoding (message.Start st) in
@@ -443,7 +443,7 @@ attempt_outside m w round old f j h d =
     }
 
 -- the event at which a round with its attempt is stopped
-pub stops_outside : (m : Meaning) (w : Setting) (round : Round) (old : List (List ℕ)) (place : Option ℕ) (f : RoundFault) → IsJournal old → IsSoundFor m w old → (s : RoundStops m w round old place f) → StopsOutside m w round old place f s
+pub stops_outside : (m : Meaning) (w : Setting) (round : Round) (old : List (List ℕ)) (place : Option ℕ) (f : JournalFault) → IsJournal old → IsSoundFor m w old → (s : RoundStops m w round old place f) → StopsOutside m w round old place f s
 stops_outside m w round old place f j h (inl aside) = tt
 stops_outside m w round old place f j h (inr (inl d)) =
     let st = start_for w round old in
@@ -453,10 +453,10 @@ stops_outside m w round old place f j h (inr (inl d)) =
     (begun w.version bytes old r j refl refl refl refl) (inl (made_new d.alloc (fixed_in m w))) (made_comes d.alloc (fixed_in m w)) refl refl refl refl refl refl d.stops.happen d.stops.faults
 stops_outside m w round old place f j h (inr (inr d)) = tt
 
-round_outside_all : (m : Meaning) (w : Setting) (round : Round) (old : List (List ℕ)) (f : RoundFault) → IsJournal old → IsSoundFor m w old → RoundFaults m w round old f → RoundFaultsBy OutsideFault m w round old f
+round_outside_all : (m : Meaning) (w : Setting) (round : Round) (old : List (List ℕ)) (f : JournalFault) → IsJournal old → IsSoundFor m w old → RoundFaults m w round old f → RoundFaultsBy OutsideFault m w round old f
 round_outside_all m w round old f j h =
     ⊎_elim
-    (λ (x : f ≡ round_fault.Memory). inl x)
+    (λ (x : f ≡ journal_fault.Memory). inl x)
     (λ (o : AttemptFaults m w round old f ⊎ RefusedFaults w round old f).
     inr (⊎_elim
     (λ (x : AttemptFaults m w round old f). inl (attempt_outside m w round old f j h x))
@@ -464,7 +464,7 @@ round_outside_all m w round old f j h =
     o))
 
 -- Of rounds over a journal that can be replayed each fault comes from outside.
-pub faults_come_from_outside : (m : Meaning) (w : Setting) (rounds : List Round) (old : List (List ℕ)) (f : RoundFault) → IsJournal old → IsSoundFor m w old → RoundsFault m w rounds old f → RoundsFaultBy OutsideFault m w rounds old f
+pub faults_come_from_outside : (m : Meaning) (w : Setting) (rounds : List Round) (old : List (List ℕ)) (f : JournalFault) → IsJournal old → IsSoundFor m w old → RoundsFault m w rounds old f → RoundsFaultBy OutsideFault m w rounds old f
 faults_come_from_outside m w [] old f j h d = d
 faults_come_from_outside m w (q ∷ qs) old f j h d =
     ⊎_elim

@@ -16,7 +16,7 @@ use Rattle.journal_protocol.specs.Notification.{Notification}
 use Rattle.runs.specs.Kept.{is_for}
 use Rattle.journal_entries.specs.Frames.{Garbage, frames_of}
 use Rattle.vm_parts.specs.declared.context.StateMap.{StateMap}
-use Rattle.journal_entries.specs.declared.proposals.KeptProposal.{KeptProposal}
+use Rattle.journal_protocol.specs.ProposeRunCompletion.{ProposeRunCompletion}
 use Rattle.vm_machine.specs.declared.phase.Phase.{Phase}
 use Rattle.vm_machine.specs.declared.phase.Phase.TheVariants.{WaitingStart, WaitingReplayEntries, Replaying, Processing, Closed}
 use Rattle.vm_machine.specs.Inputs.{coverage_of, entries_in}
@@ -110,15 +110,15 @@ among_second P (x ∷ xs) ys [] raw rest is enough all = absurd (omega (arith, e
 among_second P (x ∷ xs) ys (b ∷ before) raw rest is enough all = among_second P xs ys before raw rest (tail_same x b (xs ++ ys) (before ++ raw ∷ rest) is) (omega (arith, enough)) all
 
 -- an acknowledgement among frames that find theirs
-found_at : (kept : List KeptProposal) (before : List RawMessage) (raw : RawMessage) (rest : List RawMessage) → AllFound kept (before ++ raw ∷ rest) → FindsProposal (kept_after kept before) raw
+found_at : (kept : List ProposeRunCompletion) (before : List RawMessage) (raw : RawMessage) (rest : List RawMessage) → AllFound kept (before ++ raw ∷ rest) → FindsProposal (kept_after kept before) raw
 found_at kept [] raw rest all = all.0
 found_at kept (b ∷ before) raw rest all = found_at (kept_behind kept b) before raw rest all.1
 
-found_fault : (kept : List KeptProposal) (ack : Option ProposeRunCompletionAck) → IsSome ack → IsOfKept kept ack → acknowledgement_body_fault kept ack ≡ None
+found_fault : (kept : List ProposeRunCompletion) (ack : Option ProposeRunCompletionAck) → IsSome ack → IsOfKept kept ack → acknowledgement_body_fault kept ack ≡ None
 found_fault kept None readable found = absurd (cc)
 found_fault kept (Some ack) readable found = by_kept (find (is_for ack.id) kept) found
   where
-    by_kept : (o : Option KeptProposal) → IsSome o → kept_fault o ≡ None
+    by_kept : (o : Option ProposeRunCompletion) → IsSome o → kept_fault o ≡ None
     by_kept None h = absurd (cc)
     by_kept (Some k) h = refl
 

@@ -17,7 +17,7 @@ use Rattle.vm_attempt.proofs.Pieces.{commands_append}
 use Rattle.vm_model.proofs.Once.{still_carried}
 use Rattle.journal_entries.specs.declared.completions.Completes.{Completes}
 use Rattle.journal_entries.specs.declared.completions.Completes.TheVariants as completes
-use Rattle.journal_entries.specs.declared.fault.RoundFault.TheVariants as round_fault
+use Rattle.journal_entries.specs.declared.fault.JournalFault.TheVariants as journal_fault
 use Rattle.journal_entries.specs.Arrivals.{completes_among, completes_id, most_entries, room_fault}
 use Rattle.journal_entries.specs.Completions.{CompleteOnce, HasNoOther, IsOfItsKind, IsOfKind, NoteIsOfItsKind}
 use Rattle.journal_entries.specs.Entries.{frame_in, framed_by, journal_frames, may_stand, note_in, note_of, notes_in, read_from, said_by, said_in}
@@ -118,7 +118,7 @@ given_keeps journal x e j = by_frame (frame_in x) refl e
     by_note raw is room may None note h = command_stands journal x raw is (given_command (length journal == 0) raw may note) room j
 
     by_frame : (o : Option RawMessage) → frame_in x ≡ o → framed_fault o journal ≡ None → IsJournal (journal ++ x ∷ [])
-    by_frame None is h = absurd (let z : Some round_fault.BadJournal ≡ None = (neither (room_fault journal) (Some round_fault.BadJournal) h).1 in cc)
+    by_frame None is h = absurd (let z : Some journal_fault.BadJournal ≡ None = (neither (room_fault journal) (Some journal_fault.BadJournal) h).1 in cc)
     by_frame (Some raw) is h =
         let may = may_be_given (length journal == 0) raw in
         let n = neither (noted_fault (note_of raw) journal) (option_or (room_fault journal) (place_fault may)) h in

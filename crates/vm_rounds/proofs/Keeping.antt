@@ -10,7 +10,7 @@ use Rattle.journal_protocol.specs.RawMessage.{RawMessage}
 use Rattle.journal_protocol.specs.Notification.{Notification}
 use Rattle.journal_protocol.specs.Bodies.{notification_in}
 use Rattle.journal_entries.specs.Frames.{Tail, frames_of}
-use Rattle.journal_entries.specs.declared.proposals.KeptProposal.{KeptProposal}
+use Rattle.journal_protocol.specs.ProposeRunCompletion.{ProposeRunCompletion}
 use Rattle.vm_model.specs.Calls.{Meaning}
 use Rattle.vm_model.specs.Histories.{IsPrefix}
 use Rattle.vm_steps.specs.Heard.{proposals_among, proposals_in}
@@ -253,7 +253,7 @@ module _ (m : Meaning) (version : Version) (start : List ℕ) (first : List (Lis
         added = g.added ++ map stored_as W;
         extends = s.stored ∙ ap (λ l. l ++ map stored_as W) g.extends ∙ append_assoc first g.added (map stored_as W);
         commands = ap commands_among (frames_append g.added (map stored_as W)) ∙ commands_append (journal_frames g.added) (journal_frames (map stored_as W)) ∙ (λ i. g.commands i ++ (enter.0 ∙ commands_are s.seen) i) ∙ sym (commands_append g.scanned s.seen);
-        brings = subst (λ (x : List KeptProposal × List Notification). Brings version x.0 (g.came ++ answers version ps) x.1) (λ i. (sym stored i, sym notes i)) (brings_answers version (proposals_among g.scanned) ps g.came (notes_in g.added) (proposals_answered version W s.readable) g.brings);
+        brings = subst (λ (x : List ProposeRunCompletion × List Notification). Brings version x.0 (g.came ++ answers version ps) x.1) (λ i. (sym stored i, sym notes i)) (brings_answers version (proposals_among g.scanned) ps g.came (notes_in g.added) (proposals_answered version W s.readable) g.brings);
         taken = taken_append g.came (answers version ps) g.taken (answers_taken version ps (proposals_answered version W s.readable));
         journal = subst IsJournal (sym s.stored) (items_keep version W now.journal items s.faultless g.journal);
       }

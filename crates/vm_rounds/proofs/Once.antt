@@ -20,8 +20,8 @@ use Rattle.journal_entries.specs.JournalFrames.{commands_among}
 use Rattle.journal_entries.specs.Completions.{CompleteOnce, EachOfItsKind, HasNoOther, CompletesNone, IsOfItsKind, IsOfKind, NoteIsOfItsKind}
 use Rattle.journal_entries.specs.declared.completions.Completes.{Completes}
 use Rattle.journal_entries.specs.declared.completions.Completes.TheVariants as completes
-use Rattle.journal_entries.specs.declared.fault.RoundFault.{RoundFault}
-use Rattle.journal_entries.specs.declared.fault.RoundFault.TheVariants as round_fault
+use Rattle.journal_entries.specs.declared.fault.JournalFault.{JournalFault}
+use Rattle.journal_entries.specs.declared.fault.JournalFault.TheVariants as journal_fault
 use Rattle.journal_entries.specs.Arrivals.{arrival_fault, completes_among, completes_by, completion_fault, if_same, completes_id, is_invocation_id, is_of, most_entries, note_fault, read_fault, room_fault}
 use Rattle.journal_entries.specs.Entries.{journal_frames, note_in, notes_in, said_in}
 use Rattle.journal_entries.proofs.Framing.{said_are}
@@ -122,22 +122,22 @@ pub absent : (id : ℕ) (ns : List Notification) → completes_id id ns ≡ fals
 absent id [] h = tt
 absent id (n ∷ ns) h = let x = none_true (is_of id n.id) (completes_id id ns) h in (not_of id n.id x.0, absent id ns x.1)
 
-pub not_done : (kind : Option Completes) (done : Bool) (brings : NotificationResult) (room : Option RoundFault) → completion_fault kind done brings room ≡ None → done ≡ false
+pub not_done : (kind : Option Completes) (done : Bool) (brings : NotificationResult) (room : Option JournalFault) → completion_fault kind done brings room ≡ None → done ≡ false
 not_done None done brings room e = absurd (cc)
 not_done (Some kind) true brings room e = absurd (cc)
 not_done (Some kind) false brings room e = refl
 
-pub not_nothing : (kind : Option Completes) (done : Bool) (brings : NotificationResult) (room : Option RoundFault) → completion_fault kind done brings room ≡ None → kind ≡ None → ⊥
+pub not_nothing : (kind : Option Completes) (done : Bool) (brings : NotificationResult) (room : Option JournalFault) → completion_fault kind done brings room ≡ None → kind ≡ None → ⊥
 not_nothing None done brings room e is = absurd (cc)
 not_nothing (Some kind) done brings room e is = absurd (cc)
 
 -- a completion without a fault is of the kind of its id
-pub kind_of : (kind : Option Completes) (done : Bool) (brings : NotificationResult) (room : Option RoundFault) → completion_fault kind done brings room ≡ None → IsOfKind kind brings
+pub kind_of : (kind : Option Completes) (done : Bool) (brings : NotificationResult) (room : Option JournalFault) → completion_fault kind done brings room ≡ None → IsOfKind kind brings
 kind_of None done brings room e = absurd (cc)
 kind_of (Some kind) true brings room e = absurd (cc)
 kind_of (Some completes.InvocationId) false brings room e = by_test (is_invocation_id brings) e
   where
-    by_test : (b : Bool) → (if b then room else Some round_fault.WrongKind) ≡ None → b ≡ true
+    by_test : (b : Bool) → (if b then room else Some journal_fault.WrongKind) ≡ None → b ≡ true
     by_test true h = refl
     by_test false h = absurd (cc)
 kind_of (Some completes.Proposal) false brings room e = tt
@@ -201,14 +201,14 @@ come_once (n ∷ ns) once id = by_test (same_id n.id (CompletionId id)) refl (co
 
 -- ---- room
 
-pub not_most : (n : ℕ) → (if n == most_entries then Some round_fault.JournalFull else None) ≡ None → n ≢ most_entries
-not_most n h e = let t : Some round_fault.JournalFull ≡ None = sym (ap (λ (k : ℕ). if k == most_entries then Some round_fault.JournalFull else None) e) ∙ h in absurd (cc)
+pub not_most : (n : ℕ) → (if n == most_entries then Some journal_fault.JournalFull else None) ≡ None → n ≢ most_entries
+not_most n h e = let t : Some journal_fault.JournalFull ≡ None = sym (ap (λ (k : ℕ). if k == most_entries then Some journal_fault.JournalFull else None) e) ∙ h in absurd (cc)
 
-room_by : (b : Bool) (room : Option RoundFault) → (if b then room else Some round_fault.WrongKind) ≡ None → room ≡ None
+room_by : (b : Bool) (room : Option JournalFault) → (if b then room else Some journal_fault.WrongKind) ≡ None → room ≡ None
 room_by true room e = e
 room_by false room e = absurd (cc)
 
-completion_room : (kind : Option Completes) (done : Bool) (brings : NotificationResult) (room : Option RoundFault) → completion_fault kind done brings room ≡ None → room ≡ None
+completion_room : (kind : Option Completes) (done : Bool) (brings : NotificationResult) (room : Option JournalFault) → completion_fault kind done brings room ≡ None → room ≡ None
 completion_room None done brings room e = absurd (cc)
 completion_room (Some kind) true brings room e = absurd (cc)
 completion_room (Some completes.InvocationId) false brings room e = room_by (is_invocation_id brings) room e

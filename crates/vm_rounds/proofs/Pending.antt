@@ -15,7 +15,7 @@ use Rattle.journal_protocol.specs.Notification.{Notification}
 use Rattle.await_trees.specs.declared.handle.NotificationHandle.{NotificationHandle}
 use Rattle.runs.specs.Firsts.{without_first}
 use Rattle.runs.specs.Pending.{has_handle}
-use Rattle.journal_entries.specs.declared.proposals.KeptProposal.{KeptProposal}
+use Rattle.journal_protocol.specs.ProposeRunCompletion.{ProposeRunCompletion}
 use Rattle.runs.specs.declared.pending.PendingRun.{PendingRun}
 use Rattle.journal_entries.specs.Carried.{AreBelow}
 use Rattle.vm_model.specs.Carried.{is_id_among}
@@ -55,8 +55,8 @@ run_behind id (c ∷ cs) more h = by_test (read_runs id (message_in c.ty c.body)
 -- ---- what was written
 
 -- the id of a proposal
-abbrev pub kept_id : KeptProposal → ℕ
-kept_id p = p.completion_id
+abbrev pub kept_id : ProposeRunCompletion → ℕ
+kept_id p = p.id
 
 -- the ids that these items propose
 abbrev pub proposed_ids : List Written → List ℕ
@@ -76,17 +76,17 @@ pub record MayPropose (ns : List Notification) (cs : List RawMessage) (ps : List
 abbrev pub ProposeWell : List Notification → List RawMessage → List ℕ → List Written → Type 0
 ProposeWell ns cs ps [] = Unit {0}
 ProposeWell ns cs ps (Command raw ∷ ws) = ProposeWell ns (cs ++ raw ∷ []) ps ws
-ProposeWell ns cs ps (Proposal p ∷ ws) = MayPropose ns cs ps p.completion_id × ProposeWell ns cs (ps ++ p.completion_id ∷ []) ws
+ProposeWell ns cs ps (Proposal p ∷ ws) = MayPropose ns cs ps p.id × ProposeWell ns cs (ps ++ p.id ∷ []) ws
 
 pub propose_join : (ns : List Notification) (cs : List RawMessage) (ps : List ℕ) (us ws : List Written) → ProposeWell ns cs ps us → ProposeWell ns (cs ++ flat_map command_in us) (ps ++ proposed_ids us) ws → ProposeWell ns cs ps (us ++ ws)
 propose_join ns cs ps [] ws h k = subst (λ (x : List RawMessage × List ℕ). ProposeWell ns x.0 x.1 ws) (λ i. (append-nil cs i, append-nil ps i)) k
 propose_join ns cs ps (Command raw ∷ us) ws h k = propose_join ns (cs ++ raw ∷ []) ps us ws h (subst (λ (x : List RawMessage). ProposeWell ns x (ps ++ proposed_ids us) ws) (sym (append_assoc cs (raw ∷ []) (flat_map command_in us))) k)
-propose_join ns cs ps (Proposal p ∷ us) ws h k = (h.0, propose_join ns cs (ps ++ p.completion_id ∷ []) us ws h.1 (subst (λ (x : List ℕ). ProposeWell ns (cs ++ flat_map command_in us) x ws) (sym (append_assoc ps (p.completion_id ∷ []) (proposed_ids us))) k))
+propose_join ns cs ps (Proposal p ∷ us) ws h k = (h.0, propose_join ns cs (ps ++ p.id ∷ []) us ws h.1 (subst (λ (x : List ℕ). ProposeWell ns (cs ++ flat_map command_in us) x ws) (sym (append_assoc ps (p.id ∷ []) (proposed_ids us))) k))
 
 pub propose_behind : (ns : List Notification) (cs : List RawMessage) (ps : List ℕ) (us ws : List Written) → ProposeWell ns cs ps (us ++ ws) → ProposeWell ns (cs ++ flat_map command_in us) (ps ++ proposed_ids us) ws
 propose_behind ns cs ps [] ws h = subst (λ (x : List RawMessage × List ℕ). ProposeWell ns x.0 x.1 ws) (λ i. (sym (append-nil cs) i, sym (append-nil ps) i)) h
 propose_behind ns cs ps (Command raw ∷ us) ws h = subst (λ (x : List RawMessage). ProposeWell ns x (ps ++ proposed_ids us) ws) (append_assoc cs (raw ∷ []) (flat_map command_in us)) (propose_behind ns (cs ++ raw ∷ []) ps us ws h)
-propose_behind ns cs ps (Proposal p ∷ us) ws h = subst (λ (x : List ℕ). ProposeWell ns (cs ++ flat_map command_in us) x ws) (append_assoc ps (p.completion_id ∷ []) (proposed_ids us)) (propose_behind ns cs (ps ++ p.completion_id ∷ []) us ws h.1)
+propose_behind ns cs ps (Proposal p ∷ us) ws h = subst (λ (x : List ℕ). ProposeWell ns (cs ++ flat_map command_in us) x ws) (append_assoc ps (p.id ∷ []) (proposed_ids us)) (propose_behind ns cs (ps ++ p.id ∷ []) us ws h.1)
 
 -- items without a proposal
 pub propose_none : (ns : List Notification) (cs : List RawMessage) (ps : List ℕ) (ws : List Written) → flat_map proposal_in_item ws ≡ [] → ProposeWell ns cs ps ws

@@ -5,8 +5,8 @@ use Rattle.vm_model.specs.Calls.{Meaning}
 use Rattle.vm_rounds.specs.declared.types.Event.{Event}
 use Rattle.vm_rounds.specs.declared.types.Event.TheVariants as event
 use Rattle.vm_rounds.specs.declared.types.Round.{Round}
-use Rattle.journal_entries.specs.declared.fault.RoundFault.{RoundFault}
-use Rattle.journal_entries.specs.declared.fault.RoundFault.TheVariants as round_fault
+use Rattle.journal_entries.specs.declared.fault.JournalFault.{JournalFault}
+use Rattle.journal_entries.specs.declared.fault.JournalFault.TheVariants as journal_fault
 use Rattle.vm_rounds.specs.declared.types.Setting.{Setting}
 use Rattle.journal_entries.specs.Arrivals.{arrival_fault}
 use Rattle.vm_rounds.specs.Places.{ArrivalFaultsAt, AttemptStops, FaultsAt, IsMemoryAside, RefusedStops, RoundStops}
@@ -23,7 +23,7 @@ pub happen_then : (m : Meaning) (es : List Event) (e : Event) (a b c : Now) → 
 happen_then m [] e a b c h d = (c, subst (λ x. Happens m e x c) h d, refl)
 happen_then m (x ∷ es) e a b c (mid, first, more) d = (mid, first, happen_then m es e mid b c more d)
 
-pub faults_at : (m : Meaning) (events : List Event) (begun now : Now) (i : ℕ) (e : Event) (f : RoundFault) → i < length events → e ≡ slice_index_or events i e → Happen m (take i events) begun now → Faults e now f → FaultsAt m events begun (Some i) f
+pub faults_at : (m : Meaning) (events : List Event) (begun now : Now) (i : ℕ) (e : Event) (f : JournalFault) → i < length events → e ≡ slice_index_or events i e → Happen m (take i events) begun now → Faults e now f → FaultsAt m events begun (Some i) f
 faults_at m events begun now i e f lt is happen faults = record {
   before = take i events;
   event = e;
@@ -41,7 +41,7 @@ happen_more m events begun now next i e lt is happen happens = subst (λ es. Hap
 pub happen_whole : (m : Meaning) (events : List Event) (begun now : Now) (i : ℕ) → length events ≤ i → Happen m (take i events) begun now → Happen m events begun now
 happen_whole m events begun now i le happen = subst (λ es. Happen m es begun now) (take_all i events le) happen
 
-happen_faults : (m : Meaning) (before : List Event) (e : Event) (after : List Event) (begun now : Now) (f : RoundFault) → Happen m before begun now → Faults e now f → HappenFaults m (before ++ e ∷ after) begun f
+happen_faults : (m : Meaning) (before : List Event) (e : Event) (after : List Event) (begun now : Now) (f : JournalFault) → Happen m before begun now → Faults e now f → HappenFaults m (before ++ e ∷ after) begun f
 happen_faults m [] e after begun now f same h = inl (subst (λ x. Faults e x f) same h)
 happen_faults m (x ∷ xs) e after begun now f (mid, first, more) h = inr (mid, first, happen_faults m xs e after mid now f more h)
 
@@ -63,7 +63,7 @@ arrivals_more events old journal next i e lt is stored more = subst (λ es. Arri
 pub arrivals_whole : (events : List Event) (old journal : List (List ℕ)) (i : ℕ) → length events ≤ i → ArrivalsDo (take i events) old journal → ArrivalsDo events old journal
 arrivals_whole events old journal i le stored = subst (λ es. ArrivalsDo es old journal) (take_all i events le) stored
 
-pub arrival_faults_at : (events : List Event) (old journal : List (List ℕ)) (i : ℕ) (e : Event) (f : RoundFault) → i < length events → e ≡ slice_index_or events i e → ArrivalsDo (take i events) old journal → ArrivalsFault (e ∷ []) journal f → ArrivalFaultsAt events old (Some i) f
+pub arrival_faults_at : (events : List Event) (old journal : List (List ℕ)) (i : ℕ) (e : Event) (f : JournalFault) → i < length events → e ≡ slice_index_or events i e → ArrivalsDo (take i events) old journal → ArrivalsFault (e ∷ []) journal f → ArrivalFaultsAt events old (Some i) f
 arrival_faults_at events old journal i e f lt is stored faults = record {
   before = take i events;
   event = e;
@@ -76,7 +76,7 @@ arrival_faults_at events old journal i e f lt is stored faults = record {
 }
 
 -- an arrival's fault is that of all that begin with it
-first_arrival : (e : Event) (after : List Event) (journal : List (List ℕ)) (f : RoundFault) → ArrivalsFault (e ∷ []) journal f → ArrivalsFault (e ∷ after) journal f
+first_arrival : (e : Event) (after : List Event) (journal : List (List ℕ)) (f : JournalFault) → ArrivalsFault (e ∷ []) journal f → ArrivalsFault (e ∷ after) journal f
 first_arrival (event.Piece n) after journal f h = absurd h
 first_arrival event.Close after journal f h = absurd h
 first_arrival event.Step after journal f h = absurd h
@@ -84,12 +84,12 @@ first_arrival (event.Steps n) after journal f h = absurd h
 first_arrival (event.RunResult handle exit policy) after journal f h = absurd h
 first_arrival (event.Arrive x) after journal f h =
     ⊎_elim
-    (λ (z : (f ≡ round_fault.Memory) ⊎ (arrival_fault x journal ≡ Some f)). inl z)
+    (λ (z : (f ≡ journal_fault.Memory) ⊎ (arrival_fault x journal ≡ Some f)). inl z)
     (λ (z : (arrival_fault x journal ≡ None) × ArrivalsFault [] (journal ++ x ∷ []) f). absurd (z.1))
     h
 first_arrival (event.Store n) after journal f h = absurd h
 
-arrivals_fault : (before : List Event) (e : Event) (after : List Event) (old journal : List (List ℕ)) (f : RoundFault) → ArrivalsDo before old journal → ArrivalsFault (e ∷ []) journal f → ArrivalsFault (before ++ e ∷ after) old f
+arrivals_fault : (before : List Event) (e : Event) (after : List Event) (old journal : List (List ℕ)) (f : JournalFault) → ArrivalsDo before old journal → ArrivalsFault (e ∷ []) journal f → ArrivalsFault (before ++ e ∷ after) old f
 arrivals_fault [] e after old journal f same h = subst (λ x. ArrivalsFault (e ∷ after) x f) same (first_arrival e after journal f h)
 arrivals_fault (event.Piece n ∷ xs) e after old journal f d h = arrivals_fault xs e after old journal f d h
 arrivals_fault (event.Close ∷ xs) e after old journal f d h = arrivals_fault xs e after old journal f d h
@@ -102,7 +102,7 @@ arrivals_fault (event.Store n ∷ xs) e after old journal f d h = arrivals_fault
 -- ---- a round
 
 -- the fault alone
-pub round_faults_so : (m : Meaning) (w : Setting) (round : Round) (old : List (List ℕ)) (place : Option ℕ) (f : RoundFault) → RoundStops m w round old place f → RoundFaults m w round old f
+pub round_faults_so : (m : Meaning) (w : Setting) (round : Round) (old : List (List ℕ)) (place : Option ℕ) (f : JournalFault) → RoundStops m w round old place f → RoundFaults m w round old f
 round_faults_so m w round old place f =
     ⊎_elim
     (λ (x : IsMemoryAside place f). inl x.1)

@@ -36,7 +36,6 @@ use Rattle.vm_types.specs.declared.steps.Answer.{Answer}
 use Rattle.vm_types.specs.declared.steps.Answer.TheVariants as answer
 use Rattle.vm_types.specs.declared.values.Input.{Input}
 use Rattle.vm_parts.specs.declared.context.Counters.{Counters}
-use Rattle.journal_entries.specs.declared.proposals.KeptProposal.{KeptProposal}
 use Rattle.runs.specs.declared.pending.PendingRun.{PendingRun}
 use Rattle.vm_parts.specs.Counting.{missing_number}
 use Rattle.vm_parts.specs.Deliveries.{id_at}
@@ -63,7 +62,7 @@ use Rattle.journal_entries.specs.Journal.{stored_form}
 use Rattle.journal_entries.specs.declared.storing.Written.{Written}
 use Rattle.journal_entries.specs.declared.storing.Written.TheVariants.{Proposal}
 use Rattle.journal_entries.specs.Arrivals.{completes_id}
-use Rattle.journal_entries.specs.Storing.{kept_of, written_among, written_before}
+use Rattle.journal_entries.specs.Storing.{written_among, written_before}
 use Rattle.journal_entries.proofs.Scanned.{written_append}
 use Rattle.vm_steps.specs.declared.progress.Progress.{Progress}
 use Rattle.vm_steps.specs.declared.progress.Reply.{Reply}
@@ -171,7 +170,7 @@ no_runs told [] run none found = absurd (cc)
 no_runs told (x ∷ runs) run none found = absurd (cc)
 
 -- the result of a pending run is proposed
-sound_proposed : (ns : List Notification) (cs : List RawMessage) (ws : List Written) (answers : List Answer) (v w : Machine) (told : NotificationHandle) (run : PendingRun) (p : KeptProposal) → v.failure ≡ None → find (has_handle told) v.runs ≡ Some run → p.completion_id ≡ run_id run
+sound_proposed : (ns : List Notification) (cs : List RawMessage) (ws : List Written) (answers : List Answer) (v w : Machine) (told : NotificationHandle) (run : PendingRun) (p : ProposeRunCompletion) → v.failure ≡ None → find (has_handle told) v.runs ≡ Some run → p.id ≡ run_id run
     → w.runs ≡ without_first (has_handle told) v.runs → next_of w ≡ next_of v → Sound ns cs ws answers v → Sound ns cs (ws ++ Proposal p ∷ []) answers w
 sound_proposed ns cs ws answers v w told run p alive found id runs next s =
     let t = told_at (next_of v) ns (cs ++ flat_map command_in ws) (proposed_ids ws) told v.runs run found (s.pending alive) in
@@ -590,12 +589,12 @@ module _ (ns : List Notification) (cs : List RawMessage) (m : Meaning) (old : Re
 abbrev proposal : ℕ → ValueOrFailure → Message
 proposal id result = message.ProposeRunCompletion (record { id = id; result = result })
 
-abbrev kept_as : ℕ → ValueOrFailure → KeptProposal
-kept_as id result = record { completion_id = id; result = result }
+abbrev kept_as : ℕ → ValueOrFailure → ProposeRunCompletion
+kept_as id result = record { id = id; result = result }
 
-one_item : (o : Option ProposeRunCompletion) (kept : KeptProposal) → proposed_by o [] ≡ kept ∷ [] → written_before (option_map Proposal (option_map kept_of o)) [] ≡ Proposal kept ∷ []
+one_item : (o : Option ProposeRunCompletion) (kept : ProposeRunCompletion) → proposed_by o [] ≡ kept ∷ [] → written_before (option_map Proposal o) [] ≡ Proposal kept ∷ []
 one_item None kept e = absurd (cc)
-one_item (Some q) kept e = let same : kept_of q ≡ kept = cc in ap (λ k. Proposal k ∷ []) same
+one_item (Some q) kept e = let same : q ≡ kept = cc in ap (λ k. Proposal k ∷ []) same
 
 -- the item of a proposal that can be read back
 proposal_item : (id : ℕ) (result : ValueOrFailure) → IsWhole (proposal id result) → items (proposal id result ∷ []) ≡ Proposal (kept_as id result) ∷ []

@@ -33,7 +33,7 @@ use Rattle.vm_attempt.proofs.Coming.{made_comes}
 use Rattle.vm_attempt.proofs.Replayed.{commands_same}
 use Rattle.vm_rounds.specs.declared.types.Event.{Event}
 use Rattle.vm_rounds.specs.declared.types.Round.{Round}
-use Rattle.journal_entries.specs.declared.fault.RoundFault.{RoundFault}
+use Rattle.journal_entries.specs.declared.fault.JournalFault.{JournalFault}
 use Rattle.vm_rounds.specs.declared.types.Setting.{Setting}
 use Rattle.vm_rounds.specs.Courses.{AreHonest, attempt_of, attempts_of, course_of, start_handed}
 use Rattle.journal_entries.specs.Entries.{journal_entries, journal_frames, notes_in}
@@ -270,6 +270,6 @@ rounds_then m w [] r old reports mid report new d one = (new, report, [], ap (λ
 rounds_then m w (q ∷ qs) r old reports mid report new (mid', report', more, is, first, rest) one =
     (mid', report', more ++ report ∷ [], ap (λ l. l ++ report ∷ []) is, first, rounds_then m w qs r mid' more mid report new rest one)
 
-pub rounds_fail : (m : Meaning) (w : Setting) (rs : List Round) (r : Round) (others : List Round) (old : List (List ℕ)) (reports : List ReportView) (mid : List (List ℕ)) (f : RoundFault) → RoundsDo m w rs old reports mid → RoundFaults m w r mid f → RoundsFault m w (rs ++ r ∷ others) old f
+pub rounds_fail : (m : Meaning) (w : Setting) (rs : List Round) (r : Round) (others : List Round) (old : List (List ℕ)) (reports : List ReportView) (mid : List (List ℕ)) (f : JournalFault) → RoundsDo m w rs old reports mid → RoundFaults m w r mid f → RoundsFault m w (rs ++ r ∷ others) old f
 rounds_fail m w [] r others old reports mid f d h = inl (subst (λ x. RoundFaults m w r x f) d.1 h)
 rounds_fail m w (q ∷ qs) r others old reports mid f (mid', report', more, is, first, rest) h = inr (mid', report', first, rounds_fail m w qs r others mid' more mid f rest h)

@@ -16,7 +16,6 @@ use Rattle.journal_protocol.specs.Bodies.{acknowledgement_in, message_in, notifi
 use Rattle.journal_protocol.proofs.Facts.{read_back}
 use Rattle.journal_protocol.specs.Notification.{Notification}
 use Rattle.runs.specs.Kept.{is_for}
-use Rattle.journal_entries.specs.declared.proposals.KeptProposal.{KeptProposal}
 use Rattle.journal_entries.specs.Proposals.{acknowledged_completion}
 use Rattle.journal_protocol.specs.Versions.{is_from_v7}
 use Rattle.vm_model.specs.Carried.{AreCarried, is_carried}
@@ -35,11 +34,11 @@ use Rattle.journal_entries.specs.declared.completions.Completes.{Completes}
 use Rattle.journal_entries.specs.declared.completions.Completes.TheVariants as completes
 use Rattle.journal_entries.specs.declared.storing.Written.{Written}
 use Rattle.journal_entries.specs.declared.storing.Written.TheVariants.{Command, Proposal}
-use Rattle.journal_entries.specs.declared.fault.RoundFault.{RoundFault}
+use Rattle.journal_entries.specs.declared.fault.JournalFault.{JournalFault}
 use Rattle.journal_entries.specs.Arrivals.{completes_among, completes_id, most_entries, stored_proposal_fault, proposed_fault, room_fault}
 use Rattle.journal_entries.specs.Completions.{CompleteOnce, IsOfKind, NoteIsOfItsKind}
 use Rattle.journal_entries.specs.Entries.{AreEntries, frame_in, frame_of, framed_by, journal_frames, may_stand, note_in, note_of, notes_in, read_from, said_in}
-use Rattle.journal_entries.specs.Storing.{StoredCanBeRead, NoneFaults, acknowledgement, answer_to, completion_message, kept_of, proposal_of, stored_as, storing_fault, waits_behind, written_among, written_before}
+use Rattle.journal_entries.specs.Storing.{StoredCanBeRead, NoneFaults, acknowledgement, answer_to, completion_message, proposal_of, stored_as, storing_fault, waits_behind, written_among, written_before}
 use Rattle.vm_rounds.specs.Worlds.{IsJournal}
 use Rattle.journal_entries.proofs.Framing.{AreFrames, command_no_note, entries_join, frame_back, frames_append, join, none_framed, note_acknowledges_nothing, notes_append, notes_are, one_framed}
 use Rattle.vm_rounds.proofs.Once.{IsNew, absent, carried_more, completed_carried, each_more, not_most, once_more}
@@ -52,13 +51,13 @@ command_in (Command raw) = raw ∷ []
 command_in (Proposal p) = []
 
 -- the proposal that it is
-abbrev pub proposal_in_item : Written → List KeptProposal
+abbrev pub proposal_in_item : Written → List ProposeRunCompletion
 proposal_in_item (Command raw) = []
 proposal_in_item (Proposal p) = p ∷ []
 
 -- the completion of a proposal
-abbrev pub completion : KeptProposal → Notification
-completion p = acknowledged_completion p.completion_id p
+abbrev pub completion : ProposeRunCompletion → Notification
+completion p = acknowledged_completion p.id p
 
 five : (n : ℕ) → (n == 5) ≡ true → n ≡ 5
 five n h = grind (arith, nat_tests)
@@ -67,7 +66,7 @@ proposal_no_command : (raw : RawMessage) → is_proposal raw ≡ true → is_com
 proposal_no_command raw h = ap (λ k. nat_le 10 k && nat_lt k 30) (five (type_number raw.ty) h)
 
 -- the commands and the proposals among frames are those of their items
-commands_by : (b : Bool) (raw : RawMessage) (o : Option KeptProposal) (ws : List Written) (cs : List RawMessage) → flat_map command_in ws ≡ cs
+commands_by : (b : Bool) (raw : RawMessage) (o : Option ProposeRunCompletion) (ws : List Written) (cs : List RawMessage) → flat_map command_in ws ≡ cs
     → flat_map command_in (written_before (cond b (Some (Command raw)) (option_map Proposal o)) ws) ≡ cond b (raw ∷ cs) cs
 commands_by true raw o ws cs h = ap (λ l. raw ∷ l) h
 commands_by false raw None ws cs h = h
@@ -77,12 +76,12 @@ pub commands_are : (raws : List RawMessage) → flat_map command_in (written_amo
 commands_are [] = refl
 commands_are (raw ∷ raws) = commands_by (is_command_frame raw) raw (proposal_of raw) (written_among raws) (commands_among raws) (commands_are raws)
 
-proposals_by : (a b : Bool) (raw : RawMessage) (o : Option ProposeRunCompletion) (ws : List Written) (ps : List KeptProposal) → (b ≡ true → a ≡ false) → flat_map proposal_in_item ws ≡ ps
-    → flat_map proposal_in_item (written_before (cond a (Some (Command raw)) (option_map Proposal (cond b (option_map kept_of o) None))) ws) ≡ cond b (proposed_by o ps) ps
+proposals_by : (a b : Bool) (raw : RawMessage) (o : Option ProposeRunCompletion) (ws : List Written) (ps : List ProposeRunCompletion) → (b ≡ true → a ≡ false) → flat_map proposal_in_item ws ≡ ps
+    → flat_map proposal_in_item (written_before (cond a (Some (Command raw)) (option_map Proposal (cond b o None))) ws) ≡ cond b (proposed_by o ps) ps
 proposals_by true true raw o ws ps apart h = absurd (let z : true ≡ false = apart refl in cc)
 proposals_by true false raw o ws ps apart h = h
 proposals_by false true raw None ws ps apart h = h
-proposals_by false true raw (Some p) ws ps apart h = ap (λ l. kept_of p ∷ l) h
+proposals_by false true raw (Some p) ws ps apart h = ap (λ l. p ∷ l) h
 proposals_by false false raw o ws ps apart h = h
 
 pub proposals_are : (raws : List RawMessage) → flat_map proposal_in_item (written_among raws) ≡ proposals_among raws
@@ -96,7 +95,7 @@ abbrev pub IsItem : Version → Written → Type 0
 IsItem version (Command raw) = (is_command_frame raw ≡ true) × (length raw.body < 2 ^ 64)
 IsItem version (Proposal p) = StoredCanBeRead version (Proposal p)
 
-items_by : (version : Version) (b : Bool) (raw : RawMessage) (o : Option KeptProposal) (ws : List Written) → is_command_frame raw ≡ b → (AllByRecursion (StoredCanBeRead version) ws → AllByRecursion (IsItem version) ws)
+items_by : (version : Version) (b : Bool) (raw : RawMessage) (o : Option ProposeRunCompletion) (ws : List Written) → is_command_frame raw ≡ b → (AllByRecursion (StoredCanBeRead version) ws → AllByRecursion (IsItem version) ws)
     → AllByRecursion (StoredCanBeRead version) (written_before (cond b (Some (Command raw)) (option_map Proposal o)) ws) → AllByRecursion (IsItem version) (written_before (cond b (Some (Command raw)) (option_map Proposal o)) ws)
 items_by version true raw o ws is more h = ((is, h.0), more h.1)
 items_by version false raw None ws is more h = more h
@@ -141,10 +140,10 @@ command_unread : (raw : RawMessage) → is_command_frame raw ≡ true → length
 command_unread raw is fits = ap (read_from note_of) (frame_back raw fits) ∙ ap (λ b. cond b (notification_in raw.body) None) (command_no_note raw is)
 
 -- the completion of a proposal can be read from its entry
-pub completion_read : (p : KeptProposal) → IsWhole (completion_message p) → note_in (encoding (completion_message p)) ≡ Some (completion p)
+pub completion_read : (p : ProposeRunCompletion) → IsWhole (completion_message p) → note_in (encoding (completion_message p)) ≡ Some (completion p)
 completion_read p whole = ap (λ o. read_from note_of o) (frame_back (stored_form (completion_message p)) whole.1) ∙ notification_back (completion p) whole
 
-completion_entered : (p : KeptProposal) → IsWhole (completion_message p) → Entered (Proposal p)
+completion_entered : (p : ProposeRunCompletion) → IsWhole (completion_message p) → Entered (Proposal p)
 completion_entered p whole =
     let raw = stored_form (completion_message p) in
     let back : frame_in (encoding (completion_message p)) ≡ Some raw = frame_back raw whole.1 in
@@ -160,23 +159,23 @@ entered version (Proposal p) h = completion_entered p h.0
 
 -- ---- the journal
 
-done_by : (kind : Option Completes) (done : Bool) (room : Option RoundFault) → proposed_fault kind done room ≡ None → done ≡ false
+done_by : (kind : Option Completes) (done : Bool) (room : Option JournalFault) → proposed_fault kind done room ≡ None → done ≡ false
 done_by None done room e = absurd (cc)
 done_by (Some kind) true room e = absurd (cc)
 done_by (Some kind) false room e = refl
 
-kind_by : (kind : Option Completes) (done : Bool) (room : Option RoundFault) → proposed_fault kind done room ≡ None → kind ≡ None → ⊥
+kind_by : (kind : Option Completes) (done : Bool) (room : Option JournalFault) → proposed_fault kind done room ≡ None → kind ≡ None → ⊥
 kind_by None done room e is = absurd (cc)
 kind_by (Some kind) done room e is = absurd (cc)
 
-room_of : (kind : Option Completes) (done : Bool) (room : Option RoundFault) → proposed_fault kind done room ≡ None → room ≡ None
+room_of : (kind : Option Completes) (done : Bool) (room : Option JournalFault) → proposed_fault kind done room ≡ None → room ≡ None
 room_of None done room e = absurd (cc)
 room_of (Some kind) true room e = absurd (cc)
 room_of (Some completes.InvocationId) false room e = absurd (cc)
 room_of (Some completes.Proposal) false room e = e
 room_of (Some completes.AnyResult) false room e = e
 
-kind_by_proposal : (kind : Option Completes) (done : Bool) (room : Option RoundFault) (result : NotificationResult) → proposed_fault kind done room ≡ None → IsOfKind kind result
+kind_by_proposal : (kind : Option Completes) (done : Bool) (room : Option JournalFault) (result : NotificationResult) → proposed_fault kind done room ≡ None → IsOfKind kind result
 kind_by_proposal None done room result e = absurd (cc)
 kind_by_proposal (Some kind) true room result e = absurd (cc)
 kind_by_proposal (Some completes.InvocationId) false room result e = absurd (cc)
@@ -196,9 +195,9 @@ note_keeps journal x new room stands none j =
       kinds = each_more [] journal x j.kinds (subst (λ o. NoteIsOfItsKind o journal) (sym new.reads) new.kind);
     }
 
-completion_new : (p : KeptProposal) (journal : List (List ℕ)) → IsWhole (completion_message p) → stored_proposal_fault p.completion_id journal ≡ None → IsNew (encoding (completion_message p)) journal
+completion_new : (p : ProposeRunCompletion) (journal : List (List ℕ)) → IsWhole (completion_message p) → stored_proposal_fault p.id journal ≡ None → IsNew (encoding (completion_message p)) journal
 completion_new p journal whole e =
-    let id = p.completion_id in
+    let id = p.id in
     let kind = completes_among id (said_in journal) None in
     let done = completes_id id (notes_in journal) in
     record {
@@ -227,7 +226,7 @@ item_keeps : (version : Version) (w : Written) (journal : List (List ℕ)) → I
 item_keeps version (Command raw) journal h e j = command_keeps raw journal h.0 h.1 e j
 item_keeps version (Proposal p) journal h e j =
     let one = completion_entered p h.0 in
-    let id = p.completion_id in
+    let id = p.id in
     note_keeps journal (encoding (completion_message p)) (completion_new p journal h.0 e) (not_most (length journal) (room_of (completes_among id (said_in journal) None) (completes_id id (notes_in journal)) (room_fault journal) e)) (one.stands, tt) one.commands j
 
 -- a journal stays one as items are stored that have no fault
@@ -251,15 +250,15 @@ items_enter version (w ∷ ws) all =
 -- ---- what answers proposals
 
 -- what answers a proposal, as a frame
-abbrev pub answer_frame : Version → KeptProposal → RawMessage
-answer_frame version p = if is_from_v7 version then stored_form (acknowledgement p.completion_id) else stored_form (completion_message p)
+abbrev pub answer_frame : Version → ProposeRunCompletion → RawMessage
+answer_frame version p = if is_from_v7 version then stored_form (acknowledgement p.id) else stored_form (completion_message p)
 
 -- what answers proposals, as frames
-abbrev pub answers : Version → List KeptProposal → List RawMessage
+abbrev pub answers : Version → List ProposeRunCompletion → List RawMessage
 answers version ps = map (answer_frame version) ps
 
 -- what answers a proposal can be read
-abbrev pub IsAnswered : Version → KeptProposal → Type 0
+abbrev pub IsAnswered : Version → ProposeRunCompletion → Type 0
 IsAnswered version p = StoredCanBeRead version (Proposal p)
 
 pub proposals_answered : (version : Version) (ws : List Written) → AllByRecursion (StoredCanBeRead version) ws → AllByRecursion (IsAnswered version) (flat_map proposal_in_item ws)
@@ -273,14 +272,14 @@ waits_answer version [] = refl
 waits_answer version (Command raw ∷ ws) = waits_answer version ws
 waits_answer version (Proposal p ∷ ws) = ap (λ l. answer_to version p ++ l) (waits_answer version ws)
 
-answer_framed : (version : Version) (p : KeptProposal) → IsAnswered version p → AreFrames (answer_to version p) (answer_frame version p ∷ [])
+answer_framed : (version : Version) (p : ProposeRunCompletion) → IsAnswered version p → AreFrames (answer_to version p) (answer_frame version p ∷ [])
 answer_framed version p h = by_test (is_from_v7 version) h.1
   where
-    by_test : (b : Bool) → (b ≡ true → IsWhole (acknowledgement p.completion_id)) → AreFrames (if b then encoding (acknowledgement p.completion_id) else encoding (completion_message p)) ((if b then stored_form (acknowledgement p.completion_id) else stored_form (completion_message p)) ∷ [])
-    by_test true whole = one_framed (stored_form (acknowledgement p.completion_id)) (whole refl).1
+    by_test : (b : Bool) → (b ≡ true → IsWhole (acknowledgement p.id)) → AreFrames (if b then encoding (acknowledgement p.id) else encoding (completion_message p)) ((if b then stored_form (acknowledgement p.id) else stored_form (completion_message p)) ∷ [])
+    by_test true whole = one_framed (stored_form (acknowledgement p.id)) (whole refl).1
     by_test false whole = one_framed (stored_form (completion_message p)) h.0.1
 
-answers_framed : (version : Version) (ps : List KeptProposal) → AllByRecursion (IsAnswered version) ps → AreFrames (flat_map (answer_to version) ps) (answers version ps)
+answers_framed : (version : Version) (ps : List ProposeRunCompletion) → AllByRecursion (IsAnswered version) ps → AreFrames (flat_map (answer_to version) ps) (answers version ps)
 answers_framed version [] all = none_framed
 answers_framed version (p ∷ ps) all = join (answer_to version p) (flat_map (answer_to version) ps) (answer_frame version p ∷ []) (answers version ps) (answer_framed version p all.0) (answers_framed version ps all.1)
 
@@ -291,14 +290,14 @@ waits_framed version ws all = subst (λ b. AreFrames b (answers version (flat_ma
 abbrev pub IsTaken : RawMessage → Type 0
 IsTaken raw = ((is_notification raw ≡ true) × IsSome (notification_in raw.body)) ⊎ ((is_acknowledgement raw ≡ true) × IsSome (acknowledgement_in raw.body))
 
-answer_taken : (version : Version) (p : KeptProposal) → IsAnswered version p → IsTaken (answer_frame version p)
+answer_taken : (version : Version) (p : ProposeRunCompletion) → IsAnswered version p → IsTaken (answer_frame version p)
 answer_taken version p h = by_test (is_from_v7 version) h.1
   where
-    by_test : (b : Bool) → (b ≡ true → IsWhole (acknowledgement p.completion_id)) → IsTaken (if b then stored_form (acknowledgement p.completion_id) else stored_form (completion_message p))
-    by_test true whole = inr (refl, ap is_some (acknowledgement_back (record { id = p.completion_id }) (whole refl)))
+    by_test : (b : Bool) → (b ≡ true → IsWhole (acknowledgement p.id)) → IsTaken (if b then stored_form (acknowledgement p.id) else stored_form (completion_message p))
+    by_test true whole = inr (refl, ap is_some (acknowledgement_back (record { id = p.id }) (whole refl)))
     by_test false whole = inl (refl, ap is_some (notification_back (completion p) h.0))
 
-pub answers_taken : (version : Version) (ps : List KeptProposal) → AllByRecursion (IsAnswered version) ps → AllByRecursion IsTaken (answers version ps)
+pub answers_taken : (version : Version) (ps : List ProposeRunCompletion) → AllByRecursion (IsAnswered version) ps → AllByRecursion IsTaken (answers version ps)
 answers_taken version [] all = tt
 answers_taken version (p ∷ ps) all = (answer_taken version p all.0, answers_taken version ps all.1)
 
@@ -309,7 +308,7 @@ taken_append (x ∷ xs) ys a b = (a.0, taken_append xs ys a.1 b)
 -- ---- arrivals
 
 -- Frames bring these arrivals, by the proposals that were stored: each acknowledgement found its own, and none is left.
-pub record Brings (version : Version) (stored : List KeptProposal) (raws : List RawMessage) (notes : List Notification) : Type 0 where
+pub record Brings (version : Version) (stored : List ProposeRunCompletion) (raws : List RawMessage) (notes : List Notification) : Type 0 where
   pub found : AllFound (acknowledged_from version stored) raws
   pub none_left : kept_after (acknowledged_from version stored) raws ≡ []
   pub arrive : arriving (acknowledged_from version stored) raws ≡ notes
@@ -318,7 +317,7 @@ pub brings_nothing : (version : Version) → Brings version [] [] []
 brings_nothing version = record { found = tt; none_left = nothing_acknowledged version; arrive = refl }
 
 -- further proposals change no arrival
-pub brings_still : (version : Version) (stored more : List KeptProposal) (raws : List RawMessage) (notes : List Notification) → Brings version stored raws notes → AllFound (acknowledged_from version (stored ++ more)) raws × (arriving (acknowledged_from version (stored ++ more)) raws ≡ notes)
+pub brings_still : (version : Version) (stored more : List ProposeRunCompletion) (raws : List RawMessage) (notes : List Notification) → Brings version stored raws notes → AllFound (acknowledged_from version (stored ++ more)) raws × (arriving (acknowledged_from version (stored ++ more)) raws ≡ notes)
 brings_still version stored more raws notes b =
     let kept = acknowledged_from version stored in
     let also = acknowledged_from version more in (
@@ -327,7 +326,7 @@ brings_still version stored more raws notes b =
     )
 
 -- frames after frames, with further proposals stored
-brings_then : (version : Version) (stored more : List KeptProposal) (raws others : List RawMessage) (notes ns : List Notification) → Brings version stored raws notes → Brings version more others ns → Brings version (stored ++ more) (raws ++ others) (notes ++ ns)
+brings_then : (version : Version) (stored more : List ProposeRunCompletion) (raws others : List RawMessage) (notes ns : List Notification) → Brings version stored raws notes → Brings version more others ns → Brings version (stored ++ more) (raws ++ others) (notes ++ ns)
 brings_then version stored more raws others notes ns a b =
     let kept = acknowledged_from version stored in
     let also = acknowledged_from version more in
@@ -353,51 +352,51 @@ note_brings version raw n is reads =
     }
 
 -- one notification more
-pub brings_note : (version : Version) (stored : List KeptProposal) (raws : List RawMessage) (notes : List Notification) (raw : RawMessage) (n : Notification) → is_notification raw ≡ true → notification_in raw.body ≡ Some n → Brings version stored raws notes → Brings version stored (raws ++ raw ∷ []) (notes ++ n ∷ [])
+pub brings_note : (version : Version) (stored : List ProposeRunCompletion) (raws : List RawMessage) (notes : List Notification) (raw : RawMessage) (n : Notification) → is_notification raw ≡ true → notification_in raw.body ≡ Some n → Brings version stored raws notes → Brings version stored (raws ++ raw ∷ []) (notes ++ n ∷ [])
 brings_note version stored raws notes raw n is reads b = subst (λ l. Brings version l (raws ++ raw ∷ []) (notes ++ n ∷ [])) (append-nil stored) (brings_then version stored [] raws (raw ∷ []) notes (n ∷ []) b (note_brings version raw n is reads))
 
 -- what answers a proposal brings the completion with its result
 same_number : (i : ℕ) → (i == i) ≡ true
 same_number i = grind (arith, nat_tests)
 
-acknowledged_brings : (p : KeptProposal) → IsWhole (acknowledgement p.completion_id) → AllFound (p ∷ []) (stored_form (acknowledgement p.completion_id) ∷ []) × (kept_after (p ∷ []) (stored_form (acknowledgement p.completion_id) ∷ []) ≡ []) × (arriving (p ∷ []) (stored_form (acknowledgement p.completion_id) ∷ []) ≡ completion p ∷ [])
+acknowledged_brings : (p : ProposeRunCompletion) → IsWhole (acknowledgement p.id) → AllFound (p ∷ []) (stored_form (acknowledgement p.id) ∷ []) × (kept_after (p ∷ []) (stored_form (acknowledgement p.id) ∷ []) ≡ []) × (arriving (p ∷ []) (stored_form (acknowledgement p.id) ∷ []) ≡ completion p ∷ [])
 acknowledged_brings p whole =
-    let raw = stored_form (acknowledgement p.completion_id) in
-    let reads = acknowledgement_back (record { id = p.completion_id }) whole in
-    let here : find (is_for p.completion_id) (p ∷ []) ≡ Some p = ap (λ b. cond b (Some p) None) (same_number p.completion_id) in (
+    let raw = stored_form (acknowledgement p.id) in
+    let reads = acknowledgement_back (record { id = p.id }) whole in
+    let here : find (is_for p.id) (p ∷ []) ≡ Some p = ap (λ b. cond b (Some p) None) (same_number p.id) in (
       ((λ _. subst (IsOfKept (p ∷ [])) (sym reads) (ap is_some here)), tt),
-      ap (unacknowledged (p ∷ [])) reads ∙ ap (λ b. if b then [] else p ∷ []) (same_number p.completion_id),
-      ap (λ o. notified_by (acknowledged_as (p ∷ []) o) []) reads ∙ ap (λ o. notified_by (option_map (acknowledged_completion p.completion_id) o) []) here,
+      ap (unacknowledged (p ∷ [])) reads ∙ ap (λ b. if b then [] else p ∷ []) (same_number p.id),
+      ap (λ o. notified_by (acknowledged_as (p ∷ []) o) []) reads ∙ ap (λ o. notified_by (option_map (acknowledged_completion p.id) o) []) here,
     )
 
-answer_brings : (version : Version) (p : KeptProposal) → IsAnswered version p → Brings version (p ∷ []) (answer_frame version p ∷ []) (completion p ∷ [])
+answer_brings : (version : Version) (p : ProposeRunCompletion) → IsAnswered version p → Brings version (p ∷ []) (answer_frame version p ∷ []) (completion p ∷ [])
 answer_brings version p h = by_test (is_from_v7 version) refl h.1
   where
-    by_test : (b : Bool) → is_from_v7 version ≡ b → (b ≡ true → IsWhole (acknowledgement p.completion_id)) → Brings version (p ∷ []) (answer_frame version p ∷ []) (completion p ∷ [])
+    by_test : (b : Bool) → is_from_v7 version ≡ b → (b ≡ true → IsWhole (acknowledgement p.id)) → Brings version (p ∷ []) (answer_frame version p ∷ []) (completion p ∷ [])
     by_test true is whole =
         let x = acknowledged_brings p (whole refl) in
         let kept : acknowledged_from version (p ∷ []) ≡ p ∷ [] = ap (λ b. if b then p ∷ [] else []) is in
-        let frame : answer_frame version p ≡ stored_form (acknowledgement p.completion_id) = ap (λ b. if b then stored_form (acknowledgement p.completion_id) else stored_form (completion_message p)) is in
+        let frame : answer_frame version p ≡ stored_form (acknowledgement p.id) = ap (λ b. if b then stored_form (acknowledgement p.id) else stored_form (completion_message p)) is in
         record {
-          found = subst (λ (y : List KeptProposal × List RawMessage). AllFound y.0 y.1) (λ i. (sym kept i, sym frame i ∷ [])) x.0;
-          none_left = subst (λ (y : List KeptProposal × List RawMessage). kept_after y.0 y.1 ≡ []) (λ i. (sym kept i, sym frame i ∷ [])) x.1;
-          arrive = subst (λ (y : List KeptProposal × List RawMessage). arriving y.0 y.1 ≡ completion p ∷ []) (λ i. (sym kept i, sym frame i ∷ [])) x.2;
+          found = subst (λ (y : List ProposeRunCompletion × List RawMessage). AllFound y.0 y.1) (λ i. (sym kept i, sym frame i ∷ [])) x.0;
+          none_left = subst (λ (y : List ProposeRunCompletion × List RawMessage). kept_after y.0 y.1 ≡ []) (λ i. (sym kept i, sym frame i ∷ [])) x.1;
+          arrive = subst (λ (y : List ProposeRunCompletion × List RawMessage). arriving y.0 y.1 ≡ completion p ∷ []) (λ i. (sym kept i, sym frame i ∷ [])) x.2;
         }
     by_test false is whole =
         let kept : acknowledged_from version (p ∷ []) ≡ [] = ap (λ b. if b then p ∷ [] else []) is in
-        let frame : answer_frame version p ≡ stored_form (completion_message p) = ap (λ b. if b then stored_form (acknowledgement p.completion_id) else stored_form (completion_message p)) is in
+        let frame : answer_frame version p ≡ stored_form (completion_message p) = ap (λ b. if b then stored_form (acknowledgement p.id) else stored_form (completion_message p)) is in
         let b = note_brings version (stored_form (completion_message p)) (completion p) refl (notification_back (completion p) h.0) in
         let none = nothing_acknowledged version in
         record {
-          found = subst (λ (y : List KeptProposal × List RawMessage). AllFound y.0 y.1) (λ i. ((none ∙ sym kept) i, sym frame i ∷ [])) b.found;
-          none_left = subst (λ (y : List KeptProposal × List RawMessage). kept_after y.0 y.1 ≡ []) (λ i. ((none ∙ sym kept) i, sym frame i ∷ [])) b.none_left;
-          arrive = subst (λ (y : List KeptProposal × List RawMessage). arriving y.0 y.1 ≡ completion p ∷ []) (λ i. ((none ∙ sym kept) i, sym frame i ∷ [])) b.arrive;
+          found = subst (λ (y : List ProposeRunCompletion × List RawMessage). AllFound y.0 y.1) (λ i. ((none ∙ sym kept) i, sym frame i ∷ [])) b.found;
+          none_left = subst (λ (y : List ProposeRunCompletion × List RawMessage). kept_after y.0 y.1 ≡ []) (λ i. ((none ∙ sym kept) i, sym frame i ∷ [])) b.none_left;
+          arrive = subst (λ (y : List ProposeRunCompletion × List RawMessage). arriving y.0 y.1 ≡ completion p ∷ []) (λ i. ((none ∙ sym kept) i, sym frame i ∷ [])) b.arrive;
         }
 
-answers_bring : (version : Version) (ps : List KeptProposal) → AllByRecursion (IsAnswered version) ps → Brings version ps (answers version ps) (map completion ps)
+answers_bring : (version : Version) (ps : List ProposeRunCompletion) → AllByRecursion (IsAnswered version) ps → Brings version ps (answers version ps) (map completion ps)
 answers_bring version [] all = brings_nothing version
 answers_bring version (p ∷ ps) all = brings_then version (p ∷ []) ps (answer_frame version p ∷ []) (answers version ps) (completion p ∷ []) (map completion ps) (answer_brings version p all.0) (answers_bring version ps all.1)
 
 -- more proposals were stored, and what answers them
-pub brings_answers : (version : Version) (stored ps : List KeptProposal) (raws : List RawMessage) (notes : List Notification) → AllByRecursion (IsAnswered version) ps → Brings version stored raws notes → Brings version (stored ++ ps) (raws ++ answers version ps) (notes ++ map completion ps)
+pub brings_answers : (version : Version) (stored ps : List ProposeRunCompletion) (raws : List RawMessage) (notes : List Notification) → AllByRecursion (IsAnswered version) ps → Brings version stored raws notes → Brings version (stored ++ ps) (raws ++ answers version ps) (notes ++ map completion ps)
 brings_answers version stored ps raws notes all b = brings_then version stored ps raws (answers version ps) notes (map completion ps) b (answers_bring version ps all)

@@ -14,7 +14,7 @@ use Rattle.journal_protocol.specs.NotificationId.{NotificationId}
 use Rattle.journal_protocol.specs.NotificationId.TheVariants.{CompletionId, SignalId, SignalName}
 use Rattle.journal_protocol.specs.NotificationResult.{NotificationResult}
 use Rattle.journal_entries.specs.Carried.{all_carried, carried, carried_by, read_carried}
-use Rattle.journal_entries.specs.declared.proposals.KeptProposal.{KeptProposal}
+use Rattle.journal_protocol.specs.ProposeRunCompletion.{ProposeRunCompletion}
 use Rattle.vm_model.specs.Carried.{is_id_among, is_carried, read_carries}
 use Rattle.journal_entries.specs.Journal.{messages_in, read_before}
 use Rattle.journal_entries.specs.JournalFrames.{commands_among, is_command_frame}
@@ -24,8 +24,8 @@ use Rattle.journal_entries.specs.declared.completions.Completes.{Completes}
 use Rattle.journal_entries.specs.declared.completions.Completes.TheVariants as completes
 use Rattle.journal_entries.specs.declared.storing.Written.{Written}
 use Rattle.journal_entries.specs.declared.storing.Written.TheVariants.{Command, Proposal}
-use Rattle.journal_entries.specs.declared.fault.RoundFault.{RoundFault}
-use Rattle.journal_entries.specs.declared.fault.RoundFault.TheVariants as round_fault
+use Rattle.journal_entries.specs.declared.fault.JournalFault.{JournalFault}
+use Rattle.journal_entries.specs.declared.fault.JournalFault.TheVariants as journal_fault
 use Rattle.journal_entries.specs.Arrivals.{arrival_fault, completes_among, completes_by, completion_fault, if_same, completes_id, is_of, most_entries, note_fault, stored_proposal_fault, proposed_fault, read_fault, room_fault}
 use Rattle.journal_entries.specs.Entries.{journal_frames, note_in, notes_in, said_in}
 use Rattle.journal_entries.specs.Storing.{StoredCanBeRead, FirstFault, proposal_of, stored_as, written_among, written_before}
@@ -198,23 +198,23 @@ module _ (version : Version) (ns : List Notification) (first : RawMessage) where
       }
 
   -- a proposal is stored
-  proposal_stored : (p : KeptProposal) (ws : List Written) (journal : List (List ℕ)) (cs : List RawMessage) (ps : List ℕ) → IsItem version (Proposal p) → Stands ns first journal cs ps (Proposal p ∷ ws) → Stands ns first (journal ++ stored_as (Proposal p) ∷ []) cs (ps ++ p.completion_id ∷ []) ws
+  proposal_stored : (p : ProposeRunCompletion) (ws : List Written) (journal : List (List ℕ)) (cs : List RawMessage) (ps : List ℕ) → IsItem version (Proposal p) → Stands ns first journal cs ps (Proposal p ∷ ws) → Stands ns first (journal ++ stored_as (Proposal p) ∷ []) cs (ps ++ p.id ∷ []) ws
   proposal_stored p ws journal cs ps item s =
       let x = stored_as (Proposal p) in
       let enter = items_enter version (Proposal p ∷ []) (item, tt) in
       let notes : notes_in (journal ++ x ∷ []) ≡ notes_in journal ++ completion p ∷ [] = notes_append journal (x ∷ []) ∙ ap (λ l. notes_in journal ++ l) enter.1 in
       record {
         commands = journal_commands journal x first cs [] s.commands enter.0 ∙ ap (λ l. first ∷ l) (append-nil cs);
-        explained = subst (IsExplained ns cs (ps ++ p.completion_id ∷ [])) (sym notes)
-            (explained_note ns cs ps (ps ++ p.completion_id ∷ []) (notes_in journal) (completion p) (λ id h. among_append id ps (p.completion_id ∷ []) ∙ either (is_id_among id ps) (is_id_among id (p.completion_id ∷ [])) h) (λ id is. inl (newest id is)) s.explained);
+        explained = subst (IsExplained ns cs (ps ++ p.id ∷ [])) (sym notes)
+            (explained_note ns cs ps (ps ++ p.id ∷ []) (notes_in journal) (completion p) (λ id h. among_append id ps (p.id ∷ []) ∙ either (is_id_among id ps) (is_id_among id (p.id ∷ [])) h) (λ id is. inl (newest id is)) s.explained);
         rises = s.rises;
         well = s.well.1;
       }
     where
-      newest : (id : ℕ) → (completion p).id ≡ CompletionId id → is_id_among id (ps ++ p.completion_id ∷ []) ≡ true
+      newest : (id : ℕ) → (completion p).id ≡ CompletionId id → is_id_among id (ps ++ p.id ∷ []) ≡ true
       newest id is =
-          let same : p.completion_id ≡ id = cc in
-          among_append id ps (p.completion_id ∷ []) ∙ or_else (is_id_among id ps) (is_id_among id (p.completion_id ∷ [])) (either (p.completion_id == id) false (eq-eqb p.completion_id id same))
+          let same : p.id ≡ id = cc in
+          among_append id ps (p.id ∷ []) ∙ or_else (is_id_among id ps) (is_id_among id (p.id ∷ [])) (either (p.id == id) false (eq-eqb p.id id same))
 
   -- items are stored
   pub items_stored : (us ws : List Written) (journal : List (List ℕ)) (cs : List RawMessage) (ps : List ℕ) → AllByRecursion (IsItem version) us → Stands ns first journal cs ps (us ++ ws) → Stands ns first (journal ++ map stored_as us) (cs ++ flat_map command_in us) (ps ++ proposed_ids us) ws
@@ -225,15 +225,15 @@ module _ (version : Version) (ns : List Notification) (first : RawMessage) where
       (items_stored us ws (journal ++ x ∷ []) (cs ++ raw ∷ []) ps all.1 (command_stored raw (us ++ ws) journal cs ps all.0 s))
   items_stored (Proposal p ∷ us) ws journal cs ps all s =
       let x = stored_as (Proposal p) in
-      subst (λ (z : List (List ℕ) × List ℕ). Stands ns first z.0 (cs ++ flat_map command_in us) z.1 ws) (λ i. (append_assoc journal (x ∷ []) (map stored_as us) i, append_assoc ps (p.completion_id ∷ []) (proposed_ids us) i))
-      (items_stored us ws (journal ++ x ∷ []) cs (ps ++ p.completion_id ∷ []) all.1 (proposal_stored p (us ++ ws) journal cs ps all.0 s))
+      subst (λ (z : List (List ℕ) × List ℕ). Stands ns first z.0 (cs ++ flat_map command_in us) z.1 ws) (λ i. (append_assoc journal (x ∷ []) (map stored_as us) i, append_assoc ps (p.id ∷ []) (proposed_ids us) i))
+      (items_stored us ws (journal ++ x ∷ []) cs (ps ++ p.id ∷ []) all.1 (proposal_stored p (us ++ ws) journal cs ps all.0 s))
 
   -- ---- faults
 
-  room_full : (journal : List (List ℕ)) (f : RoundFault) → room_fault journal ≡ Some f → f ≡ round_fault.JournalFull
+  room_full : (journal : List (List ℕ)) (f : JournalFault) → room_fault journal ≡ Some f → f ≡ journal_fault.JournalFull
   room_full journal f = by_test (length journal == most_entries)
     where
-      by_test : (b : Bool) → (if b then Some round_fault.JournalFull else None) ≡ Some f → f ≡ round_fault.JournalFull
+      by_test : (b : Bool) → (if b then Some journal_fault.JournalFull else None) ≡ Some f → f ≡ journal_fault.JournalFull
       by_test true h = cc
       by_test false h = absurd (cc)
 
@@ -244,9 +244,9 @@ module _ (version : Version) (ns : List Notification) (first : RawMessage) where
       by_read None = run_completes 1 id cs None rises run
       by_read (Some m) = run_completes 1 id cs (completes_by id m None) rises run
 
-  proposal_full : (p : KeptProposal) (ws : List Written) (journal : List (List ℕ)) (cs : List RawMessage) (ps : List ℕ) (f : RoundFault) → Stands ns first journal cs ps (Proposal p ∷ ws) → stored_proposal_fault p.completion_id journal ≡ Some f → f ≡ round_fault.JournalFull
+  proposal_full : (p : ProposeRunCompletion) (ws : List Written) (journal : List (List ℕ)) (cs : List RawMessage) (ps : List ℕ) (f : JournalFault) → Stands ns first journal cs ps (Proposal p ∷ ws) → stored_proposal_fault p.id journal ≡ Some f → f ≡ journal_fault.JournalFull
   proposal_full p ws journal cs ps f s e =
-      let id = p.completion_id in
+      let id = p.id in
       let may = s.well.0 in
       let rises : Rises 1 (all_carried cs) = rises_front 1 (all_carried cs) (all_carried (flat_map command_in ws)) (subst (Rises 1) (carried_append cs (flat_map command_in ws)) s.rises) in
       let kind = completed_as id journal cs s.commands rises may.run in
@@ -258,7 +258,7 @@ module _ (version : Version) (ns : List Notification) (first : RawMessage) where
   IsSo (Command raw) = is_command_frame raw ≡ true
   IsSo (Proposal p) = Unit {0}
 
-  so_by : (b : Bool) (raw : RawMessage) (o : Option KeptProposal) (ws : List Written) → is_command_frame raw ≡ b → AllByRecursion IsSo ws → AllByRecursion IsSo (written_before (cond b (Some (Command raw)) (option_map Proposal o)) ws)
+  so_by : (b : Bool) (raw : RawMessage) (o : Option ProposeRunCompletion) (ws : List Written) → is_command_frame raw ≡ b → AllByRecursion IsSo ws → AllByRecursion IsSo (written_before (cond b (Some (Command raw)) (option_map Proposal o)) ws)
   so_by true raw o ws is h = (is, h)
   so_by false raw None ws is h = h
   so_by false raw (Some p) ws is h = (tt, h)
@@ -267,7 +267,7 @@ module _ (version : Version) (ns : List Notification) (first : RawMessage) where
   all_so [] = tt
   all_so (raw ∷ raws) = so_by (is_command_frame raw) raw (proposal_of raw) (written_among raws) refl (all_so raws)
 
-  first_full : (n : ℕ) (ws : List Written) (journal : List (List ℕ)) (cs : List RawMessage) (ps : List ℕ) (f : RoundFault) → AllByRecursion IsSo ws → Stands ns first journal cs ps ws → FirstFault version (take n ws) journal f → f ≡ round_fault.JournalFull
+  first_full : (n : ℕ) (ws : List Written) (journal : List (List ℕ)) (cs : List RawMessage) (ps : List ℕ) (f : JournalFault) → AllByRecursion IsSo ws → Stands ns first journal cs ps ws → FirstFault version (take n ws) journal f → f ≡ journal_fault.JournalFull
   first_full zero ws journal cs ps f so s h = absurd h
   first_full (suc n) [] journal cs ps f so s h = absurd h
   first_full (suc n) (Command raw ∷ ws) journal cs ps f so s h =
@@ -278,18 +278,18 @@ module _ (version : Version) (ns : List Notification) (first : RawMessage) where
       h
   first_full (suc n) (Proposal p ∷ ws) journal cs ps f so s h =
       ⊎_elim
-      (λ (x : stored_proposal_fault p.completion_id journal ≡ Some f). proposal_full p ws journal cs ps f s x)
-      (λ (x : (stored_proposal_fault p.completion_id journal ≡ None) × StoredCanBeRead version (Proposal p) × FirstFault version (take n ws) (journal ++ stored_as (Proposal p) ∷ []) f).
-      first_full n ws (journal ++ stored_as (Proposal p) ∷ []) cs (ps ++ p.completion_id ∷ []) f so.1 (proposal_stored p ws journal cs ps x.1 s) x.2)
+      (λ (x : stored_proposal_fault p.id journal ≡ Some f). proposal_full p ws journal cs ps f s x)
+      (λ (x : (stored_proposal_fault p.id journal ≡ None) × StoredCanBeRead version (Proposal p) × FirstFault version (take n ws) (journal ++ stored_as (Proposal p) ∷ []) f).
+      first_full n ws (journal ++ stored_as (Proposal p) ∷ []) cs (ps ++ p.id ∷ []) f so.1 (proposal_stored p ws journal cs ps x.1 s) x.2)
       h
 
   -- the first fault of what is stored is that of a full journal
-  pub storing_full : (n : ℕ) (raws : List RawMessage) (journal : List (List ℕ)) (cs : List RawMessage) (ps : List ℕ) (f : RoundFault) → Stands ns first journal cs ps (written_among raws) → FirstFault version (take n (written_among raws)) journal f → f ≡ round_fault.JournalFull
+  pub storing_full : (n : ℕ) (raws : List RawMessage) (journal : List (List ℕ)) (cs : List RawMessage) (ps : List ℕ) (f : JournalFault) → Stands ns first journal cs ps (written_among raws) → FirstFault version (take n (written_among raws)) journal f → f ≡ journal_fault.JournalFull
   storing_full n raws journal cs ps f s h = first_full n (written_among raws) journal cs ps f (all_so raws) s h
 
   -- ---- arrivals
 
-  not_proposed : (kind : Option Completes) (done : Bool) (brings : NotificationResult) (room : Option RoundFault) → completion_fault kind done brings room ≡ None → kind ≡ Some completes.Proposal → ⊥
+  not_proposed : (kind : Option Completes) (done : Bool) (brings : NotificationResult) (room : Option JournalFault) → completion_fault kind done brings room ≡ None → kind ≡ Some completes.Proposal → ⊥
   not_proposed None done brings room e is = absurd (cc)
   not_proposed (Some kind) true brings room e is = absurd (cc)
   not_proposed (Some completes.InvocationId) false brings room e is = absurd (cc)

@@ -4,7 +4,7 @@ use Rattle.std.specs.List.{AllByRecursion, concat}
 use Rattle.journal_protocol.specs.RawMessage.{RawMessage}
 use Rattle.journal_protocol.specs.Notification.{Notification}
 use Rattle.journal_entries.specs.Frames.{Tail, frames_of}
-use Rattle.journal_entries.specs.declared.proposals.KeptProposal.{KeptProposal}
+use Rattle.journal_protocol.specs.ProposeRunCompletion.{ProposeRunCompletion}
 use Rattle.vm_model.specs.Calls.{Meaning}
 use Rattle.journal_entries.specs.JournalFrames.{notified_by}
 use Rattle.vm_steps.specs.Heard.{proposals_among, proposals_in}
@@ -55,7 +55,7 @@ From es more x = IsAmong (event.Arrive x) es ⊎ ((w : Written) × IsAmong w (wr
 
 -- the same of a notification
 abbrev NoteFrom : List Event → List RawMessage → Notification → Type 0
-NoteFrom es more n = ((x : List ℕ) × IsAmong (event.Arrive x) es × (note_in x ≡ Some n)) ⊎ ((p : KeptProposal) × IsAmong p (proposals_among more) × (n ≡ completion p))
+NoteFrom es more n = ((x : List ℕ) × IsAmong (event.Arrive x) es × (note_in x ≡ Some n)) ⊎ ((p : ProposeRunCompletion) × IsAmong p (proposals_among more) × (n ≡ completion p))
 
 from_behind : (es fs : List Event) (more k : List RawMessage) (x : List ℕ) → From es more x → From (es ++ fs) (more ++ k) x
 from_behind es fs more k x (inl h) = inl (among_behind (event.Arrive x) es fs h)
@@ -134,7 +134,7 @@ stores_traced n now new scanned journal waiting unstored scans s is_journal is_o
       frames = ap frames_of is_output ∙ grown ∙ ap (λ b. in_front (scanned ++ s.seen) (frames_of b)) (sym is_unstored);
       entries = all_map (λ (x : List ℕ). (w : Written) × IsAmong w W × (x ≡ stored_as w)) (From (event.Store n ∷ []) s.seen) (λ x h. inr h) (map stored_as W) (all_images stored_as [] W);
       notes = subst (AllByRecursion (NoteFrom (event.Store n ∷ []) s.seen)) (sym notes)
-          (all_map (λ (k : Notification). (p : KeptProposal) × IsAmong p (proposals_among s.seen) × (k ≡ completion p)) (NoteFrom (event.Store n ∷ []) s.seen) (λ k h. inr h) (map completion (proposals_among s.seen)) (all_images completion [] (proposals_among s.seen)));
+          (all_map (λ (k : Notification). (p : ProposeRunCompletion) × IsAmong p (proposals_among s.seen) × (k ≡ completion p)) (NoteFrom (event.Store n ∷ []) s.seen) (λ k h. inr h) (map completion (proposals_among s.seen)) (all_images completion [] (proposals_among s.seen)));
     }
 
 event_traced : (m : Meaning) (e : Event) (now new : Now) (scanned : List RawMessage) → Scans scanned now → Happens m e now new → Traced (e ∷ []) now new scanned
@@ -239,7 +239,7 @@ round_invents_nothing m w round old report new (inl d) =
       notes = all_map (NoteFrom round.events t.more) (RoundNotes round report) (λ n h.
           ⊎_elim
           (λ (a : (x : List ℕ) × IsAmong (event.Arrive x) round.events × (note_in x ≡ Some n)). inl (a.0, (round, ([], [], refl), a.1), a.2))
-          (λ (b : (p : KeptProposal) × IsAmong p (proposals_among t.more) × (n ≡ completion p)). inr (report, b.0, ([], [], refl), subst (IsAmong b.0) (sym proposed) (among_behind b.0 (proposals_among t.more) (proposals_among rest) b.1), b.2))
+          (λ (b : (p : ProposeRunCompletion) × IsAmong p (proposals_among t.more) × (n ≡ completion p)). inr (report, b.0, ([], [], refl), subst (IsAmong b.0) (sym proposed) (among_behind b.0 (proposals_among t.more) (proposals_among rest) b.1), b.2))
           h) (notes_in t.added) t.notes;
     }
 round_invents_nothing m w round old report new (inr d) =

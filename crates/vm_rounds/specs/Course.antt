@@ -9,7 +9,7 @@ use Rattle.invocation_vm.specs.Making.{supported}
 use Rattle.vm_attempt.specs.Fixed.{fixed_of}
 use Rattle.vm_rounds.specs.declared.types.Event.{Event}
 use Rattle.vm_rounds.specs.declared.types.Round.{Round}
-use Rattle.journal_entries.specs.declared.fault.RoundFault.{RoundFault}
+use Rattle.journal_entries.specs.declared.fault.JournalFault.{JournalFault}
 use Rattle.vm_rounds.specs.declared.types.Setting.{Setting}
 use Rattle.vm_rounds.specs.States.{HaveTextKeys, pairs_for}
 use Rattle.vm_rounds.specs.Worlds.{IsJournal, start_message}
@@ -99,6 +99,6 @@ HappensTo m e (Some now) old new = (old.journal ≡ now.journal) × ((next : Now
     × Happens m e now next × (new ≡ record old { journal = next.journal; live = Some next }))
 
 -- the fault of an event of the round that goes on, over the journal
-abbrev pub FaultsIn : Event → Option Now → List (List ℕ) → RoundFault → Type 0
+abbrev pub FaultsIn : Event → Option Now → List (List ℕ) → JournalFault → Type 0
 FaultsIn e None journal f = ⊥
 FaultsIn e (Some now) journal f = (journal ≡ now.journal) × Faults e now f

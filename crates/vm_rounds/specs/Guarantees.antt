@@ -12,7 +12,7 @@ use Rattle.vm_rounds.specs.States.{base_of}
 use Rattle.vm_rounds.specs.Worlds.{WorldView, setup_of}
 use Rattle.vm_rounds.specs.declared.types.Report.{Report}
 use Rattle.vm_rounds.specs.declared.types.Round.{Round}
-use Rattle.journal_entries.specs.declared.fault.RoundFault.{RoundFault}
+use Rattle.journal_entries.specs.declared.fault.JournalFault.{JournalFault}
 use Rattle.vm_rounds.specs.declared.types.Setting.{Setting}
 use Rattle.vm_rounds.specs.Courses.{AreHonest}
 use Rattle.vm_rounds.specs.Fresh.{AreFresh}
@@ -118,7 +118,7 @@ ErrorsAreTheirOwn c rounds old reports new =
 -- A fault comes from outside: the first event that has one is out of memory, stores into a full
 -- journal, or is an arrival that has it on the journal as it is then. What an attempt wrote can
 -- always be stored.
-abbrev pub FaultsComeFromOutside : Case → List Round → List (List ℕ) → RoundFault → Type 0
+abbrev pub FaultsComeFromOutside : Case → List Round → List (List ℕ) → JournalFault → Type 0
 FaultsComeFromOutside c rounds old f = RoundsFaultBy OutsideFault c.handler c.setting rounds old f
 
 -- So does the fault of the event at which rounds are stopped.

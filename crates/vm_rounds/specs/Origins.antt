@@ -3,7 +3,7 @@ use Rattle.std.specs.Prelude.{◌≡◌, ◌⊎◌, ℕ, List, ◌∷◌, ◌++�
 use Rattle.std.specs.List.{AllByRecursion}
 use Rattle.journal_protocol.specs.Notification.{Notification}
 use Rattle.journal_entries.specs.Proposals.{acknowledged_completion}
-use Rattle.journal_entries.specs.declared.proposals.KeptProposal.{KeptProposal}
+use Rattle.journal_protocol.specs.ProposeRunCompletion.{ProposeRunCompletion}
 use Rattle.vm_steps.specs.Heard.{proposals_in}
 use Rattle.journal_entries.specs.Entries.{note_in, notes_in}
 use Rattle.journal_entries.specs.Storing.{stored_as, written_from}
@@ -32,8 +32,8 @@ ArrivedAs n rounds = (entry : List ℕ) × HasArrived entry rounds × (note_in e
 
 -- an attempt of one of these reports proposed a run's result, and this is the run's completion
 abbrev pub WasProposed : Notification → List ReportView → Type 0
-WasProposed n reports = (report : ReportView) × (p : KeptProposal) × IsAmong report reports
-    × IsAmong p (proposals_in report.output) × (n ≡ acknowledged_completion p.completion_id p)
+WasProposed n reports = (report : ReportView) × (p : ProposeRunCompletion) × IsAmong report reports
+    × IsAmong p (proposals_in report.output) × (n ≡ acknowledged_completion p.id p)
 
 -- The journal is the old one and entries after it, each of which arrived or was written;
 -- and each notification among these arrived, or completes a run with a result that was proposed.

@@ -7,8 +7,8 @@ use Rattle.invocation_vm.specs.Making.{supported}
 use Rattle.vm_model.specs.Calls.{Meaning}
 use Rattle.vm_rounds.specs.declared.types.Event.{Event}
 use Rattle.vm_rounds.specs.declared.types.Round.{Round}
-use Rattle.journal_entries.specs.declared.fault.RoundFault.{RoundFault}
-use Rattle.journal_entries.specs.declared.fault.RoundFault.TheVariants as round_fault
+use Rattle.journal_entries.specs.declared.fault.JournalFault.{JournalFault}
+use Rattle.journal_entries.specs.declared.fault.JournalFault.TheVariants as journal_fault
 use Rattle.vm_rounds.specs.declared.types.Setting.{Setting}
 use Rattle.vm_rounds.specs.Worlds.{start_message}
 use Rattle.vm_rounds.specs.declared.placed.PlacedFault.{PlacedFault}
@@ -16,7 +16,7 @@ use Rattle.vm_rounds.specs.Rounds.{ArrivalsDo, ArrivalsFault, Faults, Happen, Is
 
 -- The events before this place, counted from 0, have happened, and the event there has this fault.
 pub record FaultsAt (m : Meaning) (events : List Event) (begun : Now)
-    (place : Option ℕ) (f : RoundFault) : Type 0 where
+    (place : Option ℕ) (f : JournalFault) : Type 0 where
   pub before : List Event
   pub event : Event
   pub after : List Event
@@ -29,7 +29,7 @@ pub record FaultsAt (m : Meaning) (events : List Event) (begun : Now)
 -- The same if no attempt was made: the arrivals before this place are stored, and the arrival there
 -- has this fault.
 pub record ArrivalFaultsAt (events : List Event) (old : List (List ℕ)) (place : Option ℕ)
-    (f : RoundFault) : Type 0 where
+    (f : JournalFault) : Type 0 where
   pub before : List Event
   pub event : Event
   pub after : List Event
@@ -40,12 +40,12 @@ pub record ArrivalFaultsAt (events : List Event) (old : List (List ℕ)) (place 
   pub faults : ArrivalsFault (event ∷ []) journal f
 
 -- out of memory, before the first event or after the last
-abbrev pub IsMemoryAside : Option ℕ → RoundFault → Type 0
-IsMemoryAside place f = (place ≡ None) × (f ≡ round_fault.Memory)
+abbrev pub IsMemoryAside : Option ℕ → JournalFault → Type 0
+IsMemoryAside place f = (place ≡ None) × (f ≡ journal_fault.Memory)
 
 -- a round with its attempt is stopped at this event
 pub record AttemptStops (m : Meaning) (w : Setting) (round : Round) (old : List (List ℕ))
-    (place : Option ℕ) (f : RoundFault) : Type 0 where
+    (place : Option ℕ) (f : JournalFault) : Type 0 where
   pub alloc : Global
   pub speaks : IsSupported w.version
   pub start : IsWhole (start_message w round old)
@@ -53,13 +53,13 @@ pub record AttemptStops (m : Meaning) (w : Setting) (round : Round) (old : List 
 
 -- a round whose attempt was refused is stopped at this event
 pub record RefusedStops (w : Setting) (round : Round) (old : List (List ℕ)) (place : Option ℕ)
-    (f : RoundFault) : Type 0 where
+    (f : JournalFault) : Type 0 where
   pub error : Error
   pub refusal : IsRefusal (supported w.version) error
   pub stops : ArrivalFaultsAt round.events old place f
 
 -- a round is stopped at this event, or aside of its events it is out of memory
-abbrev pub RoundStops : Meaning → Setting → Round → List (List ℕ) → Option ℕ → RoundFault → Type 0
+abbrev pub RoundStops : Meaning → Setting → Round → List (List ℕ) → Option ℕ → JournalFault → Type 0
 RoundStops m w round old place f =
     IsMemoryAside place f ⊎ (AttemptStops m w round old place f ⊎ RefusedStops w round old place f)
 
@@ -78,8 +78,8 @@ pub record RoundsStop (m : Meaning) (w : Setting) (rounds : List Round) (old : L
 -- The event at which a round is stopped has its fault from outside. (So has an arrival at which a
 -- round without an attempt is stopped: the fault is its own.)
 abbrev pub StopsOutside : (m : Meaning) (w : Setting) (round : Round) (old : List (List ℕ))
-    (place : Option ℕ) (f : RoundFault) → RoundStops m w round old place f → Type 0
+    (place : Option ℕ) (f : JournalFault) → RoundStops m w round old place f → Type 0
 StopsOutside m w round old place f (inl aside) = Unit {0}
-StopsOutside m w round old place f (inr (inl d)) = (f ≡ round_fault.Memory)
+StopsOutside m w round old place f (inr (inl d)) = (f ≡ journal_fault.Memory)
     ⊎ OutsideFault d.stops.event d.stops.now f
 StopsOutside m w round old place f (inr (inr d)) = Unit {0}

@@ -28,8 +28,8 @@ use Rattle.vm_steps.specs.Stepping.{CloseDoes, FeedDoes, FinishDoes, StepDoes, f
 use Rattle.vm_rounds.specs.declared.types.Event.{Event}
 use Rattle.vm_rounds.specs.declared.types.Event.TheVariants as event
 use Rattle.vm_rounds.specs.declared.types.Round.{Round}
-use Rattle.journal_entries.specs.declared.fault.RoundFault.{RoundFault}
-use Rattle.journal_entries.specs.declared.fault.RoundFault.TheVariants as round_fault
+use Rattle.journal_entries.specs.declared.fault.JournalFault.{JournalFault}
+use Rattle.journal_entries.specs.declared.fault.JournalFault.TheVariants as journal_fault
 use Rattle.vm_rounds.specs.declared.types.Setting.{Setting}
 use Rattle.journal_entries.specs.Arrivals.{arrival_fault, most_entries}
 use Rattle.journal_entries.specs.Entries.{journal_entries}
@@ -130,7 +130,7 @@ Happens m (event.Store n) old new =
 
 -- an event's fault, out of memory aside; if whole frames wait to be stored, that of the first item
 -- that has one
-abbrev pub Fault : Event → Now → RoundFault → Type 0
+abbrev pub Fault : Event → Now → JournalFault → Type 0
 Fault (event.Piece n) now f = ⊥
 Fault event.Close now f = ⊥
 Fault event.Step now f = ⊥
@@ -143,11 +143,11 @@ Fault (event.Store n) now f =
     × WholeFrames now.attempt.vm.machine.output
 
 -- an event's fault
-abbrev pub Faults : Event → Now → RoundFault → Type 0
-Faults e now f = (f ≡ round_fault.Memory) ⊎ Fault e now f
+abbrev pub Faults : Event → Now → JournalFault → Type 0
+Faults e now f = (f ≡ journal_fault.Memory) ⊎ Fault e now f
 
 -- what one event does, or its fault
-abbrev pub EventOutcome : Meaning → Event → Now → Result Unit RoundFault → Now → Type 0
+abbrev pub EventOutcome : Meaning → Event → Now → Result Unit JournalFault → Now → Type 0
 EventOutcome m e old (Ok u) new = Happens m e old new
 EventOutcome m e old (Err f) new = Faults e old f
 
@@ -158,16 +158,16 @@ Happen m (e ∷ es) old new = (mid : Now) × Happens m e old mid × Happen m es 
 
 -- a kind of fault that events can have
 abbrev pub EventFault : Type 1
-EventFault = Event → Now → RoundFault → Type 0
+EventFault = Event → Now → JournalFault → Type 0
 
 -- the first of these events that has a fault of this kind, or is out of memory, has this one
-abbrev pub HappenFaultsBy : EventFault → Meaning → List Event → Now → RoundFault → Type 0
+abbrev pub HappenFaultsBy : EventFault → Meaning → List Event → Now → JournalFault → Type 0
 HappenFaultsBy Has m [] now f = ⊥
-HappenFaultsBy Has m (e ∷ es) now f = ((f ≡ round_fault.Memory) ⊎ Has e now f)
+HappenFaultsBy Has m (e ∷ es) now f = ((f ≡ journal_fault.Memory) ⊎ Has e now f)
     ⊎ ((mid : Now) × Happens m e now mid × HappenFaultsBy Has m es mid f)
 
 -- the first of these events that has a fault has this one
-abbrev pub HappenFaults : Meaning → List Event → Now → RoundFault → Type 0
+abbrev pub HappenFaults : Meaning → List Event → Now → JournalFault → Type 0
 HappenFaults m events now f = HappenFaultsBy Fault m events now f
 
 -- ---- rounds whose attempt was refused
@@ -180,10 +180,10 @@ ArrivalsDo (event.Arrive x ∷ es) old new = (arrival_fault x old ≡ None)
 ArrivalsDo (e ∷ es) old new = ArrivalsDo es old new
 
 -- the first of the arrivals that has a fault has this one
-abbrev pub ArrivalsFault : List Event → List (List ℕ) → RoundFault → Type 0
+abbrev pub ArrivalsFault : List Event → List (List ℕ) → JournalFault → Type 0
 ArrivalsFault [] journal f = ⊥
 ArrivalsFault (event.Arrive x ∷ es) journal f =
-    ((f ≡ round_fault.Memory) ⊎ (arrival_fault x journal ≡ Some f))
+    ((f ≡ journal_fault.Memory) ⊎ (arrival_fault x journal ≡ Some f))
     ⊎ ((arrival_fault x journal ≡ None) × ArrivalsFault es (journal ++ x ∷ []) f)
 ArrivalsFault (e ∷ es) journal f = ArrivalsFault es journal f
 
@@ -293,44 +293,44 @@ RoundsDo m w (r ∷ rs) old reports new =
 
 -- the first event of a round with its attempt that has a fault of this kind has this one
 pub record AttemptFaultsBy (Has : EventFault) (m : Meaning) (w : Setting) (round : Round)
-    (old : List (List ℕ)) (f : RoundFault) : Type 0 where
+    (old : List (List ℕ)) (f : JournalFault) : Type 0 where
   pub alloc : Global
   pub speaks : IsSupported w.version
   pub start : IsWhole (start_message w round old)
   pub faults : HappenFaultsBy Has m round.events (begin alloc w round old) f
 
 -- the first event of a round with its attempt that has a fault has this one
-abbrev pub AttemptFaults : Meaning → Setting → Round → List (List ℕ) → RoundFault → Type 0
+abbrev pub AttemptFaults : Meaning → Setting → Round → List (List ℕ) → JournalFault → Type 0
 AttemptFaults m w round old f = AttemptFaultsBy Fault m w round old f
 
 -- the first arrival of a round whose attempt was refused that has a fault has this one
 pub record RefusedFaults (w : Setting) (round : Round) (old : List (List ℕ))
-    (f : RoundFault) : Type 0 where
+    (f : JournalFault) : Type 0 where
   pub error : Error
   pub refusal : IsRefusal (supported w.version) error
   pub faults : ArrivalsFault round.events old f
 
 -- a round's fault of this kind: out of memory, or that of the first event that has one
-abbrev pub RoundFaultsBy : EventFault → Meaning → Setting → Round → List (List ℕ) → RoundFault
+abbrev pub RoundFaultsBy : EventFault → Meaning → Setting → Round → List (List ℕ) → JournalFault
     → Type 0
 RoundFaultsBy Has m w round old f =
-    (f ≡ round_fault.Memory) ⊎ (AttemptFaultsBy Has m w round old f ⊎ RefusedFaults w round old f)
+    (f ≡ journal_fault.Memory) ⊎ (AttemptFaultsBy Has m w round old f ⊎ RefusedFaults w round old f)
 
 -- a round's fault: out of memory, or that of the first event that has one
-abbrev pub RoundFaults : Meaning → Setting → Round → List (List ℕ) → RoundFault → Type 0
+abbrev pub RoundFaults : Meaning → Setting → Round → List (List ℕ) → JournalFault → Type 0
 RoundFaults m w round old f = RoundFaultsBy Fault m w round old f
 
 -- the first round that has a fault of this kind has this one
-abbrev pub RoundsFaultBy : EventFault → Meaning → Setting → List Round → List (List ℕ) → RoundFault
+abbrev pub RoundsFaultBy : EventFault → Meaning → Setting → List Round → List (List ℕ) → JournalFault
     → Type 0
-RoundsFaultBy Has m w [] old f = f ≡ round_fault.Memory
+RoundsFaultBy Has m w [] old f = f ≡ journal_fault.Memory
 RoundsFaultBy Has m w (r ∷ rs) old f =
     RoundFaultsBy Has m w r old f
     ⊎ ((mid : List (List ℕ)) × (report : ReportView) × RoundDoes m w r old report mid
     × RoundsFaultBy Has m w rs mid f)
 
 -- the first round that has a fault has this one
-abbrev pub RoundsFault : Meaning → Setting → List Round → List (List ℕ) → RoundFault → Type 0
+abbrev pub RoundsFault : Meaning → Setting → List Round → List (List ℕ) → JournalFault → Type 0
 RoundsFault m w rounds old f = RoundsFaultBy Fault m w rounds old f
 
 -- ---- faults that come from outside
@@ -344,7 +344,7 @@ OutsideFault event.Step now f = ⊥
 OutsideFault (event.Steps n) now f = ⊥
 OutsideFault (event.RunResult handle exit policy) now f = ⊥
 OutsideFault (event.Arrive x) now f = arrival_fault x now.journal ≡ Some f
-OutsideFault (event.Store n) now f = f ≡ round_fault.JournalFull
+OutsideFault (event.Store n) now f = f ≡ journal_fault.JournalFull
 
 -- ---- what is asked for histories
 

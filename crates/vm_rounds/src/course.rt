@@ -1,7 +1,7 @@
 //! A world whose rounds go on: what happens to it comes one by one, so that many worlds can go on beside each other.
 ghost use Rattle.std.specs.Prelude.{◌≡◌, length, take, None, IfOk, IfErr, is_some};
 ghost use Rattle.vm_attempt.specs.Fixed.{fixed_of};
-ghost use Rattle.journal_entries.specs.declared.fault.RoundFault.TheVariants as round_fault;
+ghost use Rattle.journal_entries.specs.declared.fault.JournalFault.TheVariants as journal_fault;
 ghost use Rattle.vm_rounds.specs.Guarantees.{HasOneResultEach, HasRightKinds, IsExactlyOnce, IsReplayable};
 ghost use Rattle.vm_rounds.specs.Rounds.{EndsTold, ReplaysAndQueues, new_now};
 ghost use Rattle.vm_rounds.specs.Inside.{the_now};
@@ -13,7 +13,7 @@ use crate::round::{new_attempt, waiting_bytes};
 use crate::types::{Event, Round, Setting};
 use crate::world::World;
 use bytes::{Bytes, BytesMut};
-use journal_entries::RoundFault;
+use journal_entries::JournalFault;
 use journal_protocol::{Decoder, Version};
 use std::alloc::Global;
 use std::marker::Model;
@@ -128,18 +128,18 @@ impl<'a, H: Handler> Course<'a, H> {
 
     /// A round begins: Start and the journal wait for a new attempt. One that lives is lost, with what it wrote and wasn't stored. No round
     /// begins if the attempt is refused.
-    pub fn begin(self, round: &Round) -> Result<Self, RoundFault>
+    pub fn begin(self, round: &Round) -> Result<Self, JournalFault>
         ensures ok { IfOk result (BeginsRound round.now self.entry) }
-        ensures err { IfErr result (λ f. f ≡ round_fault.Memory) }
+        ensures err { IfErr result (λ f. f ≡ journal_fault.Memory) }
     {
         self.stop().begin_next(round)
     }
 
     /// A round begins. None may go on.
-    fn begin_next(self, round: &Round) -> Result<Self, RoundFault>
+    fn begin_next(self, round: &Round) -> Result<Self, JournalFault>
         requires { self.live ≡ None }
         ensures ok { IfOk result (BeginsRound round.now self.entry) }
-        ensures err { IfErr result (λ f. f ≡ round_fault.Memory) }
+        ensures err { IfErr result (λ f. f ≡ journal_fault.Memory) }
     {
         let Course {
             alloc,
@@ -161,7 +161,7 @@ impl<'a, H: Handler> Course<'a, H> {
         };
         let Desk { journal, .. } = desk;
         let Ok(waiting) = waiting_bytes(alloc, &setting, round, journal.as_slice()) else {
-            return Err(RoundFault::Memory);
+            return Err(JournalFault::Memory);
         };
         let desk = new_desk(alloc, setting.version, journal, waiting);
         Ok(Course {
@@ -175,7 +175,7 @@ impl<'a, H: Handler> Course<'a, H> {
     }
 
     /// The next event of the round that goes on; nothing happens between rounds.
-    pub fn happen(self, event: &Event) -> Result<Self, RoundFault>
+    pub fn happen(self, event: &Event) -> Result<Self, JournalFault>
         ensures ok { IfOk result
             (HappensTo (H.meaning self.entry.handler) event.now self.entry.live self.entry) }
         ensures err { IfErr result (FaultsIn event.now self.entry.live self.entry.journal) }

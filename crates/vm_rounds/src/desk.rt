@@ -3,13 +3,13 @@ ghost use Rattle.std.specs.Prelude.{◌≡◌, ◌⊎◌, false, [], ◌∷◌, 
 ghost use Rattle.journal_entries.specs.Arrivals.{arrival_fault};
 ghost use Rattle.vm_rounds.specs.Rounds.{first_error, memory_of, Happens, EventOutcome};
 ghost use Rattle.vm_rounds.specs.declared.types.Event.TheVariants as event;
-ghost use Rattle.journal_entries.specs.declared.fault.RoundFault.TheVariants as round_fault;
+ghost use Rattle.journal_entries.specs.declared.fault.JournalFault.TheVariants as journal_fault;
 ghost use Rattle.vm_rounds.specs.Inside.{may_go_on, the_now};
 
 use crate::types::Event;
 use await_trees::NotificationHandle;
 use bytes::{Bytes, BytesMut};
-use journal_entries::RoundFault;
+use journal_entries::JournalFault;
 use journal_protocol::{Decoder, Error, NamedFault, Version};
 use retries::RetryPolicy;
 use std::alloc::{AllocError, Global};
@@ -41,19 +41,19 @@ fn note(error: &mut Option<Error>, next: Option<Error>)
 }
 
 /// A notification is stored and waits.
-fn arrive(desk: &mut Desk, entry: &Bytes) -> Result<(), RoundFault>
+fn arrive(desk: &mut Desk, entry: &Bytes) -> Result<(), JournalFault>
     ensures ok { OnOk result ((arrival_fault entry.now desk.old.journal ≡ None)
         × (desk.new.journal ≡ desk.old.journal ++ entry.now ∷ [])
         × (desk.new.waiting.items ≡ desk.old.waiting.items ++ entry.now)) }
     ensures same { OnOk result ((desk.new.version ≡ desk.old.version)
         × (desk.new.output ≡ desk.old.output) × (desk.new.unstored ≡ desk.old.unstored)
         × (desk.new.closed ≡ desk.old.closed) × (desk.new.error ≡ desk.old.error)) }
-    ensures err { IfErr result (λ f. (f ≡ round_fault.Memory)
+    ensures err { IfErr result (λ f. (f ≡ journal_fault.Memory)
         ⊎ (arrival_fault entry.now desk.old.journal ≡ Some f)) }
 {
     desk.journal.arrive(desk.alloc, entry)?;
     if desk.waiting.extend_from_slice(entry.as_slice()).is_err() {
-        return Err(RoundFault::Memory);
+        return Err(JournalFault::Memory);
     }
     Ok(())
 }
@@ -82,7 +82,11 @@ fn front(waiting: &mut BytesMut, n: usize) -> Result<Bytes, AllocError>
 }
 
 /// A piece of what waits is fed.
-fn piece<H: Handler>(attempt: &mut Attempt<&H>, desk: &mut Desk, n: usize) -> Result<(), RoundFault>
+fn piece<H: Handler>(
+    attempt: &mut Attempt<&H>,
+    desk: &mut Desk,
+    n: usize,
+) -> Result<(), JournalFault>
     ensures does { EventOutcome (H.meaning attempt.old.handler.now) (event.Piece n)
         (the_now desk.old attempt.old.record_of) result (the_now desk.new attempt.new.record_of) }
     ensures handler { attempt.new.handler.now ≡ attempt.old.handler.now }
@@ -93,7 +97,7 @@ fn piece<H: Handler>(attempt: &mut Attempt<&H>, desk: &mut Desk, n: usize) -> Re
         return Ok(());
     }
     let Ok(piece) = front(&mut desk.waiting, n) else {
-        return Err(RoundFault::Memory);
+        return Err(JournalFault::Memory);
     };
     let fed = attempt.feed(piece);
     note(&mut desk.error, memory_error(fed));
@@ -176,7 +180,7 @@ fn run_result<H: Handler>(
     handle: NotificationHandle,
     exit: &RunExitResult,
     policy: &RetryPolicy,
-) -> Result<(), RoundFault>
+) -> Result<(), JournalFault>
     ensures does { EventOutcome (H.meaning attempt.old.handler.now)
         (event.RunResult handle exit.now policy.now) (the_now desk.old attempt.old.record_of) result
         (the_now desk.new attempt.new.record_of) }
@@ -185,7 +189,7 @@ fn run_result<H: Handler>(
         × (attempt.new.options ≡ attempt.old.options) }
 {
     let Ok((exit, policy)) = copy_result(exit, policy) else {
-        return Err(RoundFault::Memory);
+        return Err(JournalFault::Memory);
     };
     let error = attempt.run_result(handle, exit, policy).err();
     note(&mut desk.error, error);
@@ -193,7 +197,11 @@ fn run_result<H: Handler>(
 }
 
 /// The next commands and proposals that were written are stored.
-fn store<H: Handler>(attempt: &mut Attempt<&H>, desk: &mut Desk, n: usize) -> Result<(), RoundFault>
+fn store<H: Handler>(
+    attempt: &mut Attempt<&H>,
+    desk: &mut Desk,
+    n: usize,
+) -> Result<(), JournalFault>
     ensures does { EventOutcome (H.meaning attempt.old.handler.now) (event.Store n)
         (the_now desk.old attempt.old.record_of) result (the_now desk.new attempt.new.record_of) }
     ensures handler { attempt.new.handler.now ≡ attempt.old.handler.now }
@@ -203,13 +211,13 @@ fn store<H: Handler>(attempt: &mut Attempt<&H>, desk: &mut Desk, n: usize) -> Re
     // What the record says was proposed is what the output proposes.
     let _ = attempt.output_len();
     let Ok(bytes) = attempt.take_output() else {
-        return Err(RoundFault::Memory);
+        return Err(JournalFault::Memory);
     };
     if desk.output.extend_from_slice(bytes.as_slice()).is_err() {
-        return Err(RoundFault::Memory);
+        return Err(JournalFault::Memory);
     }
     if desk.unstored.push(bytes).is_err() {
-        return Err(RoundFault::Memory);
+        return Err(JournalFault::Memory);
     }
     desk.journal.store(
         desk.alloc,
@@ -225,7 +233,7 @@ pub fn happen<H: Handler>(
     attempt: &mut Attempt<&H>,
     desk: &mut Desk,
     event: &Event,
-) -> Result<(), RoundFault>
+) -> Result<(), JournalFault>
     ensures does { EventOutcome (H.meaning attempt.old.handler.now) event.now
         (the_now desk.old attempt.old.record_of) result (the_now desk.new attempt.new.record_of) }
     ensures handler { attempt.new.handler.now ≡ attempt.old.handler.now }

@@ -1,13 +1,13 @@
 //! A fault of rounds with its place, and what there is of rounds that it has stopped.
 
 use crate::types::Report;
-use journal_entries::RoundFault;
+use journal_entries::JournalFault;
 use std::fmt;
 
 /// A fault of rounds, and where it is. Printed for people it counts from 1.
 #[derive(Clone, Copy, Debug, PartialEq, Eq)]
 pub struct PlacedFault {
-    pub fault: RoundFault,
+    pub fault: JournalFault,
     /// The round, counted from 0.
     pub round: usize,
     /// The event in that round, counted from 0. `None` is out of memory before the round's first event or after its last.

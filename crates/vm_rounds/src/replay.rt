@@ -4,14 +4,14 @@ ghost use Rattle.vm_model.specs.Calls.{Meaning};
 ghost use Rattle.vm_steps.specs.Record.{heard};
 ghost use Rattle.vm_attempt.specs.Attempts.{IsWellFedInReplay, ProvesItsJournal};
 ghost use Rattle.vm_attempt.specs.Fixed.{fixed_of};
-ghost use Rattle.journal_entries.specs.declared.fault.RoundFault.TheVariants as round_fault;
+ghost use Rattle.journal_entries.specs.declared.fault.JournalFault.TheVariants as journal_fault;
 ghost use Rattle.vm_rounds.specs.Guarantees.{HasOneResultEach, HasRightReads, IsHistory, case_of};
 ghost use Rattle.vm_rounds.specs.Rounds.{ReplaysAndQueues};
 
 use crate::round::{new_attempt, waiting_bytes};
 use crate::types::Round;
 use crate::world::World;
-use journal_entries::RoundFault;
+use journal_entries::JournalFault;
 use plain::Items;
 use vm_attempt::Attempt;
 use vm_types::Handler;
@@ -47,7 +47,7 @@ fn uses_all<H: Handler>(attempt: &mut Attempt<&H>, steps: u64) -> bool
 /// handler, if it is one of another version of it; or if no completion id has two results on it and its eager reads are right. Make
 /// this check before a new version of a handler takes over.
 #[tactic(auto, using(std::proofs::lemmas::List::take_all))]
-pub fn can_replay<H: Handler>(handler: &H, world: &World, steps: u64) -> Result<bool, RoundFault>
+pub fn can_replay<H: Handler>(handler: &H, world: &World, steps: u64) -> Result<bool, JournalFault>
     ensures history { IfOk result (λ yes. yes ≡ true
         → ReplaysAndQueues world.now.setting.options
         → HasOneResultEach (case_of (H.meaning handler.now) world.now) world.now.journal
@@ -58,7 +58,7 @@ pub fn can_replay<H: Handler>(handler: &H, world: &World, steps: u64) -> Result<
         → ReplaysAndQueues world.now.setting.options → (older : Meaning)
         → IsHistory (case_of older world.now) world.now.journal
         → IsHistory (case_of (H.meaning handler.now) world.now) world.now.journal) }
-    ensures err { IfErr result (λ f. f ≡ round_fault.Memory) }
+    ensures err { IfErr result (λ f. f ≡ journal_fault.Memory) }
 {
     let Ok(mut attempt) = new_attempt(world.alloc, &world.setting, handler) else {
         return Ok(false);
@@ -76,14 +76,14 @@ pub fn can_replay<H: Handler>(handler: &H, world: &World, steps: u64) -> Result<
         &round,
         world.journal.as_slice(),
     ) else {
-        return Err(RoundFault::Memory);
+        return Err(JournalFault::Memory);
     };
     let len = waiting.len();
     let Ok(piece) = waiting.freeze_to(len) else {
-        return Err(RoundFault::Memory);
+        return Err(JournalFault::Memory);
     };
     if attempt.feed(piece).is_err() {
-        return Err(RoundFault::Memory);
+        return Err(JournalFault::Memory);
     }
     Ok(uses_all(&mut attempt, steps))
 }

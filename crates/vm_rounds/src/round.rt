@@ -17,7 +17,7 @@ use crate::desk::{Desk, happen};
 use crate::handed::start_bytes;
 use crate::types::{Event, Report, Round, Setting};
 use bytes::{Bytes, BytesMut};
-use journal_entries::RoundFault;
+use journal_entries::JournalFault;
 use journal_protocol::{Decoder, Error, Version};
 use std::alloc::{AllocError, Global};
 use stored_journals::WholeJournal;
@@ -29,7 +29,7 @@ use vm_types::{Handler, VMResult};
 #[derive(Clone, Copy)]
 pub struct EventFault {
     pub event: Option<usize>,
-    pub fault: RoundFault,
+    pub fault: JournalFault,
 }
 
 /// Out of memory, before the first event or after the last.
@@ -38,7 +38,7 @@ pub fn out_of_memory() -> EventFault
 {
     EventFault {
         event: None,
-        fault: RoundFault::Memory,
+        fault: JournalFault::Memory,
     }
 }
 
@@ -101,7 +101,7 @@ fn happen_all<H: Handler>(
 }
 
 /// One event, if no attempt was made.
-fn arrive_only(alloc: Global, journal: &mut WholeJournal, event: &Event) -> Result<(), RoundFault>
+fn arrive_only(alloc: Global, journal: &mut WholeJournal, event: &Event) -> Result<(), JournalFault>
     ensures ok { OnOk result (ArrivalsDo (event.now ∷ []) journal.old journal.new) }
     ensures err { IfErr result (λ f. ArrivalsFault (event.now ∷ []) journal.old f) }
 {

@@ -8,7 +8,7 @@ ghost use Rattle.vm_rounds.specs.Rounds.{AreWhole, ReplaysAndQueues, RoundsDo, R
 use crate::played::play_rounds;
 use crate::types::{Report, Round};
 use crate::world::World;
-use journal_entries::RoundFault;
+use journal_entries::JournalFault;
 use vm_types::Handler;
 
 /// Rounds of a handler over a world's journal, one after another, each with a report. The first event that has a fault stops
@@ -17,7 +17,7 @@ pub fn run_rounds<H: Handler>(
     handler: &H,
     world: World,
     rounds: &[Round],
-) -> Result<(World, Vec<Report>), RoundFault>
+) -> Result<(World, Vec<Report>), JournalFault>
     // Each event does to its round's attempt and to the journal what it says, and the reports
     // tell it.
     ensures ok { IfOk result (λ r. RoundsDo (H.meaning handler.now) world.setting rounds.now

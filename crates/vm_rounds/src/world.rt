@@ -6,7 +6,7 @@ ghost use Rattle.vm_rounds.specs.Worlds.{pairs_given};
 
 use crate::types::{Identity, Setting};
 use bytes::Bytes;
-use journal_entries::RoundFault;
+use journal_entries::JournalFault;
 use journal_protocol::{Encoder, InputCommand, Message, Version};
 use plain::{Items, Text};
 use std::alloc::{AllocError, Global};
@@ -55,16 +55,16 @@ fn one_entry(alloc: Global, frame: Bytes) -> Result<Vec<Bytes>, AllocError>
 }
 
 /// The journal of a new world.
-fn first_journal(alloc: Global, input: Bytes) -> Result<WholeJournal, RoundFault>
+fn first_journal(alloc: Global, input: Bytes) -> Result<WholeJournal, JournalFault>
     ensures bytes { IfOk result (λ j. j
         ≡ encoding (message.Input (record { headers = []; value = input })) ∷ []) }
     ensures whole { OnOk result (IsWhole (message.Input (record { headers = []; value = input }))) }
 {
     let Ok(frame) = input_bytes(alloc, input) else {
-        return Err(RoundFault::Memory);
+        return Err(JournalFault::Memory);
     };
     let Ok(entries) = one_entry(alloc, frame) else {
-        return Err(RoundFault::Memory);
+        return Err(JournalFault::Memory);
     };
     WholeJournal::load(alloc, entries)
 }
@@ -93,7 +93,7 @@ impl World {
     ghost use Rattle.journal_entries.specs.Entries.{journal_entries};
     ghost use Rattle.vm_rounds.specs.States.{base_of};
     ghost use Rattle.vm_rounds.specs.Worlds.{setup_of};
-    ghost use Rattle.journal_entries.specs.declared.fault.RoundFault.TheVariants as round_fault;
+    ghost use Rattle.journal_entries.specs.declared.fault.JournalFault.TheVariants as journal_fault;
 
     /// A world whose journal is one Input command, with this state before any command; of several pairs of one key the last
     /// counts.
@@ -104,7 +104,7 @@ impl World {
         version: Version,
         input: Bytes,
         state: Vec<(String, Bytes)>,
-    ) -> Result<World, RoundFault>
+    ) -> Result<World, JournalFault>
         ensures setting { IfOk result (λ w. w.setting
             ≡ record {
               identity = identity;
@@ -117,7 +117,7 @@ impl World {
         // Its frame can be read back.
         ensures whole { OnOk result
             (IsWhole (message.Input (record { headers = []; value = input }))) }
-        ensures err { IfErr result (λ f. f ≡ round_fault.Memory) }
+        ensures err { IfErr result (λ f. f ≡ journal_fault.Memory) }
         // For every handler one run made the journal, even if its calls know nothing of the state.
         ensures one_run { IfOk result (λ w. (m : Meaning)
             → IsOneRun (setup_of w.setting) m (Honest (base_of w.setting))
@@ -129,10 +129,10 @@ impl World {
         ensures kinds { IfOk result (λ w. HasRightKinds w.journal) }
     {
         let Ok(journal) = first_journal(alloc, input) else {
-            return Err(RoundFault::Memory);
+            return Err(JournalFault::Memory);
         };
         let Ok(base) = base_pairs(alloc, state) else {
-            return Err(RoundFault::Memory);
+            return Err(JournalFault::Memory);
         };
         Ok(World {
             alloc,
@@ -156,7 +156,7 @@ impl World {
         version: Version,
         state: Vec<(String, Bytes)>,
         entries: Vec<Bytes>,
-    ) -> Result<World, RoundFault>
+    ) -> Result<World, JournalFault>
         ensures setting { IfOk result (λ w. w.setting
             ≡ record {
               identity = identity;
@@ -169,14 +169,14 @@ impl World {
         // If a handler can replay it, each result of an invocation's id that it holds is one.
         ensures kinds { IfOk result (λ w. (m : Meaning)
             → CanBeReplayed m w → HasRightKinds w.journal) }
-        ensures err { IfErr result (λ f. (f ≡ round_fault.Memory) ⊎ GivenFaults entries.items f) }
+        ensures err { IfErr result (λ f. (f ≡ journal_fault.Memory) ⊎ GivenFaults entries.items f) }
     {
         let journal = match WholeJournal::load(alloc, entries) {
             Err(fault) => return Err(fault),
             Ok(journal) => journal,
         };
         let Ok(base) = base_pairs(alloc, state) else {
-            return Err(RoundFault::Memory);
+            return Err(JournalFault::Memory);
         };
         Ok(World {
             alloc,

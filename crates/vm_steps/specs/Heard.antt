@@ -5,7 +5,6 @@ use Rattle.journal_protocol.specs.ProposeRunCompletion.{ProposeRunCompletion}
 use Rattle.journal_protocol.specs.Version.{Version}
 use Rattle.journal_protocol.specs.RawMessage.{RawMessage}
 use Rattle.journal_protocol.specs.Bodies.{proposal_in}
-use Rattle.journal_entries.specs.declared.proposals.KeptProposal.{KeptProposal}
 use Rattle.journal_protocol.specs.Versions.{is_from_v7}
 use Rattle.journal_entries.specs.Frames.{frames_of}
 use Rattle.journal_entries.specs.JournalFrames.{is_proposal}
@@ -14,18 +13,19 @@ use Rattle.vm_steps.specs.declared.progress.Fed.{Fed}
 -- ---- proposals
 
 -- with the proposal that was read, as it is kept, if there was one
-abbrev pub proposed_by : Option ProposeRunCompletion → List KeptProposal → List KeptProposal
+abbrev pub proposed_by : Option ProposeRunCompletion → List ProposeRunCompletion
+    → List ProposeRunCompletion
 proposed_by None kept = kept
-proposed_by (Some p) kept = record { completion_id = p.id; result = p.result } ∷ kept
+proposed_by (Some p) kept = p ∷ kept
 
 -- the proposals among some frames, in order
-abbrev pub proposals_among : List RawMessage → List KeptProposal
+abbrev pub proposals_among : List RawMessage → List ProposeRunCompletion
 proposals_among [] = []
 proposals_among (raw ∷ raws) = cond (is_proposal raw)
     (proposed_by (proposal_in raw.body) (proposals_among raws)) (proposals_among raws)
 
 -- the proposals among the frames that bytes are
-abbrev pub proposals_in : List ℕ → List KeptProposal
+abbrev pub proposals_in : List ℕ → List ProposeRunCompletion
 proposals_in bytes = proposals_among (frames_of bytes).0
 
 -- ---- what was received
@@ -34,7 +34,7 @@ pub record Heard : Type 0 where
   -- the pieces, in the order in which they came
   pub pieces : List Fed
   -- the proposals that can be acknowledged, in order
-  pub proposed : List KeptProposal
+  pub proposed : List ProposeRunCompletion
 
 -- these pieces, and the same proposals
 abbrev pub with_pieces : List Fed → Heard → Heard
@@ -45,5 +45,5 @@ abbrev pub and_piece : Heard → Fed → Heard
 and_piece heard f = with_pieces (heard.pieces ++ f ∷ []) heard
 
 -- from version 7 on proposals are acknowledged
-abbrev pub acknowledged_from : Version → List KeptProposal → List KeptProposal
+abbrev pub acknowledged_from : Version → List ProposeRunCompletion → List ProposeRunCompletion
 acknowledged_from version proposed = if is_from_v7 version then proposed else []

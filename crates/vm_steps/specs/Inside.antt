@@ -1,14 +1,14 @@
 -- The record that the fields of an attempt are.
 use Rattle.std.specs.Prelude.{List, [], ◌++◌}
 use Rattle.std.specs.List.{concat}
-use Rattle.journal_entries.specs.declared.proposals.KeptProposal.{KeptProposal}
+use Rattle.journal_protocol.specs.ProposeRunCompletion.{ProposeRunCompletion}
 use Rattle.invocation_vm.specs.Seen.{seen}
 use Rattle.vm_steps.specs.declared.inner.Inner.{Inner}
 use Rattle.vm_steps.specs.Heard.{proposals_in}
 use Rattle.vm_steps.specs.Record.{Record}
 
 -- the fields as a record, with these proposals
-abbrev pub record_with : {H : Type 0} → List KeptProposal → Inner H → Record
+abbrev pub record_with : {H : Type 0} → List ProposeRunCompletion → Inner H → Record
 record_with proposed a = record {
   fed = a.fed.items;
   late = a.late.items;

@@ -6,7 +6,7 @@ use Rattle.vm_types.specs.declared.options.VMOptions.{VMOptions}
 use Rattle.vm_types.specs.declared.steps.Answer.{Answer}
 use Rattle.await_trees.specs.declared.handle.NotificationHandle.{NotificationHandle}
 use Rattle.await_trees.specs.declared.tree.UnresolvedFuture.{UnresolvedFuture}
-use Rattle.journal_entries.specs.declared.proposals.KeptProposal.{KeptProposal}
+use Rattle.journal_protocol.specs.ProposeRunCompletion.{ProposeRunCompletion}
 use Rattle.invocation_vm.specs.Views.{View}
 use Rattle.vm_steps.specs.Heard.{Heard, acknowledged_from}
 use Rattle.vm_steps.specs.declared.progress.Fed.{Fed}
@@ -26,7 +26,7 @@ pub record Record : Type 0 where
   -- the output that was taken, piece by piece
   pub taken : List (List ℕ)
   -- the results of runs that were proposed, in order: those among the frames of all output
-  pub proposed : List KeptProposal
+  pub proposed : List ProposeRunCompletion
   -- the await that waits
   pub waiting : Option UnresolvedFuture
   -- the attempt itself found no memory

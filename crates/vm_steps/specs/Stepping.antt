@@ -14,7 +14,7 @@ use Rattle.await_trees.specs.declared.handle.NotificationHandle.{NotificationHan
 use Rattle.await_trees.specs.declared.tree.UnresolvedFuture.{UnresolvedFuture}
 use Rattle.retries.specs.declared.policy.RetryPolicy.{RetryPolicy}
 use Rattle.vm_types.specs.declared.runs.RunExitResult.{RunExitResult}
-use Rattle.journal_entries.specs.declared.proposals.KeptProposal.{KeptProposal}
+use Rattle.journal_protocol.specs.ProposeRunCompletion.{ProposeRunCompletion}
 use Rattle.vm_machine.specs.declared.machine.Machine.{Machine}
 use Rattle.invocation_vm.specs.Calls.{CallsProposal}
 use Rattle.vm_steps.specs.Heard.{proposals_in}
@@ -234,7 +234,7 @@ CloseDoes false old result new = InputIsClosed old result new
 -- ---- results of runs
 
 -- the proposals among the frames that a call has written
-abbrev pub newly_proposed : Machine → Machine → List KeptProposal
+abbrev pub newly_proposed : Machine → Machine → List ProposeRunCompletion
 newly_proposed old new = proposals_in (concat (drop (length old.output) new.output))
 
 -- the run of this handle is noted as that whose result failed the VM, unless the VM had failed

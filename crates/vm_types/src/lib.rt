@@ -20,7 +20,6 @@ pub use call::Call;
 pub use command_type::{CommandRelationship, CommandType};
 pub use content_type::ContentType;
 pub use handler::Handler;
-pub use journal_protocol::InvocationTarget as AttachInvocationTarget;
 pub use options::{
     AwaitingOnPolicy, ImplicitCancellationOption, JournalMismatchRetryBehavior, JournalReplay,
     NonDeterministicChecksOption, PayloadOptions, VMOptions,

@@ -5,8 +5,8 @@ use Rattle.journal_protocol.specs.Frames.{encoding}
 use Rattle.journal_protocol.specs.Message.TheVariants as message
 use Rattle.vm_model.specs.Calls.{Meaning}
 use Rattle.journal_entries.specs.Given.{AreGiven, GivenFaults}
-use Rattle.journal_entries.specs.declared.fault.RoundFault.{RoundFault}
-use Rattle.journal_entries.specs.declared.fault.RoundFault.TheVariants as round_fault
+use Rattle.journal_entries.specs.declared.fault.JournalFault.{JournalFault}
+use Rattle.journal_entries.specs.declared.fault.JournalFault.TheVariants as journal_fault
 use Rattle.world_scripts.specs.declared.script.Script.{Script}
 use Rattle.world_scripts.specs.Printed.{fault_text}
 use Rattle.world_scripts.specs.declared.stop.Stop.{Stop}
@@ -22,7 +22,7 @@ pub none_has_a_fault : (entries : List (List ℕ)) → length entries ≡ 0 → 
 none_has_a_fault [] none = tt
 none_has_a_fault (entry ∷ entries) none = absurd (omega arith)
 
-pub input_makes_no_world : (entries : List (List ℕ)) (fault : RoundFault) → fault ≡ round_fault.Memory → MakeNoWorld entries fault
+pub input_makes_no_world : (entries : List (List ℕ)) (fault : JournalFault) → fault ≡ journal_fault.Memory → MakeNoWorld entries fault
 input_makes_no_world entries fault memory = inl memory
 
 -- entries are given
@@ -30,7 +30,7 @@ pub begins_with_entries : (input : List ℕ) (entries journal : List (List ℕ))
 begins_with_entries input [] journal some is = absurd (some refl)
 begins_with_entries input (entry ∷ entries) journal some is = is
 
-pub entries_make_no_world : (entries : List (List ℕ)) (fault : RoundFault) → length entries ≢ 0 → (fault ≡ round_fault.Memory) ⊎ GivenFaults entries fault → MakeNoWorld entries fault
+pub entries_make_no_world : (entries : List (List ℕ)) (fault : JournalFault) → length entries ≢ 0 → (fault ≡ journal_fault.Memory) ⊎ GivenFaults entries fault → MakeNoWorld entries fault
 entries_make_no_world entries fault some (inl memory) = inl memory
 entries_make_no_world entries fault some (inr (inl (none, is))) = absurd (some (ap length none))
 entries_make_no_world entries fault some (inr (inr first)) = inr first
@@ -39,6 +39,6 @@ pub is_played : (meaning : Meaning) (version : Version) (script : Script) (stop 
     → RoundsEnd meaning (setting_of version script.given) script.rounds.items (first_journal script.given.input script.entries.items) stop report → ScriptEnds meaning version script stop report
 is_played meaning version script stop report fits ends = inl (record { fits = fits; ends = ends })
 
-pub has_no_world : (meaning : Meaning) (version : Version) (script : Script) (stop : Option Stop) (report : List ℕ) (why : RoundFault) → MakeNoWorld script.entries.items why → stop ≡ Some (World why) → report ≡ fault_text why
+pub has_no_world : (meaning : Meaning) (version : Version) (script : Script) (stop : Option Stop) (report : List ℕ) (why : JournalFault) → MakeNoWorld script.entries.items why → stop ≡ Some (World why) → report ≡ fault_text why
     → ScriptEnds meaning version script stop report
 has_no_world meaning version script stop report why is_why is_stop is_report = inr (record { why = why; is_why = is_why; is_stop = is_stop; is_report = is_report })

@@ -10,8 +10,8 @@ use Rattle.call_lines.specs.Answers.{answer_text}
 use Rattle.vm_rounds.specs.Inside.{report_view}
 use Rattle.vm_rounds.specs.Rounds.{ReportView}
 use Rattle.vm_rounds.specs.declared.types.Report.{Report}
-use Rattle.journal_entries.specs.declared.fault.RoundFault.{RoundFault}
-use Rattle.journal_entries.specs.declared.fault.RoundFault.TheVariants as round_fault
+use Rattle.journal_entries.specs.declared.fault.JournalFault.{JournalFault}
+use Rattle.journal_entries.specs.declared.fault.JournalFault.TheVariants as journal_fault
 
 -- ---- texts one after another
 
@@ -96,16 +96,16 @@ IsPrinted reports text = (rounds : List ℕ) × (journal : List ℕ) × AreRound
 -- ---- faults
 
 -- the name of a fault
-unfoldable pub fault_name : RoundFault → List ℕ
-fault_name round_fault.NotANotification = codes "NotANotification"
-fault_name round_fault.NoSuchId = codes "NoSuchId"
-fault_name round_fault.SecondCompletion = codes "SecondCompletion"
-fault_name round_fault.WrongKind = codes "WrongKind"
-fault_name round_fault.RunIsProposed = codes "RunIsProposed"
-fault_name round_fault.Memory = codes "Memory"
-fault_name round_fault.JournalFull = codes "JournalFull"
-fault_name round_fault.BadJournal = codes "BadJournal"
+unfoldable pub fault_name : JournalFault → List ℕ
+fault_name journal_fault.NotANotification = codes "NotANotification"
+fault_name journal_fault.NoSuchId = codes "NoSuchId"
+fault_name journal_fault.SecondCompletion = codes "SecondCompletion"
+fault_name journal_fault.WrongKind = codes "WrongKind"
+fault_name journal_fault.RunIsProposed = codes "RunIsProposed"
+fault_name journal_fault.Memory = codes "Memory"
+fault_name journal_fault.JournalFull = codes "JournalFull"
+fault_name journal_fault.BadJournal = codes "BadJournal"
 
 -- the report of rounds that a fault has stopped
-abbrev pub fault_text : RoundFault → List ℕ
+abbrev pub fault_text : JournalFault → List ℕ
 fault_text fault = codes "fault " ++ fault_name fault ++ codes "\n"

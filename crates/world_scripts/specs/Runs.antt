@@ -17,8 +17,8 @@ use Rattle.journal_entries.specs.Given.{AreGiven, FirstGiven}
 use Rattle.vm_rounds.specs.Worlds.{pairs_given}
 use Rattle.vm_rounds.specs.declared.types.Report.{Report}
 use Rattle.vm_rounds.specs.declared.types.Round.{Round}
-use Rattle.journal_entries.specs.declared.fault.RoundFault.{RoundFault}
-use Rattle.journal_entries.specs.declared.fault.RoundFault.TheVariants as round_fault
+use Rattle.journal_entries.specs.declared.fault.JournalFault.{JournalFault}
+use Rattle.journal_entries.specs.declared.fault.JournalFault.TheVariants as journal_fault
 use Rattle.vm_rounds.specs.declared.types.Setting.{Setting}
 use Rattle.program_runs.specs.Streams.{AppendsSome}
 use Rattle.world_scripts.specs.Scripts.{IsScriptRead, StopsAt, no_parts}
@@ -66,8 +66,8 @@ RoundsEnd meaning setting rounds journal (Some (World fault)) report = ⊥
 
 -- why no world is made of these entries: the first of them that has a fault has this one; or there
 -- is no memory
-abbrev pub MakeNoWorld : List (List ℕ) → RoundFault → Type 0
-MakeNoWorld entries fault = (fault ≡ round_fault.Memory) ⊎ FirstGiven [] entries fault
+abbrev pub MakeNoWorld : List (List ℕ) → JournalFault → Type 0
+MakeNoWorld entries fault = (fault ≡ journal_fault.Memory) ⊎ FirstGiven [] entries fault
 
 -- No entry of the script has a fault, and its rounds end over its world.
 pub record IsPlayed (meaning : Meaning) (version : Version) (script : Script) (stop : Option Stop)
@@ -78,7 +78,7 @@ pub record IsPlayed (meaning : Meaning) (version : Version) (script : Script) (s
 
 -- No world is made of the script's entries, and the report is the name of the fault.
 pub record HasNoWorld (script : Script) (stop : Option Stop) (report : List ℕ) : Type 0 where
-  pub why : RoundFault
+  pub why : JournalFault
   pub is_why : MakeNoWorld script.entries.items why
   pub is_stop : stop ≡ Some (World why)
   pub is_report : report ≡ fault_text why

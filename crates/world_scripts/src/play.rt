@@ -9,7 +9,7 @@ use crate::report::{report_of, report_of_fault};
 use crate::script::{Script, Unread, script_of};
 use crate::stop::Stop;
 use bytes::Bytes;
-use journal_entries::RoundFault;
+use journal_entries::JournalFault;
 use journal_protocol::Version;
 use lines::line::Line;
 use std::alloc::{AllocError, Global};
@@ -30,7 +30,7 @@ fn world_of(
     version: Version,
     given: Given,
     entries: Vec<Bytes>,
-) -> Result<World, RoundFault>
+) -> Result<World, JournalFault>
     ensures setting { IfOk result (λ world. world.setting ≡ setting_of version given) }
     ensures journal { IfOk result (λ world. world.journal
         ≡ first_journal given.input entries.items) }

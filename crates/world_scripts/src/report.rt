@@ -7,7 +7,7 @@ ghost use Rattle.world_scripts.specs.Printed.{AddsSuch, AddsSome, AreRoundTexts,
 use bytes::Bytes;
 use call_lines::Shown;
 use frame_lines::entry::{print_frame, print_rest};
-use journal_entries::RoundFault;
+use journal_entries::JournalFault;
 use journal_protocol::{Decoder, Error, RawMessage};
 use lines::line::Line;
 use plain::Fault;
@@ -222,23 +222,23 @@ pub fn report_of(alloc: Global, world: &World, rounds: &[Report]) -> Result<Line
 
 /// The name of a fault.
 #[tactic(auto, unfolding(crate::specs::Printed::fault_name))]
-fn fault_name(fault: RoundFault) -> &'static str
+fn fault_name(fault: JournalFault) -> &'static str
     ensures { result.now ≡ fault_name fault }
 {
     match fault {
-        RoundFault::NotANotification => "NotANotification",
-        RoundFault::NoSuchId => "NoSuchId",
-        RoundFault::SecondCompletion => "SecondCompletion",
-        RoundFault::WrongKind => "WrongKind",
-        RoundFault::RunIsProposed => "RunIsProposed",
-        RoundFault::Memory => "Memory",
-        RoundFault::JournalFull => "JournalFull",
-        RoundFault::BadJournal => "BadJournal",
+        JournalFault::NotANotification => "NotANotification",
+        JournalFault::NoSuchId => "NoSuchId",
+        JournalFault::SecondCompletion => "SecondCompletion",
+        JournalFault::WrongKind => "WrongKind",
+        JournalFault::RunIsProposed => "RunIsProposed",
+        JournalFault::Memory => "Memory",
+        JournalFault::JournalFull => "JournalFull",
+        JournalFault::BadJournal => "BadJournal",
     }
 }
 
 /// The report of rounds that were stopped by a fault.
-pub fn report_of_fault(alloc: Global, fault: RoundFault) -> Result<Line, AllocError>
+pub fn report_of_fault(alloc: Global, fault: JournalFault) -> Result<Line, AllocError>
     ensures { IfOk result (λ report. report ≡ fault_text fault) }
 {
     let mut report = Line::new(alloc);

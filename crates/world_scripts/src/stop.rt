@@ -1,12 +1,12 @@
 //! What stops a script.
-use journal_entries::RoundFault;
+use journal_entries::JournalFault;
 use vm_rounds::PlacedFault;
 
 /// What stops a script.
 #[derive(Clone, Copy, Debug, PartialEq, Eq)]
 pub enum Stop {
     /// No world is made: the first entry that has a fault has this one, or memory ran out.
-    World(RoundFault),
+    World(JournalFault),
     /// The rounds are stopped here, by this fault.
     Rounds(PlacedFault),
 }

@@ -1,7 +1,7 @@
 // Worlds whose journal is given, as a runtime makes one. Worked journals and their faults stand as text in `crates/vmrounds/rows`.
 use crate::bench::{assert_journal, identity};
 use bytes::Bytes;
-use journal_entries::RoundFault;
+use journal_entries::JournalFault;
 use journal_protocol::Version;
 use std::alloc::Global;
 use std::test::Fail;
@@ -10,9 +10,9 @@ use vm_rounds::World;
 use vm_types::VMOptions;
 
 /// The world of the invocation "abc" with these entries.
-fn given(alloc: Global, entries: Vec<Bytes>) -> Result<World, RoundFault> {
+fn given(alloc: Global, entries: Vec<Bytes>) -> Result<World, JournalFault> {
     let Ok(identity) = identity(alloc) else {
-        return Err(RoundFault::Memory);
+        return Err(JournalFault::Memory);
     };
     World::with_journal(
         alloc,
@@ -43,5 +43,5 @@ fn entries_are_the_journal(rt: HostRuntime) -> Result<(), Fail> {
 #[test]
 fn no_entries_make_no_world(rt: HostRuntime) {
     let made = given(rt.alloc(), Vec::new(rt.alloc()));
-    assert!(rt; matches!(made, Err(RoundFault::BadJournal)));
+    assert!(rt; matches!(made, Err(JournalFault::BadJournal)));
 }

@@ -3,7 +3,7 @@ use Rattle.std.specs.BTreeMap.{is_at}
 use Rattle.std.specs.Map.{lookup, values_of}
 use Rattle.std.specs.Option.{option_map}
 use Rattle.std.proofs.lemmas.Map.{none_passes_from_lookup}
-use Rattle.journal_entries.specs.declared.proposals.KeptProposal.{KeptProposal}
+use Rattle.journal_protocol.specs.ProposeRunCompletion.{ProposeRunCompletion}
 use Rattle.runs.specs.Firsts.{without_first}
 use Rattle.runs.specs.Kept.{is_for, result_of}
 use Rattle.runs.proofs.Entries.{SayTheSame, found, removed}
@@ -30,9 +30,9 @@ invariant_of-self c =
     let old : ℕ → Option ℕ = λ q. lookup (is_at (nat_cmp q)) c.self.inside.numbers.entries in
     let new : ℕ → Option ℕ = λ q. lookup (is_at (nat_cmp q)) c.remove.new.self.entries in
     let entries = sym c.remove-2.ensures.entries in
-    let same = subst (SayTheSame (is_for id) test) entries (all_removed (λ (e : ℕ × KeptProposal). is_for id e.1 ≡ test e.0) test es c.in_ok-number.ensures.some) in
+    let same = subst (SayTheSame (is_for id) test) entries (all_removed (λ (e : ℕ × ProposeRunCompletion). is_for id e.1 ≡ test e.0) test es c.in_ok-number.ensures.some) in
     let none = none_left id test left same (none_passes_from_lookup test left c.remove-2.ensures.updates.1) in
-    let at = subst (AtNum old) entries (all_removed (λ (e : ℕ × KeptProposal). old e.1.completion_id ≡ Some e.0) test es c.self.invariant.0) in
+    let at = subst (AtNum old) entries (all_removed (λ (e : ℕ × ProposeRunCompletion). old e.1.id ≡ Some e.0) test es c.self.invariant.0) in
     (others_lead old new id None left c.remove.ensures.updates.0 none at, c.remove-2.ensures.ordered)
 
 pub returns-clause-found : goal.returns-clause-found

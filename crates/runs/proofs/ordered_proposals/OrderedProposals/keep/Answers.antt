@@ -1,7 +1,7 @@
 use Rattle.std.proofs.Common.{ℕ, ◌∷◌, [], ◌++◌, Option, Some, ap, sym, subst, nat_cmp, ◌∙◌}
 use Rattle.std.specs.BTreeMap.{is_at}
 use Rattle.std.specs.Map.{lookup, values_of}
-use Rattle.journal_entries.specs.declared.proposals.KeptProposal.{KeptProposal}
+use Rattle.journal_protocol.specs.ProposeRunCompletion.{ProposeRunCompletion}
 use Rattle.runs.proofs.Entries.{added, values_added}
 use Rattle.runs.proofs.Numbered.{AtNum, NoneFor, one_more, others_lead, unless_some}
 use Rattle.runs.proofs.ordered_proposals.OrderedProposals.keep.Goals as goal
@@ -21,7 +21,7 @@ invariant_of-self-2 c =
     let id = c.args.completion_id in
     let es = c.self.inside.kept.entries in
     let n = c.in-Some.number in
-    let kept : KeptProposal = record { completion_id = id; result = c.args.proposed } in
+    let kept : ProposeRunCompletion = record { id = id; result = c.args.proposed } in
     let old : ℕ → Option ℕ = λ q. lookup (is_at (nat_cmp q)) c.self.inside.numbers.entries in
     let new : ℕ → Option ℕ = λ q. lookup (is_at (nat_cmp q)) c.insert.new.self.entries in
     let none = unless_some (NoneFor id es) c.number_of.result (sym c.is_some.ensures ∙ c.if-is_some.false) c.number_of.ensures.none in
@@ -31,6 +31,6 @@ invariant_of-self-2 c =
 
 pub returns-clause-kept : goal.returns-clause-kept
 returns-clause-kept c =
-    let kept : KeptProposal = record { completion_id = c.args.completion_id; result = c.args.proposed } in
+    let kept : ProposeRunCompletion = record { id = c.args.completion_id; result = c.args.proposed } in
     let es = c.self.inside.kept.entries in
     ap values_of c.in_ok-insert-2.ensures.entries ∙ values_added c.in-Some.number kept es c.in-Some.ensures ∙ ap (λ l. l ++ kept ∷ []) c.self.view_is

@@ -1,16 +1,16 @@
 // The ends of the counters, by the VM's calls: a call looks for every number that it needs before it takes one, and a counter at the
 // greatest number hands nothing out. No run comes there, so the counters of the VM's machine are put there.
-use crate::{CoreVM, VM};
 use await_trees::{NotificationHandle, UnresolvedFuture};
 use bytes::Bytes;
-use journal_protocol::{
-    Decoder, Error, ErrorBehavior, ErrorMessage, Message, MessageType, Version,
-};
+use invocation_vm::{CoreVM, VM};
+use journal_protocol::{Decoder, Error, ErrorBehavior, ErrorMessage, Message, MessageType};
 use plain::{Items, Text};
 use std::alloc::{AllocError, Global};
 use std::process::Abort;
 use std::test::Fail;
 use std::time::Duration;
+use vectors::frames::{INPUT_TILL, SLEEP_TO_1000, START_1, START_2};
+use vectors::headers::Headers;
 use vm_machine::Machine;
 use vm_parts::Counters;
 use vm_types::{CommandRelationship, CommandType, PayloadOptions, Target, VMOptions, VMResult};
@@ -26,34 +26,6 @@ const BEGUN: Counters = Counters {
     handle: 17,
     ephemeral: 1,
 };
-
-/// Start of the invocation "abc", up to the last byte of how many entries are known,
-const START: &[u8] = b"\0\x01\0\0\0\0\0\0\0\x42\
-    \0\0\0\0\0\0\0\x03abc\
-    \0\0\0\0\0\0\0\x03abc\
-    \0\0\0\0\0\0\0\0\
-    \0\0\0";
-
-/// and what stands after it: a part of the state, which is empty.
-const AFTER_KNOWN: &[u8] = b"\0\0\0\0\0\0\0\0\
-    \x01\
-    \0\0\0\0\
-    \0\0\0\0\0\0\0\0\
-    \0\0\0\0\0\0\0\0\
-    \0\
-    \0\
-    \0";
-
-/// The input "Till".
-const INPUT_TILL: &[u8] = b"\0\x0a\0\0\0\0\0\0\0\x14\
-    \0\0\0\0\0\0\0\0\
-    \0\0\0\0\0\0\0\x04Till";
-
-/// A sleep to 1000 ms, completed under id 1.
-const SLEEP_TO_1000: &[u8] = b"\0\x12\0\0\0\0\0\0\0\x14\
-    \0\0\0\0\0\0\x03\xe8\
-    \0\0\0\x01\
-    \0\0\0\0\0\0\0\0";
 
 /// A call of a VM.
 #[derive(Clone, Copy, Debug)]
@@ -284,24 +256,27 @@ static ROWS: [Row; 18] = [
     },
 ];
 
-/// A VM that has read its input. A recorded sleep is left, or nothing is.
-fn begun(alloc: Global, replays: bool) -> Result<CoreVM, Fail> {
-    let mut vm = CoreVM {
-        decoder: Decoder::new(alloc),
-        machine: Machine::new(alloc, Version::V8, VMOptions::default())?,
-    };
-    let (known, recorded): (&[u8], &[u8]) = if replays {
-        (b"\x02", SLEEP_TO_1000)
-    } else {
-        (b"\x01", b"")
-    };
-    for bytes in [START, known, AFTER_KNOWN, INPUT_TILL, recorded] {
-        vm.notify_input(Bytes::copy_from_slice(alloc, bytes)?)?;
-    }
-    match vm.sys_input() {
-        Ok(_) => Ok(vm),
+fn answered<T>(given: VMResult<T>) -> Result<T, Fail> {
+    match given {
+        Ok(answer) => Ok(answer),
         Err(error) => Err(Fail::new(format_args!("{error:?}"))),
     }
+}
+
+/// A VM of version 8 that has read its input. A recorded sleep is left, or nothing is.
+fn begun(alloc: Global, replays: bool) -> Result<CoreVM, Fail> {
+    let headers = Headers::ContentType("application/vnd.restate.invocation.v8");
+    let mut vm: CoreVM = answered(VM::new(alloc, headers, VMOptions::default()))?;
+    let (start, recorded): (&[u8], &[u8]) = if replays {
+        (START_2, SLEEP_TO_1000)
+    } else {
+        (START_1, b"")
+    };
+    for bytes in [start, INPUT_TILL, recorded] {
+        vm.notify_input(Bytes::copy_from_slice(alloc, bytes)?)?;
+    }
+    answered(vm.sys_input())?;
+    Ok(vm)
 }
 
 fn target(alloc: Global) -> Result<Target, AllocError> {
