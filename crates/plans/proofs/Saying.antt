@@ -4,15 +4,12 @@ use Rattle.std.proofs.lemmas.List.{take_more}
 use Rattle.std.specs.declared.string.String.{String}
 use Rattle.lines.proofs.Growing.{zip_push}
 use Rattle.vm_types.specs.declared.steps.Step.{Step}
-use Rattle.plans.specs.declared.planned.Planned.{Planned}
-use Rattle.plans.specs.Planned.{planned_step}
 use Rattle.plans.specs.Said.{AreSaid, SaysStep}
 
 -- one line more, which says a step
-pub said_more : (lines : List (String Global)) (i : ℕ) (line : String Global) (steps after : List Planned) (planned : Planned) (step : Step) → i < length lines → get_or lines i line ≡ line → AreSaid (take i lines) steps
-    → SaysStep (string_bytes line) step → planned_step planned ≡ step → after ≡ steps ++ planned ∷ [] → AreSaid (take (i + 1) lines) after
-said_more lines i line steps after planned step h here all says is_planned is =
-    let says_planned = subst (λ s. SaysStep (string_bytes line) s) (sym is_planned) says in
-    let pushed = zip_push (λ (l : String Global) (p : Planned). SaysStep (string_bytes l) (planned_step p)) (take i lines) steps line planned all says_planned in
-    let longer = subst (λ l. AreSaid (take i lines ++ l ∷ []) (steps ++ planned ∷ [])) (sym here) pushed in
-    subst (λ ys. AreSaid (take (i + 1) lines) ys) (sym is) (subst (λ ls. AreSaid ls (steps ++ planned ∷ [])) (sym (take_more lines i line h)) longer)
+pub said_more : (lines : List (String Global)) (i : ℕ) (line : String Global) (steps after : List Step) (step : Step) → i < length lines → get_or lines i line ≡ line → AreSaid (take i lines) steps
+    → SaysStep (string_bytes line) step → after ≡ steps ++ step ∷ [] → AreSaid (take (i + 1) lines) after
+said_more lines i line steps after step h here all says is =
+    let pushed = zip_push (λ (l : String Global) (s : Step). SaysStep (string_bytes l) s) (take i lines) steps line step all says in
+    let longer = subst (λ l. AreSaid (take i lines ++ l ∷ []) (steps ++ step ∷ [])) (sym here) pushed in
+    subst (λ ys. AreSaid (take (i + 1) lines) ys) (sym is) (subst (λ ls. AreSaid ls (steps ++ step ∷ [])) (sym (take_more lines i line h)) longer)

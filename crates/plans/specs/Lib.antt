@@ -1,2 +1,2 @@
-pub mod Planned
+pub mod Plans
 pub mod Said

@@ -8,8 +8,6 @@ use Rattle.vm_types.specs.declared.call.Call.TheVariants as call
 use Rattle.call_lines.specs.declared.request.Request.TheVariants as request
 use Rattle.vm_types.specs.declared.steps.Step.{Step}
 use Rattle.vm_types.specs.declared.steps.Step.TheVariants as step
-use Rattle.plans.specs.declared.planned.Planned.{Planned}
-use Rattle.plans.specs.Planned.{planned_step}
 
 -- the line asks for the call that this step is, which may be a run
 abbrev pub SaysStep : List ℕ → Step → Type 0
@@ -17,6 +15,5 @@ SaysStep line said = IsRequestLine line (request.Call (call.Step said))
     ⊎ ((name : List ℕ) × IsRequestLine line (request.Call (call.Run name)) × (said ≡ step.Run name))
 
 -- the lines say these steps, one each
-abbrev pub AreSaid : List (String Global) → List Planned → Type 0
-AreSaid lines steps =
-    AllZip (λ line planned. SaysStep (string_bytes line) (planned_step planned)) lines steps
+abbrev pub AreSaid : List (String Global) → List Step → Type 0
+AreSaid lines steps = AllZip (λ line said. SaysStep (string_bytes line) said) lines steps

@@ -3,7 +3,6 @@ ghost use Rattle.std.specs.Prelude.{IfErr, IfOk};
 ghost use Rattle.plans.specs.Said.{AreSaid, SaysStep};
 
 use crate::plan::Plan;
-use crate::planned::Planned;
 use call_lines::parse::parse;
 use call_lines::request::Request;
 use plain::Fault;
@@ -30,7 +29,7 @@ pub fn plan_of(alloc: Global, lines: &[String]) -> Result<Plan, Fault>
     let mut steps = Vec::new(alloc);
     for line in lines {
         let step = step_of(alloc, line.as_str())?;
-        steps.push(Planned::of(step))?;
+        steps.push(step)?;
     }
     Ok(Plan { alloc, steps })
 }

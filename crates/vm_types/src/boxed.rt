@@ -34,6 +34,12 @@ impl<T: Drop> Boxed<T> {
         })
     }
 
+    pub fn as_ref(&self) -> &T
+        ensures { result.now ≡ self.now }
+    {
+        &self.inner
+    }
+
     pub fn into_inner(self) -> T
         ensures { result ≡ self }
     {
