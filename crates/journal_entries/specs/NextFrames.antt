@@ -52,7 +52,8 @@ pub record HasFault (raw : RawMessage) (journal : List (List ℕ)) (f : JournalF
   pub fault : storing_fault item journal ≡ Some f
 
 -- what is stored of the next frame has this fault
-pub record NextFaults (unstored : List ℕ) (journal : List (List ℕ)) (f : JournalFault) : Type 0 where
+pub record NextFaults (unstored : List ℕ) (journal : List (List ℕ))
+    (f : JournalFault) : Type 0 where
   pub raw : RawMessage
   pub rest : List ℕ
   pub next : next_of unstored ≡ Whole raw rest

@@ -118,7 +118,8 @@ arriving_fault (SignalId id) brings view = room_at view.entries
 arriving_fault (SignalName name) brings view = room_at view.entries
 
 -- the fault of a notification in a journal that is given
-abbrev pub loaded_note_fault : NotificationId → NotificationResult → JournalView → Option JournalFault
+abbrev pub loaded_note_fault : NotificationId → NotificationResult → JournalView
+    → Option JournalFault
 loaded_note_fault (CompletionId id) brings view = known_given (known_now view.ids id) brings
     (room_at view.entries)
 loaded_note_fault (SignalId id) brings view = room_at view.entries

@@ -76,7 +76,8 @@ StoresNext version n unstored unstored' old entries feed new entries' feed' =
 
 -- it is out of memory, or the fault of the first that has one, after each journal that is known and
 -- ends with these entries
-abbrev pub IsStoringFault : Version → ℕ → List ℕ → JournalView → List (List ℕ) → JournalFault → Type 0
+abbrev pub IsStoringFault : Version → ℕ → List ℕ → JournalView → List (List ℕ) → JournalFault
+    → Type 0
 IsStoringFault version n unstored old entries f =
     (f ≡ journal_fault.Memory)
     ⊎ ((before : List (List ℕ)) → Holds old (before ++ entries)

@@ -150,7 +150,8 @@ fn store_proposal(
     ensures ok { OnOk result (StoresBy version (written.Proposal proposal)
         journal.old entries.old.items feed.old.items journal.new entries.new.items feed.new.items) }
     ensures err { IfErr result (λ f.
-        (f ≡ journal_fault.Memory) ⊎ (storing_by (written.Proposal proposal) journal.old ≡ Some f)) }
+        (f ≡ journal_fault.Memory)
+            ⊎ (storing_by (written.Proposal proposal) journal.old ≡ Some f)) }
     ensures kept { IsSameKept journal.old journal.new }
 {
     match journal.proposing_fault(proposal.id) {

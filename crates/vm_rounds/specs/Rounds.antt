@@ -321,7 +321,8 @@ abbrev pub RoundFaults : Meaning → Setting → Round → List (List ℕ) → J
 RoundFaults m w round old f = RoundFaultsBy Fault m w round old f
 
 -- the first round that has a fault of this kind has this one
-abbrev pub RoundsFaultBy : EventFault → Meaning → Setting → List Round → List (List ℕ) → JournalFault
+abbrev pub RoundsFaultBy : EventFault → Meaning → Setting → List Round → List (List ℕ)
+    → JournalFault
     → Type 0
 RoundsFaultBy Has m w [] old f = f ≡ journal_fault.Memory
 RoundsFaultBy Has m w (r ∷ rs) old f =
