@@ -1,5 +1,6 @@
-//! Awaits of trees: arrivals are used until a tree is awake, and no further; else what is left of it is answered, and what
-//! the invocation then waits for.
+//! Awaits of trees. Arrivals are used one by one until the tree is awake, and no further: that is the least awake prefix. If none wakes it, what
+//! is left of the tree is returned, and what the invocation then waits for, as a future. Each try is proved against the definitions of
+//! `await_trees`, and stands on no VM.
 #![tactic(auto)]
 
 pub mod course;

@@ -1,4 +1,5 @@
-//! Handlers for people: those that the programs know by their names, and `charge`, whose run is executed outside.
+//! Handlers for people: those that the programs know by their names, and `charge`, whose run is executed outside. They are written step by
+//! step as a `Handler`; those of `examples` of the same names (`Sleeper`, `Race`) are written as ordinary code.
 #![tactic(auto)]
 
 pub mod answers;

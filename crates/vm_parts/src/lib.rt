@@ -1,4 +1,5 @@
-//! The parts of the VM: the small states that the machine is made of, each with what contracts see of it.
+//! The parts of the VM: the small states that the machine is made of, each with what contracts see of it: counters, results, the state, the
+//! output, tracked calls and ephemeral reads. They know none of the VM's options and calls.
 #![tactic(auto)]
 
 pub mod async_results;

@@ -1,5 +1,6 @@
-//! The public types of the VM: options, values, results of runs, calls as values and their replies, what a handler is, what its step asks
-//! for and what it is answered.
+//! The public types of the VM, which need no frame and no machine: options, values, results of runs, calls as values and their replies, and what
+//! a handler is. A handler's step (`Step`) says what it asks for, and an `Answer` what it gets. So handlers, lines of scripts and the VM
+//! depend on this crate beside each other.
 #![tactic(auto)]
 
 pub mod boxed;

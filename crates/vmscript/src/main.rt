@@ -1,4 +1,5 @@
-//! `vmscript`: drives one VM from a script on standard input, and prints an answer for each of its lines.
+//! `vmscript`: drives one VM from a script on standard input, a call or some bytes a line, and prints an answer for each of its lines. It is for
+//! trying a single call, and for the rows that test them; what a line does stands in `scripts`.
 #![tactic(auto)]
 
 use program_runs::command_line::asks_for_help;
