@@ -16,7 +16,7 @@ fn replace(vm: &mut Option<CoreVM>, new: Option<CoreVM>)
 }
 
 /// Makes a new VM. Answers its version, or why it wasn't made.
-#[tactic(auto, using(crate::proofs::Making::made_as_asked))]
+#[tactic(auto, using(crate::proofs::Made::made_as_asked))]
 fn make(alloc: Global, content_type: ContentType, options: VMOptions) -> (Reply, Option<CoreVM>)
     ensures { VmIsMade alloc options (version_in (header_under content_type (codes "content-type")))
         result.0
