@@ -18,7 +18,8 @@ use journal_entries::entry::frame_bytes;
 use journal_entries::storing::{Written, answer_bytes, next_written, written_as};
 use journal_entries::{JournalFault, completion_result};
 use journal_protocol::{
-    Decoder, Encoder, Message, Notification, NotificationId, RawMessage, Version,
+    Decoder, Encoder, Message, Notification, NotificationId, ProposeRunCompletion, RawMessage,
+    Version,
 };
 use std::alloc::{AllocError, Global};
 
@@ -151,7 +152,7 @@ fn store_proposal(
         journal.old entries.old.items feed.old.items journal.new entries.new.items feed.new.items) }
     ensures err { IfErr result (λ f.
         (f ≡ journal_fault.Memory)
-            ⊎ (storing_by (written.Proposal proposal) journal.old ≡ Some f)) }
+        ⊎ (storing_by (written.Proposal proposal) journal.old ≡ Some f)) }
     ensures kept { IsSameKept journal.old journal.new }
 {
     match journal.proposing_fault(proposal.id) {
