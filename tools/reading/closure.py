@@ -2,6 +2,7 @@
 
 from __future__ import annotations
 
+from collections import Counter
 from collections.abc import Iterable
 from dataclasses import dataclass
 
@@ -100,3 +101,11 @@ def weights(of: Closure) -> list[tuple[Definition, tuple[Definition, ...]]]:
         return tuple(definition for place, definition in known.items() if place not in kept)
 
     return sorted(((it, alone(it.place)) for it in of.above), key=lambda it: -count(it[1]))
+
+
+def once(of: Closure) -> list[tuple[Definition, list[Definition]]]:
+    """Returns each definition that mentions others which neither the statement nor another definition mentions, with these."""
+    users = Counter(place for it in of.above for place in it.cites)
+    known = {it.place: it for it in of.above if users[it.place] == 1 and it.place not in of.roots}
+    found = [(it, [known[place] for place in it.cites if place in known]) for it in of.above]
+    return [(it, those) for it, those in found if those]

@@ -5,6 +5,7 @@ usage: tools/guarantees                    lists the guarantees and laws, with t
                                            function that docs/THEOREMS.md names, as run_rounds or Attempt::step; all its clauses by default
            --text                          with the text of each definition
            --heaviest N                    the N definitions without which most others needn't be read
+           --once                          each definition that mentions others which nothing else mentions, with these
        tools/guarantees --write            writes docs/guarantees and the sizes in docs/THEOREMS.md, which tools/documents compares
 
 Definitions of the layer of messages, which say how bytes are laid out, are counted apart."""
@@ -19,7 +20,7 @@ from tools.checks.theorems import Theorem
 from tools.survey.tree import Fault
 
 from . import pages
-from .closure import Closure, count, weights
+from .closure import Closure, count, once, weights
 from .definitions import Definition
 from .guarantees import Shelf
 from .statements import Unknown
@@ -57,12 +58,21 @@ def heaviest(of: Closure, most: int) -> None:
         print(f"{len(those):4} definitions, {count(those):5} lines only by {it.place.name} ({it.place.path})")
 
 
+def mentioned_once(of: Closure) -> None:
+    """Prints each definition that mentions others which nothing else mentions: these can become part of it."""
+    rows = once(of)
+    for it, those in rows:
+        print(f"{it.place.name}: {', '.join(f'{other.place.name} ({len(other.lines)})' for other in those)}")
+    print(f"{sum(len(those) for _, those in rows)} of {len(of.above)} definitions are mentioned by one other alone")
+
+
 def main(words: list[str]) -> int:
     parser = argparse.ArgumentParser(prog="tools/guarantees", description=__doc__, formatter_class=argparse.RawDescriptionHelpFormatter)
     parser.add_argument("name", nargs="?", metavar="NAME")
     parser.add_argument("clauses", nargs="*", metavar="CLAUSE")
     parser.add_argument("--text", action="store_true")
     parser.add_argument("--heaviest", type=int, metavar="N")
+    parser.add_argument("--once", action="store_true")
     parser.add_argument("--write", action="store_true")
     parser.add_argument("--top", type=Path, default=Path(__file__).resolve().parents[2], help="another tree than this one")
     how = parser.parse_args(words)
@@ -74,7 +84,12 @@ def main(words: list[str]) -> int:
         else:
             shelf = Shelf(how.top)
             theorems = shelf.named(how.name, tuple(how.clauses))
-            heaviest(shelf.closure(theorems), how.heaviest) if how.heaviest else read(shelf, theorems, how.text)
+            if how.heaviest:
+                heaviest(shelf.closure(theorems), how.heaviest)
+            elif how.once:
+                mentioned_once(shelf.closure(theorems))
+            else:
+                read(shelf, theorems, how.text)
     except (Fault, Unknown) as why:
         print(f"guarantees: {why}", file=sys.stderr)
         return 1

@@ -140,9 +140,11 @@ class Sources:
     def read(self, home: str) -> dict[str, Definition]:
         """Returns the definitions of a file of specs by their names."""
         file = self.file(home)
+        if file is None:
+            raise LookupError(f"there is no file {self.modules.path(home)}")
         found: dict[str, Definition] = {}
         current = ""
-        for clause in file.clauses if file else []:
+        for clause in file.clauses:
             if (match := DEFINED.match(clause.text)) and not clause.is_local:
                 current = match["type"] or match["name"]
                 line = file.text.count("\n", 0, clause.at) + 1

@@ -10,7 +10,7 @@ from pathlib import Path
 
 from tools.checks.theorems import Theorem
 from tools.reading import pages
-from tools.reading.closure import weights
+from tools.reading.closure import once, weights
 from tools.reading.command import main
 from tools.reading.definitions import Definition, Sources
 from tools.reading.guarantees import Shelf
@@ -173,6 +173,11 @@ class Closures(TreeTest):
         heaviest = {it.place.name: {other.place.name for other in those} for it, those in weights(closure)}
         self.assertEqual(heaviest["Holds"], {"Holds", "length_of", "one"})
         self.assertEqual(heaviest["Entry"], {"Entry"})
+
+    def test_what_only_one_definition_mentions_can_become_part_of_it(self) -> None:
+        closure = Shelf(self.top).closure([self.theorem("play", "kept")])
+        found = {it.place.name: [other.place.name for other in those] for it, those in once(closure)}
+        self.assertEqual(found, {"Keeps": ["Holds"], "Holds": ["length_of"], "length_of": ["one"]})
 
 
 class Definitions(TreeTest):
