@@ -29,7 +29,7 @@ PLAINER = {
     r"read it so": "holds",
     r"(?<!\bthe )(?<!\bof )(?<!\bits )(?<!\btheir )(?<!\ball )answers (?:`|the |an? |its |no |nothing|out )": "returns",
     r"(?:polic(?:y|ies)|trees?|expressions?) of (?:retries|awaits|cron)": "retry policy, await tree, cron expression",
-    r"(?:(?<=[.:;] )|^)Of (?:an?|the|what|each|one)\b": "the subject first",
+    r"(?:(?<=[.;] )|^)Of (?:an?|the|what|each|one)\b": "the subject first",
     r"(?:, |\()as `+(?=[,.;)])": "such as",
 }
 AVOIDED = re.compile("|".join(rf"(?<!\w)(?:{it})" for it in PLAINER), re.IGNORECASE)
