@@ -6,7 +6,7 @@ from collections import Counter
 from collections.abc import Iterable
 from dataclasses import dataclass
 
-from tools.survey.tree import House
+from tools.survey.tree import Fault, House
 
 from .definitions import Definition, Place, Sources
 from .statements import Stated
@@ -42,6 +42,8 @@ def count(definitions: Iterable[Definition]) -> int:
 
 def layer(house: House) -> frozenset[str]:
     """Returns the crates of the layer of messages."""
+    if LAYER not in house.crates:
+        raise Fault(f"crates.txt names no {LAYER}, which is the layer of messages; name its crate in tools/reading/closure.py")
     found, waiting = set[str](), [LAYER]
     while waiting:
         name = waiting.pop()

@@ -229,6 +229,11 @@ class Pages(TreeTest):
         self.assertNotIn("| `Holds` |", text)
         self.assertIn("| `Swaps` |", text)
 
+    def test_without_the_layer_of_messages_it_says_so(self) -> None:
+        self.write("crates.txt", "lower:\nupper: lower\n")
+        [(_, why)] = self.wrong()
+        self.assertTrue((why or "").startswith("crates.txt names no journal_protocol"), why)
+
     def test_without_marks_nothing_is_written(self) -> None:
         self.write("docs/THEOREMS.md", THEOREMS.replace(pages.MARKS[1], ""))
         with self.assertRaisesRegex(Fault, "two marks aren't there"):
