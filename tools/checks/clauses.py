@@ -240,3 +240,18 @@ def constructors(found: list[Token], operators: set[str]) -> set[str]:
         if first.text == "(" and token.kind == "name" and is_applied:
             names.add(token.text)
     return names
+
+
+def blocks_of(code: str) -> Iterator[tuple[int, int]]:
+    """Yields the blocks of a Rust source: the indexes of their braces."""
+    opened = []
+    for match in re.finditer(r"[{}]", code):
+        if match[0] == "{":
+            opened.append(match.start())
+        elif opened:
+            yield opened.pop(), match.start()
+
+
+def is_seen(at: int, around: list[tuple[int, int]], blocks: list[tuple[int, int]]) -> bool:
+    """Says whether what is imported at an index is seen where these blocks are around."""
+    return all(block in around for block in blocks if block[0] < at < block[1])

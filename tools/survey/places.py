@@ -13,9 +13,10 @@ from .phrases import phrase
 from .spellings import Name
 from .tree import PARTS, House
 
-# A line that shows how this command is called names nothing that a change touches; neither do the files of the survey.
+# A line that shows how this command is called names nothing that a change touches; neither do the files of the survey, nor pages that a
+# command writes.
 CALL = re.compile(r"tools/where\b")
-OWN = ("tools/survey/",)
+OWN = ("tools/survey/", "docs/guarantees/")
 DATA = ("rows", "runs", "stdin", "stdout", "args", "data")
 
 

@@ -1,0 +1,88 @@
+"""The modules of a tree's crates, by text: which file a module's name stands for, what it defines, and which Rust source a generated one has."""
+
+from __future__ import annotations
+
+import re
+from pathlib import Path
+
+from .clauses import bare, defined
+
+# Modules that are made for a function, beside its proofs.
+GENERATED = {"Goals", "Given", "Code", "Statement", "TheSendSync"}
+
+
+class Modules:
+    """The crates of a tree: what each file of specs and proofs defines."""
+
+    def __init__(self, top: Path) -> None:
+        self.top = top
+        self.crates = {path.name for path in (top / "crates").iterdir()}
+        self.known: dict[str, dict[str, bool] | None] = {}
+        self.passes: dict[str, dict[str, str]] = {}
+
+    def passed(self, crate: str) -> dict[str, str]:
+        """Returns the modules that a crate's specs pass on, by their last word."""
+        if crate not in self.passes:
+            path = self.top / "crates" / crate / "specs" / "Lib.antt"
+            lines = re.findall(r"^pub use (Rattle\.[\w.]+)$", path.read_text(), re.MULTILINE) if path.is_file() else []
+            self.passes[crate] = {line.rpartition(".")[2]: line for line in lines}
+        return self.passes[crate]
+
+    def home(self, module: str) -> str:
+        """Returns the module that a path names, by its own path."""
+        parts = module.split(".")
+        while parts[2:3] == ["specs"] and len(parts) > 3 and (there := self.passed(parts[1]).get(parts[3])):
+            parts = [*there.split("."), *parts[4:]]
+        return ".".join(parts)
+
+    def path(self, module: str) -> Path:
+        """Returns where the file of a module is, if it has one."""
+        return (self.top / "crates").joinpath(*module.split(".")[1:]).with_suffix(".antt")
+
+    def definitions(self, module: str) -> dict[str, bool] | None:
+        """Returns what a module's file defines or passes on, each with whether it is public; none if there is no such file."""
+        module = self.home(module)
+        if module not in self.known:
+            path = self.path(module)
+            self.known[module] = defined(bare(path.read_text(), "--")) if path.is_file() else None
+        return self.known[module]
+
+    def source(self, module: str) -> tuple[Path, list[str]] | None:
+        """Returns the Rust source of a generated module of types, and what of the module's path is left below it."""
+        _, crate, _, _, *rest = module.split(".")
+        for most in range(len(rest), -1, -1):
+            path = (self.top / "crates" / crate / "src").joinpath(*rest[:most] or ["lib"]).with_suffix(".rt")
+            if path.is_file():
+                return path, rest[most:]
+        return None
+
+    def lacks(self, module: str, name: str | None) -> str | None:
+        """Returns why a module, or a name in it, can't be imported; none if it can."""
+        module = self.home(module)
+        parts = module.split(".")
+        if parts[0] != "Rattle" or parts[1] not in self.crates or len(parts) < 4:
+            return None
+        found = self.definitions(module)
+        if found is None and (above := self.definitions(".".join(parts[:-1]))) is not None:  # a type of data as a module
+            found, name = above, f"{parts[-1]}.{name}" if name else parts[-1]
+        if found is not None:
+            return None if name is None or found.get(name) else f"{module} has no public {name}"
+        if parts[2:4] == ["specs", "declared"]:
+            return self.lacks_type(module, name)
+        is_generated = parts[2:4] == ["specs", "contracts"] or parts[2] == "proofs" and parts[-1] in GENERATED
+        return None if is_generated else f"there is no module {module}"
+
+    def lacks_type(self, module: str, name: str | None) -> str | None:
+        source = self.source(module)
+        if not source or not source[1]:
+            return f"there is no source of {module}"
+        path, (type_name, *rest) = source
+        text = path.read_text()
+        declared = re.search(rf"\b(?:struct|enum|trait|type) {re.escape(type_name)}\b", text)
+        if not declared and type_name not in re.findall(r"\w+", text):
+            return f"the source of {module} declares no {type_name}"
+        if rest == ["TheVariants"] and name and "-" not in name and not re.search(rf"^\s+{re.escape(name)}\b", text, re.MULTILINE):
+            return f"{module} has no {name}"
+        if not rest and name and name != type_name and "-" not in name:
+            return f"{module} has no {name}"
+        return None
