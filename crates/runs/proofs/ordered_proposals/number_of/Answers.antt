@@ -36,18 +36,18 @@ returns-in_err-found-clause-none c =
     let none = not_there num get id c.in_ok-number.field-0.now (sym c.in_ok-number.ensures.value) kept.entries (λ k e. is_none k (is_for id k) (c.in_err-found.ensures.value ∙ e)) c.requires got in
     subst (λ o. IfNone o (NoneFor id kept.entries)) (sym c.from_residual-in_err-found.ensures) none
 
-pub returns-then-found-id-clause-some : goal.returns-then-found-id-clause-some
-returns-then-found-id-clause-some c =
+pub returns-then-found-completion_id-clause-some : goal.returns-then-found-completion_id-clause-some
+returns-then-found-completion_id-clause-some c =
     let kept = c.args.kept.now in
     let num : ℕ → Option ℕ = λ q. lookup (is_at (nat_cmp q)) c.args.numbers.now.entries in
     let get : ℕ → Option ProposeRunCompletion = λ n. lookup (is_at (nat_cmp n)) kept.entries in
     let id = c.args.completion_id in
     let got = recursion_from_All (λ (e : ℕ × ProposeRunCompletion). get e.0 ≡ Some e.1) kept.entries (All-found nat_cmp_total kept c.len.ensures.ordered) in
     let k = c.in_ok-found.found.now in
-    there num get id c.in_ok-number.field-0.now (sym c.in_ok-number.ensures.value) kept.entries k (sym c.in_ok-found.ensures.value) (itself k.id id c.if-found-id.true) c.requires got
+    there num get id c.in_ok-number.field-0.now (sym c.in_ok-number.ensures.value) kept.entries k (sym c.in_ok-found.ensures.value) (itself k.id id c.if-found-completion_id.true) c.requires got
 
-pub returns-else-found-id-clause-none : goal.returns-else-found-id-clause-none
-returns-else-found-id-clause-none c =
+pub returns-else-found-completion_id-clause-none : goal.returns-else-found-completion_id-clause-none
+returns-else-found-completion_id-clause-none c =
     let kept = c.args.kept.now in
     let num : ℕ → Option ℕ = λ q. lookup (is_at (nat_cmp q)) c.args.numbers.now.entries in
     let get : ℕ → Option ProposeRunCompletion = λ n. lookup (is_at (nat_cmp n)) kept.entries in
@@ -55,4 +55,4 @@ returns-else-found-id-clause-none c =
     let got = recursion_from_All (λ (e : ℕ × ProposeRunCompletion). get e.0 ≡ Some e.1) kept.entries (All-found nat_cmp_total kept c.len.ensures.ordered) in
     let found = c.in_ok-found.found.now in
     not_there num get id c.in_ok-number.field-0.now (sym c.in_ok-number.ensures.value) kept.entries
-    (λ k e. ap (is_for id) (sym (is_same found k (c.in_ok-found.ensures.value ∙ e))) ∙ apart found.id id c.if-found-id.false) c.requires got
+    (λ k e. ap (is_for id) (sym (is_same found k (c.in_ok-found.ensures.value ∙ e))) ∙ apart found.id id c.if-found-completion_id.false) c.requires got
