@@ -31,7 +31,7 @@ typedef struct {
     void *at;
 } palqytun_vm;
 
-/* How a call ended. */
+/* How a call ended. Calls of a journal and calls on frames have further numbers, below; no number says two things. */
 enum {
     PALQYTUN_DONE = 0,
     /* No memory was found. Each call below says what then stands. */
@@ -406,12 +406,8 @@ typedef struct {
 
 /* How a call of a journal ended, beside PALQYTUN_DONE, PALQYTUN_NO_MEMORY and PALQYTUN_NO_ROOM. */
 enum {
-    /* The palqytun_journal has none: palqytun_journal_new didn't make one, or it was freed. */
-    PALQYTUN_NO_JOURNAL = 2,
-    /* The number names no version. Nothing was done. */
+    /* The number names no version: it is PALQYTUN_BAD_NUMBER. Nothing was done. */
     PALQYTUN_BAD_VERSION = 8,
-    /* The last store has no such row. */
-    PALQYTUN_NO_ROW = 9,
     /* The output isn't whole frames. */
     PALQYTUN_BAD_OUTPUT = 10,
     /* The faults. What arrives isn't one whole frame of a notification. */
@@ -427,7 +423,11 @@ enum {
     /* The journal has 4294967295 entries. */
     PALQYTUN_JOURNAL_FULL = 16,
     /* What is loaded can't stand there: the first entry is one whole frame of an input, each other one of a command or a notification. */
-    PALQYTUN_BAD_JOURNAL = 17
+    PALQYTUN_BAD_JOURNAL = 17,
+    /* The palqytun_journal has none: palqytun_journal_new didn't make one, or it was freed. */
+    PALQYTUN_NO_JOURNAL = 22,
+    /* The last store has no such row. */
+    PALQYTUN_NO_ROW = 23
 };
 
 /* An entry: the type of its message (docs/WIRE.md), the completion id that it completes, if it is a completion, and its length in bytes.
@@ -489,8 +489,6 @@ uint32_t palqytun_journal_undo(palqytun_journal *journal);
 
 /* How a call on frames ended, beside PALQYTUN_DONE, PALQYTUN_NO_MEMORY, PALQYTUN_NO_ROOM, PALQYTUN_BAD_TEXT and PALQYTUN_BAD_NUMBER. */
 enum {
-    /* What was given aren't whole frames. */
-    PALQYTUN_NOT_FRAMES = 10,
     /* What was given isn't one whole frame. */
     PALQYTUN_NOT_A_FRAME = 18,
     /* The line has no meaning. */
@@ -498,7 +496,9 @@ enum {
     /* The frame has no result. */
     PALQYTUN_NO_RESULT = 20,
     /* The frame isn't one of a suspension. */
-    PALQYTUN_NOT_A_SUSPENSION = 21
+    PALQYTUN_NOT_A_SUSPENSION = 21,
+    /* What was given aren't whole frames. */
+    PALQYTUN_NOT_FRAMES = 24
 };
 
 /* What the id of a notification is. */

@@ -1,18 +1,20 @@
 //! The calls on frames.
 ghost use Rattle.std.specs.Prelude.{◌≤◌};
-ghost use Rattle.frame_calls.specs.Answers.{IsJudged, LineRead, WrittenOrWhy};
+ghost use Rattle.frame_calls.specs.Answers.{IsJudged, LineRead};
 ghost use Rattle.frame_calls.specs.Reading.{awake_at, line_at, notification_at};
-ghost use Rattle.frame_calls.specs.Statuses.{frame_status_by};
+ghost use Rattle.loose_boxes.specs.Statuses.{status_by};
+ghost use Rattle.loose_boxes.specs.Written.{WrittenOrWhy};
 
-use frame_calls::{Judged, Told, calls};
+use frame_calls::{Judged, calls};
+use loose_boxes::Told;
 use std::alloc::Global;
 
 /// Writes the line of a frame to the front of `out`, if there is room for it, and says how long it is.
 #[unsafe(no_mangle)]
 pub extern "C" fn palqytun_frame_line(alloc: Global, frame: &[u8], out: &mut [u8]) -> Told
-    ensures written { WrittenOrWhy (frame_status_by result.status) (line_at frame.now) result.len
+    ensures written { WrittenOrWhy (status_by result.status) (line_at frame.now) result.len
         out.old out.new }
-    ensures known { result.status ≤ 21 }
+    ensures known { result.status ≤ 24 }
 {
     calls::line(alloc, frame, out)
 }
@@ -20,8 +22,8 @@ pub extern "C" fn palqytun_frame_line(alloc: Global, frame: &[u8], out: &mut [u8
 /// Writes the frame that a line shows to the front of `out`, if there is room for it, and says how long it is.
 #[unsafe(no_mangle)]
 pub extern "C" fn palqytun_line_frame(alloc: Global, line: &[u8], out: &mut [u8]) -> Told
-    ensures read { LineRead (frame_status_by result.status) line.now result.len out.old out.new }
-    ensures known { result.status ≤ 21 }
+    ensures read { LineRead (status_by result.status) line.now result.len out.old out.new }
+    ensures known { result.status ≤ 24 }
 {
     calls::frame(alloc, line, out)
 }
@@ -37,9 +39,9 @@ pub extern "C" fn palqytun_notification(
     frame: &[u8],
     out: &mut [u8],
 ) -> Told
-    ensures written { WrittenOrWhy (frame_status_by result.status)
+    ensures written { WrittenOrWhy (status_by result.status)
         (notification_at kind id name.now frame.now) result.len out.old out.new }
-    ensures known { result.status ≤ 21 }
+    ensures known { result.status ≤ 24 }
 {
     calls::notification(alloc, kind, id, name, frame, out)
 }
@@ -51,9 +53,9 @@ pub extern "C" fn palqytun_is_awake(
     suspension: &[u8],
     notifications: &[u8],
 ) -> Judged
-    ensures answered { IsJudged (frame_status_by result.status)
+    ensures answered { IsJudged (status_by result.status)
         (awake_at suspension.now notifications.now) result.is_awake }
-    ensures known { result.status ≤ 21 }
+    ensures known { result.status ≤ 24 }
 {
     calls::is_awake(alloc, suspension, notifications)
 }

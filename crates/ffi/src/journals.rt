@@ -3,16 +3,18 @@ ghost use Rattle.std.specs.Prelude.{◌≡◌, ◌≤◌, None};
 ghost use Rattle.journal_entries.specs.Arrivals.{arrival_fault};
 ghost use Rattle.journal_entries.specs.Given.{given_fault};
 ghost use Rattle.held_journals.specs.Journals.{HasEntries, EntryAnswered, FeedAnswered, FrameAnswered, IsNewJournal, CommitAnswered, OutputAnswered, RowAnswered, UndoAnswered};
-ghost use Rattle.held_journals.specs.Statuses.{status_by, version_named};
+ghost use Rattle.held_journals.specs.Statuses.{version_named};
+ghost use Rattle.loose_boxes.specs.Statuses.{status_by};
 
-use held_journals::{Journal, Row, Stored, Told, calls};
+use held_journals::{Journal, Row, Stored, calls};
+use loose_boxes::Told;
 use std::alloc::Global;
 
 /// Makes a journal without entries, if memory is found. One that was there is dropped.
 #[unsafe(no_mangle)]
 pub extern "C" fn palqytun_journal_new(alloc: Global, journal: &mut Journal) -> u32
     ensures made { IsNewJournal (status_by result) journal.new.value }
-    ensures known { result ≤ 17 }
+    ensures known { result ≤ 24 }
 {
     calls::open(alloc, journal)
 }
@@ -29,7 +31,7 @@ pub extern "C" fn palqytun_journal_free(alloc: Global, journal: &mut Journal)
 #[unsafe(no_mangle)]
 pub extern "C" fn palqytun_journal_entries(alloc: Global, journal: &mut Journal) -> Told
     ensures kept { journal.new.value ≡ journal.old.value }
-    ensures known { result.status ≤ 17 }
+    ensures known { result.status ≤ 24 }
     ensures counted { HasEntries (status_by result.status) result.len journal.old.value }
 {
     calls::entries(alloc, journal)
@@ -63,7 +65,7 @@ pub extern "C" fn palqytun_journal_store(
 ) -> Stored
     ensures stored { OutputAnswered (version_named version) output.now (status_by result.status)
         result journal.old.value journal.new.value }
-    ensures known { result.status ≤ 17 }
+    ensures known { result.status ≤ 24 }
 {
     calls::store(alloc, journal, version, output)
 }
@@ -86,7 +88,7 @@ pub extern "C" fn palqytun_journal_frame(
     out: &mut [u8],
 ) -> Told
     ensures kept { journal.new.value ≡ journal.old.value }
-    ensures known { result.status ≤ 17 }
+    ensures known { result.status ≤ 24 }
     ensures read { FrameAnswered at (status_by result.status) result.len out.old out.new
         journal.old.value }
 {
@@ -101,7 +103,7 @@ pub extern "C" fn palqytun_journal_answer(
     out: &mut [u8],
 ) -> Told
     ensures kept { journal.new.value ≡ journal.old.value }
-    ensures known { result.status ≤ 17 }
+    ensures known { result.status ≤ 24 }
     ensures read { FeedAnswered (status_by result.status) result.len out.old out.new
         journal.old.value }
 {
@@ -112,7 +114,7 @@ pub extern "C" fn palqytun_journal_answer(
 #[unsafe(no_mangle)]
 pub extern "C" fn palqytun_journal_keep(alloc: Global, journal: &mut Journal) -> u32
     ensures committed { CommitAnswered (status_by result) journal.old.value journal.new.value }
-    ensures known { result ≤ 17 }
+    ensures known { result ≤ 24 }
 {
     calls::keep(alloc, journal)
 }
@@ -121,7 +123,7 @@ pub extern "C" fn palqytun_journal_keep(alloc: Global, journal: &mut Journal) ->
 #[unsafe(no_mangle)]
 pub extern "C" fn palqytun_journal_undo(alloc: Global, journal: &mut Journal) -> u32
     ensures undone { UndoAnswered (status_by result) journal.old.value journal.new.value }
-    ensures known { result ≤ 17 }
+    ensures known { result ≤ 24 }
 {
     calls::undo(alloc, journal)
 }

@@ -9,17 +9,18 @@ mod typed;
 ghost use Rattle.std.specs.Prelude.{◌≡◌, ◌≤◌, None};
 ghost use Rattle.session_lines.specs.Lines.{LineSent};
 ghost use Rattle.sessions.specs.Sessions.{AnswerRead, InputFed, IsNewSession, OutputTaken};
-ghost use Rattle.sessions.specs.Statuses.{status_named};
+ghost use Rattle.loose_boxes.specs.Statuses.{status_by};
 
+use loose_boxes::Told;
 use session_lines::perform_line;
-use sessions::{Told, Vm, calls};
+use sessions::{Vm, calls};
 use std::alloc::Global;
 
 /// Makes an empty session, if memory is found. One that was there is dropped.
 #[unsafe(no_mangle)]
 pub extern "C" fn palqytun_new(alloc: Global, vm: &mut Vm) -> u32
-    ensures made { IsNewSession (status_named result) vm.new.value }
-    ensures known { result ≤ 9 }
+    ensures made { IsNewSession (status_by result) vm.new.value }
+    ensures known { result ≤ 24 }
 {
     calls::open(alloc, vm)
 }
@@ -27,9 +28,9 @@ pub extern "C" fn palqytun_new(alloc: Global, vm: &mut Vm) -> u32
 /// Performs a line. Returns the length of its answer, which `palqytun_answer` reads.
 #[unsafe(no_mangle)]
 pub extern "C" fn palqytun_line(alloc: Global, vm: &mut Vm, line: &[u8]) -> Told
-    ensures sent { LineSent alloc line.now (status_named result.status) result.len vm.old.value
+    ensures sent { LineSent alloc line.now (status_by result.status) result.len vm.old.value
         vm.new.value }
-    ensures known { result.status ≤ 9 }
+    ensures known { result.status ≤ 24 }
 {
     perform_line(alloc, vm, line)
 }
@@ -38,8 +39,8 @@ pub extern "C" fn palqytun_line(alloc: Global, vm: &mut Vm, line: &[u8]) -> Told
 #[unsafe(no_mangle)]
 pub extern "C" fn palqytun_answer(alloc: Global, vm: &mut Vm, out: &mut [u8]) -> Told
     ensures kept { vm.new.value ≡ vm.old.value }
-    ensures known { result.status ≤ 9 }
-    ensures read { AnswerRead (status_named result.status) result.len out.old out.new vm.old.value }
+    ensures known { result.status ≤ 24 }
+    ensures read { AnswerRead (status_by result.status) result.len out.old out.new vm.old.value }
 {
     calls::read_answer(alloc, vm, out)
 }
@@ -47,8 +48,8 @@ pub extern "C" fn palqytun_answer(alloc: Global, vm: &mut Vm, out: &mut [u8]) ->
 /// Feeds the VM bytes of its input.
 #[unsafe(no_mangle)]
 pub extern "C" fn palqytun_feed(alloc: Global, vm: &mut Vm, bytes: &[u8]) -> u32
-    ensures fed { InputFed bytes.now (status_named result) vm.old.value vm.new.value }
-    ensures known { result ≤ 9 }
+    ensures fed { InputFed bytes.now (status_by result) vm.old.value vm.new.value }
+    ensures known { result ≤ 24 }
 {
     calls::feed(alloc, vm, bytes)
 }
@@ -56,9 +57,9 @@ pub extern "C" fn palqytun_feed(alloc: Global, vm: &mut Vm, bytes: &[u8]) -> u32
 /// Moves all of the VM's output to the front of `out`, if it has room for it. Returns the output's length either way.
 #[unsafe(no_mangle)]
 pub extern "C" fn palqytun_take_output(alloc: Global, vm: &mut Vm, out: &mut [u8]) -> Told
-    ensures taken { OutputTaken (status_named result.status) result.len out.old out.new vm.old.value
+    ensures taken { OutputTaken (status_by result.status) result.len out.old out.new vm.old.value
         vm.new.value }
-    ensures known { result.status ≤ 9 }
+    ensures known { result.status ≤ 24 }
 {
     calls::take_output(alloc, vm, out)
 }

@@ -1,12 +1,13 @@
 //! The typed calls of the VM.
 ghost use Rattle.std.specs.Prelude.{◌≡◌, ◌≤◌};
 ghost use Rattle.sessions.specs.Calls.{CalledFromC, PartRead};
-ghost use Rattle.sessions.specs.Statuses.{status_named};
+ghost use Rattle.loose_boxes.specs.Statuses.{status_by};
 ghost use Rattle.typed_calls.specs.Making.{MakesAsGiven};
 ghost use Rattle.typed_calls.specs.Calls.{AsksCompleted, AsksIndex, AsksReady, AsksState, AttachesTo, AwaitsHandle, AwaitsNodes, CallsHandler, CallsWithDeadline, CancelsInvocation, ClearsAllState, ClearsState, ClosesInput, CompletesAwakeable, CompletesPromise, CompletesSignal, EndsHandler, GetsOutput, GetsPromise, MakesAwakeable, MakesSignal, PeeksPromise, ProposesResult, ProposesRetryable, ReadsEphemerally, ReadsHead, ReadsInput, ReadsKeys, ReadsState, ReportsError, CallsARun, SendsTo, SetsState, CallsSleep, TakesResult, TakesEphemeral, TakesOutputOf, WritesOutput};
 
+use loose_boxes::Told;
 use sessions::vm_call::{call, read_part};
-use sessions::{Replied, Told, Vm};
+use sessions::{Replied, Vm};
 use std::alloc::Global;
 use typed_calls::awaits::{AwaitCall, AwaitTreeCall, TakeCall};
 use typed_calls::callees::{CallCall, DeadlineCall, GivenTarget, SendCall};
@@ -33,8 +34,8 @@ use typed_calls::values::GivenValue;
 #[unsafe(no_mangle)]
 pub extern "C" fn palqytun_part(alloc: Global, vm: &mut Vm, at: usize, out: &mut [u8]) -> Told
     ensures kept { vm.new.value ≡ vm.old.value }
-    ensures known { result.status ≤ 9 }
-    ensures read { PartRead at (status_named result.status) result.len out.old out.new
+    ensures known { result.status ≤ 24 }
+    ensures read { PartRead at (status_by result.status) result.len out.old out.new
         vm.old.value }
 {
     read_part(alloc, vm, at, out)

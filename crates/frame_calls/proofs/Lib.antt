@@ -1,3 +1,3 @@
-pub mod Numbers
 pub mod Texts
 pub mod Streams
+pub mod Judging

@@ -12,10 +12,10 @@ use Rattle.await_trees.specs.Outcomes.{awake}
 use Rattle.await_trees.specs.Wires.{tree_of_nodes}
 use Rattle.journal_entries.specs.JournalFrames.{notified_by}
 use Rattle.journal_entries.specs.Entries.{note_of}
-use Rattle.awake_futures.specs.Waking.{is_awake_by, only_came, outcome_in}
+use Rattle.frame_calls.specs.Waking.{is_awake_by, only_came, outcome_in}
 use Rattle.frame_lines.specs.Printed.{HasNoFrame}
-use Rattle.frame_calls.specs.declared.status.Status.{Status}
-use Rattle.frame_calls.specs.declared.status.Status.TheVariants as status
+use Rattle.loose_boxes.specs.declared.status.Status.{Status}
+use Rattle.loose_boxes.specs.declared.status.Status.TheVariants as status
 use Rattle.frame_calls.specs.Reading.{if_found, awake_by, came_by, notes_among, notes_at, notes_before}
 use Rattle.frame_calls.specs.Noting.{AllRead, NotedUpTo}
 

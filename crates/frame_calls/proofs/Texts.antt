@@ -6,9 +6,10 @@ use Rattle.plain.specs.declared.fault.Fault.TheVariants.{Malformed}
 use Rattle.journal_protocol.specs.NotificationId.TheVariants.{SignalName}
 use Rattle.lines.specs.Readings.{Blames}
 use Rattle.frame_lines.specs.FrameLines.{LineShows}
-use Rattle.frame_calls.specs.declared.status.Status.{Status}
-use Rattle.frame_calls.specs.declared.status.Status.TheVariants as status
-use Rattle.frame_calls.specs.Answers.{LineRead, NoneWritten, WrittenOrWhy}
+use Rattle.loose_boxes.specs.declared.status.Status.{Status}
+use Rattle.loose_boxes.specs.declared.status.Status.TheVariants as status
+use Rattle.loose_boxes.specs.Written.{NoneWritten, WrittenOrWhy}
+use Rattle.frame_calls.specs.Answers.{LineRead}
 use Rattle.frame_calls.specs.Lines.{IsRefusedLine}
 use Rattle.frame_calls.specs.Reading.{name_id}
 

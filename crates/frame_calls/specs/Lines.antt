@@ -2,8 +2,8 @@
 use Rattle.std.specs.Prelude.{ℕ, List}
 use Rattle.std.specs.Str.{IsUtf8}
 use Rattle.frame_lines.specs.FrameLines.{ShowsNothing}
-use Rattle.frame_calls.specs.declared.status.Status.{Status}
-use Rattle.frame_calls.specs.declared.status.Status.TheVariants as status
+use Rattle.loose_boxes.specs.declared.status.Status.{Status}
+use Rattle.loose_boxes.specs.declared.status.Status.TheVariants as status
 
 -- no memory was found; or the line isn't UTF-8, or shows nothing
 abbrev pub RefusesLine : Status → List ℕ → Type 0

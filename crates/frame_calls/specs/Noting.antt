@@ -4,7 +4,7 @@ use Rattle.arrivals.specs.Came.{Came}
 use Rattle.journal_protocol.specs.RawMessage.{RawMessage}
 use Rattle.journal_entries.specs.Frames.{frames_of}
 use Rattle.frame_lines.specs.Printed.{HasNoFrame}
-use Rattle.awake_futures.specs.Waking.{only_came}
+use Rattle.frame_calls.specs.Waking.{only_came}
 use Rattle.frame_calls.specs.Reading.{notes_among}
 
 -- the first frames of a stream were read up to this rest, and their notifications came

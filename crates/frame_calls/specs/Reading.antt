@@ -15,10 +15,10 @@ use Rattle.journal_entries.specs.Frames.{Tail, Rest, Garbage, frames_of}
 use Rattle.journal_entries.specs.JournalFrames.{notified_by}
 use Rattle.journal_entries.specs.Entries.{frame_in, note_of}
 use Rattle.arrivals.specs.Came.{Came}
-use Rattle.awake_futures.specs.Waking.{is_awake_by, only_came}
+use Rattle.frame_calls.specs.Waking.{is_awake_by, only_came}
 use Rattle.frame_lines.specs.Printed.{frame_text}
-use Rattle.frame_calls.specs.declared.status.Status.{Status}
-use Rattle.frame_calls.specs.declared.status.Status.TheVariants as status
+use Rattle.loose_boxes.specs.declared.status.Status.{Status}
+use Rattle.loose_boxes.specs.declared.status.Status.TheVariants as status
 use Rattle.frame_calls.specs.Results.{notification_message, result_of_message}
 
 -- a value, or why there is none

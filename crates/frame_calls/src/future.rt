@@ -6,12 +6,12 @@ ghost use Rattle.frame_calls.specs.Noting.{AllRead};
 ghost use Rattle.frame_calls.specs.Reading.{awake_at, awake_by, came_by, message_awake, notes_among, notes_at};
 
 use crate::reading::{frame_at, message_in};
-use crate::status::Status;
+use crate::waking::is_awake;
 use arrivals::Arrivals;
-use awake_futures::is_awake;
 use bytes::Bytes;
 use journal_entries::entry::note_of;
 use journal_protocol::{Decoder, Future, Message, RawMessage};
+use loose_boxes::Status;
 use plain::Fault;
 use std::alloc::{AllocError, Global};
 

@@ -4,9 +4,10 @@
 mod answer;
 pub mod calls;
 mod future;
+mod judged;
+mod leaves;
 mod reading;
 mod results;
-mod status;
+mod waking;
 
-pub use answer::{Judged, Told};
-pub use status::Status;
+pub use answer::Judged;

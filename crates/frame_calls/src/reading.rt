@@ -6,12 +6,12 @@ ghost use Rattle.frame_lines.specs.Printed.{frame_text};
 ghost use Rattle.frame_calls.specs.Reading.{frame_at, id_named, line_at, name_id};
 ghost use Rattle.frame_calls.specs.Lines.{IsRefusedLine};
 
-use crate::status::Status;
 use bytes::Bytes;
 use frame_lines::entry::{frame_of, print_frame};
 use journal_entries::entry::frame_in;
 use journal_protocol::{Message, NotificationId, RawMessage};
 use lines::line::Line;
+use loose_boxes::Status;
 use plain::{Fault, Text};
 use std::alloc::{AllocError, Global};
 

@@ -5,16 +5,16 @@ ghost use Rattle.journal_protocol.specs.Bodies.{message_in};
 ghost use Rattle.journal_protocol.specs.Frames.{encoding};
 ghost use Rattle.frame_calls.specs.Reading.{notification_at, notification_of, found_or, result_read, result_of_frame};
 ghost use Rattle.frame_calls.specs.Results.{delivered_result, notification_message, result_of_message};
-ghost use Rattle.frame_calls.specs.declared.status.Status.TheVariants.{NoResult};
+ghost use Rattle.loose_boxes.specs.declared.status.Status.TheVariants.{NoResult};
 
 use crate::reading::{frame_at, id_named, message_in};
-use crate::status::Status;
 use bytes::Bytes;
 use journal_entries::completion_result;
 use journal_protocol::{
     Encoder, Message, Notification, NotificationId, NotificationResult, RawMessage, SignalResult,
     ValueOrFailure,
 };
+use loose_boxes::Status;
 use std::alloc::{AllocError, Global};
 
 /// The result of a value or a failure.

@@ -1,4 +1,4 @@
-pub mod Numbers
-pub mod Undoing
-pub mod Values
 pub mod Wholes
+pub mod Undoing
+pub mod Faults
+pub mod Values

@@ -1,9 +1,8 @@
 -- What a call from C does to the journal that it is given.
-use Rattle.std.specs.Prelude.{◌≡◌, ◌≢◌, ◌<◌, ◌++◌, ℕ, Bool, true, false, List, [], length, drop, map, slice_get, Option, Some, None}
+use Rattle.std.specs.Prelude.{◌≡◌, ◌≢◌, ◌++◌, ℕ, Bool, true, false, List, [], length, map, slice_get, Option, Some, None}
 use Rattle.journal_protocol.specs.Version.{Version}
 use Rattle.journal_entries.specs.Frames.{Rest, frames_of}
 use Rattle.journal_entries.specs.declared.fault.JournalFault.{JournalFault}
-use Rattle.journal_entries.specs.declared.fault.JournalFault.TheVariants as journal_fault
 use Rattle.std.specs.List.{flat_map}
 use Rattle.journal_entries.specs.Storing.{NoneFaults, stored_as, waits_behind, written_from}
 use Rattle.stored_journals.specs.Journals.{Enters, Holds, IsFault, IsSameKept, Kept, JournalView}
@@ -11,9 +10,11 @@ use Rattle.stored_journals.specs.Stored.{IsStoringFault, StoresNext}
 use Rattle.held_journals.specs.declared.row.Stored.{Stored}
 use Rattle.held_journals.specs.declared.journal.HeldJournal.{HeldJournal}
 use Rattle.held_journals.specs.declared.row.Row.{Row}
-use Rattle.held_journals.specs.declared.status.Status.{Status}
-use Rattle.held_journals.specs.declared.status.Status.TheVariants as status
+use Rattle.loose_boxes.specs.declared.status.Status.{Status}
+use Rattle.loose_boxes.specs.declared.status.Status.TheVariants as status
+use Rattle.loose_boxes.specs.Written.{BytesWritten}
 use Rattle.held_journals.specs.Rows.{row_in, no_row}
+use Rattle.held_journals.specs.Statuses.{IsFaultOf, fault_status}
 
 -- ---- what is done to a journal
 
@@ -60,15 +61,14 @@ pub record EntryRefused (fault : List (List ℕ) → Option JournalFault) (f : J
     (old new : HeldJournal) : Type 0 where
   pub found : IsFault fault old.journal f
   pub undone : IsUndone old new
-  pub answer : row ≡ no_row (status.Refused f)
+  pub answer : row ≡ no_row (fault_status f)
 
 -- An entry is appended, if it has no fault of this kind; else what came since the last commit is
 -- taken back.
 abbrev pub EntryDone : (List (List ℕ) → Option JournalFault) → List ℕ → Status → Row → HeldJournal
     → HeldJournal → Type 0
 EntryDone fault entry status.Done row old new = EntryAppended fault entry row old new
-EntryDone fault entry (status.Refused f) row old new = EntryRefused fault f row old new
-EntryDone fault entry named row old new = ⊥
+EntryDone fault entry named row old new = IsFaultOf named (λ f. EntryRefused fault f row old new)
 
 -- ---- an output
 
@@ -128,29 +128,20 @@ LeavesRest output old =
 -- and what came since the last commit is taken back.
 abbrev pub OutputDone : Version → List ℕ → Status → Stored → HeldJournal → HeldJournal → Type 0
 OutputDone version output status.Done stored old new = IsStored version output stored old new
-OutputDone version output (status.Refused f) stored old new =
-    IsStoringFault version (length output) output old.journal [] f × IsntStored stored old new
 OutputDone version output status.BadOutput stored old new =
     LeavesRest output old.journal × IsntStored stored old new
-OutputDone version output named stored old new = ⊥
+OutputDone version output named stored old new =
+    IsFaultOf named (λ f. IsStoringFault version (length output) output old.journal [] f)
+    × IsntStored stored old new
 
 -- ---- what is read
 
 -- the row at a place, if there is one, or it is out of memory
 abbrev pub RowFound : Option (List ℕ) → Status → Row → Type 0
 RowFound (Some entry) status.Done row = row ≡ row_in entry
-RowFound (Some entry) (status.Refused f) row =
-    (f ≡ journal_fault.Memory) × (row ≡ no_row (status.Refused f))
+RowFound (Some entry) status.NoMemory row = row ≡ no_row status.NoMemory
 RowFound None status.NoRow row = row ≡ no_row status.NoRow
 RowFound found named row = ⊥
-
--- Bytes are written to the front of the room for them, if there is so much.
-abbrev pub BytesWritten : List ℕ → Status → ℕ → List ℕ → List ℕ → Type 0
-BytesWritten bytes status.Done len before after =
-    (len ≡ length bytes) × (after ≡ bytes ++ drop len before)
-BytesWritten bytes status.NoRoom len before after =
-    (len ≡ length bytes) × (length before < len) × (after ≡ before)
-BytesWritten bytes named len before after = ⊥
 
 -- the bytes of a row are written, if there is one
 abbrev pub RowWritten : Option (List ℕ) → Status → ℕ → List ℕ → List ℕ → Type 0
@@ -163,7 +154,7 @@ RowWritten None named len before after = ⊥
 -- a journal was made, and it is empty; or no memory was found, and there is none
 abbrev pub IsNewJournal : Status → Option HeldJournal → Type 0
 IsNewJournal status.Done (Some made) = IsEmptyJournal made
-IsNewJournal (status.Refused f) None = f ≡ journal_fault.Memory
+IsNewJournal status.NoMemory None = Unit {0}
 IsNewJournal named made = ⊥
 
 -- how many entries it has
@@ -201,7 +192,7 @@ OutputAnswered None output named stored old new =
 abbrev pub CommitAnswered : Status → Option HeldJournal → Option HeldJournal → Type 0
 CommitAnswered status.Done (Some old) (Some new) =
     KeepsAll old.journal new.journal × SameRows old new
-CommitAnswered (status.Refused f) (Some old) None = f ≡ journal_fault.Memory
+CommitAnswered status.NoMemory (Some old) None = Unit {0}
 CommitAnswered status.NoJournal None None = Unit {0}
 CommitAnswered named old new = ⊥
 

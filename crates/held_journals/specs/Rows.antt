@@ -8,8 +8,8 @@ use Rattle.journal_protocol.specs.NotificationId.{NotificationId}
 use Rattle.journal_protocol.specs.NotificationId.TheVariants.{CompletionId, SignalId, SignalName}
 use Rattle.journal_entries.specs.Entries.{frame_in, note_in}
 use Rattle.held_journals.specs.declared.row.Row.{Row}
-use Rattle.held_journals.specs.declared.status.Status.{Status}
-use Rattle.held_journals.specs.Statuses.{status_number}
+use Rattle.loose_boxes.specs.declared.status.Status.{Status}
+use Rattle.loose_boxes.specs.Statuses.{status_number}
 
 -- the completion id that an id of a notification is
 abbrev pub completed_id : NotificationId → Option ℕ

@@ -1,61 +1,17 @@
 //! What each call from C does with the journal that C holds, if there is one.
-ghost use Rattle.std.specs.Prelude.{◌≡◌, ◌≤◌, None, Some};
-ghost use Rattle.std.specs.Option.{MatchOption};
+ghost use Rattle.std.specs.Prelude.{◌≡◌, ◌≤◌, None};
 ghost use Rattle.journal_entries.specs.Arrivals.{arrival_fault};
 ghost use Rattle.journal_entries.specs.Given.{given_fault};
 ghost use Rattle.held_journals.specs.Journals.{CommitAnswered, EntryAnswered, FeedAnswered, FrameAnswered, HasEntries, IsNewJournal, OutputAnswered, OutputStored, RowAnswered, UndoAnswered};
-ghost use Rattle.held_journals.specs.Statuses.{status_by, version_named};
+ghost use Rattle.held_journals.specs.Statuses.{version_named};
+ghost use Rattle.loose_boxes.specs.Statuses.{status_by};
 
-use crate::held::{Journal, empty, hide, show};
+use crate::held::{Journal, give, take};
 use crate::journal::HeldJournal;
 use crate::row::{Row, Stored, answer_store, no_row};
-use crate::status::Status;
-use journal_entries::JournalFault;
 use journal_protocol::Version;
-use loose_boxes::Loose;
+use loose_boxes::{Status, Told, tell};
 use std::alloc::Global;
-
-/// How a call ended, and a length.
-#[repr(C)]
-#[derive(Drop)]
-pub struct Told {
-    pub status: u32,
-    pub len: usize,
-}
-
-/// What C gets.
-fn tell(status: Status, len: usize) -> Told
-    ensures status { status_by result.status ≡ status }
-    ensures known { result.status ≤ 17 }
-    ensures len { result.len ≡ len }
-{
-    Told {
-        status: status.code(),
-        len,
-    }
-}
-
-/// Takes the journal out of the hands of C.
-fn take(alloc: Global, held: &mut Journal) -> Option<Box<HeldJournal>>
-    ensures emptied { held.new.value ≡ None }
-    ensures taken { MatchOption result (held.old.value ≡ None) (λ journal. held.old.value
-        ≡ Some journal.value) }
-{
-    match show(std::mem::replace(held, empty()), alloc) {
-        Some(loose) => Some(loose.into_box()),
-        None => None,
-    }
-}
-
-/// Puts a journal into the hands of C. One that was there is dropped.
-fn give(alloc: Global, held: &mut Journal, journal: Box<HeldJournal>)
-    ensures { held.new.value ≡ Some journal.value }
-{
-    let former = std::mem::replace(held, hide(Loose::of(journal)));
-    if let Some(loose) = show(former, alloc) {
-        drop(loose.into_box());
-    }
-}
 
 /// The version of a number.
 fn version_named(number: u32) -> Option<Version>
@@ -73,7 +29,7 @@ fn version_named(number: u32) -> Option<Version>
 /// Makes a journal without entries, if memory is found. One that was there is dropped.
 pub fn open(alloc: Global, held: &mut Journal) -> u32
     ensures made { IsNewJournal (status_by result) held.new.value }
-    ensures known { result ≤ 17 }
+    ensures known { result ≤ 24 }
 {
     close(alloc, held);
     match Box::new(alloc, HeldJournal::new(alloc)) {
@@ -81,7 +37,7 @@ pub fn open(alloc: Global, held: &mut Journal) -> u32
             give(alloc, held, made);
             Status::Done.code()
         }
-        Err(_) => Status::Refused(JournalFault::Memory).code(),
+        Err(_) => Status::NoMemory.code(),
     }
 }
 
@@ -96,7 +52,7 @@ pub fn close(alloc: Global, held: &mut Journal)
 /// How many entries the journal has.
 pub fn entries(alloc: Global, held: &mut Journal) -> Told
     ensures kept { held.new.value ≡ held.old.value }
-    ensures known { result.status ≤ 17 }
+    ensures known { result.status ≤ 24 }
     ensures counted { HasEntries (status_by result.status) result.len held.old.value }
 {
     match take(alloc, held) {
@@ -143,7 +99,7 @@ pub fn arrive(alloc: Global, held: &mut Journal, entry: &[u8]) -> Row
 fn store_as(alloc: Global, held: &mut Journal, version: Version, output: &[u8]) -> Stored
     ensures stored { OutputStored version output.now (status_by result.status) result
         held.old.value held.new.value }
-    ensures known { result.status ≤ 17 }
+    ensures known { result.status ≤ 24 }
 {
     match take(alloc, held) {
         Some(mut journal) => {
@@ -159,7 +115,7 @@ fn store_as(alloc: Global, held: &mut Journal, version: Version, output: &[u8]) 
 pub fn store(alloc: Global, held: &mut Journal, version: u32, output: &[u8]) -> Stored
     ensures stored { OutputAnswered (version_named version) output.now (status_by result.status)
         result held.old.value held.new.value }
-    ensures known { result.status ≤ 17 }
+    ensures known { result.status ≤ 24 }
 {
     match version_named(version) {
         Some(version) => store_as(alloc, held, version, output),
@@ -170,7 +126,7 @@ pub fn store(alloc: Global, held: &mut Journal, version: u32, output: &[u8]) -> 
 /// What came since the last commit is committed. Without memory the journal is dropped.
 pub fn keep(alloc: Global, held: &mut Journal) -> u32
     ensures committed { CommitAnswered (status_by result) held.old.value held.new.value }
-    ensures known { result ≤ 17 }
+    ensures known { result ≤ 24 }
 {
     match take(alloc, held) {
         Some(mut journal) => match journal.keep() {
@@ -178,7 +134,7 @@ pub fn keep(alloc: Global, held: &mut Journal) -> u32
                 give(alloc, held, journal);
                 Status::Done.code()
             }
-            Err(_) => Status::Refused(JournalFault::Memory).code(),
+            Err(_) => Status::NoMemory.code(),
         },
         None => Status::NoJournal.code(),
     }
@@ -187,7 +143,7 @@ pub fn keep(alloc: Global, held: &mut Journal) -> u32
 /// What came since the last commit is taken back.
 pub fn undo(alloc: Global, held: &mut Journal) -> u32
     ensures undone { UndoAnswered (status_by result) held.old.value held.new.value }
-    ensures known { result ≤ 17 }
+    ensures known { result ≤ 24 }
 {
     match take(alloc, held) {
         Some(mut journal) => {
@@ -217,7 +173,7 @@ pub fn row(alloc: Global, held: &mut Journal, at: usize) -> Row
 /// Writes a row of the last store to the front of `out`, if there is room for it, and says how long it is.
 pub fn read_row(alloc: Global, held: &mut Journal, at: usize, out: &mut [u8]) -> Told
     ensures kept { held.new.value ≡ held.old.value }
-    ensures known { result.status ≤ 17 }
+    ensures known { result.status ≤ 24 }
     ensures read { FrameAnswered at (status_by result.status) result.len out.old out.new
         held.old.value }
 {
@@ -234,7 +190,7 @@ pub fn read_row(alloc: Global, held: &mut Journal, at: usize, out: &mut [u8]) ->
 /// Writes what answers the last store to the front of `out`, if there is room for it, and says how long it is.
 pub fn read_feed(alloc: Global, held: &mut Journal, out: &mut [u8]) -> Told
     ensures kept { held.new.value ≡ held.old.value }
-    ensures known { result.status ≤ 17 }
+    ensures known { result.status ≤ 24 }
     ensures read { FeedAnswered (status_by result.status) result.len out.old out.new
         held.old.value }
 {

@@ -11,7 +11,7 @@ use std::alloc::Global;
 use std::marker::Model;
 
 /// A journal as C holds it: none, which is all zeroes, or the pointer to its block. It isn't `Drop`: whoever has one takes the
-/// journal out by `show`, so none is forgotten.
+/// journal out by `take`, so none is forgotten.
 #[repr(C)]
 pub struct Journal {
     pub(crate) at: *mut u8,
@@ -23,7 +23,7 @@ impl Model for Journal {
 }
 
 /// No journal.
-pub(crate) fn empty() -> Journal
+fn empty() -> Journal
     ensures { result.value ≡ None }
 {
     Journal {
@@ -32,7 +32,7 @@ pub(crate) fn empty() -> Journal
 }
 
 /// A journal's box, as C holds it.
-pub(crate) fn hide(loose: Loose<HeldJournal, Global>) -> Journal
+fn hide(loose: Loose<HeldJournal, Global>) -> Journal
     ensures { result.value ≡ Some loose.value }
 {
     let Loose { at, alloc: _ } = loose;
@@ -40,7 +40,7 @@ pub(crate) fn hide(loose: Loose<HeldJournal, Global>) -> Journal
 }
 
 /// The journal's box, if C holds one.
-pub(crate) fn show(journal: Journal, alloc: Global) -> Option<Loose<HeldJournal, Global>>
+fn show(journal: Journal, alloc: Global) -> Option<Loose<HeldJournal, Global>>
     ensures { MatchOption result (journal.value ≡ None) (λ l. journal.value ≡ Some l.value) }
 {
     let Journal { at } = journal;
@@ -51,6 +51,28 @@ pub(crate) fn show(journal: Journal, alloc: Global) -> Option<Loose<HeldJournal,
             at: at as *mut HeldJournal,
             alloc,
         })
+    }
+}
+
+/// Takes the journal out of the hands of C.
+pub(crate) fn take(alloc: Global, held: &mut Journal) -> Option<Box<HeldJournal>>
+    ensures emptied { held.new.value ≡ None }
+    ensures taken { MatchOption result (held.old.value ≡ None) (λ journal. held.old.value
+        ≡ Some journal.value) }
+{
+    match show(std::mem::replace(held, empty()), alloc) {
+        Some(loose) => Some(loose.into_box()),
+        None => None,
+    }
+}
+
+/// Puts a journal into the hands of C. One that was there is dropped.
+pub(crate) fn give(alloc: Global, held: &mut Journal, journal: Box<HeldJournal>)
+    ensures { held.new.value ≡ Some journal.value }
+{
+    let former = std::mem::replace(held, hide(Loose::of(journal)));
+    if let Some(loose) = show(former, alloc) {
+        drop(loose.into_box());
     }
 }
 

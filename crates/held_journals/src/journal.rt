@@ -4,17 +4,18 @@ ghost use Rattle.journal_entries.specs.Arrivals.{arrival_fault};
 ghost use Rattle.journal_entries.specs.Given.{given_fault};
 ghost use Rattle.stored_journals.specs.Journals.{Enters, IsFault, IsSameKept};
 ghost use Rattle.stored_journals.specs.Stored.{IsStoringFault};
-ghost use Rattle.held_journals.specs.Journals.{BytesWritten, EntryDone, FeedAnswered, FrameAnswered, IsEmptyJournal, IsUndone, KeepsAll, OutputDone, RowAnswered, SameRows, StoresAll};
+ghost use Rattle.held_journals.specs.Journals.{EntryDone, FeedAnswered, FrameAnswered, IsEmptyJournal, IsUndone, KeepsAll, OutputDone, RowAnswered, SameRows, StoresAll};
 ghost use Rattle.held_journals.specs.Rows.{row_in};
-ghost use Rattle.held_journals.specs.Statuses.{status_by};
-ghost use Rattle.held_journals.specs.declared.status.Status.TheVariants.{Done};
+ghost use Rattle.loose_boxes.specs.Statuses.{status_by};
+ghost use Rattle.loose_boxes.specs.declared.status.Status.TheVariants.{Done};
 
+use crate::fault::fault_status;
 use crate::rest::ends_whole;
 use crate::row::{Row, Stored, answer_store, no_row, row_in};
-use crate::status::Status;
 use bytes::{Bytes, BytesMut};
 use journal_entries::JournalFault;
 use journal_protocol::{Decoder, Version};
+use loose_boxes::{Status, write};
 use std::alloc::{AllocError, Global};
 use stored_journals::{StoredJournal, store_from};
 
@@ -24,18 +25,6 @@ pub struct HeldJournal {
     pub journal: StoredJournal,
     pub rows: Vec<Bytes>,
     pub feed: BytesMut,
-}
-
-/// Writes bytes to the front of `out`, if there is room for them; and how many there are.
-fn write(bytes: &[u8], out: &mut [u8]) -> (Status, usize)
-    ensures { BytesWritten bytes.now result.0 result.1 out.old out.new }
-{
-    let len = bytes.len();
-    if out.len() < len {
-        return (Status::NoRoom, len);
-    }
-    out[..len].copy_from_slice(bytes);
-    (Status::Done, len)
 }
 
 /// The next entry of a journal that is loaded, as a row, if it has no fault.
@@ -161,7 +150,7 @@ impl HeldJournal {
     }
 
     /// The next entry of a journal that is loaded, if it has no fault; else what came since the last commit is taken back.
-    #[tactic(auto, using(crate::proofs::Undoing::undone_from))]
+    #[tactic(auto, using(crate::proofs::Undoing::undone_from, crate::proofs::Faults::entry_refused))]
     pub fn entry(&mut self, alloc: Global, entry: &[u8]) -> Row
         ensures { EntryDone (given_fault entry.now) entry.now (status_by result.status) result
             self.old self.new }
@@ -170,13 +159,13 @@ impl HeldJournal {
             Ok(row) => row,
             Err(fault) => {
                 self.undo();
-                no_row(Status::Refused(fault))
+                no_row(fault_status(fault))
             }
         }
     }
 
     /// A notification arrives, if it has no fault; else what came since the last commit is taken back.
-    #[tactic(auto, using(crate::proofs::Undoing::undone_from))]
+    #[tactic(auto, using(crate::proofs::Undoing::undone_from, crate::proofs::Faults::entry_refused))]
     pub fn arrive(&mut self, alloc: Global, entry: &[u8]) -> Row
         ensures { EntryDone (arrival_fault entry.now) entry.now (status_by result.status) result
             self.old self.new }
@@ -185,18 +174,18 @@ impl HeldJournal {
             Ok(row) => row,
             Err(fault) => {
                 self.undo();
-                no_row(Status::Refused(fault))
+                no_row(fault_status(fault))
             }
         }
     }
 
     /// What an attempt wrote is stored: the rows are to be appended, and `feed` is what answers it. If it has a fault, or isn't whole
     /// frames, what came since the last commit is taken back.
-    #[tactic(auto, using(crate::proofs::Undoing::undone_from, crate::proofs::Wholes::leaves_rest, crate::proofs::Wholes::stores_whole))]
+    #[tactic(auto, using(crate::proofs::Undoing::undone_from, crate::proofs::Faults::output_refused, crate::proofs::Wholes::leaves_rest, crate::proofs::Wholes::stores_whole))]
     pub fn store(&mut self, alloc: Global, version: Version, output: &[u8]) -> Stored
         ensures done { OutputDone version output.now (status_by result.status) result self.old
             self.new }
-        ensures known { result.status ≤ 17 }
+        ensures known { result.status ≤ 24 }
     {
         match store_only(
             alloc,
@@ -213,7 +202,7 @@ impl HeldJournal {
             }
             Err(fault) => {
                 self.undo();
-                answer_store(Status::Refused(fault), 0, 0)
+                answer_store(fault_status(fault), 0, 0)
             }
         }
     }
@@ -226,7 +215,7 @@ impl HeldJournal {
             None => no_row(Status::NoRow),
             Some(entry) => match row_in(alloc, entry) {
                 Ok(row) => row,
-                Err(_) => no_row(Status::Refused(JournalFault::Memory)),
+                Err(_) => no_row(Status::NoMemory),
             },
         }
     }

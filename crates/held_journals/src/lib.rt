@@ -2,14 +2,12 @@
 #![tactic(auto)]
 
 pub mod calls;
+mod fault;
 mod held;
 mod journal;
 mod rest;
 mod row;
-mod status;
 
-pub use calls::Told;
 pub use held::Journal;
 pub use journal::HeldJournal;
 pub use row::{Row, Stored};
-pub use status::Status;

@@ -2,13 +2,13 @@
 ghost use Rattle.std.specs.Prelude.{◌≡◌, ◌≤◌, IfOk};
 ghost use Rattle.journal_entries.specs.Entries.{frame_in, note_in};
 ghost use Rattle.held_journals.specs.Rows.{id_completed, frame_type, row_in, no_row};
-ghost use Rattle.held_journals.specs.Statuses.{status_by};
-ghost use Rattle.held_journals.specs.declared.status.Status.TheVariants.{Done};
+ghost use Rattle.loose_boxes.specs.Statuses.{status_by};
+ghost use Rattle.loose_boxes.specs.declared.status.Status.TheVariants.{Done};
 
-use crate::status::Status;
 use bytes::Bytes;
 use journal_entries::entry::{frame_in, note_in};
 use journal_protocol::{Notification, NotificationId};
+use loose_boxes::Status;
 use std::alloc::{AllocError, Global};
 
 /// An entry as it is stored, or why there is none.
@@ -38,7 +38,7 @@ pub struct Stored {
 /// What C gets of a store.
 pub(crate) fn answer_store(status: Status, rows: usize, feed: usize) -> Stored
     ensures status { status_by result.status ≡ status }
-    ensures known { result.status ≤ 17 }
+    ensures known { result.status ≤ 24 }
     ensures rows { result.rows ≡ rows }
     ensures feed { result.feed ≡ feed }
 {

@@ -3,8 +3,8 @@ use Rattle.std.specs.Prelude.{◌≡◌, ℕ, List, length, Option, Some, None}
 use Rattle.std.proofs.Common.{Global}
 use Rattle.scripts.specs.Transcripts.{IsUnanswered, Transcribes}
 use Rattle.sessions.specs.declared.session.Session.{Session}
-use Rattle.sessions.specs.declared.status.Status.{Status}
-use Rattle.sessions.specs.declared.status.Status.TheVariants as status
+use Rattle.loose_boxes.specs.declared.status.Status.{Status}
+use Rattle.loose_boxes.specs.declared.status.Status.TheVariants as status
 
 -- A line was performed on the session's VM, and its answer is the session's. Without memory the
 -- last answer stays, and the VM is as it was, or the line was performed.

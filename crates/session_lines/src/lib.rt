@@ -3,11 +3,11 @@
 
 ghost use Rattle.std.specs.Prelude.{◌≤◌};
 ghost use Rattle.session_lines.specs.Lines.{LineDone, LineSent};
-ghost use Rattle.sessions.specs.Statuses.{status_named};
+ghost use Rattle.loose_boxes.specs.Statuses.{status_by};
 
+use loose_boxes::{Status, Told, tell};
 use scripts::run::answer;
-use sessions::calls::{give, take, tell};
-use sessions::{Session, Status, Told, Vm};
+use sessions::{Session, Vm, give, take};
 use std::alloc::Global;
 
 /// Performs a line, and keeps its answer. Out of memory, the last answer stays, and the line may have been performed.
@@ -25,9 +25,9 @@ fn send(session: &mut Session, alloc: Global, line: &[u8]) -> Status
 
 /// Performs a line. Returns the length of its answer, which `read_answer` of `sessions` reads.
 pub fn perform_line(alloc: Global, vm: &mut Vm, line: &[u8]) -> Told
-    ensures sent { LineSent alloc line.now (status_named result.status) result.len vm.old.value
+    ensures sent { LineSent alloc line.now (status_by result.status) result.len vm.old.value
         vm.new.value }
-    ensures known { result.status ≤ 9 }
+    ensures known { result.status ≤ 24 }
 {
     match take(alloc, vm) {
         Some(mut session) => {

@@ -6,7 +6,7 @@ use Rattle.invocation_vm.specs.Seen.{seen}
 use Rattle.invocation_vm.specs.Views.{View}
 use Rattle.vm_types.specs.declared.reply.Reply.{Reply}
 use Rattle.sessions.specs.declared.replied.Replied.{Replied}
-use Rattle.sessions.specs.declared.status.Status.{Status}
+use Rattle.loose_boxes.specs.declared.status.Status.{Status}
 use Rattle.sessions.specs.Calls.{IsCalled}
 use Rattle.sessions.specs.Replies.{kept_told, summary}
 

@@ -1,5 +1,5 @@
 -- What a call of a session's VM from C does, whichever it is, and how its reply is read.
-use Rattle.std.specs.Prelude.{◌≡◌, ◌<◌, ◌++◌, ℕ, List, length, drop, Option, Some, None, Result, Ok, Err}
+use Rattle.std.specs.Prelude.{◌≡◌, ℕ, List, Option, Some, None, Result, Ok, Err}
 use Rattle.std.proofs.Common.{Global}
 use Rattle.journal_protocol.specs.Error.{Error}
 use Rattle.journal_protocol.specs.Version.{Version}
@@ -11,8 +11,9 @@ use Rattle.invocation_vm.specs.Views.{View}
 use Rattle.vm_types.specs.declared.reply.Reply.{Reply}
 use Rattle.sessions.specs.declared.replied.Replied.{Replied}
 use Rattle.sessions.specs.declared.session.Session.{Session}
-use Rattle.sessions.specs.declared.status.Status.{Status}
-use Rattle.sessions.specs.declared.status.Status.TheVariants as status
+use Rattle.loose_boxes.specs.declared.status.Status.{Status}
+use Rattle.loose_boxes.specs.declared.status.Status.TheVariants as status
+use Rattle.loose_boxes.specs.Written.{BytesWritten}
 use Rattle.sessions.specs.Replies.{kept_told, part_of, summary}
 
 -- what a call returns to C: its reply's summary; or, if it isn't made, the reason
@@ -65,17 +66,9 @@ MadeFromC alloc options wanted told (Some old) (Some new) =
 MadeFromC alloc options wanted told None None = told ≡ kept_told status.NoSession
 MadeFromC alloc options wanted told old new = ⊥
 
--- Bytes are written to the front of the room for them, if there is so much.
-abbrev pub Written : List ℕ → Status → ℕ → List ℕ → List ℕ → Type 0
-Written bytes status.Done len before after =
-    (len ≡ length bytes) × (after ≡ bytes ++ drop len before)
-Written bytes status.NoRoom len before after =
-    (len ≡ length bytes) × (length before < len) × (after ≡ before)
-Written bytes told len before after = ⊥
-
 -- A part is written, if there is one.
 abbrev pub part_read : Option (List ℕ) → Status → ℕ → List ℕ → List ℕ → Type 0
-part_read (Some part) told len before after = Written part told len before after
+part_read (Some part) told len before after = BytesWritten part told len before after
 part_read None status.NoPart len before after = (len ≡ 0) × (after ≡ before)
 part_read None told len before after = ⊥
 

@@ -1,4 +1,3 @@
-pub mod Statuses
 pub mod Replies
 pub mod Sessions
 pub mod Calls

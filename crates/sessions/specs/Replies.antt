@@ -22,8 +22,8 @@ use Rattle.vm_types.specs.declared.reply.Reply.TheVariants as reply
 use Rattle.sessions.specs.declared.kind.Kind.{Kind}
 use Rattle.sessions.specs.declared.kind.Kind.TheVariants as kind
 use Rattle.sessions.specs.declared.replied.Replied.{Replied}
-use Rattle.sessions.specs.declared.status.Status.{Status}
-use Rattle.sessions.specs.Statuses.{status_code}
+use Rattle.loose_boxes.specs.declared.status.Status.{Status}
+use Rattle.loose_boxes.specs.Statuses.{status_number}
 
 -- the number by which C sees what a reply is
 abbrev pub kind_code : Kind → ℕ
@@ -99,7 +99,7 @@ with_rows kind number rows = record {
 -- a call isn't made
 abbrev pub kept_told : Status → Replied
 kept_told status = record {
-  status = status_code status;
+  status = status_number status;
   kind = 0;
   first = 0;
   second = 0;

@@ -7,8 +7,8 @@ use Rattle.invocation_vm.specs.Seen.{seen}
 use Rattle.invocation_vm.specs.Views.{StarvesAmong, TakesOutput, after_input, messages_in_bytes}
 use Rattle.vm_types.specs.declared.reply.Reply.TheVariants as reply
 use Rattle.sessions.specs.declared.session.Session.{Session}
-use Rattle.sessions.specs.declared.status.Status.{Status}
-use Rattle.sessions.specs.declared.status.Status.TheVariants as status
+use Rattle.loose_boxes.specs.declared.status.Status.{Status}
+use Rattle.loose_boxes.specs.declared.status.Status.TheVariants as status
 
 -- no VM, no answer and no reply
 abbrev pub IsEmpty : Session → Type 0

@@ -1,61 +1,17 @@
 //! What each call from C does: bytes go in and come out as they are, and the answer to the last line is read.
-ghost use Rattle.std.specs.Prelude.{◌≡◌, ◌≤◌, None, Some};
-ghost use Rattle.std.specs.Option.{MatchOption};
+ghost use Rattle.std.specs.Prelude.{◌≡◌, ◌≤◌, None};
 ghost use Rattle.sessions.specs.Sessions.{AnswerRead, InputFed, IsNewSession, OutputTaken};
-ghost use Rattle.sessions.specs.Statuses.{status_named};
+ghost use Rattle.loose_boxes.specs.Statuses.{status_by};
 
-use crate::held::{Vm, empty, hide, show};
+use crate::held::{Vm, give, take};
 use crate::session::Session;
-use crate::status::Status;
-use loose_boxes::Loose;
+use loose_boxes::{Status, Told, tell};
 use std::alloc::Global;
-
-/// How a call ended, and a length.
-#[repr(C)]
-#[derive(Drop)]
-pub struct Told {
-    pub status: u32,
-    pub len: usize,
-}
-
-/// What a call returns to C: a status, and a length.
-pub fn tell(status: Status, len: usize) -> Told
-    ensures status { status_named result.status ≡ status }
-    ensures known { result.status ≤ 9 }
-    ensures len { result.len ≡ len }
-{
-    Told {
-        status: status.code(),
-        len,
-    }
-}
-
-/// Takes the session out of the hands of C.
-pub fn take(alloc: Global, vm: &mut Vm) -> Option<Box<Session>>
-    ensures emptied { vm.new.value ≡ None }
-    ensures taken { MatchOption result (vm.old.value ≡ None) (λ session. vm.old.value
-        ≡ Some session.value) }
-{
-    match show(std::mem::replace(vm, empty()), alloc) {
-        Some(loose) => Some(loose.into_box()),
-        None => None,
-    }
-}
-
-/// Puts a session into the hands of C. One that was there is dropped.
-pub fn give(alloc: Global, vm: &mut Vm, session: Box<Session>)
-    ensures { vm.new.value ≡ Some session.value }
-{
-    let former = std::mem::replace(vm, hide(Loose::of(session)));
-    if let Some(loose) = show(former, alloc) {
-        drop(loose.into_box());
-    }
-}
 
 /// Makes an empty session, if memory is found. One that was there is dropped.
 pub fn open(alloc: Global, vm: &mut Vm) -> u32
-    ensures made { IsNewSession (status_named result) vm.new.value }
-    ensures known { result ≤ 9 }
+    ensures made { IsNewSession (status_by result) vm.new.value }
+    ensures known { result ≤ 24 }
 {
     close(alloc, vm);
     match Box::new(alloc, Session::new(alloc)) {
@@ -70,8 +26,8 @@ pub fn open(alloc: Global, vm: &mut Vm) -> u32
 /// Writes the last answer to the front of `out`, if it has room for it. Returns the answer's length either way.
 pub fn read_answer(alloc: Global, vm: &mut Vm, out: &mut [u8]) -> Told
     ensures kept { vm.new.value ≡ vm.old.value }
-    ensures known { result.status ≤ 9 }
-    ensures read { AnswerRead (status_named result.status) result.len out.old out.new vm.old.value }
+    ensures known { result.status ≤ 24 }
+    ensures read { AnswerRead (status_by result.status) result.len out.old out.new vm.old.value }
 {
     match take(alloc, vm) {
         Some(session) => {
@@ -85,8 +41,8 @@ pub fn read_answer(alloc: Global, vm: &mut Vm, out: &mut [u8]) -> Told
 
 /// Feeds the VM bytes of its input.
 pub fn feed(alloc: Global, vm: &mut Vm, bytes: &[u8]) -> u32
-    ensures fed { InputFed bytes.now (status_named result) vm.old.value vm.new.value }
-    ensures known { result ≤ 9 }
+    ensures fed { InputFed bytes.now (status_by result) vm.old.value vm.new.value }
+    ensures known { result ≤ 24 }
 {
     match take(alloc, vm) {
         Some(mut session) => {
@@ -100,9 +56,9 @@ pub fn feed(alloc: Global, vm: &mut Vm, bytes: &[u8]) -> u32
 
 /// Moves all of the VM's output to the front of `out`, if it has room for it. Returns the output's length either way.
 pub fn take_output(alloc: Global, vm: &mut Vm, out: &mut [u8]) -> Told
-    ensures taken { OutputTaken (status_named result.status) result.len out.old out.new vm.old.value
+    ensures taken { OutputTaken (status_by result.status) result.len out.old out.new vm.old.value
         vm.new.value }
-    ensures known { result.status ≤ 9 }
+    ensures known { result.status ≤ 24 }
 {
     match take(alloc, vm) {
         Some(mut session) => {

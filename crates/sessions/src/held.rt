@@ -11,7 +11,7 @@ use std::alloc::Global;
 use std::marker::Model;
 
 /// A session as C holds it: none, which is all zeroes, or the pointer to its block. It isn't `Drop`: whoever has one takes the
-/// session out by `show`, so none is forgotten.
+/// session out by `take`, so none is forgotten.
 #[repr(C)]
 pub struct Vm {
     pub(crate) at: *mut u8,
@@ -23,7 +23,7 @@ impl Model for Vm {
 }
 
 /// No session.
-pub(crate) fn empty() -> Vm
+fn empty() -> Vm
     ensures { result.value ≡ None }
 {
     Vm {
@@ -32,7 +32,7 @@ pub(crate) fn empty() -> Vm
 }
 
 /// A session's box, as C holds it.
-pub(crate) fn hide(loose: Loose<Session, Global>) -> Vm
+fn hide(loose: Loose<Session, Global>) -> Vm
     ensures { result.value ≡ Some loose.value }
 {
     let Loose { at, alloc: _ } = loose;
@@ -40,7 +40,7 @@ pub(crate) fn hide(loose: Loose<Session, Global>) -> Vm
 }
 
 /// The session's box, if C holds one.
-pub(crate) fn show(vm: Vm, alloc: Global) -> Option<Loose<Session, Global>>
+fn show(vm: Vm, alloc: Global) -> Option<Loose<Session, Global>>
     ensures { MatchOption result (vm.value ≡ None) (λ l. vm.value ≡ Some l.value) }
 {
     let Vm { at } = vm;
@@ -51,6 +51,28 @@ pub(crate) fn show(vm: Vm, alloc: Global) -> Option<Loose<Session, Global>>
             at: at as *mut Session,
             alloc,
         })
+    }
+}
+
+/// Takes the session out of the hands of C.
+pub fn take(alloc: Global, vm: &mut Vm) -> Option<Box<Session>>
+    ensures emptied { vm.new.value ≡ None }
+    ensures taken { MatchOption result (vm.old.value ≡ None) (λ session. vm.old.value
+        ≡ Some session.value) }
+{
+    match show(std::mem::replace(vm, empty()), alloc) {
+        Some(loose) => Some(loose.into_box()),
+        None => None,
+    }
+}
+
+/// Puts a session into the hands of C. One that was there is dropped.
+pub fn give(alloc: Global, vm: &mut Vm, session: Box<Session>)
+    ensures { vm.new.value ≡ Some session.value }
+{
+    let former = std::mem::replace(vm, hide(Loose::of(session)));
+    if let Some(loose) = show(former, alloc) {
+        drop(loose.into_box());
     }
 }
 

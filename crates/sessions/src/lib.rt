@@ -8,14 +8,11 @@ mod kind;
 mod parts;
 mod replied;
 mod session;
-mod status;
 pub mod vm_call;
 
-pub use calls::Told;
-pub use held::Vm;
+pub use held::{Vm, give, take};
 pub use kept::{keep, keep_awaited, keep_ended, keep_handle, keep_taken};
 pub use kind::Kind;
 pub use replied::{Replied, tell_status};
 pub use session::Session;
-pub use status::Status;
 pub use vm_call::VmCall;

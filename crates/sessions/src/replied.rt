@@ -3,8 +3,8 @@ ghost use Rattle.std.specs.Prelude.{◌≡◌};
 ghost use Rattle.sessions.specs.Replies.{with_rows, error_told, error_numbers, flag_code, handles_told, kept_told, number_told, response_told, state_code, taken_told, numbered_reply, told_of, value_told, version_code};
 
 use crate::kind::Kind;
-use crate::status::Status;
 use journal_protocol::{Error, Version};
+use loose_boxes::Status;
 use vm_types::{Answer, AwaitResponse, Reply, State, Value};
 
 /// What C is given at once of a reply: how the call ended, what the reply is, the numbers in it, how many keys or pairs it has, and the

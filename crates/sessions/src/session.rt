@@ -3,17 +3,17 @@ ghost use Rattle.std.specs.Prelude.{◌≡◌, Some, codes};
 ghost use Rattle.invocation_vm.specs.Making.{version_in};
 ghost use Rattle.vm_types.specs.ContentTypes.{header_under};
 ghost use Rattle.vm_calls.specs.Making.{VmIsMade};
-ghost use Rattle.sessions.specs.Calls.{OnVm, Written, part_read};
+ghost use Rattle.sessions.specs.Calls.{OnVm, part_read};
 ghost use Rattle.sessions.specs.Replies.{part_of, summary};
 ghost use Rattle.sessions.specs.Sessions.{AnswerRead, Drained, Fed, IsEmpty};
 
 use crate::kept::keep;
 use crate::parts::part_of;
 use crate::replied::{Replied, tell_status};
-use crate::status::Status;
 use crate::vm_call::VmCall;
 use bytes::Bytes;
 use invocation_vm::{CoreVM, VM};
+use loose_boxes::{Status, write};
 use plain::Text;
 use std::alloc::Global;
 use vm_calls::making::make_anew;
@@ -25,18 +25,6 @@ pub struct Session {
     pub vm: Option<CoreVM>,
     pub answer: Text,
     pub reply: Reply,
-}
-
-/// Writes bytes to the front of `out`, if it has room for them. Returns their number either way.
-fn write(bytes: &[u8], out: &mut [u8]) -> (Status, usize)
-    ensures { Written bytes.now result.0 result.1 out.old out.new }
-{
-    let len = bytes.len();
-    if out.len() < len {
-        return (Status::NoRoom, len);
-    }
-    out[..len].copy_from_slice(bytes);
-    (Status::Done, len)
 }
 
 /// Feeds a VM bytes of its input.

@@ -3,13 +3,12 @@ ghost use Rattle.std.specs.Prelude.{◌≡◌, ◌≤◌, codes};
 ghost use Rattle.invocation_vm.specs.Making.{version_in};
 ghost use Rattle.vm_types.specs.ContentTypes.{header_under};
 ghost use Rattle.sessions.specs.Calls.{CalledFromC, MadeFromC, PartRead};
-ghost use Rattle.sessions.specs.Statuses.{status_named};
+ghost use Rattle.loose_boxes.specs.Statuses.{status_by};
 
-use crate::calls::{Told, give, take, tell};
-use crate::held::Vm;
+use crate::held::{Vm, give, take};
 use crate::replied::{Replied, tell_status};
-use crate::status::Status;
 use invocation_vm::CoreVM;
+use loose_boxes::{Status, Told, tell};
 use std::alloc::Global;
 use vm_types::{ContentType, Reply, VMOptions};
 
@@ -20,7 +19,7 @@ pub trait VmCall: Drop {
     ghost use Rattle.invocation_vm.specs.Views.{View};
     ghost use Rattle.vm_types.specs.declared.reply.Reply.{Reply};
     ghost use Rattle.sessions.specs.Calls.{IsMadeOf};
-    ghost use Rattle.sessions.specs.declared.status.Status.{Status};
+    ghost use Rattle.loose_boxes.specs.declared.status.Status.{Status};
 
     /// What the call does to a VM: its reply, or why it isn't made; and the VM before and after.
     ghost does: { Self → Result Reply Status → View → View → Type 0 };
@@ -63,8 +62,8 @@ pub fn make(alloc: Global, vm: &mut Vm, content_type: ContentType, options: VMOp
 /// Writes a part of the last reply to the front of `out`, if it has room for it. Returns the part's length either way.
 pub fn read_part(alloc: Global, vm: &mut Vm, at: usize, out: &mut [u8]) -> Told
     ensures kept { vm.new.value ≡ vm.old.value }
-    ensures known { result.status ≤ 9 }
-    ensures read { PartRead at (status_named result.status) result.len out.old out.new
+    ensures known { result.status ≤ 24 }
+    ensures read { PartRead at (status_by result.status) result.len out.old out.new
         vm.old.value }
 {
     match take(alloc, vm) {

@@ -2,8 +2,8 @@
 use Rattle.std.proofs.Common.{◌≡◌, ◌⊎◌, ◌<◌, inl, inr, true, ℕ, None, zero, suc, List, [], ◌∷◌, ◌++◌, get_or, length, le_of_suc-le-suc, not-suc-le-zero}
 use Rattle.std.specs.List.{flat_map}
 use Rattle.std.specs.Str.{IsUtf8}
-use Rattle.sessions.specs.declared.status.Status.{Status}
-use Rattle.sessions.specs.declared.status.Status.TheVariants as status
+use Rattle.loose_boxes.specs.declared.status.Status.{Status}
+use Rattle.loose_boxes.specs.declared.status.Status.TheVariants as status
 use Rattle.typed_calls.specs.declared.given.Pair.{Pair}
 use Rattle.typed_calls.specs.declared.reports.GivenCommand.{GivenCommand}
 use Rattle.typed_calls.specs.Given.{IsWhy, Misfits, CannotCopy, SomeIsNoText, lent_texts, texts_of_pair}

@@ -9,8 +9,8 @@ use Rattle.await_trees.specs.declared.tree.UnresolvedFuture.{UnresolvedFuture}
 use Rattle.await_trees.specs.declared.tree.UnresolvedFuture.TheVariants.{Single}
 use Rattle.await_trees.proofs.TreeOf.{tree_of-Single, tree_of-FirstCompleted, tree_of-AllCompleted, tree_of-FirstSucceededOrAllFailed, tree_of-AllSucceededOrFirstFailed, tree_of-Unknown}
 use Rattle.typed_calls.specs.declared.nodes.Node.{Node}
-use Rattle.sessions.specs.declared.status.Status.{Status}
-use Rattle.sessions.specs.declared.status.Status.TheVariants as status
+use Rattle.loose_boxes.specs.declared.status.Status.{Status}
+use Rattle.loose_boxes.specs.declared.status.Status.TheVariants as status
 use Rattle.typed_calls.specs.Nodes.{CantStand, FailsAsTree, StopsAtNode, node_code, nodes_of, rows_of, trees_in, row_of}
 
 tree_of_node : (kind : FutureKind) (us : List UnresolvedFuture) → tree_of (future_node kind us) ≡ node kind (forest_of us)

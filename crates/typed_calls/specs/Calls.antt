@@ -22,7 +22,7 @@ use Rattle.vm_types.specs.declared.reply.Reply.{Reply}
 use Rattle.vm_types.specs.declared.reply.Reply.TheVariants as reply
 use Rattle.vm_types.specs.Exits.{exit_of_value}
 use Rattle.vm_calls.specs.Called.{Answers, Drains, FeedsVm, RepliesWith, TellsHead, TellsReady}
-use Rattle.sessions.specs.declared.status.Status.{Status}
+use Rattle.loose_boxes.specs.declared.status.Status.{Status}
 use Rattle.typed_calls.specs.declared.callees.GivenTarget.{GivenTarget}
 use Rattle.typed_calls.specs.declared.nodes.Node.{Node}
 use Rattle.typed_calls.specs.declared.values.GivenValue.{GivenValue}

@@ -4,8 +4,8 @@ use Rattle.std.specs.Duration.{as_nanos}
 use Rattle.std.specs.Str.{IsUtf8}
 use Rattle.std.specs.declared.time.Duration.{Duration}
 use Rattle.journal_protocol.specs.Header.{Header}
-use Rattle.sessions.specs.declared.status.Status.{Status}
-use Rattle.sessions.specs.declared.status.Status.TheVariants as status
+use Rattle.loose_boxes.specs.declared.status.Status.{Status}
+use Rattle.loose_boxes.specs.declared.status.Status.TheVariants as status
 use Rattle.typed_calls.specs.declared.given.MayLend.{MayLend}
 use Rattle.typed_calls.specs.declared.given.Pair.{Pair}
 

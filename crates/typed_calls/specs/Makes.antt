@@ -12,8 +12,8 @@ use Rattle.std.specs.Prelude.{Option}
 use Rattle.invocation_vm.specs.Views.{View}
 use Rattle.vm_types.specs.declared.reply.Reply.{Reply}
 use Rattle.vm_types.specs.declared.reply.Reply.TheVariants as reply
-use Rattle.sessions.specs.declared.status.Status.{Status}
-use Rattle.sessions.specs.declared.status.Status.TheVariants as status
+use Rattle.loose_boxes.specs.declared.status.Status.{Status}
+use Rattle.loose_boxes.specs.declared.status.Status.TheVariants as status
 use Rattle.typed_calls.specs.Given.{CannotCopy}
 
 -- A call is made; or it isn't, for such a reason, and the VM stays as it was.

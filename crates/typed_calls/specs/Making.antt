@@ -21,7 +21,7 @@ use Rattle.sessions.specs.Calls.{MadeFromC}
 use Rattle.sessions.specs.Replies.{kept_told}
 use Rattle.sessions.specs.declared.replied.Replied.{Replied}
 use Rattle.sessions.specs.declared.session.Session.{Session}
-use Rattle.sessions.specs.declared.status.Status.{Status}
+use Rattle.loose_boxes.specs.declared.status.Status.{Status}
 use Rattle.typed_calls.specs.declared.given.MayLend.{MayLend}
 use Rattle.typed_calls.specs.declared.making.GivenOptions.{GivenOptions}
 use Rattle.typed_calls.specs.Given.{Misfits, optional_of, lent_texts}

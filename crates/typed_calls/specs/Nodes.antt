@@ -10,8 +10,8 @@ use Rattle.invocation_vm.specs.Views.{View}
 use Rattle.vm_types.specs.declared.reply.Reply.{Reply}
 use Rattle.vm_types.specs.declared.reply.Reply.TheVariants as reply
 use Rattle.vm_calls.specs.Called.{RepliesWith}
-use Rattle.sessions.specs.declared.status.Status.{Status}
-use Rattle.sessions.specs.declared.status.Status.TheVariants as status
+use Rattle.loose_boxes.specs.declared.status.Status.{Status}
+use Rattle.loose_boxes.specs.declared.status.Status.TheVariants as status
 use Rattle.typed_calls.specs.declared.nodes.Node.{Node}
 
 -- the number of a kind; 0 is a handle's

@@ -3,7 +3,8 @@
 use crate::nodes::{Node, future_of};
 use await_trees::{NotificationHandle, UnresolvedFuture};
 use invocation_vm::{CoreVM, VM};
-use sessions::{Replied, Status, VmCall, keep_awaited, keep_taken};
+use loose_boxes::Status;
+use sessions::{Replied, VmCall, keep_awaited, keep_taken};
 use std::alloc::Global;
 use vm_types::Reply;
 

@@ -11,7 +11,8 @@ use crate::given::{
 use crate::values::payload;
 use bytes::Bytes;
 use invocation_vm::{CoreVM, VM};
-use sessions::{Replied, Status, VmCall, keep};
+use loose_boxes::Status;
+use sessions::{Replied, VmCall, keep};
 use std::alloc::Global;
 use vm_types::{Answer, CallHandle, DeadlineCallHandle, Reply, SendHandle, Target, VMResult};
 

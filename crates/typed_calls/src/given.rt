@@ -6,8 +6,8 @@ ghost use Rattle.typed_calls.specs.Given.{IsSpan, IsSpanIf, CannotCopy, header_o
 
 use bytes::Bytes;
 use journal_protocol::Header;
+use loose_boxes::Status;
 use plain::{Items, Text};
-use sessions::Status;
 use std::alloc::Global;
 use std::time::Duration;
 

@@ -6,7 +6,8 @@ ghost use Rattle.typed_calls.specs.Invocations.{idempotency_of, invocation_of, t
 use crate::given::{Lent, MayLend, optional_text, text_of};
 use invocation_vm::{CoreVM, VM};
 use journal_protocol::{IdempotencyId, InvocationTarget, WorkflowId};
-use sessions::{Replied, Status, VmCall, keep_handle};
+use loose_boxes::Status;
+use sessions::{Replied, VmCall, keep_handle};
 use std::alloc::Global;
 use vm_types::Reply;
 

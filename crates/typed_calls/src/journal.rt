@@ -3,7 +3,8 @@
 use crate::given::{Lent, string_of, time_of, two_strings};
 use crate::values::{GivenValue, given_value, payload};
 use invocation_vm::{CoreVM, VM};
-use sessions::{Replied, Status, VmCall, keep, keep_ended, keep_handle};
+use loose_boxes::Status;
+use sessions::{Replied, VmCall, keep, keep_ended, keep_handle};
 use std::alloc::Global;
 use vm_calls::replies::awakeable;
 use vm_types::Reply;

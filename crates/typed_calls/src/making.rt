@@ -7,8 +7,9 @@ ghost use Rattle.typed_calls.specs.Making.{AreOptionsOf, IsFoundOf, MakesAsGiven
 
 use crate::given::{MayLend, string_of};
 use journal_protocol::SignalDelivery;
+use loose_boxes::Status;
 use sessions::vm_call::make;
-use sessions::{Replied, Status, Vm, tell_status};
+use sessions::{Replied, Vm, tell_status};
 use std::alloc::Global;
 use vm_types::{
     AwaitingOnPolicy, ContentType, ImplicitCancellationOption, JournalMismatchRetryBehavior,

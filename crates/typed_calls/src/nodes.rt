@@ -5,8 +5,8 @@ ghost use Rattle.typed_calls.specs.Nodes.{CantStand, FailsAsTree, kind_at, node_
 
 use await_trees::{NotificationHandle, UnresolvedFuture, node_over};
 use journal_protocol::FutureKind;
+use loose_boxes::Status;
 use plain::Items;
-use sessions::Status;
 use std::alloc::Global;
 
 /// A node of a tree that is awaited: a handle, or a node over as many of the trees that stand in front of it.

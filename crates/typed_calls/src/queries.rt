@@ -2,7 +2,8 @@
 
 use await_trees::NotificationHandle;
 use invocation_vm::{CoreVM, VM};
-use sessions::{Replied, Status, VmCall, keep};
+use loose_boxes::Status;
+use sessions::{Replied, VmCall, keep};
 use std::alloc::Global;
 use vm_calls::replies::{fed, head, input, output, ready};
 use vm_types::{Answer, Reply};

@@ -6,8 +6,9 @@ ghost use Rattle.typed_calls.specs.Reports.{IsErrorOf, IsRelatedOf, NamesNoComma
 use crate::given::{Lent, MayLend, optional_span, optional_text, two_strings};
 use invocation_vm::{CoreVM, VM};
 use journal_protocol::{Error, ErrorBehavior};
+use loose_boxes::Status;
 use plain::Text;
-use sessions::{Replied, Status, VmCall, keep};
+use sessions::{Replied, VmCall, keep};
 use std::alloc::Global;
 use vm_calls::replies::fed;
 use vm_types::{CommandRelationship, CommandType, Reply};

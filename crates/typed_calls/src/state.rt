@@ -3,7 +3,8 @@
 use crate::given::{Lent, bytes_of, string_of, two_strings};
 use crate::values::payload;
 use invocation_vm::{CoreVM, VM};
-use sessions::{Replied, Status, VmCall, keep, keep_ended, keep_handle, keep_taken};
+use loose_boxes::Status;
+use sessions::{Replied, VmCall, keep, keep_ended, keep_handle, keep_taken};
 use std::alloc::Global;
 use vm_calls::replies::ephemeral;
 use vm_types::{EphemeralCompletionId, Reply};

@@ -4,7 +4,7 @@ ghost use Rattle.typed_calls.specs.Given.{CannotCopy};
 ghost use Rattle.typed_calls.specs.Values.{given_failure, texts_of_failure, texts_of_value, given_value};
 
 use crate::given::{Lent, Pair, bytes_of, pairs_of, text_of};
-use sessions::Status;
+use loose_boxes::Status;
 use std::alloc::Global;
 use vm_types::{NonEmptyValue, PayloadOptions, TerminalFailure};
 

@@ -12,9 +12,9 @@ from typing import Any, cast
 DONE, NO_MEMORY, NO_SESSION, NO_VM, NO_ROOM, REFUSED = range(6)
 """How a call ended."""
 BAD_TEXT, NO_PART = 6, 9
-NO_JOURNAL, BAD_VERSION, NO_ROW, BAD_OUTPUT = 2, 8, 9, 10
-"""How a call of a journal ended; from 11 on the faults."""
-NOT_FRAMES, NOT_A_FRAME, BAD_LINE, NO_RESULT, NOT_A_SUSPENSION = 10, 18, 19, 20, 21
+BAD_VERSION, NO_JOURNAL, NO_ROW = 8, 22, 23
+"""How a call of a journal ended; from 10 to 17 the faults."""
+NOT_A_FRAME, BAD_LINE, NO_RESULT, NOT_A_SUSPENSION, NOT_FRAMES = 18, 19, 20, 21, 24
 """How a call on frames ended."""
 
 (

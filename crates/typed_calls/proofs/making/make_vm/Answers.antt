@@ -1,4 +1,4 @@
-use Rattle.sessions.specs.declared.status.Status.TheVariants as status
+use Rattle.loose_boxes.specs.declared.status.Status.TheVariants as status
 use Rattle.typed_calls.proofs.Outcomes.{is_kept}
 use Rattle.typed_calls.proofs.making.make_vm.Goals as goal
 

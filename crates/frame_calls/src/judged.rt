@@ -3,7 +3,7 @@ use await_trees::Outcome;
 
 /// The outcome of a tree, and whether a part of it wakes the attempt.
 #[derive(Clone, Copy)]
-pub struct Judged {
+pub struct JudgedTree {
     pub outcome: Outcome,
     pub fires: bool,
 }

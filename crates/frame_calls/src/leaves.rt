@@ -3,8 +3,8 @@ ghost use Rattle.std.specs.Prelude.{◌≡◌, ◌++◌, map, IfOk, OnOk};
 ghost use Rattle.std.specs.Option.{option_copied};
 ghost use Rattle.journal_protocol.specs.NotificationId.TheVariants.{CompletionId, SignalId, SignalName};
 ghost use Rattle.await_tries.specs.Leaves.{result_outcome};
-ghost use Rattle.awake_futures.specs.Children.{listed_outcomes};
-ghost use Rattle.awake_futures.specs.Waking.{outcome_in};
+ghost use Rattle.frame_calls.specs.Children.{listed_outcomes};
+ghost use Rattle.frame_calls.specs.Waking.{outcome_in};
 
 use arrivals::Arrivals;
 use await_trees::Outcome;

@@ -13,8 +13,8 @@ use Rattle.await_trees.specs.declared.outcome.Outcome.TheVariants.{Pending}
 use Rattle.await_trees.specs.Outcomes.{all_wait, any_fires, fires_on, outcome_of, waits_for}
 use Rattle.await_trees.specs.Tree.{ForestOver, none, more}
 use Rattle.await_trees.specs.Wires.{first_trees, other_trees, leaves, read_node, readings}
-use Rattle.awake_futures.specs.declared.judged.Judged.{Judged}
-use Rattle.awake_futures.specs.Children.{judged, judged_by, listed_outcomes, stacked, wakes}
+use Rattle.frame_calls.specs.declared.judged.JudgedTree.{JudgedTree}
+use Rattle.frame_calls.specs.Children.{judged, judged_by, listed_outcomes, stacked, wakes}
 
 and_assoc : (a b c : Bool) → (a && b) && c ≡ (a && (b && c))
 and_assoc true b c = refl
@@ -57,11 +57,11 @@ module _ (at : NotificationId → Outcome) where
 
   -- ---- the trees on a stack
 
-  trees_wait : (k : FutureKind) (ts : ForestOver NotificationId) → list_all (λ (child : Judged). waits_for k child.outcome) (stacked at ts) ≡ all_wait at k ts
+  trees_wait : (k : FutureKind) (ts : ForestOver NotificationId) → list_all (λ (child : JudgedTree). waits_for k child.outcome) (stacked at ts) ≡ all_wait at k ts
   trees_wait k none = refl
   trees_wait k (more t ts) =
-      list_all-append (λ (child : Judged). waits_for k child.outcome) (stacked at ts) (judged at t ∷ [])
-      ∙ and_back (list_all (λ (child : Judged). waits_for k child.outcome) (stacked at ts)) (waits_for k (judged at t).outcome)
+      list_all-append (λ (child : JudgedTree). waits_for k child.outcome) (stacked at ts) (judged at t ∷ [])
+      ∙ and_back (list_all (λ (child : JudgedTree). waits_for k child.outcome) (stacked at ts)) (waits_for k (judged at t).outcome)
       ∙ ap (λ b. waits_for k (judged at t).outcome && b) (trees_wait k ts)
 
   trees_fire : (k : FutureKind) (ts : ForestOver NotificationId) → list_any (wakes k) (stacked at ts) ≡ any_fires at k ts
@@ -86,7 +86,7 @@ module _ (at : NotificationId → Outcome) where
     abbrev by_n : List Outcome
     by_n = map (λ i. at (SignalName i)) ns
 
-    node_waits : all_wait at k row ≡ (list_all (waits_for k) (by_c ++ (by_s ++ by_n)) && list_all (λ (child : Judged). waits_for k child.outcome) (stacked at ts))
+    node_waits : all_wait at k row ≡ (list_all (waits_for k) (by_c ++ (by_s ++ by_n)) && list_all (λ (child : JudgedTree). waits_for k child.outcome) (stacked at ts))
     node_waits =
         rw (
           leaves_wait k CompletionId cs (leaves SignalId ss (leaves SignalName ns ts)),
@@ -113,7 +113,7 @@ module _ (at : NotificationId → Outcome) where
         ) refl
 
   -- a node judged by its children
-  pub node_judged : (n : FutureNode) (ts : ForestOver NotificationId) (trees : List Judged) → trees ≡ stacked at ts
+  pub node_judged : (n : FutureNode) (ts : ForestOver NotificationId) (trees : List JudgedTree) → trees ≡ stacked at ts
       → judged_by n.kind (listed_outcomes at n) trees ≡ judged at (read_node n ts)
   node_judged n ts trees e =
       ap (judged_by n.kind (listed_outcomes at n)) e
@@ -140,9 +140,9 @@ module _ (at : NotificationId → Outcome) where
       let l : length (stacked at (other_trees n ts)) ≡ length (stacked at ts) - n = others_left n ts in
       omega (arith, e, l)
 
-  module _ (n : ℕ) (ts : ForestOver NotificationId) (from : ℕ) (stack : List Judged) (is : stack ≡ stacked at ts) (at_from : from ≡ length stack - n) where
+  module _ (n : ℕ) (ts : ForestOver NotificationId) (from : ℕ) (stack : List JudgedTree) (is : stack ≡ stacked at ts) (at_from : from ≡ length stack - n) where
     from_is : from ≡ length (stacked at (other_trees n ts))
-    from_is = at_from ∙ ap (λ (l : List Judged). length l - n) is ∙ sym (others_left n ts)
+    from_is = at_from ∙ ap (λ (l : List JudgedTree). length l - n) is ∙ sym (others_left n ts)
 
     stack_is : stack ≡ stacked at (other_trees n ts) ++ stacked at (first_trees n ts)
     stack_is = is ∙ stacked_first n ts
@@ -154,7 +154,7 @@ module _ (at : NotificationId → Outcome) where
     above = (λ i. drop (from_is i) (stack_is i)) ∙ drop-append_seam (stacked at (other_trees n ts)) (stacked at (first_trees n ts))
 
   -- a node takes the place of the trees that nest in it
-  pub stepped : (n : FutureNode) (ts : ForestOver NotificationId) (from : ℕ) (stack lent : List Judged) (found : Judged) → stack ≡ stacked at ts → from ≡ length stack - n.nested → lent ≡ stack
+  pub stepped : (n : FutureNode) (ts : ForestOver NotificationId) (from : ℕ) (stack lent : List JudgedTree) (found : JudgedTree) → stack ≡ stacked at ts → from ≡ length stack - n.nested → lent ≡ stack
       → ((us : ForestOver NotificationId) → take (length lent - from) (drop from lent) ≡ stacked at us → found ≡ judged at (read_node n us))
       → take from stack ++ found ∷ [] ≡ stacked at (more (read_node n (first_trees n.nested ts)) (other_trees n.nested ts))
   stepped n ts from stack lent found is at_from same by =

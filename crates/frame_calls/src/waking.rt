@@ -6,10 +6,10 @@ ghost use Rattle.await_trees.specs.declared.outcome.Outcome.{Outcome};
 ghost use Rattle.await_trees.specs.Outcomes.{awake, fires_on, waits_for};
 ghost use Rattle.await_trees.specs.Tree.{ForestOver};
 ghost use Rattle.await_trees.specs.Wires.{first_tree, read_node, tree_of_nodes};
-ghost use Rattle.awake_futures.specs.Children.{judged, judged_by, stacked, wakes};
-ghost use Rattle.awake_futures.specs.Waking.{outcome_in};
+ghost use Rattle.frame_calls.specs.Children.{judged, judged_by, stacked, wakes};
+ghost use Rattle.frame_calls.specs.Waking.{outcome_in};
 
-use crate::judged::Judged;
+use crate::judged::JudgedTree;
 use crate::leaves::listed_outcomes;
 use arrivals::Arrivals;
 use await_trees::Outcome;
@@ -32,14 +32,14 @@ fn any_fires(kind: FutureKind, outcomes: &[Outcome]) -> bool
 }
 
 /// Whether a node waits for each of these trees.
-fn each_tree_waits(kind: FutureKind, trees: &[Judged]) -> bool
+fn each_tree_waits(kind: FutureKind, trees: &[JudgedTree]) -> bool
     ensures { result ≡ list_all (λ child. waits_for kind child.outcome) trees.now }
 {
     trees.iter().all(|child| waits_for(kind, child.outcome))
 }
 
 /// Whether one of these trees wakes the attempt.
-fn any_tree_wakes(kind: FutureKind, trees: &[Judged]) -> bool
+fn any_tree_wakes(kind: FutureKind, trees: &[JudgedTree]) -> bool
     ensures { result ≡ list_any (wakes kind) trees.now }
 {
     trees
@@ -48,12 +48,12 @@ fn any_tree_wakes(kind: FutureKind, trees: &[Judged]) -> bool
 }
 
 /// The outcome of a node by its children.
-fn judge_by(kind: FutureKind, leaves: &[Outcome], trees: &[Judged]) -> Judged
+fn judge_by(kind: FutureKind, leaves: &[Outcome], trees: &[JudgedTree]) -> JudgedTree
     ensures { result ≡ judged_by kind leaves.now trees.now }
 {
     let waits = each_waits(kind, leaves) && each_tree_waits(kind, trees);
     let fires = any_fires(kind, leaves) || any_tree_wakes(kind, trees);
-    Judged {
+    JudgedTree {
         outcome: if waits {
             outcome_of(kind)
         } else {
@@ -69,8 +69,8 @@ fn judge(
     alloc: Global,
     came: &Arrivals,
     node: &FutureNode,
-    trees: &[Judged],
-) -> Result<Judged, AllocError>
+    trees: &[JudgedTree],
+) -> Result<JudgedTree, AllocError>
     ensures { IfOk result (λ found. (ts : ForestOver NotificationId)
         → trees.now ≡ stacked (outcome_in came.now) ts
         → found ≡ judged (outcome_in came.now) (read_node node.now ts)) }
@@ -80,7 +80,7 @@ fn judge(
 }
 
 /// Whether the tree on the top of a stack is awake.
-fn is_top_awake(stack: &[Judged]) -> bool
+fn is_top_awake(stack: &[JudgedTree]) -> bool
     ensures { (at : NotificationId → Outcome) (ts : ForestOver NotificationId)
         → stack.now ≡ stacked at ts → result ≡ awake at (first_tree ts) }
 {

@@ -1,8 +1,8 @@
 use Rattle.std.proofs.Common.{◌∙◌, ap}
-use Rattle.awake_futures.specs.Children.{judged_by}
-use Rattle.awake_futures.specs.Waking.{outcome_in}
-use Rattle.awake_futures.proofs.Judging.{node_judged}
-use Rattle.awake_futures.proofs.waking.judge.Goals as goal
+use Rattle.frame_calls.specs.Children.{judged_by}
+use Rattle.frame_calls.specs.Waking.{outcome_in}
+use Rattle.frame_calls.proofs.Judging.{node_judged}
+use Rattle.frame_calls.proofs.waking.judge.Goals as goal
 
 pub returns : goal.returns
 returns c = λ ts e.

@@ -1,8 +1,8 @@
 use Rattle.std.proofs.Common.{◌≡◌, ◌≤◌, length, drop}
 use Rattle.await_trees.specs.Wires.{readings}
-use Rattle.awake_futures.specs.Children.{stacked}
-use Rattle.awake_futures.specs.Waking.{outcome_in}
-use Rattle.awake_futures.proofs.waking.is_awake.Given as goal
+use Rattle.frame_calls.specs.Children.{stacked}
+use Rattle.frame_calls.specs.Waking.{outcome_in}
+use Rattle.frame_calls.proofs.waking.is_awake.Given as goal
 
 abbrev pub invariant-loop-i : goal.invariant-loop-i
 invariant-loop-i l = record {

@@ -1,10 +1,10 @@
 use Rattle.std.proofs.Common.{◌≡◌, ◌-◌, ◌++◌, ◌∷◌, [], ℕ, ◌∙◌, length, sym, ap, arith}
 use Rattle.await_trees.specs.Wires.{readings}
 use Rattle.std.proofs.Common.{drop}
-use Rattle.awake_futures.specs.Children.{stacked}
-use Rattle.awake_futures.specs.Waking.{outcome_in}
-use Rattle.awake_futures.proofs.Judging.{next_reads, stepped}
-use Rattle.awake_futures.proofs.waking.is_awake.Goals as goal
+use Rattle.frame_calls.specs.Children.{stacked}
+use Rattle.frame_calls.specs.Waking.{outcome_in}
+use Rattle.frame_calls.proofs.Judging.{next_reads, stepped}
+use Rattle.frame_calls.proofs.waking.is_awake.Goals as goal
 
 pub loop-i-preserved : goal.loop-i-preserved
 loop-i-preserved c =

@@ -1,2 +1,0 @@
-pub mod Waking
-pub mod Children
