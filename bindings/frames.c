@@ -1,4 +1,5 @@
-/* Frames: each as its line and back, a result that is put into a notification, and whether a suspension is awake by it. */
+/* Frames: each as its line and back, a result that is put into a notification, and whether a suspension is awake by it; and what a frame says
+   without text. */
 #include "palqytun.h"
 
 #include <inttypes.h>
@@ -69,6 +70,44 @@ static int wake(void)
     return bad;
 }
 
+/* Reads a failure that has arrived, by its numbers and its first part. */
+static int read_parts(void)
+{
+    written frame;
+    uint32_t status = frame_of("Notification id=signal(17) result=failure(code=409 message=\"cancelled\")", &frame);
+    if (status != PALQYTUN_DONE)
+        return failed(status);
+    palqytun_frame_row row = palqytun_frame_read(frame.bytes, frame.len);
+    if (row.status != PALQYTUN_DONE)
+        return failed(row.status);
+    uint8_t text[64];
+    palqytun_told told = palqytun_frame_part(frame.bytes, frame.len, 8, text, sizeof text);
+    if (told.status != PALQYTUN_DONE)
+        return failed(told.status);
+    printf("type %" PRIu32 " kind %" PRIu32 " id %" PRIu32 " result %" PRIu32 " code %" PRIu32 ": %.*s\n", row.type, row.kind, row.id, row.result,
+        row.second, (int)told.len, (const char *)text);
+    return 0;
+}
+
+/* Makes a result and an input that hold a value as it is. */
+static int hold(const uint8_t *value, size_t len)
+{
+    written result, head, input;
+    palqytun_told told = palqytun_value_frame(value, len, result.bytes, sizeof result.bytes);
+    if (told.status != PALQYTUN_DONE)
+        return failed(told.status);
+    result.len = told.len;
+    uint32_t status = frame_of("Input headers=[(\"a\" \"b\")]", &head);
+    if (status != PALQYTUN_DONE)
+        return failed(status);
+    told = palqytun_input_frame(head.bytes, head.len, value, len, input.bytes, sizeof input.bytes);
+    if (told.status != PALQYTUN_DONE)
+        return failed(told.status);
+    input.len = told.len;
+    int bad = show(&result);
+    return bad ? bad : show(&input);
+}
+
 int main(void)
 {
     for (size_t at = 0; at < sizeof lines / sizeof *lines; at++) {
@@ -84,5 +123,8 @@ int main(void)
         if (bad)
             return bad;
     }
-    return wake();
+    int bad = wake();
+    if (!bad)
+        bad = read_parts();
+    return bad ? bad : hold((const uint8_t *)"Till", 4);
 }

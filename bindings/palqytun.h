@@ -532,6 +532,70 @@ palqytun_told palqytun_notification(uint32_t kind, uint32_t id, const uint8_t *n
 palqytun_judged palqytun_is_awake(
     const uint8_t *suspension, size_t suspension_len, const uint8_t *notifications, size_t notifications_len);
 
+/* ---- Frames without text
+
+   What a frame says, as numbers and as parts, and frames that hold a value as it is given: a payload never becomes text. The calls need no
+   session and no journal. PALQYTUN_NOT_A_FRAME: it isn't one whole frame whose message can be read. */
+
+/* What the result of a frame is. */
+enum {
+    PALQYTUN_NO_RESULT_THERE = 0,
+    PALQYTUN_RESULT_VOID = 1,
+    PALQYTUN_RESULT_VALUE = 2,
+    PALQYTUN_RESULT_FAILURE = 3,
+    PALQYTUN_RESULT_KEYS = 4,
+    PALQYTUN_RESULT_INVOCATION_ID = 5
+};
+
+/* What a frame says: the type of its message (docs/WIRE.md), and its numbers. All but the status is 0 if it isn't PALQYTUN_DONE.
+
+   kind     of a notification and a signal that is sent: a PALQYTUN_COMPLETION, PALQYTUN_SIGNAL or PALQYTUN_NAMED_SIGNAL; of
+            AttachInvocation and GetInvocationOutput, what names the invocation: 0 its id, 1 a workflow, 2 an idempotency key; of an error
+            what comes of it: 0 retried, 1 paused, 2 failed
+   result   what its result is
+   id       the completion id of a command, a proposal or a notification, the number of a signal, or the code of an error
+   second   the completion id of a call's invocation id; the code of a failure; 1 if an error has a delay
+   number   when a sleep ends, when a call begins, or an error's delay, in milliseconds
+   rows     how many headers, pairs of a failure's metadata, or keys there are */
+typedef struct {
+    uint32_t status;
+    uint32_t type;
+    uint32_t kind;
+    uint32_t result;
+    uint32_t id;
+    uint32_t second;
+    uint64_t number;
+    size_t rows;
+} palqytun_frame_row;
+
+palqytun_frame_row palqytun_frame_read(const uint8_t *frame, size_t frame_len);
+
+/* Writes a part of a frame's message, a text or bytes, to the front of out, and tells how long it is. PALQYTUN_NO_PART: it has none there.
+   PALQYTUN_NO_ROOM: len is the length that it needs. The parts by their places:
+
+   Input, Call, OneWayCall        0 the value; of a call 1 the service, 2 the handler, 3 the key, 4 the idempotency key, 5 the scope, 6 the
+                                  limit key, 7 the name; from 8 on the headers: a name, its value, the next name ..
+   SetState                       0 the key, 1 the value
+   GetLazyState, ClearState, GetPromise, PeekPromise, CompletePromise    0 the key
+   Sleep, Run                     0 the name
+   CompleteAwakeable              0 its id
+   SendSignal                     0 the invocation's id, 1 the signal's name
+   AttachInvocation, GetInvocationOutput    0 the invocation's id, or at the places of a call what it was called by
+   Notification                   0 the name of a signal
+   Error                          0 the text, 1 the stack trace
+   a result                       8 the value or the id; of a failure its text, and from 9 on the metadata: a key, its value ..; from 8 on the
+                                  keys */
+palqytun_told palqytun_frame_part(const uint8_t *frame, size_t frame_len, size_t at, uint8_t *out, size_t out_len);
+
+/* Writes the notification of completion 0 with this value to the front of out, and tells how long it is: a frame that has it as its result.
+   PALQYTUN_NO_ROOM: len is the length that it needs. */
+palqytun_told palqytun_value_frame(const uint8_t *value, size_t value_len, uint8_t *out, size_t out_len);
+
+/* Writes the frame of an input, with this value in the place of its own, to the front of out, and tells how long it is.
+   PALQYTUN_NOT_A_FRAME: the frame is none of an input. PALQYTUN_NO_ROOM: len is the length that it needs. */
+palqytun_told palqytun_input_frame(
+    const uint8_t *frame, size_t frame_len, const uint8_t *value, size_t value_len, uint8_t *out, size_t out_len);
+
 /* ---- Which library this is */
 
 /* The version, the commit, the sum of the kit's logic, and whether the library was proved: "0.1.0 commit 0123456789ab logic dac8208d650f15bf

@@ -56,7 +56,7 @@ FAMILIES = (
         "c",
         "C",
         "What callers of C and Python hold, and the functions that they call.",
-        ("sessions", "session_lines", "typed_calls", "held_journals", "frame_calls", "ffi"),
+        ("sessions", "session_lines", "typed_calls", "held_journals", "frame_rows", "frame_calls", "ffi"),
         ("c_*",),
     ),
     Family("program", "Programs", "The four programs: thin, each over a library.", ("runner", "vmrun", "vmscript", "vmrounds", "frames"), ("program_*",)),

@@ -1,9 +1,10 @@
 //! A VM, and a stored journal, for callers of C: the functions that C calls. What each does stands in `sessions`, `session_lines`,
-//! `typed_calls`, `held_journals` and `frame_calls`.
+//! `typed_calls`, `held_journals`, `frame_calls` and `frame_rows`.
 #![tactic(auto)]
 
 mod frames;
 mod journals;
+mod rows;
 mod typed;
 
 ghost use Rattle.std.specs.Prelude.{◌≡◌, ◌≤◌, None};
