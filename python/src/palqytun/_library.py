@@ -198,6 +198,29 @@ class Stored(ctypes.Structure):
     feed: int
 
 
+class FrameRow(ctypes.Structure):
+    """What a frame says: the type of its message, and its numbers."""
+
+    _fields_ = [
+        ("status", _U32),
+        ("type", _U32),
+        ("kind", _U32),
+        ("result", _U32),
+        ("id", _U32),
+        ("second", _U32),
+        ("number", _U64),
+        ("rows", _SIZE),
+    ]
+    status: int
+    type: int
+    kind: int
+    result: int
+    id: int
+    second: int
+    number: int
+    rows: int
+
+
 class Judged(ctypes.Structure):
     """How a call ended, and whether a future is awake."""
 
@@ -295,6 +318,10 @@ _FRAME_FUNCTIONS: dict[str, tuple[list[Any], Any]] = {
     "line_frame": ([_TEXT, _SIZE, _TEXT, _SIZE], Told),
     "notification": ([_U32, _U32, _TEXT, _SIZE, _TEXT, _SIZE, _TEXT, _SIZE], Told),
     "is_awake": ([_TEXT, _SIZE, _TEXT, _SIZE], Judged),
+    "frame_read": ([_TEXT, _SIZE], FrameRow),
+    "frame_part": ([_TEXT, _SIZE, _SIZE, _TEXT, _SIZE], Told),
+    "value_frame": ([_TEXT, _SIZE, _TEXT, _SIZE], Told),
+    "input_frame": ([_TEXT, _SIZE, _TEXT, _SIZE, _TEXT, _SIZE], Told),
 }
 
 
@@ -305,6 +332,10 @@ class Frames:
     line_frame: Callable[[bytes, int, Buffer, int], Told]
     notification: Callable[[int, int, bytes, int, bytes, int, Buffer, int], Told]
     is_awake: Callable[[bytes, int, bytes, int], Judged]
+    frame_read: Callable[[bytes, int], FrameRow]
+    frame_part: Callable[[bytes, int, int, Buffer, int], Told]
+    value_frame: Callable[[bytes, int, Buffer, int], Told]
+    input_frame: Callable[[bytes, int, bytes, int, Buffer, int], Told]
 
 
 class Journals:

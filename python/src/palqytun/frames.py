@@ -1,4 +1,5 @@
-"""Frames beside a journal: each as its line (docs/FRAMES.md) and back, its result as a notification, and whether a suspension is awake.
+"""Frames beside a journal: each as its line (docs/FRAMES.md) and back, its result as a notification, and whether a suspension is awake; and
+what a frame says as numbers and parts, without text.
 
 Nothing here knows how a frame is laid out: the core reads and writes them.
 
@@ -21,9 +22,10 @@ from palqytun._words import COUNT, encoded, integer, octets, utf8
 from palqytun.errors import BadFrame, BadLine
 from palqytun.values import Data
 
-__all__ = ["completion", "frame_of", "is_awake", "line_of", "named_signal", "signal"]
+__all__ = ["Message", "completion", "frame_of", "input_frame", "is_awake", "line_of", "named_signal", "signal", "value_frame"]
 
 _COMPLETION, _SIGNAL, _NAMED = range(3)
+_KEPT = 65536  # the largest buffer that is kept between calls
 
 _WHY = {
     _library.NOT_FRAMES: "the notifications aren't whole frames",
@@ -34,7 +36,7 @@ _WHY = {
 
 
 class _Room(threading.local):
-    """Where the core writes. It grows with what it has to hold."""
+    """Where the core writes. It grows with what it has to hold; for what is large a buffer is made that isn't kept."""
 
     def __init__(self) -> None:
         self.buffer: _library.Buffer = _library.buffer(1024)
@@ -43,7 +45,13 @@ class _Room(threading.local):
 _room = _Room()
 
 
+class _NoPart(Exception):
+    """A message has no part at a place."""
+
+
 def _refuse(status: int) -> None:
+    if status == _library.NO_PART:
+        raise _NoPart
     if status == _library.NO_MEMORY:
         raise MemoryError("the core found no memory")
     if status == _library.BAD_LINE:
@@ -56,8 +64,10 @@ def _written(call: Callable[[_library.Buffer, int], _library.Told]) -> bytes:
     room = _room.buffer
     told = call(room, len(room))
     if told.status == _library.NO_ROOM:
-        room = _room.buffer = _library.buffer(2 * told.len)
+        room = _library.buffer(told.len if told.len > _KEPT else 2 * told.len)
         told = call(room, len(room))
+        if len(room) <= _KEPT:
+            _room.buffer = room
     if told.status:
         _refuse(told.status)
     return _library.front(room, told.len)
@@ -121,6 +131,79 @@ def named_signal(name: str, frame: Data) -> bytes:
     'Notification id=name("go") result=void'
     """
     return _notification(_NAMED, 0, utf8("name", name), frame)
+
+
+class Message:
+    """What a frame says: the type of its message (docs/WIRE.md), its numbers, and its parts, which are texts and bytes, by their places.
+    `palqytun.h` has the meaning of each number and each place (`palqytun_frame_row`, `palqytun_frame_part`).
+
+    >>> slept = Message(frame_of('Sleep wake_up_time=1000 result_completion_id=1 name="rest"'))
+    >>> slept.type, slept.id, slept.number, slept.text(0)
+    (18, 1, 1000, 'rest')
+    >>> Message(frame_of('Output result=failure(code=409 message="no" metadata=[("k" "v")])')).pairs(9)
+    (('k', 'v'),)
+    >>> Message(b"x")
+    Traceback (most recent call last):
+    palqytun.errors.BadFrame: it isn't one whole frame
+    """
+
+    __slots__ = ("_frame", "id", "kind", "number", "result", "rows", "second", "type")
+
+    VOID, VALUE, FAILURE, KEYS, INVOCATION_ID = range(1, 6)
+    """What a `result` is; 0 is none."""
+
+    def __init__(self, frame: Data) -> None:
+        self._frame = octets("frame", frame)
+        row = _library.library().frames.frame_read(self._frame, len(self._frame))
+        if row.status:
+            _refuse(row.status)
+        self.type, self.kind, self.result = row.type, row.kind, row.result
+        self.id, self.second, self.number, self.rows = row.id, row.second, row.number, row.rows
+
+    def part(self, at: int) -> bytes | None:
+        """The bytes at a place, if there are some.
+
+        >>> Message(frame_of('SetState key="k" value="v"')).part(1)
+        b'v'
+        """
+        frame, call = self._frame, _library.library().frames.frame_part
+        try:
+            return _written(lambda room, size: call(frame, len(frame), at, room, size))
+        except _NoPart:
+            return None
+
+    def text(self, at: int) -> str:
+        """The text at a place, empty if there is none."""
+        return (self.part(at) or b"").decode()
+
+    def texts(self, at: int, count: int) -> tuple[str, ...]:
+        """The texts at so many places."""
+        return tuple(self.text(place) for place in range(at, at + count))
+
+    def pairs(self, at: int) -> tuple[tuple[str, str], ...]:
+        """The headers, or the metadata of a failure, of which the first key stands at this place."""
+        texts = self.texts(at, 2 * self.rows)
+        return tuple(zip(texts[::2], texts[1::2], strict=True))
+
+
+def value_frame(value: Data) -> bytes:
+    """A frame that has these bytes as its result: the notification of completion 0.
+
+    >>> line_of(value_frame(b"Till"))
+    'Notification id=completion(0) result=value("Till")'
+    """
+    data, call = octets("value", value), _library.library().frames.value_frame
+    return _written(lambda room, size: call(data, len(data), room, size))
+
+
+def input_frame(frame: Data, value: Data) -> bytes:
+    """The frame of an input, with this value in the place of its own.
+
+    >>> line_of(input_frame(frame_of('Input headers=[("a" "b")]'), b"Till"))
+    'Input headers=[("a" "b")] value="Till"'
+    """
+    whole, data, call = octets("frame", frame), octets("value", value), _library.library().frames.input_frame
+    return _written(lambda room, size: call(whole, len(whole), data, len(data), room, size))
 
 
 def is_awake(suspension: Data, notifications: Iterable[Data]) -> bool:

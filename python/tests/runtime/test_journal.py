@@ -44,6 +44,55 @@ def proposal(id):
 
 INPUT = journal.input_command(b"x")
 
+WHOLE = object()  # the frame itself, as the result that it has
+CALLED = "S", "h", "k", "i", (("a", "b"), ("c", "d")), b"x", 2
+READINGS = [  # a frame by its line, and what it is read as
+    ('GetLazyState key="k" result_completion_id=1', frames.Read, (1, "k")),
+    ("GetLazyStateKeys result_completion_id=1", frames.Read, (1, None)),
+    ('SetState key="k" value="v"', frames.Change, ("k", b"v")),
+    ('SetState key="k"', frames.Change, ("k", b"")),
+    ('ClearState key="k"', frames.Change, ("k", None)),
+    ("ClearAllState", frames.Change, (None, None)),
+    ("Sleep wake_up_time=1000 result_completion_id=1", frames.Sleep, (1, 1000)),
+    (
+        'Call service_name="S" handler_name="h" parameter="x" invocation_id_notification_idx=2 result_completion_id=3',
+        frames.Call,
+        ("S", "h", "", None, (), b"x", 2, 3, 0),
+    ),
+    (
+        'OneWayCall service_name="S" handler_name="h" key="k" idempotency_key="i" headers=[("a" "b"), ("c" "d")] parameter="x"'
+        " invoke_time=5 invocation_id_notification_idx=2",
+        frames.Call,
+        (*CALLED, None, 5),
+    ),
+    ('CompleteAwakeable awakeable_id="a" result=value("v")', frames.CompleteAwakeable, ("a", WHOLE)),
+    ('SendSignal target_invocation_id="t" signal=index(0) result=void', frames.SendSignal, ("t", 0, None, WHOLE)),
+    ('SendSignal target_invocation_id="t" signal=name("go") result=void', frames.SendSignal, ("t", None, "go", WHOLE)),
+    ('GetPromise key="k" result_completion_id=1', frames.Promise, (1, "k", False, None)),
+    ('PeekPromise key="k" result_completion_id=1', frames.Promise, (1, "k", True, None)),
+    ('CompletePromise key="k" completion=value("v") result_completion_id=1', frames.Promise, (1, "k", False, WHOLE)),
+    ('Run name="r" result_completion_id=1', frames.Run, (1, "r")),
+    ('AttachInvocation target=InvocationId("i") result_completion_id=1', frames.Attach, (1, "i", "", None, "", None, False)),
+    ('AttachInvocation target=WorkflowId(name="n" key="k") result_completion_id=1', frames.Attach, (1, None, "n", None, "k", None, False)),
+    (
+        'GetInvocationOutput target=IdempotencyId(service_name="S" service_key="k" handler_name="h" idempotency_key="i") result_completion_id=1',
+        frames.Attach,
+        (1, None, "S", "h", "k", "i", True),
+    ),
+    (
+        'GetInvocationOutput target=IdempotencyId(service_name="S" handler_name="h" idempotency_key="i") result_completion_id=1',
+        frames.Attach,
+        (1, None, "S", "h", "", "i", True),
+    ),
+    ('Error code=500 message="m" stacktrace="s" behaviour=Pause delay=7', frames.Failed, (500, "m", "s", "pause", 7)),
+    ('Error code=500 message="m" behaviour=Retry', frames.Failed, (500, "m", "", "retry", None)),
+    ('ProposeRunCompletion id=3 result=value("v")', frames.Proposal, (3, WHOLE)),
+    ("Notification id=signal(0) result=void", frames.Notification, ((1, 0), WHOLE)),
+    ('Notification id=name("go") result=value("v")', frames.Notification, ((2, "go"), WHOLE)),
+    ('Notification id=completion(2) result=failure(code=1 message="m")', frames.Notification, ((0, 2), WHOLE)),
+    ('Input headers=[("a" "b"), ("c" "d")] value="x"', frames.Input, ((("a", "b"), ("c", "d")), b"x")),
+]
+
 
 def begun():
     """A journal with an open sleep (1), an open call (2 and 3) and an open run (4), whose attempt has begun."""
@@ -225,6 +274,13 @@ class Rules(support.InAFolder, unittest.TestCase):
         broken("IN-ORDER", it.store, sleep(5) + frame(18, b"x"), 0)
         assert (it.entries, it.written) == (4, 0)
         it.store(sleep(5), 0)
+
+    def test_each_message_is_read(self):
+        for line, kind, fields in READINGS:
+            with self.subTest(line):
+                whole = core.frame_of(line)
+                [it] = journal.messages_in(whole)
+                assert it == kind(*(whole if field is WHOLE else field for field in fields)), it
 
     def test_results_are_frames(self):
         written = core.frame_of('Output result=failure(code=409 message="no" metadata=[("k" "v")])')

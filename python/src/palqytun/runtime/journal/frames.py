@@ -1,20 +1,22 @@
 """Frames as typed values, and back: what a runtime reads and writes of them.
 
-The core writes and reads their bodies, by lines of docs/FRAMES.md: only the head of a frame, its type and its length, is looked at here, to
-cut a stream into frames and to see which of them ask something of the runtime. A result is kept as a whole frame that has it, so storing and
+The core writes and reads their bodies: it says what a frame is as numbers and parts (`palqytun.frames.Message`), and a payload never becomes
+text. Only the head of a frame, its type and its length, is looked at here, to cut a stream into frames and to see which of them ask something
+of the runtime. What is small is written by the lines of docs/FRAMES.md. A result is kept as a whole frame that has it, so storing and
 delivering one never reads it.
 """
 
 from __future__ import annotations
 
 import functools
-import re
 import struct
 from collections.abc import Callable, Iterable, Iterator
 from dataclasses import dataclass
 from typing import Any, NewType
 
 from palqytun import frames as core
+from palqytun.errors import BadFrame
+from palqytun.frames import Message as Said
 
 Result = NewType("Result", bytes)
 """A frame that has a result: an output, a notification of any id, a proposal, or the completion of an awakeable, a signal or a promise."""
@@ -22,7 +24,7 @@ Result = NewType("Result", bytes)
 CANCEL = 1  # the signal that cancels an invocation
 
 _SUSPENSION, _ERROR, _END, _PROPOSAL, _AWAITING_ON = 2, 3, 4, 5, 7
-_INPUT, _OUTPUT, _NOTIFICATION, _RUN = 10, 29, 30, 26
+_INPUT, _CALL, _RUN, _OUTPUT, _NOTIFICATION = 10, 19, 26, 29, 30
 _EAGER_STATE, _EAGER_KEYS = 11, 13
 _STEPS = frozenset([_PROPOSAL, _AWAITING_ON, _EAGER_STATE, _EAGER_KEYS, _RUN])
 _COMMANDS = range(_INPUT, _OUTPUT + 1)
@@ -70,7 +72,7 @@ def void() -> Result:
 
 
 def value(data: bytes) -> Result:
-    return _result(f"value({_blob(data)})")
+    return Result(core.value_frame(data))
 
 
 def failure(code: int, message: str, metadata: Iterable[tuple[str, str]] = ()) -> Result:
@@ -101,7 +103,7 @@ def named_signal(name: str, result: Result) -> bytes:
 
 def input_command(data: bytes, headers: Iterable[tuple[str, str]] = ()) -> bytes:
     """A journal's first entry: what the handler is called with."""
-    return core.frame_of(f"Input headers={_pairs(headers)} value={_blob(data)}")
+    return core.input_frame(core.frame_of(f"Input headers={_pairs(headers)}"), data)
 
 
 @dataclass(frozen=True)
@@ -128,81 +130,6 @@ def start(begin: Begin, known_entries: int) -> bytes:
 
 
 # ---- reading
-
-_TOKEN = re.compile(r'"(?:[^"\\]|\\.)*"|\w+|[\[\]()=]')  # blanks and commas stand between what needs them anyway
-_Fields = dict[str, Any]
-
-
-class _Line:
-    """Reads what stands on a line of the core. Bytes and texts are `bytes`, numbers `int`, flags `bool`, a list and a pair a `tuple`, and a
-    choice its word with what it holds: a value, or fields by their names."""
-
-    __slots__ = ("at", "tokens")
-
-    def __init__(self, line: str):
-        self.tokens, self.at = [*_TOKEN.findall(line), ""], 0
-
-    def _next(self) -> str:
-        token: str = self.tokens[self.at]
-        self.at += 1
-        return token
-
-    def fields(self, end: str = "") -> _Fields:
-        """Fields, up to a token that ends them."""
-        found: _Fields = {}
-        while (name := self._next()) != end:
-            self.at += 1  # the `=`
-            found[name] = self._value()
-        return found
-
-    def _values(self, end: str) -> tuple[Any, ...]:
-        found = []
-        while self.tokens[self.at] != end:
-            found.append(self._value())
-        self.at += 1
-        return tuple(found)
-
-    def _value(self) -> Any:
-        token = self._next()
-        if token[0] == '"':
-            return token[1:-1].encode("ascii").decode("unicode_escape").encode("latin-1")
-        if token == "[":
-            return self._values("]")
-        if token == "(":
-            return self._values(")")
-        if token.isdigit():
-            return int(token)
-        if token in ("true", "false"):
-            return token == "true"
-        if self.tokens[self.at] != "(":
-            return token, None
-        self.at += 1
-        if self.tokens[self.at + 1] == "=":
-            return token, self.fields(")")
-        held = self._values(")")
-        return token, held[0] if held else {}  # fields that are all at their default
-
-
-def _fields_of(frame: bytes) -> _Fields:
-    """The fields of a frame's message, but for those at their default."""
-    line = _Line(core.line_of(frame))
-    if line.tokens[0] in ("raw", "rest"):
-        raise ValueError("a frame has a body that is no message")
-    line.at = 1
-    return line.fields()
-
-
-def _str(fields: _Fields, name: str) -> str:
-    return bytes(fields.get(name, b"")).decode()
-
-
-def _optional(fields: _Fields, name: str) -> str | None:
-    return _str(fields, name) if name in fields else None
-
-
-def _texts(pairs: Iterable[tuple[bytes, bytes]]) -> tuple[tuple[str, str], ...]:
-    return tuple((one.decode(), other.decode()) for one, other in pairs)
-
 
 @dataclass(frozen=True)
 class Command:
@@ -364,68 +291,71 @@ class AwaitingOn:
 Message = Command | Suspension | End | Failed | Proposal | Notification | AwaitingOn
 
 
-
-def _call(f: _Fields, frame: bytes) -> Command:
-    id, at = f.get("result_completion_id"), f.get("invoke_time", 0)
-    headers, parameter = _texts(f.get("headers", ())), f.get("parameter", b"")
-    invocation_id = f.get("invocation_id_notification_idx", 0)
-    key, idempotency_key = _str(f, "key"), _optional(f, "idempotency_key")
-    return Call(_str(f, "service_name"), _str(f, "handler_name"), key, idempotency_key, headers, parameter, invocation_id, id, at)
+_BEHAVIOURS = "retry", "pause", "fail"
+_REST = 8  # the place at which headers, and the parts of a result, begin
 
 
-def _send_signal(f: _Fields, frame: bytes) -> Command:
-    kind, it = f["signal"]
-    index, name = (it, None) if kind == "index" else (None, it.decode())
-    return SendSignal(_str(f, "target_invocation_id"), index, name, Result(frame))
+def _call(it: Said, frame: bytes) -> Command:
+    headers, parameter = it.pairs(_REST), it.part(0) or b""
+    idempotency_key = it.part(4)
+    return Call(
+        service=it.text(1),
+        handler=it.text(2),
+        key=it.text(3),
+        idempotency_key=None if idempotency_key is None else idempotency_key.decode(),
+        headers=headers,
+        parameter=parameter,
+        invocation_id=it.second,
+        id=it.id if it.type == _CALL else None,
+        at=it.number,
+    )
 
 
-def _promise(is_peek: bool, has_result: bool) -> Callable[[_Fields, bytes], Command]:
-    return lambda f, frame: Promise(f.get("result_completion_id", 0), _str(f, "key"), is_peek, Result(frame) if has_result else None)
+def _send_signal(it: Said, frame: bytes) -> Command:
+    index, name = (it.id, None) if it.kind == 1 else (None, it.text(1))
+    return SendSignal(it.text(0), index, name, Result(frame))
 
 
-def _attach(is_peek: bool) -> Callable[[_Fields, bytes], Command]:
-    def read(f: _Fields, frame: bytes) -> Command:
-        completes, (kind, it) = f.get("result_completion_id", 0), f["target"]
-        if kind == "InvocationId":
-            return Attach(completes, it.decode(), "", None, "", None, is_peek)
-        if kind == "WorkflowId":
-            return Attach(completes, None, _str(it, "name"), None, _str(it, "key"), None, is_peek)
-        service, handler, key = _str(it, "service_name"), _str(it, "handler_name"), _str(it, "service_key")
-        return Attach(completes, None, service, handler, key, _str(it, "idempotency_key"), is_peek)
+def _promise(is_peek: bool, has_result: bool) -> Callable[[Said, bytes], Command]:
+    return lambda it, frame: Promise(it.id, it.text(0), is_peek, Result(frame) if has_result else None)
+
+
+def _attach(is_peek: bool) -> Callable[[Said, bytes], Command]:
+    def read(it: Said, frame: bytes) -> Command:
+        if it.kind == 0:
+            return Attach(it.id, it.text(0), "", None, "", None, is_peek)
+        if it.kind == 1:
+            return Attach(it.id, None, it.text(1), None, it.text(3), None, is_peek)
+        return Attach(it.id, None, it.text(1), it.text(2), it.text(3), it.text(4), is_peek)
 
     return read
 
 
-def _failed(f: _Fields, frame: bytes) -> Message:
-    behaviour = f["behaviour"][0].lower()
-    return Failed(f.get("code", 0), _str(f, "message"), _str(f, "stacktrace"), behaviour, f.get("delay"))
+def _failed(it: Said, frame: bytes) -> Message:
+    return Failed(it.id, it.text(0), it.text(1), _BEHAVIOURS[it.kind], it.number if it.second else None)
 
 
-_KINDS = {"completion": 0, "signal": 1, "name": 2}
+def _notification(it: Said, frame: bytes) -> Message:
+    return Notification((it.kind, it.text(0) if it.kind == 2 else it.id), Result(frame))
 
 
-def _notification(f: _Fields, frame: bytes) -> Message:
-    kind, id = f["id"]
-    return Notification((_KINDS[kind], id.decode() if kind == "name" else id), Result(frame))
-
-
-_READERS: dict[int, Callable[[_Fields, bytes], Message]] = {
+_READERS: dict[int, Callable[[Said, bytes], Message]] = {
     _ERROR: _failed,
-    _PROPOSAL: lambda f, frame: Proposal(f.get("id", 0), Result(frame)),
-    _INPUT: lambda f, frame: Input(_texts(f.get("headers", ())), f.get("value", b"")),
-    12: lambda f, frame: Read(f.get("result_completion_id", 0), _str(f, "key")),
-    14: lambda f, frame: Read(f.get("result_completion_id", 0), None),
-    15: lambda f, frame: Change(_str(f, "key"), f.get("value", b"")),
-    16: lambda f, frame: Change(_str(f, "key"), None),
-    18: lambda f, frame: Sleep(f.get("result_completion_id", 0), f.get("wake_up_time", 0)),
-    19: lambda f, frame: _call({"result_completion_id": 0, **f}, frame),
+    _PROPOSAL: lambda it, frame: Proposal(it.id, Result(frame)),
+    _INPUT: lambda it, frame: Input(it.pairs(_REST), it.part(0) or b""),
+    12: lambda it, frame: Read(it.id, it.text(0)),
+    14: lambda it, frame: Read(it.id, None),
+    15: lambda it, frame: Change(it.text(0), it.part(1) or b""),
+    16: lambda it, frame: Change(it.text(0), None),
+    18: lambda it, frame: Sleep(it.id, it.number),
+    _CALL: _call,
     20: _call,
-    21: lambda f, frame: CompleteAwakeable(_str(f, "awakeable_id"), Result(frame)),
+    21: lambda it, frame: CompleteAwakeable(it.text(0), Result(frame)),
     22: _send_signal,
     23: _promise(False, False),
     24: _promise(True, False),
     25: _promise(False, True),
-    _RUN: lambda f, frame: Run(f.get("result_completion_id", 0), _str(f, "name")),
+    _RUN: lambda it, frame: Run(it.id, it.text(0)),
     27: _attach(False),
     28: _attach(True),
     _NOTIFICATION: _notification,
@@ -448,7 +378,7 @@ def read(kind: int, frame: bytes) -> Message:
         return unread(frame)
     reader = _READERS.get(kind)
     if reader is not None:
-        return reader(_fields_of(frame), frame)
+        return reader(Said(frame), frame)
     if kind in _COMMANDS:
         return Command()
     raise ValueError(f"an attempt writes no frame of type {kind}")
@@ -461,7 +391,7 @@ def asked_of(kind: int, frame: bytes) -> Message | None:
     if kind == _SUSPENSION:
         core.is_awake(frame, ())
     if kind == _OUTPUT:
-        core.completion(0, Result(frame))
+        Said(frame)
     return read(kind, frame)
 
 
@@ -532,17 +462,23 @@ def _shown(name: str, part: Any) -> str:
 
 
 def is_failure(result: Result) -> bool:
-    return answer(result)[0] == "failure"
+    return Said(result).result == Said.FAILURE
 
 
 def answer(result: Result) -> tuple[str, Any]:
     """What a result is: `void`, `value` with its bytes, `failure` with code, message and metadata, `keys` or `invocation`."""
-    what, it = _fields_of(core.completion(0, result))["result"]
-    if what == "failure":
-        return "failure", (it.get("code", 0), _str(it, "message"), _texts(it.get("metadata", ())))
-    if what == "state_keys":
-        return "keys", [name.decode() for name in it]
-    return ("invocation", it.decode()) if what == "invocation_id" else (what, it)
+    it = Said(result)
+    if it.result == Said.VALUE:
+        return "value", it.part(_REST) or b""
+    if it.result == Said.FAILURE:
+        return "failure", (it.second, it.text(_REST), it.pairs(_REST + 1))
+    if it.result == Said.KEYS:
+        return "keys", list(it.texts(_REST, it.rows))
+    if it.result == Said.INVOCATION_ID:
+        return "invocation", it.text(_REST)
+    if it.result == Said.VOID:
+        return "void", None
+    raise BadFrame("the frame has no result")
 
 
 def is_awake(suspension: bytes, entries: Iterable[bytes]) -> bool:

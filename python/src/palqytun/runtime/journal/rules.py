@@ -77,7 +77,7 @@ class Journal:
         self.entries = 0
         self.written = 0  # how many bytes of this attempt's output are stored
         self._core = palqytun.Journal()
-        self._loaded: list[bytes] | None = []  # its entries, until `start` hands them out
+        self._loaded: list[tuple[int, bytes]] | None = []  # its entries, each with its type, until `start` hands them out
         self._kept = (0, 0)
 
     @contextmanager
@@ -97,15 +97,15 @@ class Journal:
         if self._loaded is None:
             raise Dishonest("WHOLE", "an entry is loaded after the attempt has begun")
         with self._ruled(f"entry {self.entries}"):
-            self._core.entry(frame)
-        self._loaded.append(frame)
+            row = self._core.entry(frame)
+        self._loaded.append((row.type, frame))
         self.entries += 1
 
     def start(self, begin: Begin) -> bytes:
         """The bytes that a new attempt is fed: its Start, and the whole journal. It is asked once, before any output is stored."""
         if not self._loaded:
             raise Dishonest("WHOLE", "the journal has no entries")
-        begun = frames.start(begin, self.entries) + b"".join(self._loaded)
+        begun = frames.start(begin, self.entries) + b"".join(frame for _, frame in self._loaded)
         self._loaded = None
         return begun
 
@@ -114,7 +114,7 @@ class Journal:
         with self._ruled("an arrival"):
             row = self._core.arrive(notification)
         if self._loaded is not None:
-            self._loaded.append(notification)
+            self._loaded.append((row.type, notification))
         return self._placed(row)
 
     def store(self, output: bytes, at: int) -> Stored:
@@ -141,7 +141,7 @@ class Journal:
     def state(self, base: dict[str, bytes]) -> dict[str, bytes]:
         """The keyed state as the commands of a loaded journal leave it, from what it was before the first of them."""
         state = dict(base)
-        for kind, frame in frames.split(b"".join(self._loaded or [])):
+        for kind, frame in self._loaded or []:
             it = frames.read(kind, frame) if kind in frames.CHANGES else None
             if not isinstance(it, Change):
                 continue
