@@ -9,7 +9,6 @@ import importlib.util
 import logging
 import os
 import pathlib
-import signal
 import sys
 import time
 from collections.abc import Awaitable, Callable
@@ -17,7 +16,7 @@ from typing import TypeVar
 
 from palqytun._library import Library, library
 
-from . import inbox, journal, operate
+from . import inbox, journal, operate, process
 from .database import Database, Lost, Unsuitable
 from .database.plain import Plain
 from .database.postgres import NoDriver
@@ -32,6 +31,7 @@ from .services import App
 
 T = TypeVar("T")
 log = logging.getLogger("palqytun")
+_STUCK = 60.0  # seconds after which a worker ends whose loop doesn't answer
 
 
 class Refused(Exception):
@@ -71,9 +71,9 @@ def warn_of_unproved() -> None:
 
 async def _serve(options: argparse.Namespace) -> None:
     warn_of_unproved()
-    engine = Engine(load(options.app), options.db, name=options.name, limit=options.limit, idle=options.idle, lease=options.lease, keep=options.keep)
-    for number in (signal.SIGINT, signal.SIGTERM):
-        asyncio.get_running_loop().add_signal_handler(number, engine.stop)
+    names = ("name", "limit", "idle", "lease", "keep", "effects", "threads", "grace")
+    engine = Engine(load(options.app), options.db, stuck=_STUCK, **{name: getattr(options, name) for name in names})
+    process.Signals(asyncio.get_running_loop(), engine.stop, options.grace)
     if options.port < 0:
         await engine.run()
         return
@@ -91,7 +91,8 @@ async def _serve(options: argparse.Namespace) -> None:
 
 
 def run(options: argparse.Namespace) -> int:
-    asyncio.run(_serve(options))
+    process.run(_serve(options))
+    process.leave(0)
     return 0
 
 
@@ -201,6 +202,9 @@ def _parser() -> argparse.ArgumentParser:
     one.add_argument("--idle", type=float, default=1.0, help="seconds until an attempt that waits is suspended")
     one.add_argument("--lease", type=float, default=10.0, help="seconds until a worker that isn't heard of is thought dead")
     one.add_argument("--keep", type=float, help="seconds until an invocation that has ended is purged; never without it")
+    one.add_argument("--effects", type=int, default=1000, help="runs of async functions that are executed at once; 1000 by default")
+    one.add_argument("--threads", type=int, default=64, help="runs of plain functions that are executed at once, each in a thread; 64 by default")
+    one.add_argument("--grace", type=float, default=10.0, help="seconds within which runs may end when the worker is told to stop; 10 by default")
     one.set_defaults(does=run)
 
     asked = commands.add_parser("invocations", help="list, inspect, cancel, resume or purge invocations").add_subparsers(required=True)

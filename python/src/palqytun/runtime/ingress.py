@@ -23,6 +23,7 @@ from collections.abc import Awaitable, Callable
 from typing import Any
 
 from . import effects, journal, operate, timeline
+from .codec import BadValue, decoded
 from .engine import Engine
 from .http import Request, Response, Server
 from .invocations import New
@@ -143,8 +144,8 @@ class Ingress:
     def _check(self, body: bytes, service: str, handler: str) -> None:
         """The body has to be of the type that the handler takes."""
         try:
-            self.engine.app.codec.decode(body, self.engine.app.find(service, handler).takes)
-        except (ValueError, TypeError) as error:
+            decoded(self.engine.app.codec, body, self.engine.app.find(service, handler).takes)
+        except BadValue as error:
             raise TerminalError(f"the argument of {service}/{handler}: {error}", 400) from error
 
     # ---- the operator
@@ -186,7 +187,7 @@ class Ingress:
     def _value(self, request: Request) -> bytes:
         """The body, which the codec has to understand."""
         try:
-            self.engine.app.codec.decode(request.body, Any)
-        except ValueError as error:
+            decoded(self.engine.app.codec, request.body, Any)
+        except BadValue as error:
             raise TerminalError(f"the body is no value: {error}", 400) from error
         return request.body

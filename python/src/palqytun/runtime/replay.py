@@ -12,6 +12,7 @@ from typing import Any
 
 from .. import core
 from . import journal
+from .codec import BadValue, decoded
 from .context import AttemptEnds, CaughtTooMuch, Context, given_failure
 from .database import Database
 from .durable import Task, Tasks
@@ -50,10 +51,10 @@ async def replay(app: App, db: Database, it: Claimable) -> Difference | None:
 def _replayed(app: App, vm: core.VM, service: str, name: str, may_write: bool) -> str | None:
     """Runs the handler as far as the journal goes; answers what it raised while it was replayed."""
     handler, input = app.find(service, name), vm.sys_input()
-    context = Context(vm, input, app, may_write)
+    context = Context(vm, input, app, service, may_write)
     try:
-        argument = app.codec.decode(input.value, handler.takes)
-    except (ValueError, TypeError) as error:
+        argument = decoded(app.codec, input.value, handler.takes)
+    except BadValue as error:
         return f"the argument: {error}"
     main: Task[Any] = Task(handler.function(context, argument))  # type: ignore[arg-type]
     context.tasks = Tasks(main)

@@ -110,3 +110,26 @@ async def pause(db: Database, app: App, claim: Claim, why: str) -> Outcome:
     out = Outcome(status="paused")
     _leave_room(db, app, out, claim)
     return out
+
+
+async def release(db: Database, app: App, claim: Claim) -> Outcome:
+    """The attempt stops because its worker does: another worker goes on at once. What it wrote last isn't stored."""
+    sql = "UPDATE invocations SET status='ready', due=?, stopped=?, how='released' WHERE id=? AND epoch=? AND status='running'"
+    now = time.time()
+    await db.change(sql, (now, now, claim.invocation, claim.lease.epoch))
+    out = Outcome(status="ready")
+    _leave_room(db, app, out, claim)
+    db.notify("ready")
+    return out
+
+
+async def held(db: Database, worker: str) -> list[tuple[str, int]]:
+    """The invocations that a worker has, each with its epoch."""
+    return [(id, epoch) for id, epoch in await db.rows("SELECT id, epoch FROM invocations WHERE status='running' AND worker=?", (worker,))]
+
+
+async def take_back(db: Database, invocation: str, epoch: int) -> None:
+    """An invocation whose attempt is gone is tried again, after a second."""
+    sql = "UPDATE invocations SET status='ready', due=?, stopped=?, how='lost' WHERE id=? AND epoch=? AND status='running'"
+    now = time.time()
+    await db.change(sql, (now + 1, now, invocation, epoch))
