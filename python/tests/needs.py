@@ -17,7 +17,7 @@ from dataclasses import dataclass
 
 import postgres
 
-MODULES = {"psycopg2": "python3-psycopg2", "pydantic": "python3-pydantic"}
+MODULES = {"psycopg": "python3-psycopg", "pydantic": "python3-pydantic"}
 _BROWSERS = ("chromium", "chromium-browser", "google-chrome")
 _OLDEST = (3, 11)
 _ASKED = (
@@ -69,7 +69,7 @@ def lacks_module(name: str) -> str:
 
 def lacks_postgres() -> str:
     """Why a test is skipped that needs PostgreSQL; empty if there are its driver and a server."""
-    if lacks := lacks_module("psycopg2"):
+    if lacks := lacks_module("psycopg"):
         return lacks
     try:
         postgres.url()

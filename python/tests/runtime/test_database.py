@@ -10,7 +10,7 @@ import support  # isort: skip
 import runtime_app
 from palqytun.runtime import App, Context, Service, TerminalError, invocations, journal
 from palqytun.runtime.committer import Committer, Stopped
-from palqytun.runtime.database import Conflict, Lost, connect, schema
+from palqytun.runtime.database import Conflict, Lost, StatementFailed, connect, schema
 from palqytun.runtime.database.plain import Plain
 from palqytun.runtime.database.sqlite import InUse
 from palqytun.runtime.invocations import CLAIMED, Claimable, New
@@ -55,7 +55,7 @@ class Files(support.InAFolder, unittest.TestCase):
         patch = mock.patch.object(schema, "MIGRATIONS", [*schema.MIGRATIONS, "CREATE TABLE more(at {float});\nNO STATEMENT"])
         patch.start()
         self.addCleanup(mock.patch.stopall)
-        with self.assertRaises(Lost):
+        with self.assertRaisesRegex(StatementFailed, "SQLITE_ERROR: near"):
             Plain(url)
         patch.stop()
         db = Plain(url)
