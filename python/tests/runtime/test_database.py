@@ -35,11 +35,11 @@ class Files(support.InAFolder, unittest.TestCase):
         patch.start()
         self.addCleanup(mock.patch.stopall)
         db = Plain(url)
-        assert rows(db, "SELECT version FROM schema_versions ORDER BY version") == [(1,), (2,), (3,), (4,)] and rows(db, "SELECT * FROM more") == []
+        assert rows(db, "SELECT version FROM schema_versions ORDER BY version") == [(it,) for it in range(1, 6)] and rows(db, "SELECT * FROM more") == []
         db.close()
         Plain(url).close()
         patch.stop()
-        with self.assertRaisesRegex(schema.NewerSchema, "has schema version 4"):
+        with self.assertRaisesRegex(schema.NewerSchema, "has schema version 5"):
             Plain(url)
 
     def test_a_database_of_an_older_package_is_refused(self):

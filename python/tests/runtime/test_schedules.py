@@ -219,9 +219,8 @@ class Purges(OnAConnection):
             self.done(lambda db: db.change("INSERT INTO state VALUES (?, 'k', 'n', ?)", (service, b"1")))
         self.done(lambda db: db.change("INSERT INTO promises VALUES ('Flow', 'k', 'p', NULL)"))
         self.done(lambda db: db.change("UPDATE invocations SET status='done', ended=seq WHERE handler<>'free'"))
-        before = self.rows("SELECT MAX(ended) FROM invocations")[0][0] + 1
-        self.assertEqual([self.done(operate.purge, 0, 2), self.done(operate.purge, before, 2)], [0, 2])
-        self.assertEqual([self.done(operate.purge, before, 2), self.done(operate.purge, before, 2)], [1, 0])
+        self.assertEqual([self.done(operate.purge, 1e10, 2), self.done(operate.purge, 0, 2)], [0, 2])
+        self.assertEqual([self.done(operate.purge, 0, 2), self.done(operate.purge, 0, 2)], [1, 0])
         self.assertEqual(self.rows("SELECT handler FROM invocations"), [("free",)])
         self.assertEqual(len(self.rows("SELECT invocation FROM journal")), 1)
         # An object keeps its state; a workflow's key can run again as a new one.

@@ -10,17 +10,17 @@ from collections.abc import Iterable, Iterator, Sequence
 from dataclasses import dataclass
 
 from .database import Database
-from .lease import INSERTED, Growth
+from .lease import INSERTED, PROGRESS, Growth
 
 AT_ONCE = 200  # stores that one statement makes, at most
 
+_PROGRESS = ", ".join(f"{it}=CASE WHEN asked.has_progress THEN {'NULL' if value is None else value} ELSE it.{it} END" for it, value in PROGRESS.items())
 # An UPDATE that keeps the fence, and an INSERT of the entries of those that it has changed. A column of all rows is one value, so the statement
 # is the same for any number of them, and the server plans it once.
 _TOGETHER = (
     "WITH asked AS (SELECT * FROM unnest(?::bigint[], ?::text[], ?::bigint[], ?::bigint[], ?::bigint[], ?::boolean[])"
     " AS asked(number, id, epoch, before, entries, has_progress)), grown AS ("
-    "UPDATE invocations AS it SET entries=asked.entries, retries=CASE WHEN asked.has_progress THEN 0 ELSE it.retries END,"
-    " failing_since=CASE WHEN asked.has_progress THEN NULL ELSE it.failing_since END FROM asked"
+    f"UPDATE invocations AS it SET entries=asked.entries, {_PROGRESS} FROM asked"
     " WHERE it.id=asked.id AND it.epoch=asked.epoch AND it.entries=asked.before AND it.status='running' RETURNING asked.number), added AS ("
     "INSERT INTO journal(invocation, at, completes, frame, stored) SELECT invocation, at, completes, frame, ?"
     " FROM unnest(?::bigint[], ?::text[], ?::bigint[], ?::bigint[], ?::bytea[]) AS entry(number, invocation, at, completes, frame)"

@@ -328,6 +328,7 @@ class Attempt:
             await self._turn.end()
         for handle, error in failed:
             policy = core.retry_forever() if error.behaviour == "pause" else context.actions[handle].policy
+            self.claim.by_run = error.behaviour != "pause"  # such a failure of the attempt is none of the handler's
             self._vm.propose_run_completion(handle, error, policy=policy)
 
     async def _pull(self) -> None:

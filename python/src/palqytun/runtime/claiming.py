@@ -13,6 +13,7 @@ from .invocations import CLAIMED, Claim, Claimable
 from .outcome import Outcome
 from .services import App
 
+_FOR_GOOD = 1e9  # seconds
 _TIMERS = 1000  # at most so many fire in one transaction
 _FRESH = 5000
 _AT_ONCE = 500  # leases that one statement takes
@@ -52,21 +53,21 @@ class Claimer:
     # ---- leases
 
     async def enter(self, db: Database) -> None:
-        """The worker begins."""
+        """The worker begins. `Database.beats` keeps its lease then; the only worker of a file needs no beats."""
+        lease = self.lease
         if not db.is_shared:
-            await db.change("DELETE FROM workers")  # this is the only one
+            await db.change("DELETE FROM workers")
+            lease = _FOR_GOOD
         await db.change("DELETE FROM workers WHERE id=?", (self.former,))
-        await db.change(f"INSERT INTO workers(id, lease) VALUES (?,{db.clock}+?)", (self.worker, self.lease))
+        await db.change(f"INSERT INTO workers(id, lease) VALUES (?,{db.clock}+?)", (self.worker, lease))
         await db.change(f"DELETE FROM workers WHERE lease < {db.clock}-3600")
         await schedules.enter(db, self.app, self.app.services)
         limited = [(it.path,) for it in self.app.limited()]
         db.many("INSERT INTO limits(path) VALUES (?) ON CONFLICT(path) DO NOTHING", limited)
 
-    async def beat(self, db: Database) -> None:
-        """Keeps the worker's leases. What was delivered while its target ended elsewhere is swept."""
-        if not await db.change(f"UPDATE workers SET lease={db.clock}+? WHERE id=?", (self.lease, self.worker)):
-            await self.enter(db)
-        await db.change("DELETE FROM inbox WHERE fresh=1 AND invocation IN (SELECT id FROM invocations WHERE status='done')")
+    async def sweep(self, db: Database) -> None:
+        """Removes what was delivered while its target ended elsewhere. The inbox is looked through, and no invocation that isn't in it."""
+        await db.change("DELETE FROM inbox WHERE fresh=1 AND (SELECT status FROM invocations WHERE id=inbox.invocation)='done'")
 
     async def leave(self, db: Database) -> None:
         """The worker ends; others may go on with what it had at once."""
@@ -77,7 +78,7 @@ class Claimer:
 
     async def claim(self, db: Database, live: Collection[str], room: int) -> Claims:
         """Fires the timers that are due, and claims at most `room` invocations that can go on; `live` are those that have an attempt here."""
-        found, now = Claims(), time.time()
+        found, now = Claims(), db.now()
         await self._fire(db, found.out, now)
         await schedules.fire(db, self.app, found.out, now)
         fresh = {row[0] for row in await db.rows("SELECT DISTINCT invocation FROM inbox WHERE fresh=1 LIMIT ?", (_FRESH,))}
@@ -133,13 +134,16 @@ class Claimer:
 
     async def _ready(self, db: Database, share: Share, now: float, most: int) -> tuple[list[Any], bool]:
         """Ready ones, and whether there may be more: a claim takes a share by the number of workers, so that others get theirs."""
+        # Of a key whose lock nobody has only the first one is free, so the calls of a key begin in their order, however many workers claim.
         is_free = (
-            "(exclusive=0 OR NOT EXISTS (SELECT 1 FROM locks"
-            " WHERE locks.service=invocations.service AND locks.key=invocations.key AND locks.holder<>invocations.id))"
+            "(exclusive=0 OR CASE (SELECT holder FROM locks WHERE locks.service=it.service AND locks.key=it.key) WHEN it.id THEN 1=1"
+            " ELSE NOT EXISTS (SELECT 1 FROM locks WHERE locks.service=it.service AND locks.key=it.key) AND it.seq=("
+            "SELECT seq FROM invocations AS first WHERE first.service=it.service AND first.key=it.key AND first.exclusive=1 AND first.status='ready'"
+            " ORDER BY first.due, first.seq LIMIT 1) END)"
         )
         sql = (
             f"WITH alive(many) AS (SELECT COUNT(*) FROM workers WHERE lease>={db.clock}), own(most) AS ({_SHARE})"
-            f" SELECT {CLAIMED}, (SELECT most FROM own) FROM invocations WHERE {share.where} AND status='ready' AND due<=? AND {is_free}"
+            f" SELECT {CLAIMED}, (SELECT most FROM own) FROM invocations AS it WHERE {share.where} AND status='ready' AND due<=? AND {is_free}"
             f" ORDER BY due, seq LIMIT (SELECT most FROM own){db.skip}"
         )
         rows = await db.rows(sql, (most, most, most, most, *share.values, now))
@@ -153,10 +157,12 @@ class Claimer:
         return await db.rows(sql, (*services, most))
 
     async def _next_due(self, db: Database, now: float) -> float | None:
+        """When something is due next, by this process's clock. The database tells its own time with it."""
         sql = (
-            "SELECT MIN(due) FROM (SELECT MIN(due) AS due FROM timers"
+            f"SELECT MIN(due), {db.clock} FROM (SELECT MIN(due) AS due FROM timers"
             " UNION ALL SELECT MIN(due) AS due FROM invocations WHERE status='ready' AND due>?) AS next"
         )
-        [(found,)] = await db.rows(sql, (now,))
+        [(found, clock)] = await db.rows(sql, (now,))
+        db.told(float(clock))
         scheduled = await schedules.next_due(db, self.app)
-        return min((float(it) for it in (found, scheduled) if it is not None), default=None)
+        return min((float(it) - db.now() + time.time() for it in (found, scheduled) if it is not None), default=None)

@@ -17,7 +17,7 @@ from typing import TypeVar
 from palqytun._library import Library, library
 
 from . import inbox, journal, operate, process
-from .database import Database, Lost, Unsuitable
+from .database import Conflict, Database, Lost, Unsuitable
 from .database.plain import Plain
 from .database.postgres import NoDriver
 from .database.schema import NewerSchema, OlderSchema
@@ -97,11 +97,15 @@ def run(options: argparse.Namespace) -> int:
 
 
 def _done(url: str, operation: Callable[[Database], Awaitable[T]]) -> T:
-    """What an operation answers, in a transaction of its own."""
+    """What an operation returns, in a transaction of its own."""
+    with _opened(url) as db:
+        return db.done(operation)
+
+
+def _opened(url: str) -> Plain:
     if "://" not in url and not pathlib.Path(url.removeprefix("sqlite:").partition("?")[0]).exists():
         raise Refused(f"there is no database {url}")
-    with Plain(url) as db:
-        return db.done(operation)
+    return Plain(url)
 
 
 def list_invocations(options: argparse.Namespace) -> int:
@@ -142,16 +146,13 @@ def resume(options: argparse.Namespace) -> int:
     return 0
 
 
-async def _purged(db: Database, before: float) -> int:
-    count = 0
-    while some := await operate.purge(db, before):
-        count += some
-    return count
-
-
 def purge(options: argparse.Namespace) -> int:
-    before = time.time() - options.older
-    print(f"{_done(options.db, lambda db: _purged(db, before))} invocations are purged")
+    count = 0
+    with _opened(options.db) as db:
+        while some := db.done(lambda to: operate.purge(to, options.older)):
+            count += some
+            time.sleep(0.01)  # a worker of the file gets its turn
+    print(f"{count} invocations are purged")
     return 0
 
 
@@ -167,7 +168,8 @@ def list_schedules(options: argparse.Namespace) -> int:
 
 def replay(options: argparse.Namespace) -> int:
     app = load(options.app)
-    count, different = _done(options.db, lambda db: replay_all(app, db, options.status))
+    with _opened(options.db) as db:
+        count, different = db.read(lambda to: replay_all(app, to, options.status))
     for it in different:
         print(f"{it.invocation}  {it.handler}  command {it.command}: {it.error}")
     print(f"{count} journals are replayed, {len(different)} differ")
@@ -237,6 +239,6 @@ def main() -> int:
     logging.basicConfig(level=logging.INFO, format="%(asctime)s %(name)s %(message)s")
     try:
         return int(options.does(options))
-    except (Refused, Lost, Unsuitable, InUse, NewerSchema, OlderSchema, NoDriver) as error:
+    except (Refused, Conflict, Lost, Unsuitable, InUse, NewerSchema, OlderSchema, NoDriver) as error:
         print(f"palqytun: {error}", file=sys.stderr)
         return 2

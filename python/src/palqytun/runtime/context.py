@@ -20,6 +20,7 @@ from typing import Any, Generic, NoReturn, TypeVar, cast, overload
 from .. import core
 from .codec import BadValue, Codec, decoded, encoded
 from .durable import Durable, Leaf, Task, Tasks, select
+from .names import check_name
 from .services import App, Handler, I, O, Retry, TerminalError, to_text_headers
 
 T = TypeVar("T")
@@ -421,6 +422,7 @@ class Context:
 
     def set(self, name: str, value: Any) -> None:
         self._write()
+        check_name("the name of a state", name)
         self._vm_call("sys_state_set", name, encoded(self._codec, value))
 
     def clear(self, name: str) -> None:
@@ -467,6 +469,7 @@ class Context:
         """A promise of this workflow's key."""
         kind_of = type(self._service).__name__
         self._only(self._service.workflow, f"{self._service.name} is a {kind_of}, which has no promises; a Workflow has them, and an awakeable is one's own")
+        check_name("the name of a promise", name)
         return Promise(self, name, kind)
 
 

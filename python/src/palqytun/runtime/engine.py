@@ -15,7 +15,7 @@ from . import inbox, invocations, journal, operate, storing
 from .attempt import Attempt
 from .claiming import Claimer, Claims
 from .committer import Committer, Stopped
-from .database import Conflict, Database, Lost, connect
+from .database import Database, Lost, StatementFailed, connect
 from .executions import Executions
 from .invocations import Claim, New
 from .journal import Result
@@ -190,9 +190,12 @@ class Engine:
         claimer = Claimer(f"{self.name}-{secrets.token_hex(6)}", self.app, self.lease, self._former)
         self._former = claimer.worker
         unlisten: Callable[[], None] | None = None
-        beside = [asyncio.create_task(self._beats(committer, claimer)), asyncio.create_task(self._sweeps(committer, claimer.worker))]
+        beside = [asyncio.create_task(self._purges(committer)), asyncio.create_task(self._sweeps(committer, claimer))]
+        beats = db.beats(claimer.worker, self.lease, lambda: True)
         try:
             await committer.submit(claimer.enter)
+            if beats is not None:
+                beats.start()
             unlisten = await db.listen(claimer.worker, self._heard)
             self.counts["sessions"] += 1
             self._is_open.set()
@@ -207,6 +210,8 @@ class Engine:
             await self._end_attempts(committer)
             for task in beside:
                 task.cancel()
+            if beats is not None:
+                beats.stop()
             if committer.lost is None:
                 await _within("to leave", committer.submit(claimer.leave))
             self._committer = None
@@ -247,7 +252,7 @@ class Engine:
                 room, live = min(max(0, self.limit - len(self.live)), _CLAIMS), frozenset(self.live)
                 try:
                     found: Claims = await committer.submit(lambda db: claimer.claim(db, live, room))
-                except Conflict as error:
+                except StatementFailed as error:
                     log.warning("a claim wasn't made, and is made again: %s", error)
                     await self._pause(1.0)
                     continue
@@ -278,32 +283,31 @@ class Engine:
             finally:
                 poked.cancel()
 
-    async def _beats(self, committer: Committer, claimer: Claimer) -> None:
+    async def _purges(self, committer: Committer) -> None:
+        """Deletes what has been kept long enough: some at a time, and between these nothing for as long as they took, so that others go on."""
+        if self.keep is None:
+            return
+        older = self.keep
         while True:
-            await asyncio.sleep(self.lease / 3)
+            begun = time.monotonic()
             try:
-                await committer.submit(claimer.beat, is_urgent=True)
-                await self._purge(committer)
+                count = await committer.submit(lambda db: operate.purge(db, older))
             except Stopped:
                 return
-            except Conflict as error:
-                log.warning("a beat wasn't stored: %s", error)
+            except StatementFailed as error:
+                log.warning("nothing was purged: %s", error)
+                count = 0
+            await asyncio.sleep(max(0.01, time.monotonic() - begun) if count else self.lease / 3)
 
-    async def _purge(self, committer: Committer) -> None:
-        """Deletes what has been kept long enough, some at a time."""
-        if self.keep is not None:
-            before = time.time() - self.keep
-            while await committer.submit(lambda db: operate.purge(db, before)):
-                pass
-
-    async def _sweeps(self, committer: Committer, worker: str) -> None:
+    async def _sweeps(self, committer: Committer, claimer: Claimer) -> None:
         """Takes back what this worker has by the database, and no attempt here: none of it is lost, whatever fault has left it so. It is looked
         at twice, since a claim may be on its way to its attempt."""
         before = set[tuple[str, int]]()
         while True:
             await asyncio.sleep(self.lease / 3)
             try:
-                held = await committer.submit(lambda db: storing.held(db, worker))
+                await committer.submit(claimer.sweep)
+                held = await committer.submit(lambda db: storing.held(db, claimer.worker))
                 alone = {it for it in held if it[0] not in self.live}
                 for invocation, epoch in alone & before:
                     log.warning("%s has no attempt, and is tried again", invocation)
@@ -312,7 +316,7 @@ class Engine:
                 before = alone
             except Stopped:
                 return
-            except Conflict as error:
+            except StatementFailed as error:
                 log.warning("what has no attempt wasn't looked for: %s", error)
 
     def stop(self) -> None:
@@ -358,8 +362,6 @@ class Engine:
             log.warning("fenced: %s", fenced)
         except Stopped:
             pass  # the next worker goes on
-        except Conflict as error:
-            log.warning("%s meets a conflict that lasts, and is tried again: %s", invocation, error)
         except BaseException as error:  # also `SystemExit`, which would end the loop
             task = asyncio.current_task()
             if isinstance(error, asyncio.CancelledError) and task is not None and task.cancelling():
@@ -399,6 +401,7 @@ class Engine:
         """Makes an invocation. It is stored once this answers its id."""
         if self.drains:
             raise Unavailable("the worker stops, and takes no new calls")
+        invocations.check(self.app, new)  # what is refused doesn't reach the database
         out = Outcome()
         id, _ = await self.transact(lambda db: invocations.create(db, self.app, out, new))
         self.tell(out)
