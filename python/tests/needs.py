@@ -17,7 +17,8 @@ from dataclasses import dataclass
 
 import postgres
 
-MODULES = {"psycopg": "python3-psycopg", "pydantic": "python3-pydantic"}
+SERVER = ("starlette", "uvicorn", "jinja2", "prometheus_client", "croniter")  # of the extra `server`
+MODULES = {"psycopg": "python3-psycopg", "pydantic": "python3-pydantic", **{it: f"python3-{it.replace('_', '-')}" for it in SERVER}}
 _BROWSERS = ("chromium", "chromium-browser", "google-chrome")
 _OLDEST = (3, 11)
 _ASKED = (
@@ -65,6 +66,11 @@ def lacks_module(name: str) -> str:
     if importlib.util.find_spec(name) is not None:
         return ""
     return f"{sys.executable} has no {name}: apt-get install {MODULES[name]}, for Debian's own python3"
+
+
+def lacks_server() -> str:
+    """Why a test is skipped that needs the ingress; empty if there are its libraries."""
+    return next(filter(None, map(lacks_module, SERVER)), "")
 
 
 def lacks_postgres() -> str:

@@ -177,6 +177,7 @@ class Context:
         self._random.context = self
         self._log = ReplayLog(self, input.invocation_id)
         self.actions: dict[int, Action] = {}
+        self.awakeables: dict[str, Callable[[Any], Any]] = {}  # by id: what reads the value
         self.tasks: Tasks | None = None
         self.refused: BaseException | None = None
         self._thread: int | None = None  # in which the handler's own code runs, while it does
@@ -442,6 +443,7 @@ class Context:
     def awakeable(self, kind: Any = Any) -> tuple[str, Durable[Any]]:
         """An id to hand out, and what comes once others complete it."""
         awakeable = self._vm_call("sys_awakeable")
+        self.awakeables[awakeable.id] = self._reader(kind)
         return awakeable.id, Leaf(awakeable.handle, self._result(kind))
 
     def resolve_awakeable(self, id: str, value: Any = None) -> None:

@@ -34,6 +34,16 @@ class New:
     due: float = 0
     id: str | None = None
 
+    def target(self, app: App) -> Handler[Any, Any]:
+        """The handler that it calls. Raises a `TerminalError` if there is none, or if it can't be stored as it is; so this is asked before a
+        transaction, which others share."""
+        handler = app.find(self.service, self.handler)
+        if bool(self.key) != handler.service.keyed:
+            raise TerminalError(f"{handler.path} is called {'with' if handler.service.keyed else 'without'} a key", 400)
+        check_name("the key", self.key)
+        check_name("the idempotency key", self.idempotency_key or "")
+        return handler
+
 
 def _seed(id: str | None) -> int:
     if id is None:

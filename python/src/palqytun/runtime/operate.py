@@ -73,13 +73,3 @@ async def by_status(db: Database) -> dict[str, int]:
     found = dict(await db.rows("SELECT status, COUNT(*) FROM invocations WHERE status<>'done' GROUP BY status"))
     [(first, last)] = await db.rows("SELECT (SELECT MIN(seq) FROM invocations), (SELECT MAX(seq) FROM invocations)")
     return {**found, "done": max(0, (last or 0) - (first or 1) + 1 - sum(found.values()))}
-
-
-def metrics(statuses: dict[str, int], live: int, counts: dict[str, int]) -> str:
-    """Numbers for Prometheus, in its text format."""
-    lines = ["# HELP palqytun_invocations Invocations in the database, by status.", "# TYPE palqytun_invocations gauge"]
-    lines += [f'palqytun_invocations{{status="{it}"}} {statuses.get(it, 0)}' for it in ("ready", "running", "suspended", "paused", "done")]
-    lines += ["# HELP palqytun_live_attempts Attempts of this worker.", "# TYPE palqytun_live_attempts gauge", f"palqytun_live_attempts {live}"]
-    for name, count in counts.items():
-        lines += [f"# HELP palqytun_{name}_total Since this worker began.", f"# TYPE palqytun_{name}_total counter", f"palqytun_{name}_total {count}"]
-    return "\n".join(lines) + "\n"

@@ -10,12 +10,14 @@ from collections.abc import Awaitable, Callable, Iterable, Mapping
 from dataclasses import dataclass, field
 from typing import TYPE_CHECKING, Any, Generic, TypeVar
 
-from .codec import Codec, JsonCodec
+from .codec import Codec, JsonCodec, decoded, encoded
+from .extras import needed
 from .texts import plain, said
 
 if TYPE_CHECKING:
     from .context import Context
     from .schedules import Schedule
+    from .serving import Mountable
 
 I = TypeVar("I")
 O = TypeVar("O")
@@ -197,12 +199,22 @@ class App:
             self.services[it.name] = it
         self.codec: Codec = JsonCodec() if codec is None else codec
         self.schedules: dict[str, Schedule] = {}
+        self.scheduled: dict[str, bytes] = {}  # the arguments of the schedules
         for one in schedules:
             if one.name in self.schedules:
                 raise ValueError(f"there are two schedules with the name {one.name}")
             if self.services.get(one.target.service.name) is not one.target.service:
                 raise ValueError(f"the schedule {one.name} calls {one.target.path}, which isn't of this app")
-            self.schedules[one.name] = one
+            self.schedules[one.name], self.scheduled[one.name] = one, self._argument(one)
+
+    def _argument(self, it: Schedule) -> bytes:
+        """A schedule's argument as it is stored, which its handler has to understand."""
+        try:
+            data = encoded(self.codec, it.argument)
+            decoded(self.codec, data, it.target.takes)
+        except Exception as error:
+            raise ValueError(f"the argument of the schedule {it.name} is none that {it.target.path} takes: {error}") from error
+        return data
 
     def limited(self) -> list[Handler[Any, Any]]:
         """The handlers that have a limit, in the order of their paths."""
@@ -226,3 +238,21 @@ class App:
         if found is None or handler not in found.handlers:
             raise TerminalError(f"there is no handler {service}/{handler}", 404)
         return found.handlers[handler]
+
+    def asgi(
+        self, url: str = "palqytun.db", *, token: str | None = None, origins: Iterable[str] = (), wait: float = 60.0, payload: int | None = None, **worker: Any
+    ) -> Mountable:
+        """The ingress as an ASGI application, with a worker of this app on the database `url`. Whoever serves it runs the worker by its
+        `lifespan`; mounted in another application, that one's lifespan has to do so:
+
+            durable = app.asgi("postgresql://..")
+            site = Starlette(routes=[Mount("/durable", durable)], lifespan=durable.lifespan)
+
+        `token` is the bearer token that requests need, and `origins` are addresses under which browsers know it, as "https://ops.example": without a
+        token, a request for another host than localhost and these is refused. A call waits `wait` seconds for its result, if it doesn't say, and a body has at
+        most `payload` bytes (4 MiB). `worker` are options of `Engine`, as `limit`. Raises `MissingExtra` if the extra `server` isn't installed."""
+        engine = needed("palqytun.runtime.engine", "server", "the ingress").Engine(self, url, **worker)
+        serving = needed("palqytun.runtime.serving", "server", "the ingress")
+        limits = {"wait": wait} if payload is None else {"wait": wait, "payload": payload}
+        made: Mountable = serving.Mountable(engine, serving.Settings(token, tuple(origins), **limits))
+        return made
