@@ -358,5 +358,5 @@ def main() -> int:
     try:
         return int(options.does(options))
     except (Refused, Conflict, Lost, Unsuitable, InUse, NewerSchema, OlderSchema, MissingExtra, NoDriver) as error:
-        print(f"palqytun: {error}", file=sys.stderr)
+        print(f"palqytun: {' '.join(str(error).split())}", file=sys.stderr)
         return 2
