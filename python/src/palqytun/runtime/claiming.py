@@ -13,6 +13,8 @@ from .invocations import CLAIMED, Claim, Claimable
 from .outcome import Outcome
 from .services import App
 
+_SUSPECTED = 2  # attempts in a row that were lost
+_ALONE = 0.2  # seconds until the next one that is suspected is taken
 _FOR_GOOD = 1e9  # seconds
 _TIMERS = 1000  # at most so many fire in one transaction
 _FRESH = 5000
@@ -30,6 +32,14 @@ class Claims:
     out: Outcome = field(default_factory=Outcome)
     has_more: bool = False
     next_due: float | None = None
+
+
+def _with_one_suspect(rows: list[Claimable]) -> tuple[list[Claimable], int]:
+    """Of those whose attempts were lost again and again one is taken at a time; also answers how many are left. So one that ends its worker isn't
+    counted with all that stand beside it."""
+    suspects = [it for it in rows if it.deaths + (it.status == "running") >= _SUSPECTED]
+    taken = {it.id for it in suspects[1:]}
+    return [it for it in rows if it.id not in taken], len(taken)
 
 
 @dataclass(frozen=True)
@@ -84,10 +94,13 @@ class Claimer:
         fresh = {row[0] for row in await db.rows("SELECT DISTINCT invocation FROM inbox WHERE fresh=1 LIMIT ?", (_FRESH,))}
         found.out.touched |= fresh
         rows = [Claimable(*row) for row in await self._rows(db, found, now, room, bool(fresh))]
-        free = [it for it in rows if it.id not in live]
+        free, left = _with_one_suspect([it for it in rows if it.id not in live])
         for first in range(0, len(free), _AT_ONCE):
             found.claims += await invocations.claim(db, self.worker, free[first : first + _AT_ONCE])
         found.next_due = await self._next_due(db, now)
+        if left:
+            soon = time.time() + _ALONE
+            found.next_due = soon if found.next_due is None else min(soon, found.next_due)
         return found
 
     async def _fire(self, db: Database, out: Outcome, now: float) -> None:
