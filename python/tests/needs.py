@@ -18,7 +18,7 @@ from dataclasses import dataclass
 import postgres
 
 SERVER = ("starlette", "uvicorn", "jinja2", "prometheus_client", "croniter")  # of the extra `server`
-MODULES = {"psycopg": "python3-psycopg", "pydantic": "python3-pydantic", **{it: f"python3-{it.replace('_', '-')}" for it in SERVER}}
+MODULES = {"psycopg": "python3-psycopg", "pydantic": "python3-pydantic", "httpx": "python3-httpx", **{it: f"python3-{it.replace('_', '-')}" for it in SERVER}}
 _BROWSERS = ("chromium", "chromium-browser", "google-chrome")
 _OLDEST = (3, 11)
 _ASKED = (
