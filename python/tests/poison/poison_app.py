@@ -227,7 +227,7 @@ async def _calls_itself(ctx: Context) -> None:
 
 
 async def _blocks(ctx: Context) -> None:
-    time.sleep(3)
+    time.sleep(2.5)
 
 
 async def _nests(ctx: Context) -> None:
@@ -250,7 +250,7 @@ HANDLERS = {
     "a task of asyncio exits": _a_task_exits,
     "coroutines wait for each other": _waits_for_itself,
     "waits for its own end": _calls_itself,
-    "blocks the loop for 3 s": _blocks,
+    "blocks the loop for 2.5 s": _blocks,
     "nests 20,000 gathers": _nests,
     "recurses": lambda ctx: ctx.run("x", _recurses(0)),
     "returns an object": lambda ctx: _gives(object()),

@@ -131,6 +131,7 @@ class Attempt:
         self._is_only_runs = True  # these frames are commands of runs
         self._written = 0  # how many bytes of output were handed to the store
         self._has_ended = False
+        self.was_cancelled_within = False  # the handler has cancelled the task of its own attempt
 
     async def run(self) -> None:
         """To the attempt's end, which is stored."""
@@ -211,10 +212,16 @@ class Attempt:
     async def _steps(self, context: Context, tasks: Tasks) -> None:
         """Until the handler is done: its coroutines run, and then what they await is awaited."""
         thrown = None
+        own = asyncio.current_task()
+        assert own is not None
         while True:
+            before = own.cancelling()
             with _handlers_own:
-                with context.entered():
-                    tasks.run(thrown)
+                try:
+                    with context.entered():
+                        tasks.run(thrown)
+                finally:
+                    self.was_cancelled_within |= own.cancelling() > before
                 if tasks.main.done:
                     return
                 tree = tasks.tree()

@@ -4,6 +4,7 @@ from __future__ import annotations
 
 import asyncio
 import contextlib
+import functools
 import logging
 import random
 import secrets
@@ -351,7 +352,7 @@ class Engine:
         self.live[claim.invocation] = attempt
         task = asyncio.create_task(self._attempt(attempt))
         self._tasks.add(task)
-        task.add_done_callback(self._tasks.discard)
+        task.add_done_callback(functools.partial(self._has_left, attempt))
 
     async def _attempt(self, attempt: Attempt) -> None:
         invocation = attempt.claim.invocation
@@ -364,16 +365,20 @@ class Engine:
             pass  # the next worker goes on
         except BaseException as error:  # also `SystemExit`, which would end the loop
             task = asyncio.current_task()
-            if isinstance(error, asyncio.CancelledError) and task is not None and task.cancelling():
-                raise  # the session ends
+            if isinstance(error, asyncio.CancelledError) and task is not None and task.cancelling() and not attempt.was_cancelled_within:
+                raise  # the session ends, or others' code has cancelled it; what is left is taken back
             log.exception("an attempt of %s stopped; the invocation is paused", invocation)
             await self._give_up(attempt, error)
-        finally:
-            if self.live.get(invocation) is attempt:
-                del self.live[invocation]
-            if attempt.bell.poked:
-                self._wake(0)
-            self._look_for_more()
+
+    def _has_left(self, attempt: Attempt, task: asyncio.Task[None]) -> None:
+        """An attempt has ended, or was cancelled before it began."""
+        self._tasks.discard(task)
+        invocation = attempt.claim.invocation
+        if self.live.get(invocation) is attempt:
+            del self.live[invocation]
+        if attempt.bell.poked:
+            self._wake(0)
+        self._look_for_more()
 
     def _look_for_more(self) -> None:
         """The last claim took all that it had room for. So there may be more: it is looked at once there is some room."""

@@ -16,7 +16,7 @@ from typing import Any, TypeVar
 
 T = TypeVar("T")
 log = logging.getLogger("palqytun")
-_LAST = 2.0  # seconds for what is left of tasks, and for threads
+_LAST = 1.0  # seconds for what is left of tasks, and for threads
 _BEYOND = 20.0  # seconds beside the grace, after which a shutdown is over
 
 

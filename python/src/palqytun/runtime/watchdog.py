@@ -38,13 +38,13 @@ def _is_users(frame: FrameType) -> bool:
 
 
 def holder(thread: int) -> str:
-    """Who holds a loop, and in which line of its code."""
+    """Who holds a loop, and in which line of its code. If the machine has other work for its processors, that may be nobody."""
     frames = list(_frames(thread))
     if not frames:
         return "a thread that has ended"
     claims = (getattr(it.f_locals.get("self"), "claim", None) for it in frames if it.f_code.co_filename.startswith(_OWN))
     claim = next((it for it in claims if it is not None), None)
-    who = "code outside of handlers" if claim is None else f"{claim.service}/{claim.handler} of {claim.invocation}"
+    who = "no handler, or the machine is busy" if claim is None else f"{claim.service}/{claim.handler} of {claim.invocation}"
     at = next((it for it in frames if _is_users(it)), frames[0])
     file, line = at.f_code.co_filename, at.f_lineno
     return f"{who}, in {file}:{line}: {linecache.getline(file, line).strip()}"
