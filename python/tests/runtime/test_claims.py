@@ -9,7 +9,7 @@ from unittest import mock
 
 import support  # isort: skip
 import runtime_app
-from palqytun.runtime import App, Context, Service, TerminalError, VirtualObject, Workflow, gather, inbox, invocations, journal, operate
+from palqytun.runtime import App, Context, Retry, Service, TerminalError, VirtualObject, Workflow, gather, inbox, invocations, journal, operate
 from palqytun.runtime.claiming import Claimer
 from palqytun.runtime.database import connect
 from palqytun.runtime.database.plain import Plain
@@ -57,6 +57,25 @@ async def asks(ctx: Context, _: None) -> object:
 
 
 app = App(plain, thing, flow)
+
+failing, RETRY = Service("Fails"), Retry(initial=0.001, longest=0.01, attempts=3, pause=True)
+
+
+def raises():
+    raise OSError("it is away")
+
+
+@failing.handler(retry=RETRY)
+async def by_run(ctx: Context, _: int) -> None:
+    await ctx.run("raises", raises)
+
+
+@failing.handler(retry=RETRY)
+async def by_itself(ctx: Context, _: int) -> None:
+    raises()
+
+
+fails = App(failing)
 
 
 class OnOne(support.OnADatabase):
@@ -163,6 +182,33 @@ class Lost(OnOne):
                 self.assertEqual(await runtime.rows("SELECT deaths FROM invocations"), [(0,)])
 
         asyncio.run(go())
+
+
+@support.on_each_database
+class Failures(support.OnADatabase):
+    """Those of a run count for its own `retry`, and those of the handler for the handler's."""
+
+    def failed(self, path, count):
+        """The counts of an invocation that has failed so often, and its status."""
+
+        async def go():
+            async with Runtime(fails, self.url) as runtime:
+                id = await runtime.send(path, count)
+                sql = "SELECT retries, failures, status FROM invocations WHERE id=?"
+                while (row := (await runtime.rows(sql, id))[0])[0] < count and row[2] != "paused":
+                    await asyncio.sleep(0.01)
+                return tuple((await runtime.rows(sql, id))[0])
+
+        return asyncio.run(go())
+
+    def test_a_run_that_is_tried_for_ever(self):
+        retries, failures, status = self.failed("Fails/by_run", 6)
+        self.assertGreaterEqual(retries, 6)
+        self.assertEqual(failures, 0)
+        self.assertIn(status, ("ready", "running"))
+
+    def test_a_handler_that_fails(self):
+        self.assertEqual(self.failed("Fails/by_itself", 6), (3, 3, "paused"))
 
 
 @support.on_each_database

@@ -85,16 +85,16 @@ class OnAServer(support.OnADatabase, unittest.TestCase):
     def test_a_row_that_another_has_locked(self):
         """Who needs it waits, and nobody else: neither those of its group, nor other operations, nor beats."""
         with Plain(self.url) as db:
-            db.change("INSERT INTO workers VALUES ('locked', 0)")
+            db.change("INSERT INTO state VALUES ('S', 'k', 'locked', '1')")
 
         async def go():
             async with two(self.url) as (outside, _):
                 async with Runtime(runtime_app.app, self.url, lease=3) as runtime:
                     await outside.begin()
-                    await outside.rows("SELECT * FROM workers WHERE id='locked' FOR UPDATE")
+                    await outside.rows("SELECT * FROM state WHERE name='locked' FOR UPDATE")
                     submit = runtime.engine._committer.submit
-                    beside = [submit(lambda db, n=n: db.change("INSERT INTO workers VALUES (?, 0)", (f"beside {n}",))) for n in range(5)]
-                    waits = submit(lambda db: db.change("UPDATE workers SET lease=1 WHERE id='locked'"))
+                    beside = [submit(lambda db, n=n: db.change("INSERT INTO state VALUES ('S', 'k', ?, '1')", (f"beside {n}",))) for n in range(5)]
+                    waits = submit(lambda db: db.change("UPDATE state SET value='2' WHERE name='locked'"))
                     await asyncio.wait_for(asyncio.gather(*beside), 20)
                     end = time.monotonic() + 4
                     while time.monotonic() < end:
@@ -110,8 +110,7 @@ class OnAServer(support.OnADatabase, unittest.TestCase):
     def test_a_slow_statement_stops_nobody(self):
         async def go():
             async with Runtime(runtime_app.app, self.url) as runtime:
-                slow = asyncio.create_task(runtime.rows("SELECT pg_sleep(5)"))
-                await asyncio.sleep(0.1)
+                slow = runtime.engine._committer.submit(lambda db: db.rows("SELECT pg_sleep(12)"), is_slow=True)
                 self.assertEqual(await runtime.call("S/echo", 1), 1)
                 self.assertFalse(slow.done())
                 await slow
@@ -255,8 +254,8 @@ class OwnCluster(unittest.TestCase):
 
         async def go():
             async with Runtime(app, self.cluster.url, lease=5) as runtime:
-                fill()
                 ids = [await runtime.engine.submit(New("Servers", "steps", argument=b"20")) for _ in range(5)]
+                fill()
                 sent = [asyncio.create_task(runtime.engine.submit(New("Servers", "steps", argument=b"300"))) for _ in range(10)]
                 until = time.monotonic() + 60
                 while not (conflicts := runtime.engine._committer.counts["conflicts"]) and time.monotonic() < until:
