@@ -60,7 +60,7 @@ def until_all_ended(
         WRONG[wrong]()
 
     async def connect(url: str) -> Dying:
-        db = Dying(url, synchronous="OFF", worker=True)
+        db = Dying(url, synchronous="FULL" if is_checkpointed else "OFF", worker=True)
         db.dies = dies
         if not is_checkpointed:
             await db.change("PRAGMA wal_autocheckpoint=0")

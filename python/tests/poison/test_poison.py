@@ -51,13 +51,13 @@ HEADERS = {
 CLIENTS = {
     "says nothing": (b"", 0.2),
     "speaks nonsense": (b"\x16\x03\x01\x00garbage\r\n\r\n", 0.1),
-    "leaves in a request's head": (b"POST /P/healthy HTTP/1.1\r\nhost: x\r\n", 0.0),
-    "leaves in a body": (b"POST /P/healthy HTTP/1.1\r\nhost: x\r\ncontent-length: 1000\r\n\r\nabc", 0.0),
-    "leaves while it waits": (b'POST /P/hangs HTTP/1.1\r\nhost: x\r\ncontent-length: 14\r\n\r\n"an async run"', 0.1),
-    "says a length that is none": (b"POST /P/healthy HTTP/1.1\r\nhost: x\r\ncontent-length: -5\r\n\r\n", 0.1),
-    "says two lengths": (b"POST /P/healthy HTTP/1.1\r\nhost: x\r\ncontent-length: 1\r\ncontent-length: 2\r\n\r\nab", 0.1),
-    "says a chunk that is too long": (b"POST /P/healthy HTTP/1.1\r\nhost: x\r\ntransfer-encoding: chunked\r\n\r\nffffffffffff\r\n", 0.1),
-    "sends a head of 1 MB": (b"GET / HTTP/1.1\r\nhost: x\r\nx: " + b"y" * 1_000_000, 0.1),
+    "leaves in a request's head": (b"POST /P/healthy HTTP/1.1\r\nhost: localhost\r\n", 0.0),
+    "leaves in a body": (b"POST /P/healthy HTTP/1.1\r\nhost: localhost\r\ncontent-length: 1000\r\n\r\nabc", 0.0),
+    "leaves while it waits": (b'POST /P/hangs HTTP/1.1\r\nhost: localhost\r\ncontent-length: 14\r\n\r\n"an async run"', 0.1),
+    "says a length that is none": (b"POST /P/healthy HTTP/1.1\r\nhost: localhost\r\ncontent-length: -5\r\n\r\n", 0.1),
+    "says two lengths": (b"POST /P/healthy HTTP/1.1\r\nhost: localhost\r\ncontent-length: 1\r\ncontent-length: 2\r\n\r\nab", 0.1),
+    "says a chunk that is too long": (b"POST /P/healthy HTTP/1.1\r\nhost: localhost\r\ntransfer-encoding: chunked\r\n\r\nffffffffffff\r\n", 0.1),
+    "sends a head of 1 MB": (b"GET / HTTP/1.1\r\nhost: localhost\r\nx: " + b"y" * 1_000_000, 0.1),
 }
 
 

@@ -61,6 +61,25 @@ class Files(support.InAFolder, unittest.TestCase):
         db = Plain(url)
         assert rows(db, "SELECT COUNT(*) FROM sqlite_master WHERE name='more'") == [(0,)]
 
+    def test_a_database_of_the_version_before(self):
+        """It is migrated, with what it holds; what waits for something and has ended is removed."""
+        url = str(self.folder / "db")
+        with mock.patch.object(schema, "MIGRATIONS", schema.MIGRATIONS[:3]):
+            with Plain(url) as db:
+                sql = "INSERT INTO invocations(id, service, handler, key, exclusive, version, seed, status, due, entries, created)"
+                db.change(f"{sql} VALUES ('inv_1', 'S', 'echo', '', 0, 7, 1, 'ready', 1, 1, 1), ('inv_2', 'W', 'main', 'k', 1, 7, 1, 'done', 1, 1, 1)")
+                db.change("INSERT INTO promise_waiters VALUES ('W', 'k', 'p', 'inv_1', 1), ('W', 'k', 'p', 'inv_2', 1)")
+        with Plain(url) as db:
+            self.assertEqual(db.rows("SELECT id, deaths, failures, failed_since FROM invocations WHERE status<>'done'"), [("inv_1", 0, 0, None)])
+            self.assertEqual(db.rows("SELECT waiter FROM promise_waiters"), [("inv_1",)])
+
+    def test_one_worker_a_file_by_whatever_name(self):
+        (self.folder / "link").symlink_to(self.folder / "db")
+        first = worker(str(self.folder / "db"))
+        with self.assertRaises(InUse):
+            worker(str(self.folder / "link"))
+        first.close()
+
     def test_one_worker_a_file(self):
         first = worker(str(self.folder / "db"))
         with self.assertRaises(InUse):

@@ -210,7 +210,7 @@ class Handlers(support.OnADatabase):
                 sleep = bytes.fromhex("0012" "0000000000000014") + bytes(8) + (1).to_bytes(4, "big") + bytes(8)
                 with self.assertRaises(Fenced):
                     await runtime.engine.transact(lambda db: storing.store(db, runtime.engine.app, first, sleep, 0))
-                assert (await runtime.status(id))[0] == "suspended"
+                await runtime.until(id, "suspended")
                 assert await runtime.rows("SELECT COUNT(*) FROM timers") == [(0,)]
 
         asyncio.run(go())

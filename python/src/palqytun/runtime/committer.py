@@ -37,11 +37,17 @@ class Stopped(Exception):
 
 @dataclass(eq=False)
 class _Queued:
-    """An operation, whoever waits for its result, and how often something was in its way. Then it is made alone, so that nobody waits with it."""
+    """An operation, whoever waits for its result, and how often something was in its way. Then it is made alone, as one that may be slow is, so that
+    nobody waits with it."""
 
     operation: Operation
     future: asyncio.Future[Any]
+    is_slow: bool = False
     tries: int = 0
+
+    @property
+    def is_alone(self) -> bool:
+        return self.is_slow or self.tries > 0
 
     def has(self, result: Any) -> None:
         if not self.future.done():
@@ -67,24 +73,25 @@ class Committer:
         self._again: list[_Queued] = []  # that wait until they are tried again
         self._has_work = asyncio.Event()
         self._lanes, self._idle = [db], [db]  # all connections, and those without a transaction
-        self._working: dict[asyncio.Task[None], float] = {}  # when each group began; one that is made again counts as slow
+        self._working: dict[asyncio.Task[None], float] = {}  # when each group began; one that may be slow counts as such at once
         self._none_until = 0.0
         self._task = asyncio.create_task(self._run())
 
-    def submit(self, operation: Callable[[Database], Awaitable[T]], is_urgent: bool = False) -> asyncio.Future[T]:
-        """Queues an operation, at the front if it is urgent. Its future has what the operation returned, once that is committed."""
-        return self._queued(operation, is_urgent)
+    def submit(self, operation: Callable[[Database], Awaitable[T]], is_slow: bool = False) -> asyncio.Future[T]:
+        """Queues an operation. Its future has what the operation returned, once that is committed. One that may be slow is a transaction by
+        itself."""
+        return self._queued(operation, is_slow)
 
     def append(self, growth: Growth) -> asyncio.Future[bool]:
         """Queues a store that touches nothing but its own journal. Its future has whether it was stored, once the group is committed."""
         return self._queued(Append(growth), False)
 
-    def _queued(self, operation: Operation, is_urgent: bool) -> asyncio.Future[Any]:
+    def _queued(self, operation: Operation, is_slow: bool) -> asyncio.Future[Any]:
         future: asyncio.Future[Any] = asyncio.get_running_loop().create_future()
         if self.lost is not None:
             future.set_exception(Stopped(str(self.lost)))
         else:
-            self._queue.insert(0 if is_urgent else len(self._queue), _Queued(operation, future))
+            self._queue.append(_Queued(operation, future, is_slow))
             self._has_work.set()
         return future
 
@@ -119,7 +126,7 @@ class Committer:
                 self._idle.append(db)
                 continue
             task = asyncio.create_task(self._work(db, group))
-            self._working[task] = -_SLOW if group[0].tries else time.monotonic()
+            self._working[task] = -_SLOW if group[0].is_alone else time.monotonic()
 
     async def _free(self) -> Database | None:
         """A connection for the next group: at once if none is in work, else once one is done, or the one that began last is slow. None if the
@@ -149,9 +156,9 @@ class Committer:
         return db
 
     def _taken(self) -> list[_Queued]:
-        """The next group. What is made again is one by itself. Who doesn't wait any more is left out."""
+        """The next group. What is slow or made again is one by itself. Who doesn't wait any more is left out."""
         queue = [it for it in self._queue if not it.future.done()]
-        count = next((at for at, it in enumerate(queue) if it.tries), len(queue))
+        count = next((at for at, it in enumerate(queue) if it.is_alone), len(queue))
         count = max(1, min(count, self._size))
         group, self._queue = queue[:count], queue[count:]
         if not self._queue:

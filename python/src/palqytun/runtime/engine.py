@@ -292,7 +292,7 @@ class Engine:
         while True:
             begun = time.monotonic()
             try:
-                count = await committer.submit(lambda db: operate.purge(db, older))
+                count = await committer.submit(lambda db: operate.purge(db, older), is_slow=True)
             except Stopped:
                 return
             except StatementFailed as error:
@@ -307,7 +307,7 @@ class Engine:
         while True:
             await asyncio.sleep(self.lease / 3)
             try:
-                await committer.submit(claimer.sweep)
+                await committer.submit(claimer.sweep, is_slow=True)
                 held = await committer.submit(lambda db: storing.held(db, claimer.worker))
                 alone = {it for it in held if it[0] not in self.live}
                 for invocation, epoch in alone & before:

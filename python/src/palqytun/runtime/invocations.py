@@ -214,7 +214,7 @@ async def _lease(db: Database, worker: str, rows: list[Claimable], now: float) -
     sql = (
         "UPDATE invocations SET status='running', epoch=epoch+1, worker=?, suspension=NULL, begun=?, stopped=NULL, how=NULL,"
         " deaths=deaths+CASE WHEN status='running' THEN 1 ELSE 0 END"
-        f" WHERE (id, epoch) IN (VALUES {_marks(len(rows), '(?,?)')})"
+        f" FROM (VALUES {_marks(len(rows), '(?,?)')}) AS taken WHERE id=taken.column1 AND epoch=taken.column2"
     )
     if await db.change(sql, (worker, now, *[part for it in rows for part in (it.id, it.epoch)])) != len(rows):
         raise Fenced(", ".join(it.id for it in rows[:3]))

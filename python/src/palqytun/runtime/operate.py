@@ -21,6 +21,8 @@ async def invocations(db: Database, status: str | None = None, service: str | No
     """The newest invocations first."""
     asked = [(name, it) for name, it in (("status", status), ("service", service)) if it is not None]
     where = " AND ".join(f"{name}=?" for name, _ in asked) or "1=1"
+    if status not in (None, "done"):
+        where += " AND status<>'done'"  # by this the index of those that haven't ended is known to have them all
     sql = f"SELECT {', '.join(_COLUMNS)} FROM invocations WHERE {where} ORDER BY seq DESC LIMIT ?"
     return [_shown(row) for row in await db.rows(sql, (*[it for _, it in asked], most))]
 

@@ -38,7 +38,7 @@ _TO_HOLDERS = (
 )
 _MIGRATING = 7_401_953  # the advisory lock of whoever migrates
 _LEVEL = "ISOLATION LEVEL READ COMMITTED"  # each statement reads all that was committed before it; by an older snapshot changes are lost
-_BEGIN = f"BEGIN {_LEVEL} READ WRITE"
+_BEGIN = f"BEGIN {_LEVEL}"
 _BEGIN_READING = "BEGIN ISOLATION LEVEL REPEATABLE READ READ ONLY"
 _PATIENCE = 10.0  # seconds that a connection may take to be made
 _AGAIN = 0.5  # seconds until a connection that listens is made again
@@ -54,7 +54,7 @@ _OPTIONS: dict[str, Any] = {
 _SETTINGS = {
     "statement_timeout": "0",  # a statement that is ended is made again: the next one would be no quicker
     "lock_timeout": "1s",  # then the operations of a group are made without the one that waits
-    "idle_in_transaction_session_timeout": "30s",  # what stands still with rows that others wait for loses its session
+    "idle_in_transaction_session_timeout": "60s",  # what stands still with rows that others wait for loses its session
     "transaction_timeout": "0",
     "idle_session_timeout": "0",  # the connection that listens is idle
     "synchronous_commit": "on",

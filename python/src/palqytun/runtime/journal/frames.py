@@ -129,7 +129,10 @@ def start(begin: Begin, known_entries: int) -> bytes:
 
 # ---- reading
 
-_TOKEN = re.compile(r'"(?:[^"\\]|\\.)*"|\w+|[\[\]()=]')  # blanks and commas stand between what needs them anyway
+# A text may have millions of characters, and most of them may be escapes. So what was matched isn't tried otherwise, which would be kept for each.
+_TOKEN = re.compile(r'"(?:[^"\\]++|\\.)*+"|\w+|[\[\]()=]')  # blanks and commas stand between what needs them anyway
+_PIECE = re.compile(r"(?:[^\\]|\\x[0-9a-f]{2}|\\.){1,16384}+", re.DOTALL)  # of a text
+_LONG = 65536  # characters of a text that is read in pieces
 _Fields = dict[str, Any]
 
 
@@ -141,6 +144,14 @@ class _Line:
 
     def __init__(self, line: str):
         self.tokens, self.at = [*_TOKEN.findall(line), ""], 0
+
+    @staticmethod
+    def _unescaped(text: str) -> bytes:
+        """What stands between quotes. A long text is read in pieces: each of the ways of writing it is some times as long."""
+        if "\\" not in text:
+            return text[1:-1].encode("ascii")
+        pieces = (it[0] for it in _PIECE.finditer(text, 1, len(text) - 1)) if len(text) > _LONG else (text[1:-1],)
+        return b"".join(it.encode("ascii").decode("unicode_escape").encode("latin-1") for it in pieces)
 
     def _next(self) -> str:
         token: str = self.tokens[self.at]
@@ -165,7 +176,7 @@ class _Line:
     def _value(self) -> Any:
         token = self._next()
         if token[0] == '"':
-            return token[1:-1].encode("ascii").decode("unicode_escape").encode("latin-1")
+            return self._unescaped(token)
         if token == "[":
             return self._values("]")
         if token == "(":
