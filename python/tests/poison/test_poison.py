@@ -154,7 +154,7 @@ class Poison(support.OnADatabase):
 
     def test_one_that_ends_its_worker(self):
         """It is paused after some deaths, and those that stood beside it aren't."""
-        others = [self.worker.send("hangs", "an async run") for _ in range(20)]
+        others = [self.worker.send("hangs", "an async run") for _ in range(8)]
         id = self.worker.send("dies", "")
         while self.worker.process.poll() is not None or self.died():
             self.worker.kill()
@@ -167,7 +167,7 @@ class Poison(support.OnADatabase):
     def died(self):
         """Whether the worker dies in the next moment."""
         with contextlib.suppress(subprocess.TimeoutExpired):
-            self.worker.process.wait(8)
+            self.worker.process.wait(12)
             return True
         return False
 
