@@ -63,7 +63,7 @@ def sources() -> Iterator[tuple[str, bytes]]:
         # An exit prints this line alone, and pip shows it; of an exception pip would show the traceback.
         sys.exit(f"python/src/palqytun/{LIBRARY} isn't there: {HOW_TO_MAKE_IT}")
     for file in sorted((HERE / "src").rglob("*")):
-        if file.suffix in (".py", ".typed", ".so"):
+        if file.suffix in (".py", ".typed", ".so", ".html", ".svg"):
             yield str(file.relative_to(HERE / "src")), file.read_bytes()
 
 

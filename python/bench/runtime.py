@@ -97,14 +97,21 @@ class Recorded:
     def __init__(self, db: Database):
         self._db, self.said = db, list[tuple[str, tuple[Any, ...]]]()
         self.is_shared, self.is_remote, self.skip, self.lock, self.clock = db.is_shared, db.is_remote, db.skip, db.lock, db.clock
-        self.listen, self.close = db.listen, db.close
+        self.listen, self.close, self.now, self.told, self.beats = db.listen, db.close, db.now, db.told, db.beats
 
     def _make(self, name: str, *words: Any) -> Any:
         self.said.append((name, words))
         return getattr(self._db, name)(*words)
 
-    async def begin(self) -> None:
-        await self._make("begin")
+    async def begin(self, reads: bool = False) -> None:
+        await self._make("begin", reads)
+
+    async def another(self) -> Database | None:
+        """What is written down is made by one connection."""
+        return None
+
+    def hurry(self) -> None:
+        self._make("hurry")
 
     async def commit(self) -> None:
         await self._make("commit")

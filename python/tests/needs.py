@@ -17,7 +17,9 @@ from dataclasses import dataclass
 
 import postgres
 
-MODULES = {"psycopg2": "python3-psycopg2", "pydantic": "python3-pydantic"}
+SERVER = ("starlette", "uvicorn", "jinja2", "prometheus_client", "croniter")  # of the extra `server`
+_ALIKE = ("psycopg", "pydantic", "httpx", "hypothesis", *SERVER)  # named as their packages
+MODULES = {it: f"python3-{it.replace('_', '-')}" for it in _ALIKE}
 _BROWSERS = ("chromium", "chromium-browser", "google-chrome")
 _OLDEST = (3, 11)
 _ASKED = (
@@ -67,9 +69,14 @@ def lacks_module(name: str) -> str:
     return f"{sys.executable} has no {name}: apt-get install {MODULES[name]}, for Debian's own python3"
 
 
+def lacks_server() -> str:
+    """Why a test is skipped that needs the ingress; empty if there are its libraries."""
+    return next(filter(None, map(lacks_module, SERVER)), "")
+
+
 def lacks_postgres() -> str:
     """Why a test is skipped that needs PostgreSQL; empty if there are its driver and a server."""
-    if lacks := lacks_module("psycopg2"):
+    if lacks := lacks_module("psycopg"):
         return lacks
     try:
         postgres.url()

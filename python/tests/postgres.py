@@ -103,6 +103,16 @@ class Cluster:
     folder: pathlib.Path
     url: str
 
+    def restart(self, mode: str) -> None:
+        """Ends the server and starts it again. `mode` is pg_ctl's: `fast` ends the sessions, `immediate` is like a crash."""
+        words = [programs() / "pg_ctl", "restart", "-w", "-t", str(_SECONDS), "-D", self.folder / "data", "-l", self.folder / "log", "-m", mode]
+        _ran(words, _user(), self.folder)
+
+    def owned(self, folder: pathlib.Path) -> None:
+        """Gives a folder to the server's user."""
+        if (user := _user()) is not None:
+            shutil.chown(folder, user)
+
 
 def _room(user: str | None) -> pathlib.Path:
     """A new folder that belongs to the server's user, who has to reach it."""

@@ -10,11 +10,12 @@ import ctypes
 import re
 from collections.abc import Iterable
 from functools import lru_cache
-from typing import get_args
+from typing import cast, get_args
 
 from palqytun._library import Bytes, Command, Error, Invocation, Node, Optional, Options, Pair, Policy, Target, Value
 from palqytun._words import CODE, HANDLE, SEED, both, encoded, integer, octets, one_of, spoken, utf8
 from palqytun.errors import BadLine
+from palqytun.futures import Future
 from palqytun.retries import RetryPolicy
 from palqytun.values import Behaviour, Data, Failure, IdempotencyId, InvocationId, Retryable, WorkflowId
 
@@ -108,9 +109,11 @@ def lent_target(
     return Target(*called, *keys, *limits, *_lent_pairs("headers", headers))
 
 
-def lent_nodes(nodes: tuple[tuple[int, int], ...]) -> ctypes.Array[Node]:
-    """The nodes of a tree that is awaited."""
-    return (Node * len(nodes))(*(Node(kind, number) for kind, number in nodes))
+def lent_nodes(future: Future) -> ctypes.Array[Node]:
+    """The nodes of a tree that is awaited; they are made once."""
+    if future.lent is None:
+        future.lent = (Node * len(future.nodes))(*cast("tuple[Node, ...]", future.nodes))
+    return cast("ctypes.Array[Node]", future.lent)
 
 
 def lent_options(words: dict[str, tuple[str, tuple[str, ...]]], seed: int) -> Options:

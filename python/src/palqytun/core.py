@@ -382,7 +382,7 @@ class VM:
         Waiting(input=True, run=True)
         """
         if isinstance(future, Future):
-            replied = self._made(self._calls["await_tree"](self._session, lent_nodes(future.nodes), len(future.nodes)))
+            replied = self._made(self._calls["await_tree"](self._session, lent_nodes(future), len(future.nodes)))
         else:
             replied = self._made(self._calls["await"](self._session, handle_of("future", future)))
         if replied.kind == _library.AWAKE:

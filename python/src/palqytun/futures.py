@@ -6,7 +6,7 @@ from typing import Self
 
 from palqytun._words import HANDLE, integer
 
-__all__ = ["Future", "all_completed", "all_succeeded_or_first_failed", "first_completed", "first_succeeded_or_all_failed", "tree", "unknown"]
+__all__ = ["Future", "all_completed", "all_succeeded_or_first_failed", "first_completed", "first_succeeded_or_all_failed", "unknown"]
 
 
 Nodes = tuple[tuple[int, int], ...]
@@ -20,12 +20,14 @@ class Future(str):
     'fc(17,ac(18,19))'
     """
 
-    __slots__ = ("nodes",)
+    __slots__ = ("lent", "nodes")
     nodes: Nodes
+    lent: object
+    """The nodes as a typed call takes them, once it was made: a tree is often asked again."""
 
     def __new__(cls, spelling: str, nodes: Nodes) -> Self:
         made = super().__new__(cls, spelling)
-        made.nodes = nodes
+        made.nodes, made.lent = nodes, None
         return made
 
 
@@ -36,18 +38,17 @@ def handle_of(name: str, future: object) -> int:
     raise TypeError(f"{name} must be a handle or a Future, not {type(future).__name__}")
 
 
-def tree(name: str, future: object) -> Future:
-    """A handle or a future."""
-    if isinstance(future, Future):
-        return future
-    handle = handle_of(name, future)
-    return Future(str(handle), ((0, handle),))
-
-
 def _over(word: str, kind: int, children: tuple[int | Future, ...]) -> Future:
-    trees = [tree("each child", it) for it in children]
-    below = [node for it in trees for node in it.nodes]
-    return Future(f"{word}({','.join(trees)})", (*below, (kind, len(trees))))
+    words, below = list[str](), list[tuple[int, int]]()
+    for it in children:
+        if isinstance(it, Future):
+            words.append(it)
+            below += it.nodes
+        else:
+            handle = handle_of("each child", it)
+            words.append(str(handle))
+            below.append((0, handle))
+    return Future(f"{word}({','.join(words)})", (*below, (kind, len(words))))
 
 
 def first_completed(*children: int | Future) -> Future:

@@ -12,7 +12,7 @@ import time
 from dataclasses import dataclass
 
 import crash_app
-from palqytun.runtime import invocations, journal
+from palqytun.runtime import invocations, journal, operate
 from palqytun.runtime.database import Database
 from palqytun.runtime.database.plain import Plain
 from palqytun.runtime.invocations import New
@@ -45,13 +45,22 @@ def left(db: Plain) -> int:
     return rows(db, "SELECT COUNT(*) FROM invocations WHERE status<>'done'")[0][0]
 
 
-def wait(db: Plain, seconds: float) -> None:
-    until = time.monotonic() + seconds
+async def _resumed(db: Database) -> int:
+    """Resumes what was paused because its attempts were lost so often in a row, as an operator does."""
+    found = await db.rows("SELECT id FROM invocations WHERE status='paused' AND how='lost'")
+    return sum([await operate.resume(db, Outcome(), id) for (id,) in found])
+
+
+def wait(db: Plain, seconds: float) -> int:
+    """Waits until all have ended; answers how many were resumed for that."""
+    until, resumed = time.monotonic() + seconds, 0
     while left(db):
+        resumed += db.done(_resumed)
         if time.monotonic() > until:
             found = rows(db, "SELECT id, service, handler, status, worker, retries, error FROM invocations WHERE status<>'done' LIMIT 5")
             raise Wrong(f"{left(db)} invocations haven't ended after {seconds} s, as {found}")
         time.sleep(0.1)
+    return resumed
 
 
 def _compared(frame: bytes, handler: str) -> str:
@@ -90,8 +99,8 @@ async def _commands(db: Database) -> dict[str, list[str]]:
         await invocations.load(db, id, entries)
         stream = b"".join(bytes(row[0]) for row in await db.rows("SELECT frame FROM journal WHERE invocation=? ORDER BY at", (id,)))
         kept = [_compared(frame, handler) for _, frame in journal.commands_in(stream)]
-        # What a counter reads depends on the order of its calls.
-        commands[id] = [] if service == "Counter" else sorted(kept) if handler == "tasks" else kept
+        # What these read depends on the order of their calls.
+        commands[id] = [] if service in ("Counter", "Line") else sorted(kept) if handler == "tasks" else kept
     return commands
 
 
@@ -100,19 +109,23 @@ def found(db: Plain, effects: pathlib.Path) -> Found:
     return Found(db.done(_commands), dict(collections.Counter(effects.read_text().split())))
 
 
-def check(db: Plain, count: int, effects: pathlib.Path, reference: Found | None) -> Found:
-    """Raises `Wrong` for anything that isn't as in a run without faults."""
+def check(db: Plain, count: int, effects: pathlib.Path, reference: Found | None, *, is_exact: bool = False, is_ordered: bool = True) -> Found:
+    """Raises `Wrong` for anything that isn't as in a run without faults. `is_exact`: each effect was executed as often too. `is_ordered`: what one
+    invocation has sent to a key came in its order, for which clocks may not jump."""
     for n, (kind, value) in enumerate(_results(db, count)):
         expected = crash_app.KINDS[KINDS[n % len(KINDS)]](n)
         if kind != "value" or json.loads(value) != expected:
             raise Wrong(f"workflow {n} ended with {kind} {value!r}, and not {expected!r}")
     _check_states(db, count)
+    _check_lines(db, count, is_ordered)
     leftover = {table: rows(db, f"SELECT COUNT(*) FROM {table}")[0][0] for table in LEFTOVERS}
     if any(leftover.values()):
         raise Wrong(f"something is left over: {leftover}")
     it = found(db, effects)
     if reference is not None:
         _compare(it, reference)
+    if is_exact and reference is not None and it.effects != reference.effects:
+        raise Wrong(f"effects were executed more often: {(collections.Counter(it.effects) - collections.Counter(reference.effects)).most_common(3)}")
     return it
 
 
@@ -137,6 +150,16 @@ def _check_states(db: Plain, count: int) -> None:
         stored = db.done(lambda to: invocations.state_of(to, "Gate", key))
         if by_commands != stored:
             raise Wrong(f"the state of {key} is {stored}, and its journal's commands leave {by_commands}")
+
+
+def _check_lines(db: Plain, count: int, is_ordered: bool) -> None:
+    """Each sender's values came to its key once, and in their order."""
+    senders = [n for n in range(count) if KINDS[n % len(KINDS)] == "fans"]
+    lines = {key: json.loads(bytes(value)) for key, value in rows(db, "SELECT key, value FROM state WHERE service='Line'")}
+    for n in senders:
+        came = [i for sender, i in lines.get(str(n % 2), []) if sender == n]
+        if (came if is_ordered else sorted(came)) != list(range(crash_app.PUSHED)):
+            raise Wrong(f"what {n} has sent to a key came as {came}")
 
 
 def _compare(it: Found, reference: Found) -> None:

@@ -4,10 +4,13 @@ import asyncio
 import os
 import pathlib
 import random
+import time
 
 from palqytun.runtime import App, Cancelled, Context, Retry, Service, TerminalError, VirtualObject, Workflow, gather, select, wait_any
 
-load, counter, gate = Service("Load"), VirtualObject("Counter"), Workflow("Gate")
+load, counter, gate, line = Service("Load"), VirtualObject("Counter"), Workflow("Gate"), VirtualObject("Line")
+BIG = "x" * 100_000
+WIDE, PUSHED = 40, 5
 
 
 class Outside:
@@ -19,9 +22,20 @@ class Outside:
 
 async def effect(key: str) -> str:
     await asyncio.sleep(random.random() * Outside.delay)
+    _written(key)
+    return key
+
+
+def _written(key: str) -> None:
     file = os.open(Outside.file, os.O_WRONLY | os.O_APPEND | os.O_CREAT)
     os.write(file, f"{key}\n".encode())
     os.close(file)
+
+
+def plainly(key: str) -> str:
+    """The same in a thread."""
+    time.sleep(random.random() * Outside.delay)
+    _written(key)
     return key
 
 
@@ -43,8 +57,9 @@ async def leaf(ctx: Context, n: int) -> int:
 async def order(ctx: Context, n: int) -> str:
     """Calls of objects, runs, a sleep, and a send for later."""
     await gather(*[ctx.call(add, 1, key=str((n + i) % 7)) for i in range(3)])
-    for name in ("reserve", "charge", "ship"):
-        await ctx.run(name, effect, ctx.uuid())
+    await ctx.run("reserve", effect, ctx.uuid())
+    await ctx.run("charge", lambda: plainly(ctx.run_key))
+    await ctx.run("ship", plainly, ctx.uuid())
     await ctx.sleep(0.2)
     await ctx.send(add, 10, key=str(n % 7), delay=0.1)
     return "ordered"
@@ -86,13 +101,13 @@ async def awaits(ctx: Context, n: int) -> list:
     ctx.send(completes, [id, ctx.invocation_id])
     first = await awaited
     which, value = await select(signal, ctx.sleep(36000))
-    return [first, which, value]
+    return [len(await ctx.run("big", lambda: first)), which, value]
 
 
 @load.handler()
 async def completes(ctx: Context, ids: list) -> None:
     await ctx.sleep(0.03)
-    ctx.resolve_awakeable(ids[0], "awake")
+    ctx.resolve_awakeable(ids[0], BIG)
     ctx.send_signal(ids[1], "go", "gone")
 
 
@@ -149,6 +164,28 @@ async def look(ctx: Context, _: None) -> str:
     return await ctx.get("step")
 
 
+@load.handler()
+async def fans(ctx: Context, n: int) -> list:
+    """Many runs at once, in threads and not; calls of a handler with a limit; and a row of sends to one key."""
+    keys = [ctx.uuid() for _ in range(WIDE)]
+    done = await gather(*[ctx.run("one", plainly if i % 2 else effect, key) for i, key in enumerate(keys)])
+    few = await gather(*[ctx.call(limited, i) for i in range(3)])
+    for i in range(PUSHED):
+        await ctx.send(push, [n, i], key=str(n % 2))
+    return [done == keys, few]
+
+
+@load.handler(limit=2)
+async def limited(ctx: Context, n: int) -> int:
+    await ctx.run("limited", effect, ctx.uuid())
+    return n
+
+
+@line.handler()
+async def push(ctx: Context, it: list) -> None:
+    ctx.set("line", (await ctx.get("line") or []) + [it])
+
+
 @counter.handler()
 async def add(ctx: Context, n: int) -> None:
     ctx.set("count", (await ctx.get("count") or 0) + n)
@@ -159,8 +196,9 @@ KINDS = {
     "order": lambda n: "ordered",
     "tasks": lambda n: 10,
     "retried": lambda n: f"{n} fails",
-    "awaits": lambda n: ["awake", 0, "gone"],
+    "awaits": lambda n: [len(BIG), 0, "gone"],
     "cancels": lambda n: "cancelled",
     "opens": lambda n: ["open", "opened"],
+    "fans": lambda n: [True, [0, 1, 2]],
 }
-app = App(load, counter, gate)
+app = App(load, counter, gate, line)

@@ -4,7 +4,7 @@
     torn_write        the log is cut at a random place, as after a loss of power; a new worker goes on (SQLite)
     clock_jumps       the worker's clock jumps by up to half an hour, forward and back (SQLite)
     full_disk         the disk is full again and again (SQLite; as root on a small file system, else by a limit of its files)
-    kills             workers are killed at random, or stopped for longer than their lease, or lose their connection (SQLite, PostgreSQL)
+    kills             workers are killed or told to stop at random, or stopped for longer than their lease, or lose their connection (SQLite, PostgreSQL)
 """
 
 from __future__ import annotations
@@ -39,7 +39,7 @@ from palqytun.runtime.database.plain import Plain  # noqa: E402
 from palqytun.runtime.database.schema import TABLES  # noqa: E402
 
 _FORK = multiprocessing.get_context("fork")  # this process has no threads, and has imported what workers need
-COUNT = 6  # workflows, one of each kind
+COUNT = 7  # workflows, one of each kind
 _LONG = 240.0  # seconds that a worker may take, which needs some two, on a machine that is busy with other things
 LEASE = 3.0  # seconds; on a machine that is busy with other things a shorter one ends by itself
 
@@ -127,6 +127,7 @@ class Report:
 
     deaths: int = 0
     kills: int = 0
+    stops: int = 0
     pauses: int = 0
     disconnects: int = 0
     torn_writes: int = 0
@@ -134,6 +135,7 @@ class Report:
     full_disks: int = 0
     open_at_faults: int = 0
     lost_attempts: int = 0
+    resumed: int = 0
     fenced: int = 0
     lost: int = 0
     journals: int = 0
@@ -179,13 +181,13 @@ class Room:
         (here / "effects").touch()
         return here / "db", here / "effects"
 
-    def checked(self, path: pathlib.Path, effects: pathlib.Path, reference: Found | None) -> Found:
+    def checked(self, path: pathlib.Path, effects: pathlib.Path, reference: Found | None, **how: bool) -> Found:
         with Plain(str(path)) as db:
             unended = left(db)
             if unended:
                 errors = rows(db, "SELECT id, status, error FROM invocations WHERE status<>'done' LIMIT 3")
                 raise Wrong(f"{unended} invocations haven't ended: {errors} {_log(path)}")
-            return check(db, self.count, effects, reference)
+            return check(db, self.count, effects, reference, **how)
 
     def remove(self, path: pathlib.Path) -> None:
         shutil.rmtree(path.parent)
@@ -263,7 +265,7 @@ def clock_jumps(room: Room, seed: int) -> Report:
     status = _worker(path, effects, seed=seed, jumps=True, idle=0.05, is_grouped=True)
     if status:
         raise Wrong(f"the worker whose clock jumps ended with {status}: {_log(path)}")
-    found = room.checked(path, effects, room.reference)
+    found = room.checked(path, effects, room.reference, is_ordered=False)
     room.remove(path)
     return Report.of(found, jumping_clocks=1)
 
@@ -370,6 +372,14 @@ class Workers:
         self.all[at].wait()
         self.all[at] = self.start()
 
+    def stop(self, at: int) -> None:
+        """SIGTERM, within whose grace each effect ends."""
+        self.all[at].terminate()
+        status = self.all[at].wait(60)
+        if status:
+            raise Wrong(f"a worker that was told to stop ended with {status}")
+        self.all[at] = self.start()
+
     def pause(self, at: int, seconds: float) -> None:
         self.all[at].send_signal(signal.SIGSTOP)
         time.sleep(seconds)
@@ -424,11 +434,13 @@ def kills(
     seed: int = 1,
     pauses: bool = False,
     disconnects: bool = False,
+    stops: bool = False,
     reference: Found | None = None,
     wrong: str = "",
     seconds: float = 240,
 ) -> Report:
-    """Workflows are submitted, `each` before each fault, while workers die."""
+    """Workflows are submitted, `each` before each fault, while workers die; or with `stops` while they are told to stop, and no effect is executed
+    twice."""
     folder.mkdir(parents=True, exist_ok=True)
     (folder / "effects").touch()
     emptied(url)
@@ -443,7 +455,10 @@ def kills(
                 _until_work(db, begun)
                 report.open_at_faults += left(db)
                 at, kind = chance.randrange(workers), fault % 10
-                if pauses and kind == 9:
+                if stops:
+                    running.stop(at)
+                    report.stops += 1
+                elif pauses and kind == 9:
                     running.pause(at, LEASE + 1.5)
                     report.pauses += 1
                 elif disconnects and kind in (4, 7):
@@ -453,14 +468,14 @@ def kills(
                     running.kill(at)
                     report.kills += 1
                 _logged_without_errors(folder)
-            wait(db, seconds)
+            report.resumed = wait(db, seconds)
             time.sleep(LEASE / 3 + 0.5)  # after the last beats
         finally:
             running.end()
         log = _logged_without_errors(folder)
         report.lost_attempts = rows(db, "SELECT COUNT(*) FROM attempts WHERE how='lost'")[0][0]
         report.fenced, report.lost = log.count("fenced:"), log.count("the database is lost")
-        return report + Report.of(check(db, faults * each, folder / "effects", reference))
+        return report + Report.of(check(db, faults * each, folder / "effects", reference, is_exact=stops))
 
 
 def undisturbed(url: str, folder: pathlib.Path, count: int, seconds: float = 240) -> Found:

@@ -33,7 +33,7 @@ class InAFolder(unittest.TestCase):
 
 
 class Deaths(InAFolder):
-    """Six workflows, one of each kind, and a worker that dies in place of a commit."""
+    """Seven workflows, one of each kind, and a worker that dies in place of a commit."""
 
     def setUp(self) -> None:
         super().setUp()
@@ -84,6 +84,14 @@ class Kills(InAFolder):
         self.assertGreater(report.open_at_faults, faults)
 
 
+    def test_one_worker_on_sqlite_that_is_told_to_stop(self) -> None:
+        faults = 20 if IS_THOROUGH else 4
+        reference = scenarios.undisturbed(str(self.folder / "reference.db"), self.folder / "reference", 3 * faults)
+        report = scenarios.kills(str(self.folder / "db"), self.folder / "stops", faults=faults, stops=True, reference=reference)
+        print(report, file=sys.stderr)
+        self.assertEqual(report.stops, faults)
+
+
 class KillsOfMany(InAFolder):
     """Three workers on PostgreSQL."""
 
@@ -102,6 +110,11 @@ class KillsOfMany(InAFolder):
         report = scenarios.kills(self.url, self.folder / "kills", faults=30, **options)
         print(report, file=sys.stderr)
         self.assertEqual((report.pauses, report.disconnects), (3, 6))
+
+    def test_workers_that_are_told_to_stop(self) -> None:
+        report = scenarios.kills(self.url, self.folder / "stops", faults=30, workers=3, stops=True, reference=self.reference)
+        print(report, file=sys.stderr)
+        self.assertEqual(report.stops, 30)
 
     def test_a_store_without_a_fence_is_found(self) -> None:
         options = {"workers": 3, "pauses": True, "reference": self.reference, "wrong": "unfenced", "seconds": 30}

@@ -148,8 +148,59 @@ async def later(ctx: Context, it):
 
 
 @service.handler(retry=ONCE)
-async def within(ctx: Context, it):
-    await ctx.run("within", lambda: ctx.sleep(1), retry=Retry(attempts=1))
+async def within(ctx: Context, what):
+    chance, log = ctx.random, ctx.log
+    uses = {
+        "sleep": lambda: ctx.sleep(1),
+        "uuid": ctx.uuid,
+        "random": lambda: ctx.random.random(),
+        "drawn": lambda: chance.randint(1, 6),
+        "log": lambda: ctx.log,
+        "logged": lambda: log.warning("said"),
+        "key": lambda: ctx.key,
+        "headers": lambda: ctx.headers,
+    }
+    if what == "run_key":
+        return ctx.run_key
+    await ctx.run("within", uses[what], retry=Retry(attempts=1))
+
+
+@service.handler()
+async def pays(ctx: Context, it):
+    """The second payment is made, and breaks after that."""
+
+    async def pay(n):
+        seen.append((ctx.run_key, n))
+        if len(seen) == 2:
+            raise OSError("the connection broke")
+        return n
+
+    return [await ctx.run("pay", pay, n, retry=Retry(initial=0.01)) for n in (1, 2, 3)]
+
+
+@service.handler()
+async def unwritable(ctx: Context, it):
+    def made():
+        seen.append("made")
+        return object()
+
+    return await ctx.run("made", made)
+
+
+@service.handler()
+async def misread(ctx: Context, it):
+    try:
+        await ctx.run("made", lambda: {"title": "pen"}, gives=Item)
+    except TerminalError:
+        await ctx.run("undo", lambda: seen.append("undone"))
+        raise
+
+
+@service.handler()
+async def misuses(ctx: Context, what):
+    if what == "promise":
+        return await ctx.promise("p").value()
+    return await (ctx.get("n") if what == "get" else ctx.keys())
 
 
 @service.handler()

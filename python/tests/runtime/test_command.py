@@ -1,6 +1,8 @@
 """The command `palqytun`, and the ingress: an app in a process of its own, killed in the middle of an order."""
 
+import concurrent.futures
 import contextlib
+import io
 import json
 import os
 import signal
@@ -10,9 +12,16 @@ import time
 import unittest
 import urllib.error
 import urllib.request
+from unittest import mock
 
 import support  # isort: skip
+import needs
 from support import PYTHON
+
+if lacks := needs.lacks_server():
+    raise unittest.SkipTest(lacks)
+from palqytun.runtime import command
+
 SHOP = PYTHON / "examples" / "shop.py"
 ORDER = {"customer": "ann", "items": [{"name": "pen", "count": 2}], "card": "4242"}
 
@@ -21,8 +30,8 @@ def environment(**more):
     return {**os.environ, "PYTHONPATH": str(PYTHON / "src"), **more}
 
 
-def palqytun(*words):
-    done = subprocess.run([sys.executable, "-m", "palqytun", *words], env=environment(), capture_output=True, text=True, timeout=180)
+def palqytun(*words, folder=None, **more):
+    done = subprocess.run([sys.executable, "-m", "palqytun", *words], env=environment(**more), cwd=folder, capture_output=True, text=True, timeout=180)
     return done.returncode, done.stdout, done.stderr
 
 
@@ -56,8 +65,8 @@ class Server:
 
 
 @contextlib.contextmanager
-def server(url, folder, **more):
-    it = Server(url, folder, **more)
+def server(url, folder, app=SHOP, **more):
+    it = Server(url, folder, app, **more)
     try:
         yield it
     finally:
@@ -131,36 +140,157 @@ class Serving(support.OnADatabase):
         assert (status, said) == (2, "palqytun: there is no invocation none\n")
 
 
+APP = "from palqytun.runtime import App, Context, Service\nwords = Service('Words')\n@words.handler()\nasync def echo(ctx: Context, it: str) -> str:\n    return it\n"
+
+
 class Commands(support.InAFolder, unittest.TestCase):
+    def setUp(self):
+        super().setUp()
+        self.url = str(self.folder / "db")
+
+    def written(self, name, text):
+        file = self.folder / name
+        file.parent.mkdir(exist_ok=True)
+        file.write_text(text)
+        return str(file)
+
+    def refused(self, *words, **more):
+        """What a command says that can't be done: one line, and nothing else."""
+        status, said, why = palqytun(*words, folder=self.folder, **more)
+        lines = [it for it in why.splitlines() if "was built without a proof" not in it]
+        self.assertEqual((status, said, len(lines)), (2, "", 1), why)
+        self.assertTrue(lines[0].startswith("palqytun: "))
+        return lines[0]
+
     def test_a_token(self):
-        with server(str(self.folder / "db"), self.folder, PALQYTUN_TOKEN="secret") as it:
+        with server(self.url, self.folder, PALQYTUN_TOKEN="secret") as it:
             assert it.ask("/Shop/inventory", ["pen"])[0] == it.ask("/Shop/inventory", ["pen"], authorization="Bearer wrong")[0] == 401
             assert it.ask("/Shop/inventory", ["pen"], authorization="Bearer secret") == (200, {"pen": 100})
             assert it.ask("/-/health")[0] == 200
 
     def test_a_changed_app_is_found_before_it_is_deployed(self):
-        url = str(self.folder / "db")
-        with server(url, self.folder) as it:
+        with server(self.url, self.folder) as it:
             _, made = it.ask("/Approval/a/ask/send", "red?")
             it.ask("/Stock/pen/take", 1)
             time.sleep(1)
-        changed = self.folder / "changed.py"
-        changed.write_text(SHOP.read_text().replace('    ctx.set("question", question)\n', '    await ctx.sleep(1)\n    ctx.set("question", question)\n'))
-        status, said, _ = palqytun("replay", str(changed), "--db", url)
+        changed = self.written("changed.py", SHOP.read_text().replace('    ctx.set("question", question)\n', '    await ctx.sleep(1)\n    ctx.set("question", question)\n'))
+        status, said, _ = palqytun("replay", changed, "--db", self.url)
         assert status == 1 and said.splitlines()[-1] == "2 journals are replayed, 1 differ"
         assert said.startswith(f"{made['invocation']}  Approval/ask  command 1: 570 ")
 
-    def test_what_cannot_be_done_is_said(self):
-        assert "no Python file" in palqytun("run", "none.py")[2]
-        assert "there is no database" in palqytun("invocations", "list", "--db", str(self.folder / "none"))[2]
-        empty = self.folder / "empty.py"
-        empty.write_text("")
-        assert "it has to have one" in palqytun("replay", str(empty), "--db", str(self.folder / "none"))[2]
-        with server(str(self.folder / "db"), self.folder) as it:
-            it.ask("/-/health")
-            time.sleep(0.5)
-            status, _, said = palqytun("run", str(SHOP), "--db", str(self.folder / "db"), "--port", "-1")
-            assert status == 2 and "another worker uses" in said
+    def named(self, name):
+        """The app that a name stands for, in the test's folder."""
+        before, modules = list(sys.path), set(sys.modules)
+        try:
+            with contextlib.chdir(self.folder):
+                return command.load(name)
+        finally:
+            sys.path[:] = before
+            for it in set(sys.modules) - modules:
+                del sys.modules[it]
+
+    def test_how_an_app_is_named(self):
+        self.written("one.py", f"{APP}app = App(words)\nsame = app\n")
+        self.written("two.py", f"{APP}first, second = App(words), App()\n")
+        self.written("package/__init__.py", "")
+        self.written("package/services.py", APP)
+        self.written("package/app.py", "from palqytun.runtime import App\nfrom .services import words\napp = App(words)\n")
+        for name in ("one.py", "one.py:same", "one:app", "two.py:first", "package.app:app", str(self.folder / "one.py")):
+            self.assertEqual(list(self.named(name).services), ["Words"], name)
+        for name, why in [
+            ("none.py", "none.py is no Python file: an app is FILE.py, FILE.py:NAME or MODULE:NAME"),
+            ("none.py:app", "none.py is no Python file"),
+            ("none:app", "there is no module none"),
+            ("package.none:app", "there is no module package.none"),
+            ("two.py", "two.py has 2 objects of palqytun.runtime.App; it has to have one, or two.py:NAME names it"),
+            ("two.py:third", "two.py has no palqytun.runtime.App with the name third"),
+            ("one:words", "one has no palqytun.runtime.App with the name words"),
+        ]:
+            with self.subTest(name), self.assertRaises(command.Refused) as refused:
+                self.named(name)
+            self.assertIn(why, str(refused.exception))
+        self.assertIn("none.py is no Python file", self.refused("run", "none.py"))
+        with server(self.url, self.folder, "package.app:app") as it:
+            self.assertEqual(it.ask("/Words/echo", "hello"), (200, "hello"))
+
+    def test_databases_that_cannot_be_opened(self):
+        for url, why in [
+            ("mysql://x/y", "mysql:// is no database that is known: it is postgresql://.. or the path of a SQLite file"),
+            (str(self.folder / "none" / "db"), f"there is no folder {self.folder / 'none'} for the database"),
+        ]:
+            with self.assertRaises(command.Refused) as refused:
+                command.checked_url(url)
+            self.assertIn(why, str(refused.exception))
+        self.assertIn("there is no database", self.refused("invocations", "list", "--db", str(self.folder / "none")))
+        self.assertIn("mysql://", self.refused("invocations", "list", PALQYTUN_DB="mysql://x/y"))
+        app = self.written("one.py", f"{APP}app = App(words)\n")
+        said = self.refused_at_last("run", app, "--db", str(self.folder), "--port", "0", "--wait-for-database", "1")
+        self.assertIn("palqytun: the database can't be opened: ", said)
+
+    @unittest.skipIf(needs.lacks_module("psycopg"), needs.lacks_module("psycopg"))
+    def test_a_server_that_is_not_there(self):
+        app = self.written("one.py", f"{APP}app = App(words)\n")
+        begun = time.monotonic()
+        said = self.refused_at_last("run", app, "--db", "postgresql://127.0.0.1:1/none", "--port", "0", "--wait-for-database", "1")
+        self.assertIn("palqytun: the database can't be opened: ", said)
+        self.assertGreater(time.monotonic() - begun, 1)
+
+    def refused_at_last(self, *words):
+        """The last line of what a command says that can't be done after it was tried for a while."""
+        status, said, why = palqytun(*words, folder=self.folder)
+        self.assertEqual((status, said), (2, ""))
+        return why.splitlines()[-1]
+
+    def test_what_is_not_installed(self):
+        """A module of the name stands in the library's place, which isn't there."""
+        app = self.written("one.py", f"{APP}app = App(words)\n")
+        for name, extra, url in [("starlette", "server", self.url), ("jinja2", "server", self.url), ("psycopg", "postgres", "postgresql://127.0.0.1:1/none")]:
+            self.written(f"{name}/{name}.py", f"raise ModuleNotFoundError(name={name!r})")
+            with self.subTest(name):
+                path = f"{self.folder / name}:{PYTHON / 'src'}"
+                said = self.refused("run", app, "--db", url, "--port", "0", PYTHONPATH=path)
+                self.assertIn(name, said)
+                self.assertIn(f"pip install 'palqytun[{extra}]'", said)
+        code = "import sys, palqytun.runtime.command as it; sys.exit(any(name in sys.modules for name in ('starlette', 'jinja2', 'psycopg')))"
+        self.assertEqual(subprocess.run([sys.executable, "-c", code], env=environment(), timeout=60).returncode, 0)
+
+    def test_where_it_may_listen(self):
+        app = self.written("one.py", f"{APP}app = App(words)\n")
+        self.assertIn("0.0.0.0 is reached by other machines, so the ingress needs a token: set PALQYTUN_TOKEN", self.refused("run", app, "--host", "0.0.0.0"))
+        with server(self.url, self.folder, app) as it:
+            port = it.address.rpartition(":")[2]
+            other = str(self.folder / "other")
+            self.assertIn(f"127.0.0.1:{port}: another process listens there; --port names another port", self.refused("run", app, "--db", other, "--port", port))
+            self.assertIn("another worker uses", self.refused("run", app, "--db", self.url, "--port", "0"))
+
+    def test_the_help_names_defaults(self):
+        status, said, _ = palqytun("run", "--help")
+        for words in ("127.0.0.1", "4194304", "(default: 60.0)", "(default: 1000)", "palqytun.db", "PALQYTUN_TOKEN", "MODULE:NAME"):
+            self.assertIn(words, " ".join(said.split()))
+        self.assertEqual(status, 0)
+        for words in (["run", "x", "--limit", "0"], ["run", "x", "--wait", "-1"], ["run", "x", "--idle", "nan"], ["run"]):
+            with mock.patch.object(sys, "argv", ["palqytun", *words]), self.assertRaises(SystemExit), contextlib.redirect_stderr(io.StringIO()) as said:
+                command.main()
+            self.assertIn("error: ", said.getvalue())
+
+
+@support.on_each_database
+class Stopping(support.OnADatabase):
+    def test_a_request_that_waits_gets_its_id(self):
+        with server(self.url, self.folder) as it, concurrent.futures.ThreadPoolExecutor() as pool:
+            asked = [pool.submit(it.ask, f"/Approval/{key}/ask", "red?") for key in "abc"]
+            while len(it.ask("/-/invocations")[1]) < 3:
+                time.sleep(0.05)
+            it.process.send_signal(signal.SIGTERM)
+            for one in asked:
+                status, said = one.result(60)
+                self.assertEqual((status, said["status"]), (202, "pending"))
+            self.assertEqual(it.process.wait(60), 0)
+            it.process.stdout.close()
+        with server(self.url, self.folder) as it:
+            self.assertEqual(it.ask("/Approval/a/answer", "blue"), (200, None))
+            first = asked[0].result()[1]["invocation"]
+            self.assertEqual(it.ask(f"/-/invocations/{first}/result"), (200, "blue"))
 
 
 if __name__ == "__main__":

@@ -10,7 +10,7 @@ import support  # isort: skip
 import runtime_app
 from palqytun.runtime import App, Context, Service, TerminalError, invocations, journal
 from palqytun.runtime.committer import Committer, Stopped
-from palqytun.runtime.database import Conflict, Lost, connect, schema
+from palqytun.runtime.database import Conflict, Lost, StatementFailed, connect, schema
 from palqytun.runtime.database.plain import Plain
 from palqytun.runtime.database.sqlite import InUse
 from palqytun.runtime.invocations import CLAIMED, Claimable, New
@@ -35,11 +35,11 @@ class Files(support.InAFolder, unittest.TestCase):
         patch.start()
         self.addCleanup(mock.patch.stopall)
         db = Plain(url)
-        assert rows(db, "SELECT version FROM schema_versions ORDER BY version") == [(1,), (2,), (3,), (4,)] and rows(db, "SELECT * FROM more") == []
+        assert rows(db, "SELECT version FROM schema_versions ORDER BY version") == [(it,) for it in range(1, 6)] and rows(db, "SELECT * FROM more") == []
         db.close()
         Plain(url).close()
         patch.stop()
-        with self.assertRaisesRegex(schema.NewerSchema, "has schema version 4"):
+        with self.assertRaisesRegex(schema.NewerSchema, "has schema version 5"):
             Plain(url)
 
     def test_a_database_of_an_older_package_is_refused(self):
@@ -55,11 +55,30 @@ class Files(support.InAFolder, unittest.TestCase):
         patch = mock.patch.object(schema, "MIGRATIONS", [*schema.MIGRATIONS, "CREATE TABLE more(at {float});\nNO STATEMENT"])
         patch.start()
         self.addCleanup(mock.patch.stopall)
-        with self.assertRaises(Lost):
+        with self.assertRaisesRegex(StatementFailed, "SQLITE_ERROR: near"):
             Plain(url)
         patch.stop()
         db = Plain(url)
         assert rows(db, "SELECT COUNT(*) FROM sqlite_master WHERE name='more'") == [(0,)]
+
+    def test_a_database_of_the_version_before(self):
+        """It is migrated, with what it holds; what waits for something and has ended is removed."""
+        url = str(self.folder / "db")
+        with mock.patch.object(schema, "MIGRATIONS", schema.MIGRATIONS[:3]):
+            with Plain(url) as db:
+                sql = "INSERT INTO invocations(id, service, handler, key, exclusive, version, seed, status, due, entries, created)"
+                db.change(f"{sql} VALUES ('inv_1', 'S', 'echo', '', 0, 7, 1, 'ready', 1, 1, 1), ('inv_2', 'W', 'main', 'k', 1, 7, 1, 'done', 1, 1, 1)")
+                db.change("INSERT INTO promise_waiters VALUES ('W', 'k', 'p', 'inv_1', 1), ('W', 'k', 'p', 'inv_2', 1)")
+        with Plain(url) as db:
+            self.assertEqual(db.rows("SELECT id, deaths, failures, failed_since FROM invocations WHERE status<>'done'"), [("inv_1", 0, 0, None)])
+            self.assertEqual(db.rows("SELECT waiter FROM promise_waiters"), [("inv_1",)])
+
+    def test_one_worker_a_file_by_whatever_name(self):
+        (self.folder / "link").symlink_to(self.folder / "db")
+        first = worker(str(self.folder / "db"))
+        with self.assertRaises(InUse):
+            worker(str(self.folder / "link"))
+        first.close()
 
     def test_one_worker_a_file(self):
         first = worker(str(self.folder / "db"))

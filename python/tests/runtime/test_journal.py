@@ -2,6 +2,7 @@
 
 import os
 import subprocess
+import tracemalloc
 import unittest
 
 import support  # isort: skip
@@ -332,6 +333,30 @@ class Rules(support.InAFolder, unittest.TestCase):
         if "PALQYTUN_FRAMES" in os.environ:
             printed = subprocess.run([os.environ["PALQYTUN_FRAMES"]], input=b"".join(written), stdout=subprocess.PIPE, check=True).stdout.decode()
             assert printed == LINES
+
+
+class Large(unittest.TestCase):
+    """Values whose bytes are read from lines."""
+
+    def test_the_bytes_of_each_value(self):
+        for text in ("", "plain", 'a "quoted" \\\\ word\n\t\0\x7f', "é" * 50, "é" * 40_000, '\\"' * 40_000, "x" * 70_000 + "\n", "\\x41" * 30_000):
+            with self.subTest(text=text[:20], size=len(text)):
+                data = text.encode()
+                self.assertEqual(journal.answer(journal.value(data)), ("value", data))
+        every = bytes(range(256)) * 300
+        self.assertEqual(journal.answer(journal.value(every)), ("value", every))
+
+    def test_the_memory_of_a_large_value(self):
+        """Each byte that isn't ASCII is four characters of a line, which is there some times. It was more than a hundred bytes for each character."""
+        for letter, most in (("x", 8), ("ж", 24)):
+            result = journal.value(data := letter.encode() * (2_000_000 // len(letter.encode())))
+            tracemalloc.start()
+            try:
+                self.assertEqual(journal.answer(result), ("value", data))
+                peak = tracemalloc.get_traced_memory()[1]
+            finally:
+                tracemalloc.stop()
+            self.assertLess(peak, most * len(data), letter)
 
 
 if __name__ == "__main__":

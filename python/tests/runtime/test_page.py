@@ -7,19 +7,20 @@ import unittest
 
 import support  # isort: skip
 import needs
+
+if lacks := needs.lacks_server():
+    raise unittest.SkipTest(lacks)
 import runtime_app
 from palqytun.runtime import inbox, invocations, journal, storing, timeline
 from palqytun.runtime.database.plain import Plain
-from palqytun.runtime.engine import Engine
-from palqytun.runtime.http import Request
 from palqytun.runtime.invocations import CLAIMED, New
 from palqytun.runtime.lease import Growth
 from palqytun.runtime.outcome import Outcome
-from palqytun.runtime.pages import Pages
 from palqytun.runtime.page import drawn, listed
-from support import Runtime
+from palqytun.runtime.serving import Settings
+from served import Served
 
-HOST = {"host": "127.0.0.1:1", "origin": "http://127.0.0.1:1"}
+OWN = object()  # the headers of the page's own requests
 
 
 def number(it, size=4):
@@ -124,47 +125,47 @@ class Requests(support.OnADatabase, unittest.TestCase):
 
     def answers(self, *asked, token=None):
         async def go():
-            engine = Engine(runtime_app.app, self.url, limit=0)
-            task = asyncio.create_task(engine.run())
-            await engine.is_open()
-            self.id = await engine.submit(New("S", "echo", argument=b"1"))
-            pages = Pages(engine, token)
-            answers = []
-            for method, *parts, headers, body in asked:
-                last, _, query = parts[-1].partition("?do=") if parts else ("", "", "")
-                path = [*parts[:-1], last.replace("ID", self.id)] if parts else []
-                cookie = {"cookie": dict(answers[0].headers)["set-cookie"].partition(";")[0]} if headers is None else headers
-                answers.append(await pages.answer(Request(method, ("-", "page", *path), {"do": query}, cookie, body)))
-            self.inbox = await engine.transact(lambda db: db.rows("SELECT invocation FROM inbox"))
-            engine.stop()
-            await task
+            async with Served(runtime_app.app, self.url, Settings(token=token), limit=0) as served:
+                headers = {"authorization": f"Bearer {token}"} if token else {}
+                self.id = (await served.ask("/S/echo/send", 1, **headers))[1]["invocation"]
+                answers = []
+                for method, path, headers, body in asked:
+                    own = {"origin": served.address} if headers is OWN else headers
+                    cookie = {"cookie": answers[0][2]["set-cookie"].partition(";")[0]} if headers is None else own
+                    answers.append(await served.ask(f"/-/page{path}".replace("ID", self.id), body, method, **cookie))
+                self.inbox = await served.rows("SELECT invocation FROM inbox")
             return answers
 
         return asyncio.run(go())
 
     def test_pages(self):
-        answers = self.answers(("GET", {}, b""), ("GET", "ID", {}, b""), ("GET", "none", {}, b""), ("PUT", {}, b""))
-        self.assertEqual([it.status for it in answers], [200, 200, 404, 404])
-        self.assertIn(self.id, Elements(answers[0].body.decode()).text)
-        self.assertIn("Input", Elements(answers[1].body.decode()).text)
+        answers = self.answers(("GET", "", {}, b""), ("GET", "/ID", {}, b""), ("GET", "/none", {}, b""), ("PUT", "", {}, b""))
+        self.assertEqual([it[0] for it in answers], [200, 200, 404, 404])
+        self.assertIn(self.id, Elements(answers[0][1]).text)
+        self.assertIn("Input", Elements(answers[1][1]).text)
+        for _, _, headers in answers[:2]:
+            self.assertIn("default-src 'none'", headers["content-security-policy"])
 
     def test_a_button(self):
-        [answer] = self.answers(("POST", "ID?do=cancel", HOST, b""))
-        self.assertEqual((answer.status, dict(answer.headers)["location"]), (303, f"/-/page/{self.id}"))
+        [answer] = self.answers(("POST", "/ID?do=cancel", OWN, b""))
+        self.assertEqual((answer[0], answer[2]["location"]), (303, f"/-/page/{self.id}"))
         self.assertEqual(self.inbox, [(self.id,)])
 
     def test_a_button_of_another_site(self):
-        for origin in ("http://evil.example", "null", ""):
-            [answer] = self.answers(("POST", "ID?do=cancel", {**HOST, "origin": origin}, b""))
-            self.assertEqual((answer.status, self.inbox), (403, []))
+        for headers in ({"origin": "http://evil.example"}, {"origin": "null"}, {"origin": ""}, {}):
+            [answer] = self.answers(("POST", "/ID?do=cancel", headers, b""))
+            self.assertEqual((answer[0], self.inbox), (403, []))
 
     def test_the_token(self):
-        asked = [("POST", "token", HOST, b"token=a%26b"), ("GET", None, b""), ("GET", {}, b""), ("GET", {"cookie": "palqytun=a&b"}, b"")]
-        asked += [("POST", "token", HOST, b"token=x"), ("GET", "ID", {"authorization": "Bearer a&b"}, b""), ("POST", "ID?do=cancel", HOST, b"")]
+        asked = [("POST", "/token", OWN, b"token=a%26b"), ("GET", "", None, b""), ("GET", "", {}, b""), ("GET", "", {"cookie": "palqytun=a&b"}, b"")]
+        asked += [("POST", "/token", OWN, b"token=x"), ("GET", "/ID", {"authorization": "Bearer a&b"}, b""), ("POST", "/ID?do=cancel", OWN, b"")]
+        asked += [("POST", "/token", {}, b"token=a%26b"), ("POST", "/token", OWN, b"token=" + b"x" * 5000)]
         answers = self.answers(*asked, token="a&b")
-        self.assertEqual([it.status for it in answers], [303, 200, 401, 401, 401, 200, 401])
+        self.assertEqual([it[0] for it in answers], [303, 200, 401, 401, 401, 200, 401, 403, 413])
         self.assertEqual(self.inbox, [])
-        self.assertNotIn("a&b", dict(answers[0].headers)["set-cookie"])
+        cookie = answers[0][2]["set-cookie"]
+        self.assertNotIn("a&b", cookie)
+        self.assertTrue({"HttpOnly", "Path=/-/page", "SameSite=strict"} <= set(cookie.split("; ")), cookie)
 
 
 @unittest.skipIf(needs.lacks_browser(), needs.lacks_browser())

@@ -30,14 +30,14 @@ HOSTILE = {
     "default_transaction_isolation": ("serializable", "read committed"),
     "default_transaction_deferrable": ("on", "on"),  # it says nothing of transactions that may write
     "statement_timeout": ("20s", "0"),
-    "lock_timeout": ("2s", "0"),
+    "lock_timeout": ("20s", "1s"),
     "idle_session_timeout": ("20s", "0"),
-    "extra_float_digits": ("-15", "3"),
+    "extra_float_digits": ("-15", "-15"),
     "synchronous_commit": ("off", "on"),
     "client_encoding": ("LATIN1", "UTF8"),
     "standard_conforming_strings": ("off", "off"),
     "bytea_output": ("escape", "escape"),
-    "DateStyle": ("German", "ISO, DMY"),  # the driver's
+    "DateStyle": ("German", "German, DMY"),
     "TimeZone": ("Asia/Kathmandu", "Asia/Kathmandu"),
 }
 
@@ -99,7 +99,7 @@ class OnAServer(support.OnADatabase, unittest.TestCase):
         self.run_with(test)
 
     def test_statements_are_made_in_order_however_many_are_queued(self):
-        count = 3 * postgres._AT_ONCE + 1
+        count = 601
 
         async def test(db):
             await db.begin()
@@ -143,7 +143,7 @@ class OnAServer(support.OnADatabase, unittest.TestCase):
             waits = asyncio.create_task(db.rows("SELECT pg_sleep(60)"))
             await asyncio.sleep(0.1)
             begun = time.monotonic()
-            await other.rows("SELECT pg_terminate_backend(?)", (number,))
+            await other.rows("SELECT pg_terminate_backend(?::int)", (number,))
             with self.assertRaises(Lost):
                 await waits
             with self.assertRaises(Lost):
@@ -289,14 +289,24 @@ class Settings(support.OnADatabase, unittest.TestCase):
         with self.assertRaisesRegex(Lost, "this session may only read"):
             Plain(url, opened=lambda it: connect(it, worker=True))
 
+    def test_what_may_lose_commits_is_refused(self):
+        """A worker refuses it, unless a setting says that it is meant."""
+        off = with_settings(self.url, {"synchronous_commit": "off"})
+        with self.assertRaisesRegex(Unsuitable, "with synchronous_commit=off what was committed may be lost .* set palqytun.unsafe=on"):
+            self.as_worker(off)
+        self.as_worker(with_settings(self.url, {"synchronous_commit": "off", "palqytun.unsafe": "on"}))
+        with Plain(off) as db:  # a command doesn't mind
+            self.assertEqual(db.rows("SHOW synchronous_commit"), [("off",)])
+
     def test_a_server_without_fsync(self):
-        postgres._warn_of_fsync.cache_clear()
-        self.addCleanup(postgres._warn_of_fsync.cache_clear)
-        with mock.patch.object(postgres, "_CHECKED", "SELECT 'UTF8', 'public', 'off', 'off'"), self.assertLogs("palqytun") as said:
-            for _ in range(2):
-                Plain(self.url, opened=lambda it: connect(it, worker=True)).close()
-        self.assertEqual(len(said.output), 1)
-        self.assertIn("fsync is off", said.output[0])
+        with mock.patch.object(postgres, "_CHECKED", "SELECT 'UTF8', 'public', 'off', 'off', 'on', NULL"):
+            with self.assertRaisesRegex(Unsuitable, "with fsync=off"):
+                self.as_worker(self.url)
+        with mock.patch.object(postgres, "_CHECKED", "SELECT 'UTF8', 'public', 'off', 'off', 'on', 'on'"):
+            self.as_worker(self.url)
+
+    def as_worker(self, url):
+        Plain(url, opened=lambda it: connect(it, worker=True)).close()
 
 
 class Isolation(support.OnADatabase, unittest.TestCase):
@@ -367,7 +377,7 @@ class Silent(unittest.TestCase):
     """A server that takes connections and says nothing."""
 
     def setUp(self):
-        if lacks := needs.lacks_module("psycopg2"):
+        if lacks := needs.lacks_module("psycopg"):
             self.skipTest(lacks)
         self.server = socket.create_server(("127.0.0.1", 0))
         self.addCleanup(self.server.close)

@@ -147,13 +147,45 @@ class Handlers(support.OnADatabase):
 
     @with_runtime
     async def test_the_context_is_the_handlers_alone(self, runtime):
-        assert "outside the handler's own code" in (await runtime.call("S/within"))[1]
+        for what, said in (
+            ("sleep", "the context is used within the run 'within'"),
+            ("uuid", "ctx.uuid is used within the run 'within': draw it before"),
+            ("random", "ctx.random is used"),
+            ("drawn", "ctx.random is used"),
+            ("log", "ctx.log is used"),
+            ("logged", "ctx.log is used"),
+            ("key", "ctx.key is used"),
+            ("headers", "ctx.headers is used"),
+        ):
+            assert said in (await runtime.until(await runtime.send("S/within", what), "paused"))[1], what
+        assert "known within a run only" in (await runtime.until(await runtime.send("S/within", "run_key"), "paused"))[1]
+
+    @with_runtime
+    async def test_each_run_has_a_key_of_its_own(self, runtime):
+        id = await runtime.send("S/pays")
+        assert await runtime.result(id) == [1, 2, 3]
+        keys = [key for key, _ in seen]
+        assert len(keys) == 4 and keys[1] == keys[2] and len(set(keys)) == 3 and all(it.startswith(f"{id}-") for it in keys)
+
+    @with_runtime
+    async def test_a_result_that_cant_be_stored_is_one(self, runtime):
+        assert (await runtime.call("S/unwritable"))[1].startswith("the result of the run 'made' can't be stored: TypeError")
+        assert seen == ["made"]
+
+    @with_runtime
+    async def test_a_result_of_another_type_is_a_failure_at_its_await(self, runtime):
+        assert (await runtime.call("S/misread"))[1].startswith("a result that can't be read as Item") and seen == ["undone"]
+
+    @with_runtime
+    async def test_calls_of_another_kind_of_service_are_refused(self, runtime):
+        for what in ("promise", "get", "keys"):
+            assert "S is a Service, which has no" in (await runtime.call("S/misuses", what))[1]
 
     @suspends
     @with_runtime
     async def test_a_suspended_handlers_finally_has_no_context(self, runtime):
         """Python runs it as the attempt ends, and the journal has nothing of it. A service has no state, so the last attempt is refused."""
-        assert "only reads the state" in (await runtime.call("S/tidies"))[1] and len(seen) == 2
+        assert "has no key and so no state" in (await runtime.call("S/tidies"))[1] and len(seen) == 2
 
     @with_runtime
     async def test_odd_texts_and_values(self, runtime):
@@ -178,7 +210,7 @@ class Handlers(support.OnADatabase):
                 sleep = bytes.fromhex("0012" "0000000000000014") + bytes(8) + (1).to_bytes(4, "big") + bytes(8)
                 with self.assertRaises(Fenced):
                     await runtime.engine.transact(lambda db: storing.store(db, runtime.engine.app, first, sleep, 0))
-                assert (await runtime.status(id))[0] == "suspended"
+                await runtime.until(id, "suspended")
                 assert await runtime.rows("SELECT COUNT(*) FROM timers") == [(0,)]
 
         asyncio.run(go())

@@ -1,11 +1,17 @@
 """Calls by the clock, limits of handlers, and what is purged: transactions of a worker whose handlers don't run."""
 
 import calendar
+import datetime
 import secrets
 import time
 import unittest
+from unittest import mock
 
 import support  # isort: skip
+import needs
+
+if lacks := needs.lacks_module("croniter"):
+    raise unittest.SkipTest(lacks)
 from palqytun.frames import frame_of
 from palqytun.runtime import App, Context, Schedule, Service, VirtualObject, Workflow, invocations, journal, operate, schedules
 from palqytun.runtime.claiming import Claimer
@@ -23,6 +29,10 @@ async def send(ctx: Context, it: object) -> None: ...
 
 @mail.handler()
 async def free(ctx: Context, it: object) -> None: ...
+
+
+@mail.handler()
+async def counts(ctx: Context, it: int) -> None: ...
 
 
 @box.handler()
@@ -56,7 +66,19 @@ TIMES = [
     ("0 9 1 * 6", "2026-11-27 09:00", "2026-11-28 09:00"),
     ("0 9 1 * 6", "2026-11-28 09:00", "2026-12-01 09:00"),
 ]
-REFUSED = ["", "* * * *", "60 * * * *", "* 24 * * *", "* * 0 * *", "* * * 13 *", "* * * * 8", "5-1 * * * *", "*/0 * * * *", "a * * * *", "1- * * * *", "-1 * * * *", "1/ * * * *", "*-5 * * * *", "0 0 31 2 *"]  # fmt: skip
+# The same in Berlin, whose clocks go forward on 2026-03-29 at 01:00 UTC, and back on 2026-10-25 at 01:00 UTC. The times here are in UTC.
+IN_BERLIN = [
+    ("0 9 * * *", "2026-03-27 12:00", "2026-03-28 08:00"),
+    ("0 9 * * *", "2026-03-28 08:00", "2026-03-29 07:00"),
+    ("30 2 * * *", "2026-03-28 01:30", "2026-03-29 01:30"),  # there is no 02:30, so it is 03:30
+    ("30 2 * * *", "2026-03-29 01:30", "2026-03-30 00:30"),
+    ("30 2 * * *", "2026-10-24 00:30", "2026-10-25 00:30"),  # the first 02:30 of two
+    ("30 2 * * *", "2026-10-25 00:30", "2026-10-26 01:30"),
+    ("30 * * * *", "2026-10-25 00:30", "2026-10-25 01:30"),  # each hour, so both
+    ("0 * * * *", "2026-03-29 00:00", "2026-03-29 01:00"),
+    ("0 0 29 2 *", "2026-11-27 00:00", "2028-02-28 23:00"),
+]
+REFUSED = ["R * * * *", "H * * * *", "* * * * * *", "@daily", "", "* * * *", "60 * * * *", "* 24 * * *", "* * 0 * *", "* * * 13 *", "* * * * 8", "5-1 * * * *", "*/0 * * * *", "a * * * *", "1- * * * *", "-1 * * * *", "1/ * * * *", "*-5 * * * *", "0 0 31 2 *"]  # fmt: skip
 
 
 class Times(unittest.TestCase):
@@ -65,6 +87,15 @@ class Times(unittest.TestCase):
             with self.subTest(text, now=now):
                 self.assertEqual(Cron.read(text).after(utc(now)), utc(then))
                 self.assertEqual(Cron.read(text).after(utc(then) - 0.5), utc(then))
+
+    def test_in_a_zone(self):
+        for text, now, then in IN_BERLIN:
+            with self.subTest(text, now=now):
+                self.assertEqual(Cron.read(text, "Europe/Berlin").after(utc(now)), utc(then))
+                self.assertEqual(Cron.read(text, "Europe/Berlin").after(utc(then) - 0.5), utc(then))
+        for zone in ("Mars/Base", "", "../etc/passwd"):
+            with self.assertRaisesRegex(ValueError, "is no time zone, as 'Europe/Berlin' is one"):
+                Cron.read("* * * * *", zone)
 
     def test_what_is_no_expression(self):
         for text in REFUSED:
@@ -83,9 +114,15 @@ class Times(unittest.TestCase):
         for options in ({}, {"every": 1, "cron": "* * * * *"}, {"every": 0}, {"every": -1}, {"cron": "x"}, {"every": 1, "key": "k"}):
             with self.subTest(options), self.assertRaises(ValueError):
                 Schedule("s", send, **options)
+        for name in ("s" * 1025, "a\0b"):
+            with self.assertRaisesRegex(ValueError, "the name of the schedule has "):
+                Schedule(name, send, every=1)
         for target, key in ((clean, ""), (main, "k")):
             with self.assertRaises(ValueError):
                 Schedule("s", target, key=key, every=1)
+        for argument, target in ((object(), send), ("x", counts), (None, counts)):
+            with self.assertRaisesRegex(ValueError, f"the argument of the schedule s is none that {target.path} takes"):
+                App(mail, schedules=[Schedule("s", target, argument, every=1)])
         for wrong in ([Schedule("s", send, every=1)] * 2, [Schedule("s", clean, key="k", every=1)]):
             with self.assertRaises(ValueError):
                 App(mail, schedules=wrong)
@@ -123,11 +160,12 @@ class Schedules(OnAConnection):
     def test_each_time_makes_one_call(self):
         app = self.entered(Schedule("often", send, {"to": "ann"}, every=60), Schedule("seldom", clean, key="k", cron="0 0 1 1 *"))
         [(due,)] = self.rows("SELECT due FROM schedules WHERE name='often'")
-        self.assertEqual(self.done(schedules.next_due, app), due)
+        self.assertEqual(self.done(schedules.next_due, app, due - 1), due)
         self.assertEqual([self.fired(app, at) for at in (due - 1, due, due + 59, due + 60, due + 60, due + 1000)], [0, 1, 1, 2, 2, 3])
         self.assertEqual(self.rows("SELECT due, last FROM schedules WHERE name='often'"), [(due + 1020, due + 120)])
-        [(frame,), *_] = self.rows("SELECT frame FROM journal")
-        self.assertIn(b'{"to":"ann"}', bytes(frame))
+        [(frame,), *_] = self.rows("SELECT frame FROM journal ORDER BY stored")
+        time_of_it = datetime.datetime.fromtimestamp(due, datetime.timezone.utc).isoformat()
+        self.assertEqual(journal.line_of(bytes(frame)), f"Input headers=(('schedule', 'often'), ('scheduled-for', '{time_of_it}')) value=b'{{\"to\":\"ann\"}}'")
         self.assertEqual([(it["name"], it["rule"]) for it in self.done(operate.schedules)], [("often", "every 60"), ("seldom", "cron 0 0 1 1 *")])
 
     def test_another_version_of_the_app(self):
@@ -139,6 +177,46 @@ class Schedules(OnAConnection):
         self.done(Claimer("other", only_mail, 10).enter)
         self.assertEqual(self.rows("SELECT name FROM schedules ORDER BY name"), [("a",), ("c",)])
         self.assertEqual(self.fired(app, time.time() + 10**6), 1)  # `c` isn't its own
+
+
+    def test_the_clock_is_the_databases(self):
+        with mock.patch("time.time", return_value=0.0):
+            self.entered(Schedule("often", send, every=60))
+        [(due, now)] = self.rows(f"SELECT due, {self.db.clock} FROM schedules")
+        self.assertTrue(0 < due - now <= 60)
+
+    def test_a_clock_that_was_a_day_ahead(self):
+        app = self.entered(Schedule("often", send, every=60))
+        [(due,)] = self.rows("SELECT due FROM schedules")
+        self.assertEqual(self.fired(app, due + 86400), 1)  # as the clock said then
+        self.assertEqual(self.rows("SELECT due FROM schedules"), [(due + 86460,)])
+        self.assertEqual(self.done(schedules.next_due, app, due + 1), due + 60)
+        self.assertEqual([self.fired(app, due + 59), self.fired(app, due + 60)], [1, 2])
+
+    def test_two_versions_side_by_side(self):
+        """The row is that of the worker which began last. The other looks at it without haste, and takes it over if nobody calls it."""
+        old = self.entered(Schedule("often", send, every=60))
+        new = self.entered(Schedule("often", free, every=10))
+        [(due,)] = self.rows("SELECT due FROM schedules")
+        self.assertEqual([self.fired(old, due + 5), self.done(schedules.next_due, old, due + 5)], [0, due + 60])
+        self.assertEqual(self.fired(new, due + 5), 1)
+        self.assertEqual(self.done(schedules.next_due, old, due + 500), due + 501)  # never at once
+        self.assertEqual(self.fired(old, due + 500), 2)
+        self.assertEqual(self.rows("SELECT handler, rule FROM schedules"), [("send", "every 60")])
+        [(next_one,)] = self.rows("SELECT due FROM schedules")
+        self.assertTrue(due + 500 < next_one <= due + 560)
+
+    def test_what_another_worker_is_calling(self):
+        app = self.entered(Schedule("often", send, every=60))
+        [(due,)] = self.rows("SELECT due FROM schedules")
+        self.assertEqual(self.done(schedules.next_due, app, due + 2), due + 3)
+
+    def test_a_handler_that_cannot_be_called_any_more(self):
+        app = self.entered(Schedule("often", clean, key="k", every=60))
+        app.services["Box"] = Service("Box")
+        with self.assertLogs("palqytun", "WARNING") as logged:
+            self.assertEqual(self.fired(app, time.time() + 100), 0)
+        self.assertIn("the schedule often can't call Box/clean: there is no handler Box/clean", logged.output[0])
 
 
 @support.on_each_database
@@ -219,9 +297,8 @@ class Purges(OnAConnection):
             self.done(lambda db: db.change("INSERT INTO state VALUES (?, 'k', 'n', ?)", (service, b"1")))
         self.done(lambda db: db.change("INSERT INTO promises VALUES ('Flow', 'k', 'p', NULL)"))
         self.done(lambda db: db.change("UPDATE invocations SET status='done', ended=seq WHERE handler<>'free'"))
-        before = self.rows("SELECT MAX(ended) FROM invocations")[0][0] + 1
-        self.assertEqual([self.done(operate.purge, 0, 2), self.done(operate.purge, before, 2)], [0, 2])
-        self.assertEqual([self.done(operate.purge, before, 2), self.done(operate.purge, before, 2)], [1, 0])
+        self.assertEqual([self.done(operate.purge, 1e10, 2), self.done(operate.purge, 0, 2)], [0, 2])
+        self.assertEqual([self.done(operate.purge, 0, 2), self.done(operate.purge, 0, 2)], [1, 0])
         self.assertEqual(self.rows("SELECT handler FROM invocations"), [("free",)])
         self.assertEqual(len(self.rows("SELECT invocation FROM journal")), 1)
         # An object keeps its state; a workflow's key can run again as a new one.

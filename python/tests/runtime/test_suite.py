@@ -98,11 +98,11 @@ class Counts(support.InAFolder, unittest.TestCase):
 
 class Interpreters(unittest.TestCase):
     def test_the_one_that_has_most(self):
-        found = {"/a": needs.Interpreter("/a", "3.12.0", ("psycopg2",)), "/usr/bin/python3": needs.Interpreter("/usr/bin/python3", "3.11.2", ())}
+        found = {"/a": needs.Interpreter("/a", "3.12.0", ("psycopg",)), "/usr/bin/python3": needs.Interpreter("/usr/bin/python3", "3.11.2", ())}
         with mock.patch.object(needs, "_asked", found.get), mock.patch.object(sys, "executable", "/a"):
             self.assertEqual(needs.interpreter().path, "/usr/bin/python3")
             found["/usr/bin/python3"] = found["/a"]
-            self.assertRegex(str(needs.interpreter()), r"by /a \(3\.12\.0\), which lacks psycopg2: apt-get install python3-psycopg2$")
+            self.assertRegex(str(needs.interpreter()), r"by /a \(3\.12\.0\), which lacks psycopg: apt-get install python3-psycopg$")
 
     def test_one_that_is_named(self):
         with mock.patch.dict(os.environ, {"PALQYTUN_PYTHON": "/no/python"}), self.assertRaisesRegex(SystemExit, "none of /no/python is Python 3.11"):

@@ -19,7 +19,7 @@ class Tables(unittest.TestCase):
     def test_the_own_table(self) -> None:
         found = read()
         self.assertIn("valgrind", found)
-        self.assertEqual(found["psycopg2"].packages, ("python3-psycopg2",))
+        self.assertEqual(found["psycopg"].packages, ("python3-psycopg",))
 
     def test_rows(self) -> None:
         it = read(self.table("# a remark\n\nx | command a b | p q | all of x\n"))["x"]

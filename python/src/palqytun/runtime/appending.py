@@ -6,25 +6,25 @@ fence of its own: one whose lease is lost isn't stored, and those beside it are.
 
 from __future__ import annotations
 
-import time
-from collections.abc import Iterator, Sequence
+from collections.abc import Iterable, Iterator, Sequence
 from dataclasses import dataclass
 
 from .database import Database
-from .lease import INSERTED, Growth
+from .lease import INSERTED, PROGRESS, Growth
 
 AT_ONCE = 200  # stores that one statement makes, at most
 
-_ASKED = "(?,?,?::bigint,?::bigint,?::bigint,?)"
-_ENTRY = "(?,?,?::bigint,?::bigint,?,?::float8)"
-# An UPDATE that keeps the fence, and an INSERT of the entries of those that it has changed.
+_PROGRESS = ", ".join(f"{it}=CASE WHEN asked.has_progress THEN {'NULL' if value is None else value} ELSE it.{it} END" for it, value in PROGRESS.items())
+# An UPDATE that keeps the fence, and an INSERT of the entries of those that it has changed. A column of all rows is one value, so the statement
+# is the same for any number of them, and the server plans it once.
 _TOGETHER = (
-    "WITH asked(number, id, epoch, before, entries, has_progress) AS (VALUES {asked}), grown AS ("
-    "UPDATE invocations AS it SET entries=asked.entries, retries=CASE WHEN asked.has_progress THEN 0 ELSE it.retries END,"
-    " failing_since=CASE WHEN asked.has_progress THEN NULL ELSE it.failing_since END FROM asked"
+    "WITH asked AS (SELECT * FROM unnest(?::bigint[], ?::text[], ?::bigint[], ?::bigint[], ?::bigint[], ?::boolean[])"
+    " AS asked(number, id, epoch, before, entries, has_progress)), grown AS ("
+    f"UPDATE invocations AS it SET entries=asked.entries, {_PROGRESS} FROM asked"
     " WHERE it.id=asked.id AND it.epoch=asked.epoch AND it.entries=asked.before AND it.status='running' RETURNING asked.number), added AS ("
-    "INSERT INTO journal(invocation, at, completes, frame, stored) SELECT invocation, at, completes, frame, stored"
-    " FROM (VALUES {entries}) AS entry(number, invocation, at, completes, frame, stored) WHERE number IN (SELECT number FROM grown)"
+    "INSERT INTO journal(invocation, at, completes, frame, stored) SELECT invocation, at, completes, frame, ?"
+    " FROM unnest(?::bigint[], ?::text[], ?::bigint[], ?::bigint[], ?::bytea[]) AS entry(number, invocation, at, completes, frame)"
+    " WHERE number IN (SELECT number FROM grown)"
     ") SELECT number FROM grown"
 )
 
@@ -40,36 +40,38 @@ class Append:
         lease = self.growth.lease
         return (lease.invocation, lease.epoch, self.growth.before, lease.journal.entries, self.growth.has_progress)
 
-    def entries(self, now: float) -> Iterator[tuple[object, ...]]:
+    def entries(self) -> Iterator[tuple[object, ...]]:
         own = self.growth.lease.invocation
-        return ((own, it.at, it.completes, it.frame, now) for it in self.growth.entries)
+        return ((own, it.at, it.completes, it.frame) for it in self.growth.entries)
 
 
 async def append(db: Database, appends: Sequence[Append]) -> list[bool]:
-    """Makes these stores; answers of each whether it was stored. One that wasn't has lost its lease."""
+    """Makes these stores; returns of each whether it was stored. One that wasn't has lost its lease."""
     if not db.is_remote:
         return await _one_by_one(db, appends)
-    answers = [False] * len(appends)
+    stored = [False] * len(appends)
     for first in range(0, len(appends), AT_ONCE):
         for number in await _together(db, appends[first : first + AT_ONCE]):
-            answers[first + number] = True
-    return answers
+            stored[first + number] = True
+    return stored
 
 
 async def _one_by_one(db: Database, appends: Sequence[Append]) -> list[bool]:
-    answers, rows, now = list[bool](), list[tuple[object, ...]](), time.time()
+    stored, rows, now = list[bool](), list[tuple[object, ...]](), db.now()
     for it in appends:
-        answers.append(await it.growth.grow(db))
-        if answers[-1]:
-            rows += it.entries(now)
+        stored.append(await it.growth.grow(db))
+        if stored[-1]:
+            rows += ((*row, now) for row in it.entries())
     db.many(INSERTED, rows)
-    return answers
+    return stored
+
+
+def _columns(rows: Iterable[tuple[object, ...]], count: int) -> list[list[object]]:
+    return [list(it) for it in zip(*rows)] or [[] for _ in range(count)]
 
 
 async def _together(db: Database, appends: Sequence[Append]) -> list[int]:
     """The numbers of the stores that were made."""
-    now = time.time()
-    asked = [(number, *it.asked()) for number, it in enumerate(appends)]
-    entries = [(number, *row) for number, it in enumerate(appends) for row in it.entries(now)]
-    sql = _TOGETHER.format(asked=",".join([_ASKED] * len(asked)), entries=",".join([_ENTRY] * len(entries)))
-    return [number for (number,) in await db.rows(sql, [part for row in (*asked, *entries) for part in row])]
+    asked = _columns(((number, *it.asked()) for number, it in enumerate(appends)), 6)
+    entries = _columns(((number, *row) for number, it in enumerate(appends) for row in it.entries()), 5)
+    return [number for (number,) in await db.rows(_TOGETHER, [*asked, db.now(), *entries])]

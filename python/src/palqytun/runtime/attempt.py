@@ -3,28 +3,38 @@
 from __future__ import annotations
 
 import asyncio
-import inspect
 import time
-import traceback
 from collections.abc import Awaitable, Callable
 from types import TracebackType
 from typing import Any, Protocol
 
 from .. import core
 from . import journal, storing
-from .context import Action, AttemptEnds, CaughtTooMuch, Context, given_failure
+from .codec import BadValue, decoded, encoded
+from .context import Action, AttemptEnds, CaughtTooMuch, Context, OutsideHandler, given_failure, running
 from .database import Database
 from .durable import Task, Tasks
+from .executions import Closed, Executions, Raised
 from .invocations import Claim
 from .lease import Growth
 from .outcome import Outcome
-from .services import App, Cancelled, TerminalError, plain
+from .services import App, Cancelled, TerminalError
+from .texts import plain, said, traced
+
+_TURN = 0.005  # seconds that an attempt works before the others have their turn
+_STORED = 256  # frames that are stored together, at most
+_PERFORMED = 64  # of them, if they ask something of the runtime
 
 
 class Worker(Protocol):
     """What an attempt needs of its worker."""
 
     app: App
+    executions: Executions
+
+    @property
+    def drains(self) -> bool:
+        """Whether no run begins any more, and what waits is suspended."""
 
     @property
     def patience(self) -> float:
@@ -42,11 +52,15 @@ class WithoutEnd(Exception):
 
 
 class HandlerFailed(Exception):
-    """A handler's own code raised this error."""
+    """A handler's own code raised this error, `SystemExit` too."""
 
-    def __init__(self, error: Exception):
-        super().__init__(str(error))
+    def __init__(self, error: BaseException):
+        super().__init__(said(error))
         self.error = error
+
+
+class Released(Exception):
+    """The worker stops, and the attempt has more to do: the next worker goes on with it."""
 
 
 class _HandlersOwn:
@@ -56,7 +70,7 @@ class _HandlersOwn:
         pass
 
     def __exit__(self, kind: type[BaseException] | None, error: BaseException | None, trace: TracebackType | None) -> None:
-        if isinstance(error, Exception) and not isinstance(error, CaughtTooMuch):
+        if error is not None and not isinstance(error, (AttemptEnds, CaughtTooMuch)):
             raise HandlerFailed(error) from error
 
 
@@ -92,14 +106,32 @@ class Bell:
                 timer.cancel()
 
 
+class Turn:
+    """Lets others have their turn, in the middle of work that is long."""
+
+    def __init__(self) -> None:
+        self._begun = time.monotonic()
+
+    async def end(self) -> None:
+        """If this turn was long enough, the others have theirs."""
+        if time.monotonic() - self._begun > _TURN:
+            await asyncio.sleep(0)
+            self._begun = time.monotonic()
+
+
 class Attempt:
     def __init__(self, worker: Worker, claim: Claim):
         self.worker, self.claim = worker, claim
         self.bell = Bell()
-        self._executing: dict[asyncio.Task[Any], int] = {}
-        self._waiting = bytearray()  # output that isn't stored yet
+        self._turn = Turn()
+        self._executing: dict[int, asyncio.Task[Any]] = {}
+        self._executed: list[int] = []  # handles of runs whose execution has ended
+        self._has_dropped = False  # a run for which the core has asked didn't begin
+        self._waiting: list[bytes] = []  # frames of output that aren't stored yet
+        self._is_only_runs = True  # these frames are commands of runs
         self._written = 0  # how many bytes of output were handed to the store
         self._has_ended = False
+        self.was_cancelled_within = False  # the handler has cancelled the task of its own attempt
 
     async def run(self) -> None:
         """To the attempt's end, which is stored."""
@@ -108,16 +140,26 @@ class Attempt:
                 self._vm = vm
                 vm.notify_input(self.claim.input)
                 self.claim.input = b""
-                fault = await self._guarded()
+                try:
+                    fault = await self._guarded()
+                except Released:
+                    await self._rest()
+                    await self._left(lambda db: storing.release(db, self.worker.app, self.claim))
+                    return
                 if fault is not None:
-                    await self.worker.write(lambda db: storing.pause(db, self.worker.app, self.claim, f"{type(fault).__name__}: {fault}"), self.claim)
+                    why = said(fault)
+                    await self._left(lambda db: storing.pause(db, self.worker.app, self.claim, why))
                     return
                 await self._rest()
                 if not self._has_ended:
                     raise WithoutEnd(self.claim.invocation)
         finally:
-            for task in self._executing:
+            for task in self._executing.values():
                 task.cancel()
+
+    async def _left(self, operation: Callable[[Database], Awaitable[Outcome]]) -> None:
+        """The attempt stops without an end of its core."""
+        await self.worker.write(operation, self.claim)
 
     async def _guarded(self) -> Exception | None:
         """Drives the handler. What it raises ends the attempt. Answers a fault for which the invocation is to be paused, whatever the core
@@ -133,22 +175,22 @@ class Attempt:
         except CaughtTooMuch as fault:
             return fault
         except HandlerFailed as failed:
-            stacktrace = "".join(traceback.format_exception(failed.error))
-            self._vm.notify_error(500, plain(f"{type(failed.error).__name__}: {failed.error}"), stacktrace=plain(stacktrace))
+            self._vm.notify_error(500, said(failed.error), stacktrace=traced(failed.error))
         return None
 
     async def _drive(self, input: core.Input) -> Exception | None:
         with _handlers_own:
             handler = self.worker.app.find(self.claim.service, self.claim.handler)
-        context = Context(self._vm, input, self.worker.app, self.claim.exclusive)
+        context = Context(self._vm, input, self.worker.app, self.claim.service, self.claim.exclusive)
         codec = self.worker.app.codec
-        try:
-            argument = codec.decode(input.value, handler.takes)
-        except (ValueError, TypeError) as error:
-            self._vm.sys_write_output(core.Failure(400, plain(f"the argument of {handler.path}: {error}")))
-            self._vm.sys_end()
-            return None
-        main: Task[Any] = Task(handler.function(context, argument))  # type: ignore[arg-type]
+        with _handlers_own:
+            try:
+                argument = decoded(codec, input.value, handler.takes)
+            except BadValue as error:
+                self._vm.sys_write_output(core.Failure(400, f"the argument of {handler.path}: {error}"))
+                self._vm.sys_end()
+                return None
+            main: Task[Any] = Task(handler.function(context, argument))  # type: ignore[arg-type]
         context.tasks = Tasks(main)
         try:
             await self._steps(context, context.tasks)
@@ -162,7 +204,7 @@ class Attempt:
         failure = main.failure
         ends: bytes | core.Failure
         with _handlers_own:
-            ends = codec.encode(main.value) if failure is None else given_failure(failure)
+            ends = encoded(codec, main.value) if failure is None else given_failure(failure)
         self._vm.sys_write_output(ends)
         self._vm.sys_end()
         return None
@@ -170,14 +212,21 @@ class Attempt:
     async def _steps(self, context: Context, tasks: Tasks) -> None:
         """Until the handler is done: its coroutines run, and then what they await is awaited."""
         thrown = None
+        own = asyncio.current_task()
+        assert own is not None
         while True:
+            before = own.cancelling()
             with _handlers_own:
-                with context.entered():
-                    tasks.run(thrown)
+                try:
+                    with context.entered():
+                        tasks.run(thrown)
+                finally:
+                    self.was_cancelled_within |= own.cancelling() > before
                 if tasks.main.done:
                     return
                 tree = tasks.tree()
             thrown = None
+            await self._turn.end()
             try:
                 await self._await(tree, context)
             except core.Cancelled:
@@ -186,41 +235,70 @@ class Attempt:
             for leaf in tasks.leaves():
                 if leaf.came is None:
                     leaf.came = self._vm.take_notification(leaf.handle)
+                    if leaf.came is not None:
+                        context.actions.pop(leaf.handle, None)
+                await self._turn.end()
 
     async def _await(self, tree: int | core.Future, context: Context) -> None:
         """Until the tree is awake. Meanwhile runs are executed, and what was written is stored."""
         while True:
+            begun = time.monotonic()
             answer = self._vm.do_await(tree)
-            if isinstance(answer, core.ExecuteRun):
-                task = asyncio.create_task(self._execute(context.actions[answer.handle]))
-                task.add_done_callback(self.bell.ring)
-                self._executing[task] = answer.handle
-            elif answer is True:
+            asked = time.monotonic() - begun
+            if answer is True:
                 return
-            else:
-                await self._progress(context)
+            if isinstance(answer, core.ExecuteRun):
+                self._begin(answer.handle, context)
+                await self._begin_others(context)
+            if self.worker.drains and not self._executing and (self._has_dropped or isinstance(answer, core.ExecuteRun)):
+                raise Released()
+            await self._progress(context)
+            if asked > _TURN / 10:  # a wide tree is asked again after as long a time, so that what comes meanwhile is asked for at once
+                await asyncio.sleep(asked)
 
-    async def _execute(self, action: Action) -> bytes | core.Failure | core.Retryable:
+    def _begin(self, handle: int, context: Context) -> None:
+        """Begins to execute a run, for which the core has asked."""
+        if not self.worker.drains:
+            task = self._executing[handle] = asyncio.create_task(self._execute(context.actions[handle]))
+            task.add_done_callback(lambda _: self._has_executed(handle))
+
+    async def _begin_others(self, context: Context) -> None:
+        """Begins the other runs that the handler awaits. Each one is asked for alone: to ask for the next one of a whole tree takes a look at
+        all of it. The tree isn't awake by what came, so these questions use nothing of that up."""
+        assert context.tasks is not None
+        for leaf in context.tasks.leaves():
+            if leaf.came is None and leaf.handle in context.actions and leaf.handle not in self._executing:
+                if isinstance(self._vm.do_await(leaf.handle), core.ExecuteRun):
+                    self._begin(leaf.handle, context)
+            await self._turn.end()
+
+    def _has_executed(self, handle: int) -> None:
+        self._executed.append(handle)
+        self.bell.ring()
+
+    async def _execute(self, action: Action) -> bytes | core.Failure | core.Retryable | None:
+        """The result of a run; none if it didn't begin."""
+        running.set(action)
         begun = time.monotonic()
         try:
-            if inspect.iscoroutinefunction(action.function):
-                result = await action.function(*action.arguments)
-            else:
-                result = await asyncio.to_thread(action.function, *action.arguments)
-                if inspect.isawaitable(result):
-                    result = await result
-            return self.worker.app.codec.encode(result)
-        except TerminalError as error:
-            return given_failure(error)
-        except Exception as error:
-            lasted = int((time.monotonic() - begun) * 1000)
-            return core.Retryable(500, plain(f"{type(error).__name__}: {error}"), lasted, stacktrace=plain(traceback.format_exc()))
+            came = await self.worker.executions.execute(self, action.function, action.arguments)
+        except Closed:
+            return None
+        lasted = int((time.monotonic() - begun) * 1000)
+        if isinstance(came, Raised):
+            return _failed(came.error, lasted)
+        try:
+            return encoded(self.worker.app.codec, came.value)
+        except MemoryError as error:
+            return _failed(error, lasted)
+        except BaseException as error:  # the effect has happened, and no other try of it would have another result
+            return core.Failure(500, f"the result of the run {plain(action.name)!r} can't be stored: {said(error)}")
 
     async def _progress(self, context: Context) -> None:
         """Stores what was written, or waits until something comes; what comes is fed. If nothing comes the input is closed."""
-        self._waiting += self._vm.take_output()
+        self._take()
         # A run's command is stored with its result, unless something else is to be stored before.
-        if self._waiting and not (self._executing and journal.only_runs(bytes(self._waiting))):
+        if self._waiting and not (self._executing and self._is_only_runs):
             if await self._store():
                 return
         if self.bell.poked:
@@ -234,19 +312,31 @@ class Attempt:
 
     async def _wait(self, patience: float | None, context: Context) -> None:
         """Until a run has a result, which is stored, or something comes, or patience is over."""
-        if not self.bell.poked and not self._done():
+        if not self.bell.poked and not self._executed:
             await self.bell.heard(patience)
-        done = self._done()
-        if not done and not self.bell.poked:
+        done, self._executed = self._executed, []
+        if not done and not self.bell.poked and not self._executing:
             self._vm.notify_input_closed()
-        for task in done:
-            handle = self._executing.pop(task)
-            self._vm.propose_run_completion(handle, task.result(), policy=context.actions[handle].policy)
+        await self._propose([(handle, self._executing.pop(handle)) for handle in done], context)
         if done:
             await self._rest()
 
-    def _done(self) -> list[asyncio.Task[Any]]:
-        return [task for task in self._executing if task.done()]
+    async def _propose(self, ended: list[tuple[int, asyncio.Task[Any]]], context: Context) -> None:
+        """Proposes the results of runs. Those that another try is to be made of come last, since the first one fails the attempt."""
+        failed = []
+        for handle, task in ended:
+            result = _failed(asyncio.CancelledError("the effect cancelled its own task"), 0) if task.cancelled() else task.result()
+            if result is None:
+                self._has_dropped = True
+            elif isinstance(result, core.Retryable):
+                failed.append((handle, result))
+            else:
+                self._vm.propose_run_completion(handle, result, policy=context.actions[handle].policy)
+            await self._turn.end()
+        for handle, error in failed:
+            policy = core.retry_forever() if error.behaviour == "pause" else context.actions[handle].policy
+            self.claim.by_run = error.behaviour != "pause"  # such a failure of the attempt is none of the handler's
+            self._vm.propose_run_completion(handle, error, policy=policy)
 
     async def _pull(self) -> None:
         self.bell.poked = False
@@ -254,14 +344,32 @@ class Attempt:
 
     async def _rest(self) -> None:
         """Stores all that was written, up to now."""
-        self._waiting += self._vm.take_output()
+        self._take()
         if self._waiting:
             await self._store()
 
+    def _take(self) -> None:
+        """Takes what the core has written."""
+        output = self._vm.take_output()
+        if output:
+            self._waiting += [frame for _, frame in journal.split(output)]
+            self._is_only_runs = self._is_only_runs and journal.only_runs(output)
+
     async def _store(self) -> bool:
-        """Stores what was taken of the output, and feeds what that brings; answers whether it brought something."""
-        output, at = bytes(self._waiting), self._written
-        self._waiting.clear()
+        """Stores what was taken of the output, and feeds what that brings; answers whether it brought something. Of much output some is stored
+        at a time, so that neither the loop nor a transaction is kept for long."""
+        frames, self._waiting, self._is_only_runs = self._waiting, [], True
+        has_brought, at = False, 0
+        while at < len(frames):
+            most = _STORED if journal.only_steps(b"".join(frames[at : at + _STORED])) else _PERFORMED
+            has_brought |= await self._stored(b"".join(frames[at : at + most]))
+            at += most
+            await self._turn.end()
+        return has_brought
+
+    async def _stored(self, output: bytes) -> bool:
+        """Stores some of the output."""
+        at = self._written
         if journal.only_steps(output):
             growth = Growth(self.claim.lease)
             growth.store(output, at)
@@ -277,3 +385,14 @@ class Attempt:
             self._vm.notify_input(b"".join(out.feed))
         self._has_ended = out.status != "running"
         return bool(out.feed)
+
+
+def _failed(error: BaseException, lasted: int) -> core.Failure | core.Retryable:
+    """What an effect that raised an error proposes. If another try would fail alike, the invocation is paused."""
+    if isinstance(error, TerminalError):
+        try:
+            return given_failure(error)
+        except Exception:  # of a subclass that isn't made as its base is
+            return core.Failure(500, said(error))
+    then: core.Behaviour = "pause" if isinstance(error, OutsideHandler) else "retry"
+    return core.Retryable(500, said(error), lasted, stacktrace=traced(error), behaviour=then)

@@ -9,10 +9,12 @@ from typing import Any
 
 from . import inbox, invocations, journal, schedules
 from .database import Database
-from .invocations import CLAIMED, Claim, Claimable
+from .invocations import CLAIMED, MOST_LOST, SUSPECT, Claim, Claimable
 from .outcome import Outcome
 from .services import App
 
+_ALONE = 1.0  # seconds for which one that may end its worker is alone with it
+_FOR_GOOD = 1e9  # seconds
 _TIMERS = 1000  # at most so many fire in one transaction
 _FRESH = 5000
 _AT_ONCE = 500  # leases that one statement takes
@@ -52,21 +54,21 @@ class Claimer:
     # ---- leases
 
     async def enter(self, db: Database) -> None:
-        """The worker begins."""
+        """The worker begins. `Database.beats` keeps its lease then; the only worker of a file needs no beats."""
+        lease = self.lease
         if not db.is_shared:
-            await db.change("DELETE FROM workers")  # this is the only one
+            await db.change("DELETE FROM workers")
+            lease = _FOR_GOOD
         await db.change("DELETE FROM workers WHERE id=?", (self.former,))
-        await db.change(f"INSERT INTO workers(id, lease) VALUES (?,{db.clock}+?)", (self.worker, self.lease))
+        await db.change(f"INSERT INTO workers(id, lease) VALUES (?,{db.clock}+?)", (self.worker, lease))
         await db.change(f"DELETE FROM workers WHERE lease < {db.clock}-3600")
         await schedules.enter(db, self.app, self.app.services)
         limited = [(it.path,) for it in self.app.limited()]
         db.many("INSERT INTO limits(path) VALUES (?) ON CONFLICT(path) DO NOTHING", limited)
 
-    async def beat(self, db: Database) -> None:
-        """Keeps the worker's leases. What was delivered while its target ended elsewhere is swept."""
-        if not await db.change(f"UPDATE workers SET lease={db.clock}+? WHERE id=?", (self.lease, self.worker)):
-            await self.enter(db)
-        await db.change("DELETE FROM inbox WHERE fresh=1 AND invocation IN (SELECT id FROM invocations WHERE status='done')")
+    async def sweep(self, db: Database) -> None:
+        """Removes what was delivered while its target ended elsewhere. The inbox is looked through, and no invocation that isn't in it."""
+        await db.change("DELETE FROM inbox WHERE fresh=1 AND (SELECT status FROM invocations WHERE id=inbox.invocation)='done'")
 
     async def leave(self, db: Database) -> None:
         """The worker ends; others may go on with what it had at once."""
@@ -77,17 +79,30 @@ class Claimer:
 
     async def claim(self, db: Database, live: Collection[str], room: int) -> Claims:
         """Fires the timers that are due, and claims at most `room` invocations that can go on; `live` are those that have an attempt here."""
-        found, now = Claims(), time.time()
+        found, now = Claims(), db.now()
         await self._fire(db, found.out, now)
         await schedules.fire(db, self.app, found.out, now)
         fresh = {row[0] for row in await db.rows("SELECT DISTINCT invocation FROM inbox WHERE fresh=1 LIMIT ?", (_FRESH,))}
         found.out.touched |= fresh
         rows = [Claimable(*row) for row in await self._rows(db, found, now, room, bool(fresh))]
-        free = [it for it in rows if it.id not in live]
+        free = await self._without_suspects(db, [it for it in rows if it.id not in live])
         for first in range(0, len(free), _AT_ONCE):
             found.claims += await invocations.claim(db, self.worker, free[first : first + _AT_ONCE])
+        if len(free) < sum(it.id not in live for it in rows):
+            found.has_more = False  # who is left out is looked for by and by
         found.next_due = await self._next_due(db, now)
         return found
+
+    async def _without_suspects(self, db: Database, rows: list[Claimable]) -> list[Claimable]:
+        """Of those whose attempts were lost again and again with their workers, one at a time is claimed: that which was lost least often, and the
+        next one after a moment. So the one that ends workers is found, and the others that they had go on."""
+        suspects = [it for it in rows if SUSPECT <= it.lost < MOST_LOST]
+        if not suspects:
+            return rows
+        sql = "SELECT COUNT(*) FROM invocations WHERE status='running' AND worker=? AND deaths>=? AND begun>?"
+        [(has_one,)] = await db.rows(sql, (self.worker, SUSPECT, db.now() - _ALONE))
+        chosen = None if has_one else min(suspects, key=lambda it: it.lost)
+        return [it for it in rows if it is chosen or not SUSPECT <= it.lost < MOST_LOST]
 
     async def _fire(self, db: Database, out: Outcome, now: float) -> None:
         due = await db.rows(f"SELECT seq, invocation, completes FROM timers WHERE due<=? ORDER BY due LIMIT {_TIMERS}{db.skip}", (now,))
@@ -133,13 +148,16 @@ class Claimer:
 
     async def _ready(self, db: Database, share: Share, now: float, most: int) -> tuple[list[Any], bool]:
         """Ready ones, and whether there may be more: a claim takes a share by the number of workers, so that others get theirs."""
+        # Of a key whose lock nobody has only the first one is free, so the calls of a key begin in their order, however many workers claim.
         is_free = (
-            "(exclusive=0 OR NOT EXISTS (SELECT 1 FROM locks"
-            " WHERE locks.service=invocations.service AND locks.key=invocations.key AND locks.holder<>invocations.id))"
+            "(exclusive=0 OR CASE (SELECT holder FROM locks WHERE locks.service=it.service AND locks.key=it.key) WHEN it.id THEN 1=1"
+            " ELSE NOT EXISTS (SELECT 1 FROM locks WHERE locks.service=it.service AND locks.key=it.key) AND it.seq=("
+            "SELECT seq FROM invocations AS first WHERE first.service=it.service AND first.key=it.key AND first.exclusive=1 AND first.status='ready'"
+            " ORDER BY first.due, first.seq LIMIT 1) END)"
         )
         sql = (
             f"WITH alive(many) AS (SELECT COUNT(*) FROM workers WHERE lease>={db.clock}), own(most) AS ({_SHARE})"
-            f" SELECT {CLAIMED}, (SELECT most FROM own) FROM invocations WHERE {share.where} AND status='ready' AND due<=? AND {is_free}"
+            f" SELECT {CLAIMED}, (SELECT most FROM own) FROM invocations AS it WHERE {share.where} AND status='ready' AND due<=? AND {is_free}"
             f" ORDER BY due, seq LIMIT (SELECT most FROM own){db.skip}"
         )
         rows = await db.rows(sql, (most, most, most, most, *share.values, now))
@@ -153,10 +171,12 @@ class Claimer:
         return await db.rows(sql, (*services, most))
 
     async def _next_due(self, db: Database, now: float) -> float | None:
+        """When something is due next, by this process's clock. The database tells its own time with it."""
         sql = (
-            "SELECT MIN(due) FROM (SELECT MIN(due) AS due FROM timers"
+            f"SELECT MIN(due), {db.clock} FROM (SELECT MIN(due) AS due FROM timers"
             " UNION ALL SELECT MIN(due) AS due FROM invocations WHERE status='ready' AND due>?) AS next"
         )
-        [(found,)] = await db.rows(sql, (now,))
-        scheduled = await schedules.next_due(db, self.app)
-        return min((float(it) for it in (found, scheduled) if it is not None), default=None)
+        [(found, clock)] = await db.rows(sql, (now,))
+        db.told(float(clock))
+        scheduled = await schedules.next_due(db, self.app, now)
+        return min((float(it) - db.now() + time.time() for it in (found, scheduled) if it is not None), default=None)

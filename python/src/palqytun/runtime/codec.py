@@ -17,6 +17,8 @@ import uuid
 from collections.abc import Callable
 from typing import Any, Protocol, Union
 
+from .texts import said
+
 
 class Codec(Protocol):
     """How values are stored. `decode` is given the type that is wanted, or `Any`. Both raise `ValueError` or `TypeError` for a value that
@@ -88,6 +90,9 @@ def _tuple(parts: tuple[Any, ...], value: Any) -> Any:
 
 
 def _union(kinds: tuple[Any, ...], value: Any) -> Any:
+    """The value as it is, if its type is one of them; else as the first of them that takes it."""
+    if type(value) in kinds and type(value) in _AS_READ:
+        return value
     for kind in kinds:
         try:
             return typed(kind, value)
@@ -159,7 +164,38 @@ def typed(kind: Any, value: Any) -> Any:
 
 
 # `json.dumps` and `json.loads` make these anew for each call, and look which of UTF-8, 16 and 32 some bytes are.
-_ENCODER, _DECODER = json.JSONEncoder(separators=(",", ":"), default=_plain), json.JSONDecoder()
+_ENCODER = json.JSONEncoder(separators=(",", ":"), default=_plain, allow_nan=False)
+
+
+def _constant(word: str) -> Any:
+    raise ValueError(f"{word} is no JSON")
+
+
+_DECODER = json.JSONDecoder(parse_constant=_constant)
+
+
+def encoded(codec: Codec, value: Any) -> bytes:
+    """A value's bytes; a codec that gives something else is a `TypeError`."""
+    data = codec.encode(value)
+    if not isinstance(data, (bytes, bytearray, memoryview)):
+        raise TypeError(f"{type(codec).__name__}.encode gave a value of type {type(data).__name__}, and not bytes")
+    return bytes(data)
+
+
+class BadValue(ValueError):
+    """A value can't be read as the type that is wanted."""
+
+
+def decoded(codec: Codec, data: bytes, kind: Any) -> Any:
+    """The value of these bytes. Whatever else a codec or a type's own code raises for them is a `BadValue`."""
+    try:
+        return codec.decode(data, kind)
+    except MemoryError:
+        raise
+    except (ValueError, TypeError) as error:
+        raise BadValue(said(error).partition(": ")[2]) from error
+    except BaseException as error:  # also `SystemExit`, which would end the loop
+        raise BadValue(said(error)) from error
 
 
 class JsonCodec:

@@ -4,27 +4,28 @@ from __future__ import annotations
 
 import argparse
 import asyncio
-import errno
+import importlib
 import importlib.util
 import logging
 import os
 import pathlib
-import signal
 import sys
 import time
 from collections.abc import Awaitable, Callable
-from typing import TypeVar
+from types import ModuleType
+from typing import Any, TypeVar
 
 from palqytun._library import Library, library
 
-from . import inbox, journal, operate
-from .database import Database, Lost, Unsuitable
+from . import inbox, journal, operate, process
+from .database import Conflict, Database, Lost, Unsuitable, connect
 from .database.plain import Plain
 from .database.postgres import NoDriver
 from .database.schema import NewerSchema, OlderSchema
 from .database.sqlite import InUse
 from .engine import Engine
-from .ingress import Ingress
+from .extras import MissingExtra, needed
+from .limits import PAYLOAD
 from .outcome import Outcome
 from .replay import replay_all
 from .services import App
@@ -32,26 +33,62 @@ from .services import App
 
 T = TypeVar("T")
 log = logging.getLogger("palqytun")
+_STUCK = 60.0  # seconds after which a worker ends whose loop doesn't answer
 
 
 class Refused(Exception):
     """The command can't be done, and why."""
 
 
-def load(path: str) -> App:
-    """The `App` of a file."""
+def _module(path: str) -> ModuleType:
+    """The module of a file."""
     file = pathlib.Path(path).resolve()
     spec = importlib.util.spec_from_file_location(file.stem, file) if file.is_file() else None
     if spec is None or spec.loader is None:
-        raise Refused(f"{path} is no Python file")
+        raise Refused(f"{path} is no Python file: an app is FILE.py, FILE.py:NAME or MODULE:NAME")
     sys.path.insert(0, str(file.parent))
     module = importlib.util.module_from_spec(spec)
     sys.modules[file.stem] = module
     spec.loader.exec_module(module)
-    found = [it for it in vars(module).values() if isinstance(it, App)]
+    return module
+
+
+def _imported(name: str) -> ModuleType:
+    """A module by its name, also of the folder in which the command is given."""
+    sys.path.insert(0, os.getcwd())
+    try:
+        return importlib.import_module(name)
+    except ModuleNotFoundError as error:
+        if error.name is None or not (name == error.name or name.startswith(f"{error.name}.")):
+            raise
+        raise Refused(f"there is no module {error.name}: an app is FILE.py, FILE.py:NAME or MODULE:NAME") from error
+
+
+def load(path: str) -> App:
+    """The `App` that FILE.py, FILE.py:NAME or MODULE:NAME names. Without a name, a module has to have one."""
+    place, colon, name = path.rpartition(":") if ":" in path else (path, "", "")
+    module = _module(place) if place.endswith(".py") or not colon else _imported(place)
+    if colon:
+        app = vars(module).get(name)
+        if not isinstance(app, App):
+            raise Refused(f"{place} has no palqytun.runtime.App with the name {name or '(none is given)'}")
+        return app
+    found = {id(it): it for it in vars(module).values() if isinstance(it, App)}
     if len(found) != 1:
-        raise Refused(f"{path} has {len(found)} objects of palqytun.runtime.App; it has to have one")
-    return found[0]
+        raise Refused(f"{path} has {len(found)} objects of palqytun.runtime.App; it has to have one, or {path}:NAME names it")
+    return next(iter(found.values()))
+
+
+def checked_url(url: str) -> str:
+    """The address of a database, if it is one."""
+    scheme, found, _ = url.partition("://")
+    if found and scheme not in ("postgres", "postgresql"):
+        raise Refused(f"{scheme}:// is no database that is known: it is postgresql://.. or the path of a SQLite file")
+    if not found:
+        folder = pathlib.Path(url.removeprefix("sqlite:").partition("?")[0]).parent
+        if not folder.is_dir():
+            raise Refused(f"there is no folder {folder} for the database")
+    return url
 
 
 def loaded() -> Library:
@@ -69,38 +106,88 @@ def warn_of_unproved() -> None:
         log.warning("the library was built without a proof (%s): ./bindings/build makes one that is proved", it.build)
 
 
+class _Opening:
+    """Connects a worker, and keeps why it couldn't."""
+
+    def __init__(self) -> None:
+        self.why: Exception | None = None
+
+    async def __call__(self, url: str) -> Database:
+        try:
+            return await connect(url, worker=True)
+        except (Lost, Conflict) as error:
+            self.why = error
+            raise
+
+
+async def _opened(engine: Engine, opening: _Opening, seconds: float) -> asyncio.Task[None]:
+    """The running engine, once it has its database. What can't be opened is refused."""
+    running = asyncio.create_task(engine.run())
+    is_open = asyncio.create_task(engine.is_open())
+    await asyncio.wait([running, is_open], timeout=seconds, return_when=asyncio.FIRST_COMPLETED)
+    if not is_open.done() and not running.done():
+        engine.stop()
+        await running
+        raise Refused(f"the database can't be opened: {opening.why or 'it does not answer'}")
+    is_open.cancel()
+    return running
+
+
 async def _serve(options: argparse.Namespace) -> None:
     warn_of_unproved()
-    engine = Engine(load(options.app), options.db, name=options.name, limit=options.limit, idle=options.idle, lease=options.lease, keep=options.keep)
-    for number in (signal.SIGINT, signal.SIGTERM):
-        asyncio.get_running_loop().add_signal_handler(number, engine.stop)
+    names = ("name", "limit", "idle", "lease", "keep", "effects", "threads", "grace")
+    app, opening = load(options.app), _Opening()
+    engine = Engine(app, checked_url(options.db), stuck=_STUCK, connect=opening, **{name: getattr(options, name) for name in names})
     if options.port < 0:
-        await engine.run()
+        process.Signals(asyncio.get_running_loop(), engine.stop, options.grace)
+        await (await _opened(engine, opening, options.wait_for_database))
         return
-    server = Ingress(engine, token=os.environ.get("PALQYTUN_TOKEN")).server
+    http = _http(engine, options)
+
+    def stop() -> None:
+        http.stop()
+        engine.stop()
+
+    process.Signals(asyncio.get_running_loop(), stop, options.grace)
     try:
-        address = await server.start(options.host, options.port)
-        print(f"{address}\n{address}/-/page is the operator's page", flush=True)
-    except OSError as error:
-        reason = "another process listens there; --port names another port" if error.errno == errno.EADDRINUSE else error.strerror
-        raise Refused(f"{options.host}:{options.port}: {reason}") from error
-    try:
-        await engine.run()
+        running = await _opened(engine, opening, options.wait_for_database)
+        if not running.done():
+            address = await http.start()
+            print(f"{address}\n{address}/-/page is the operator's page", flush=True)
+            await asyncio.wait([running, asyncio.create_task(http.ended())], return_when=asyncio.FIRST_COMPLETED)
+            engine.stop()
+        await running
     finally:
-        await server.close()
+        await http.close()
+
+
+def _http(engine: Engine, options: argparse.Namespace) -> Any:
+    """The ingress of a worker, as the options say."""
+    serving = needed("palqytun.runtime.serving", "server", "the ingress (--port -1: none)")
+    try:
+        settings = serving.Settings(os.environ.get("PALQYTUN_TOKEN") or None, tuple(options.origin), options.payload, options.wait)
+        return serving.Http(engine, settings, options.host, options.port, connections=options.connections, grace=options.grace)
+    except (ValueError, OSError) as error:  # an origin that is none, no token, a port that is taken
+        raise Refused(error) from error
 
 
 def run(options: argparse.Namespace) -> int:
-    asyncio.run(_serve(options))
+    process.run(_serve(options))
+    process.leave(0)
     return 0
 
 
 def _done(url: str, operation: Callable[[Database], Awaitable[T]]) -> T:
-    """What an operation answers, in a transaction of its own."""
-    if "://" not in url and not pathlib.Path(url.removeprefix("sqlite:").partition("?")[0]).exists():
-        raise Refused(f"there is no database {url}")
-    with Plain(url) as db:
+    """What an operation returns, in a transaction of its own."""
+    with _stored(url) as db:
         return db.done(operation)
+
+
+def _stored(url: str) -> Plain:
+    """A connection to a database that is there."""
+    if "://" not in checked_url(url) and not pathlib.Path(url.removeprefix("sqlite:").partition("?")[0]).exists():
+        raise Refused(f"there is no database {url}")
+    return Plain(url)
 
 
 def list_invocations(options: argparse.Namespace) -> int:
@@ -141,16 +228,13 @@ def resume(options: argparse.Namespace) -> int:
     return 0
 
 
-async def _purged(db: Database, before: float) -> int:
-    count = 0
-    while some := await operate.purge(db, before):
-        count += some
-    return count
-
-
 def purge(options: argparse.Namespace) -> int:
-    before = time.time() - options.older
-    print(f"{_done(options.db, lambda db: _purged(db, before))} invocations are purged")
+    count = 0
+    with _stored(options.db) as db:
+        while some := db.done(lambda to: operate.purge(to, options.older)):
+            count += some
+            time.sleep(0.01)  # a worker of the file gets its turn
+    print(f"{count} invocations are purged")
     return 0
 
 
@@ -166,7 +250,8 @@ def list_schedules(options: argparse.Namespace) -> int:
 
 def replay(options: argparse.Namespace) -> int:
     app = load(options.app)
-    count, different = _done(options.db, lambda db: replay_all(app, db, options.status))
+    with _stored(options.db) as db:
+        count, different = db.read(lambda to: replay_all(app, to, options.status))
     for it in different:
         print(f"{it.invocation}  {it.handler}  command {it.command}: {it.error}")
     print(f"{count} journals are replayed, {len(different)} differ")
@@ -184,47 +269,86 @@ class _Version(argparse.Action):
         parser.exit()
 
 
+def _seconds(text: str) -> float:
+    """A number of seconds that isn't negative."""
+    number = float(text)
+    if not 0 <= number < 1e12:
+        raise ValueError
+    return number
+
+
+def _count(text: str) -> int:
+    """A number from 1 on."""
+    number = int(text)
+    if number < 1:
+        raise ValueError
+    return number
+
+
+_seconds.__name__, _count.__name__ = "number of seconds", "number from 1 on"  # argparse says so
+_APP = "FILE.py, FILE.py:NAME or MODULE:NAME; without a name it has to have one App"
+_STATUSES = ["ready", "running", "suspended", "paused", "done"]
+
+
+class _Help(argparse.ArgumentDefaultsHelpFormatter):
+    """Says what an option is without it, unless that is nothing."""
+
+    def _get_help_string(self, action: argparse.Action) -> str | None:
+        return action.help if action.default in (None, [], argparse.SUPPRESS) else super()._get_help_string(action)
+
+
+def _run_options(one: argparse.ArgumentParser) -> None:
+    one.add_argument("app", help=_APP)
+    of = one.add_argument_group("the worker")
+    of.add_argument("--name", default="worker", help="the worker's name in logs and on the page; each session adds letters of its own")
+    of.add_argument("--limit", type=_count, default=500, help="attempts at once")
+    of.add_argument("--idle", type=_seconds, default=1.0, help="seconds until an attempt that waits is suspended")
+    of.add_argument("--lease", type=_seconds, default=10.0, help="seconds until a worker that isn't heard of is thought dead")
+    of.add_argument("--keep", type=_seconds, help="seconds until an invocation that has ended is purged; without it, none is")
+    of.add_argument("--effects", type=_count, default=1000, help="runs of async functions that are executed at once")
+    of.add_argument("--threads", type=_count, default=64, help="runs of plain functions that are executed at once, each in a thread")
+    of.add_argument("--grace", type=_seconds, default=10.0, help="seconds within which runs may end when the worker is told to stop")
+    of.add_argument("--wait-for-database", type=_seconds, default=30.0, help="seconds for which a database that can't be reached is tried at first")
+    of = one.add_argument_group("the ingress")
+    of.add_argument("--host", default="127.0.0.1", help="where it listens; another than 127.0.0.1, ::1 and localhost needs a token")
+    of.add_argument("--port", type=int, default=8080, help="0 is a free one, and -1 is no ingress")
+    of.add_argument("--origin", action="append", default=[], help="an address by which browsers know it, as https://ops.example; may be repeated")
+    of.add_argument("--wait", type=_seconds, default=60.0, help="seconds that a call waits for its result, if it doesn't say; then it gets 202")
+    of.add_argument("--payload", type=_count, default=PAYLOAD, help="bytes of a body, at most")
+    of.add_argument("--connections", type=_count, default=1000, help="connections at once; fewer if the process may open fewer files")
+
+
 def _parser() -> argparse.ArgumentParser:
-    parser = argparse.ArgumentParser("palqytun", description="Durable execution: run an app, ask for its invocations, and check a new version of it.")
+    about = "Durable execution: run an app, ask for its invocations, and check a new version of it."
+    parser = argparse.ArgumentParser("palqytun", description=about, formatter_class=_Help)
     parser.add_argument("--version", action=_Version, nargs=0, help="the version, the commit, the kit's logic, and whether the library was proved")
     commands = parser.add_subparsers(required=True)
     database = argparse.ArgumentParser(add_help=False)
-    database.add_argument("--db", default="palqytun.db", help="a SQLite file, or postgresql://..; palqytun.db by default")
+    url = os.environ.get("PALQYTUN_DB", "palqytun.db")
+    database.add_argument("--db", default=url, help="a SQLite file, or postgresql://..; the environment variable PALQYTUN_DB is another default")
+
+    def add(of: Any, name: str, does: Callable[[argparse.Namespace], int], said: str, **more: Any) -> argparse.ArgumentParser:
+        made: argparse.ArgumentParser = of.add_parser(name, parents=[database], help=said, description=said, formatter_class=_Help, **more)
+        made.set_defaults(does=does)
+        return made
 
     token = "The environment variable PALQYTUN_TOKEN is the ingress's bearer token, if it is set."
-    one = commands.add_parser("run", parents=[database], help="run an app: its handlers, and the ingress", epilog=token)
-    one.add_argument("app", help="a Python file with an App")
-    one.add_argument("--host", default="127.0.0.1")
-    one.add_argument("--port", type=int, default=8080, help="of the ingress; -1: none")
-    one.add_argument("--name", default="worker")
-    one.add_argument("--limit", type=int, default=500, help="attempts at once")
-    one.add_argument("--idle", type=float, default=1.0, help="seconds until an attempt that waits is suspended")
-    one.add_argument("--lease", type=float, default=10.0, help="seconds until a worker that isn't heard of is thought dead")
-    one.add_argument("--keep", type=float, help="seconds until an invocation that has ended is purged; never without it")
-    one.set_defaults(does=run)
-
-    asked = commands.add_parser("invocations", help="list, inspect, cancel, resume or purge invocations").add_subparsers(required=True)
-    one = asked.add_parser("list", parents=[database], help="the newest first")
-    one.add_argument("--status", choices=["ready", "running", "suspended", "paused", "done"])
-    one.add_argument("--service")
-    one.add_argument("--most", type=int, default=100)
-    one.set_defaults(does=list_invocations)
+    _run_options(add(commands, "run", run, "run an app: its handlers, and the ingress", epilog=token))
+    said = "list, inspect, cancel, resume or purge invocations"
+    asked = commands.add_parser("invocations", help=said, description=said).add_subparsers(required=True)
+    one = add(asked, "list", list_invocations, "the newest first")
+    one.add_argument("--status", choices=_STATUSES, help="only those with this status")
+    one.add_argument("--service", help="only those of this service")
+    one.add_argument("--most", type=_count, default=100, help="so many")
     of_one = [("inspect", inspect, "one, with its journal"), ("cancel", cancel, "cancel one"), ("resume", resume, "try a paused one again")]
     for name, does, said in of_one:
-        one = asked.add_parser(name, parents=[database], help=said)
-        one.add_argument("id")
-        one.set_defaults(does=does)
-    one = asked.add_parser("purge", parents=[database], help="delete those that have ended")
-    one.add_argument("--older", type=float, default=86400.0, help="ended more than so many seconds ago; a day by default")
-    one.set_defaults(does=purge)
-
-    one = commands.add_parser("schedules", parents=[database], help="the calls that are made by the clock, each with its next time")
-    one.set_defaults(does=list_schedules)
-
-    one = commands.add_parser("replay", parents=[database], help="does this code still make the stored journals? nothing is executed or stored")
-    one.add_argument("app")
-    one.add_argument("--status", choices=["ready", "running", "suspended", "paused", "done"], help="only of such invocations")
-    one.set_defaults(does=replay)
+        add(asked, name, does, said).add_argument("id", help="the invocation's id")
+    one = add(asked, "purge", purge, "delete those that have ended")
+    one.add_argument("--older", type=_seconds, default=86400.0, help="ended more than so many seconds ago")
+    add(commands, "schedules", list_schedules, "the calls that are made by the clock, each with its next time")
+    one = add(commands, "replay", replay, "does this code still make the stored journals? nothing is executed or stored")
+    one.add_argument("app", help=_APP)
+    one.add_argument("--status", choices=_STATUSES, help="only of invocations with this status")
     return parser
 
 
@@ -233,6 +357,6 @@ def main() -> int:
     logging.basicConfig(level=logging.INFO, format="%(asctime)s %(name)s %(message)s")
     try:
         return int(options.does(options))
-    except (Refused, Lost, Unsuitable, InUse, NewerSchema, OlderSchema, NoDriver) as error:
-        print(f"palqytun: {error}", file=sys.stderr)
+    except (Refused, Conflict, Lost, Unsuitable, InUse, NewerSchema, OlderSchema, MissingExtra, NoDriver) as error:
+        print(f"palqytun: {' '.join(str(error).split())}", file=sys.stderr)
         return 2

@@ -1,161 +1,320 @@
-"""Transactions, committed in groups: all operations that are queued while one transaction is committed are the next one. There is one
-transaction at a time, and its operations are made one after the other.
+"""Transactions, committed in groups: all operations that are queued while one transaction is committed are the next one, and are made one after the
+other.
+
+On PostgreSQL there is more than one transaction at a time only if one is slow: one that is quick leaves the next group more to commit together, and
+one that waits for a lock keeps nobody out.
 """
 
 from __future__ import annotations
 
 import asyncio
+import logging
 import random
 import time
 from collections.abc import Awaitable, Callable
+from dataclasses import dataclass
 from typing import Any, TypeVar
 
 from .appending import AT_ONCE, Append, append
-from .database import Conflict, Database, Lost
+from .database import Conflict, Database, Lost, StatementFailed, Unsuitable
 from .lease import Growth
 
 T = TypeVar("T")
 Operation = Callable[[Database], Awaitable[Any]] | Append
-_TRIES = 20  # of a transaction that meets conflicts
+log = logging.getLogger("palqytun")
 _LASTS = 0.25  # seconds that a group is to take, so that beats and short transactions don't wait for long
 _FEWEST = 20  # operations of a group, however slow they are
+_SLOW = 0.05  # seconds of a group, after which the next one doesn't wait for it
+_LANES = 4  # connections for groups, at most
+_WITHOUT = 5.0  # seconds until another connection is tried for again, if there was none
+_LONGEST = 1.0  # seconds between two tries of an operation that something is in the way of
+_CLOSING = 5.0  # seconds that what is queued may take at the end
 
 
 class Stopped(Exception):
     """The worker has stopped, or has lost its database: the operation wasn't made, or it isn't known whether it was."""
 
 
+@dataclass(eq=False)
+class _Queued:
+    """An operation, whoever waits for its result, and how often something was in its way. Then it is made alone, as one that may be slow is, so that
+    nobody waits with it."""
+
+    operation: Operation
+    future: asyncio.Future[Any]
+    is_slow: bool = False
+    tries: int = 0
+
+    @property
+    def is_alone(self) -> bool:
+        return self.is_slow or self.tries > 0
+
+    def has(self, result: Any) -> None:
+        if not self.future.done():
+            self.future.set_result(result)
+
+    def fails(self, error: BaseException) -> None:
+        if not self.future.done():
+            self.future.set_exception(error)
+
+
 class Committer:
+    """`submit` and `append` return futures, whose exceptions are `Stopped`, or what the operation itself raised. An operation that meets a
+    `Conflict` is made again until it is stored, however long that lasts; who waits for it may cancel its future."""
+
     def __init__(self, db: Database, *, grouped: bool = True, most: int = 500):
         """`grouped`: operations that wait at one time are one transaction, of `most` operations at most."""
         self.db, self.grouped, self.most = db, grouped, most
         self._size = most if grouped else 1  # of the next group
         self.counts = {"transactions": 0, "operations": 0, "conflicts": 0}
         self.lost: Exception | None = None
-        self._queue: list[tuple[Operation, asyncio.Future[Any]]] = []
-        self._has_work = asyncio.Event()
-        self._task = asyncio.create_task(self._run())
         self.is_lost = asyncio.Event()
-        self._is_busy = False
+        self._queue: list[_Queued] = []
+        self._again: list[_Queued] = []  # that wait until they are tried again
+        self._has_work = asyncio.Event()
+        self._lanes, self._idle = [db], [db]  # all connections, and those without a transaction
+        self._working: dict[asyncio.Task[None], float] = {}  # when each group began; one that may be slow counts as such at once
+        self._none_until = 0.0
+        self._task = asyncio.create_task(self._run())
 
-    def submit(self, operation: Callable[[Database], Awaitable[T]], is_urgent: bool = False) -> asyncio.Future[T]:
-        """Queues an operation, at the front if it is urgent. Its future has what the operation answered, once that is committed."""
-        return self._queued(operation, is_urgent)
+    def submit(self, operation: Callable[[Database], Awaitable[T]], is_slow: bool = False) -> asyncio.Future[T]:
+        """Queues an operation. Its future has what the operation returned, once that is committed. One that may be slow is a transaction by
+        itself."""
+        return self._queued(operation, is_slow)
 
     def append(self, growth: Growth) -> asyncio.Future[bool]:
         """Queues a store that touches nothing but its own journal. Its future has whether it was stored, once the group is committed."""
         return self._queued(Append(growth), False)
 
-    def _queued(self, operation: Operation, is_urgent: bool) -> asyncio.Future[Any]:
+    def _queued(self, operation: Operation, is_slow: bool) -> asyncio.Future[Any]:
         future: asyncio.Future[Any] = asyncio.get_running_loop().create_future()
         if self.lost is not None:
             future.set_exception(Stopped(str(self.lost)))
         else:
-            self._queue.insert(0 if is_urgent else len(self._queue), (operation, future))
+            self._queue.append(_Queued(operation, future, is_slow))
             self._has_work.set()
         return future
 
     async def close(self) -> None:
-        """Makes what is queued, and closes the connection."""
-        while (self._queue or self._is_busy) and self.lost is None:
+        """Makes what is queued, if that takes no longer than some seconds, and closes the connections."""
+        until = time.monotonic() + _CLOSING
+        while (self._queue or self._working or self._again) and self.lost is None and time.monotonic() < until:
             await asyncio.sleep(0.001)
         self._task.cancel()
         await asyncio.gather(self._task, return_exceptions=True)
         self._abandon(Stopped("the worker has stopped"))
-        try:
-            self.db.close()
-        except Exception:  # it was lost before
-            pass
+        for task in self._working:
+            task.cancel()
+        await asyncio.gather(*self._working, return_exceptions=True)
+        for db in self._lanes:
+            try:
+                db.close()
+            except Exception:  # it was lost before
+                pass
+
+    # ---- groups
 
     async def _run(self) -> None:
-        while True:
+        while self.lost is None:
             await self._has_work.wait()
-            await asyncio.sleep(0)  # those that go on by the last answers may queue more
-            group, self._queue = self._queue[: self._size], self._queue[self._size :]
-            if not self._queue:
-                self._has_work.clear()
-            self._is_busy, begun = True, time.monotonic()
-            try:
-                await self._commit(group)
-                self._adapt(len(group), time.monotonic() - begun)
-            except Lost as error:
-                self._abandon(error, group)
+            await asyncio.sleep(0)  # those that go on by the last results may queue more
+            db = await self._free()
+            if db is None:
                 return
-            finally:
-                self._is_busy = False
+            group = self._taken()
+            if not group:
+                self._idle.append(db)
+                continue
+            task = asyncio.create_task(self._work(db, group))
+            self._working[task] = -_SLOW if group[0].is_alone else time.monotonic()
+
+    async def _free(self) -> Database | None:
+        """A connection for the next group: at once if none is in work, else once one is done, or the one that began last is slow. None if the
+        database is lost."""
+        while self._working:
+            left = max(self._working.values()) + _SLOW - time.monotonic()
+            if left <= 0 and (db := await self._another()) is not None:
+                return db
+            await asyncio.wait(self._working, timeout=left if left > 0 else None, return_when=asyncio.FIRST_COMPLETED)
+        return self._idle.pop() if self._idle and self.lost is None else None
+
+    async def _another(self) -> Database | None:
+        """A connection beside those in work, if there may be one more."""
+        if self._idle:
+            return self._idle.pop()
+        if len(self._lanes) == _LANES or time.monotonic() < self._none_until:
+            return None
+        try:
+            db = await self.db.another()
+        except (Lost, Conflict, StatementFailed, Unsuitable) as error:
+            log.warning("there is no further connection: %s", error)
+            db = None
+        if db is None:
+            self._none_until = time.monotonic() + _WITHOUT
+        else:
+            self._lanes.append(db)
+        return db
+
+    def _taken(self) -> list[_Queued]:
+        """The next group. What is slow or made again is one by itself. Who doesn't wait any more is left out."""
+        queue = [it for it in self._queue if not it.future.done()]
+        count = next((at for at, it in enumerate(queue) if it.is_alone), len(queue))
+        count = max(1, min(count, self._size))
+        group, self._queue = queue[:count], queue[count:]
+        if not self._queue:
+            self._has_work.clear()
+        return group
+
+    async def _work(self, db: Database, group: list[_Queued]) -> None:
+        begun = time.monotonic()
+        try:
+            await self._commit(db, group)
+            self._adapt(len(group), time.monotonic() - begun)
+            self._idle.append(db)
+        except Lost as error:
+            self._abandon(error)
+        except BaseException as error:
+            self._abandon(Stopped(repr(error)))
+            raise
+        finally:
+            for it in group:
+                if self.lost is not None:
+                    it.fails(Stopped(str(self.lost)))
+            task = asyncio.current_task()
+            assert task is not None
+            del self._working[task]
 
     def _adapt(self, count: int, took: float) -> None:
         """The next group is as large as lasts a moment, by how long this one took."""
         if self.grouped:
             self._size = max(_FEWEST, min(self.most, int(count * _LASTS / max(took, 1e-6))))
 
-    def _abandon(self, error: Exception, group: list[tuple[Operation, asyncio.Future[Any]]] | None = None) -> None:
-        self.lost = error
-        queue, self._queue = [*(group or []), *self._queue], []
-        for _, future in queue:
-            if not future.done():
-                future.set_exception(Stopped(str(error)))
+    def _abandon(self, error: Exception) -> None:
+        if self.lost is None:
+            self.lost = error
+        waiting, self._queue, self._again = [*self._queue, *self._again], [], []
+        for it in waiting:
+            it.fails(Stopped(str(error)))
         self.is_lost.set()
 
-    async def _commit(self, group: list[tuple[Operation, asyncio.Future[Any]]]) -> None:
+    async def _commit(self, db: Database, group: list[_Queued]) -> None:
+        """Makes a group in one transaction; if that fails, each operation that can be stored is, without those that can't."""
         try:
-            answers = await self._transaction([operation for operation, _ in group])
+            results = await self._transaction(db, [it.operation for it in group])
         except Lost:
             raise
         except Exception as error:
             if len(group) == 1:
-                await self._again(group[0], error)
-                return
-            for one in group:
-                await self._commit([one])
+                self._failed(group[0], error)
+            else:
+                await self._apart(db, group)
             return
-        for (_, future), answer in zip(group, answers):
-            if not future.done():
-                future.set_result(answer)
+        for it, result in zip(group, results):
+            it.has(result)
 
-    async def _again(self, one: tuple[Operation, asyncio.Future[Any]], error: Exception) -> None:
-        """One operation failed alone. It is made again if others were in its way; else it has its error."""
-        operation, future = one
-        for count in range(_TRIES):
-            if not isinstance(error, Conflict):
-                break
-            self.counts["conflicts"] += 1
-            await asyncio.sleep(random.random() * 0.01 * (count + 1))
-            try:
-                answer = (await self._transaction([operation]))[0]
-            except Lost:
-                raise
-            except Exception as next_error:
-                error = next_error
-                continue
-            if not future.done():
-                future.set_result(answer)
-            return
-        if not future.done():
-            future.set_exception(error)
-
-    async def _transaction(self, operations: list[Operation]) -> list[Any]:
-        self.counts["transactions"] += 1
-        self.counts["operations"] += len(operations)
-        appends = [it for it in operations if isinstance(it, Append)]
-        if self.db.is_remote and len(appends) == len(operations) <= AT_ONCE:
-            return await append(self.db, appends)  # one statement, which is a transaction by itself
-        await self.db.begin()
+    async def _apart(self, db: Database, group: list[_Queued]) -> None:
+        """Makes a group in one transaction, each operation up to a savepoint of its own. So a bad one undoes nothing of the others."""
+        self._counted(group)
+        results: list[Any] = []
+        await self._begin(db)
         try:
-            answers = await self._made(operations)
-            await self.db.commit()
-        except BaseException:
-            await self._rollback()
-            raise
-        return answers
-
-    async def _made(self, operations: list[Operation]) -> list[Any]:
-        appends = [it for it in operations if isinstance(it, Append)]
-        stored = iter(await append(self.db, appends) if appends else ())
-        return [next(stored) if isinstance(it, Append) else await it(self.db) for it in operations]
-
-    async def _rollback(self) -> None:
-        try:
-            await self.db.rollback()
+            db.hurry()
+            for it in group:
+                results.append(await self._member(db, it.operation))
+            await db.commit()
         except Lost:
+            raise
+        except Exception as error:
+            await self._rollback(db)
+            log.warning("a group can't be committed, and its parts are: %s", error)
+            for half in (group[: len(group) // 2], group[len(group) // 2 :]):
+                await self._commit(db, half)
+            return
+        for it, result in zip(group, results):
+            if isinstance(result, _Raised):
+                self._failed(it, result.error)
+            else:
+                it.has(result)
+
+    async def _member(self, db: Database, operation: Operation) -> Any:
+        """What an operation returns, or what it raised; then nothing of it is in the transaction."""
+        db.put("SAVEPOINT one")
+        try:
+            result = (await self._made(db, [operation]))[0]
+            await db.change("RELEASE one")
+        except Lost:
+            raise
+        except Exception as error:
+            await db.change("ROLLBACK TO one")
+            return _Raised(error)
+        return result
+
+    def _failed(self, it: _Queued, error: Exception) -> None:
+        """An operation failed alone. If something was in its way it is made again, after a growing time; else it has its error."""
+        if not isinstance(error, Conflict):
+            it.fails(error)
+            return
+        self.counts["conflicts"] += 1
+        it.tries += 1
+        if it.tries in (20, 200, 2000):
+            log.warning("something is in the way of an operation, which was tried %s times: %s", it.tries, error)
+        self._again.append(it)
+        asyncio.get_running_loop().call_later(random.random() * min(_LONGEST, 0.02 * it.tries), self._requeue, it)
+
+    def _requeue(self, it: _Queued) -> None:
+        if it in self._again:
+            self._again.remove(it)
+            self._queue.append(it)
+            self._has_work.set()
+
+    # ---- transactions
+
+    def _counted(self, group: list[Any]) -> None:
+        self.counts["transactions"] += 1
+        self.counts["operations"] += len(group)
+
+    async def _transaction(self, db: Database, operations: list[Operation]) -> list[Any]:
+        self._counted(operations)
+        appends = [it for it in operations if isinstance(it, Append)]
+        if db.is_remote and len(appends) == len(operations) <= AT_ONCE:
+            return await append(db, appends)  # one statement, which is a transaction by itself
+        await self._begin(db)
+        try:
+            results = await self._made(db, operations)
+            await db.commit()
+        except BaseException:
+            await self._rollback(db)
+            raise
+        return results
+
+    async def _begin(self, db: Database) -> None:
+        """Begins a transaction. If the whole database is locked, as by another program that writes to a SQLite file, it waits."""
+        tries = 0
+        while True:
+            try:
+                await db.begin()
+                return
+            except Conflict as error:
+                self.counts["conflicts"] += 1
+                tries += 1
+                if tries in (100, 1000, 10000):
+                    log.warning("the database is locked, and waited for: %s", error)
+            await asyncio.sleep(min(0.1, 0.002 * tries))
+
+    async def _made(self, db: Database, operations: list[Operation]) -> list[Any]:
+        appends = [it for it in operations if isinstance(it, Append)]
+        stored = iter(await append(db, appends) if appends else ())
+        return [next(stored) if isinstance(it, Append) else await it(db) for it in operations]
+
+    async def _rollback(self, db: Database) -> None:
+        try:
+            await db.rollback()
+        except (Lost, Conflict, StatementFailed):
             pass  # the error that led here is the one to raise
+
+
+@dataclass(frozen=True)
+class _Raised:
+    """What an operation raised."""
+
+    error: Exception

@@ -2,8 +2,11 @@
 
 from __future__ import annotations
 
+import contextvars
+import inspect
 import logging
 import random
+import threading
 import time
 import typing
 import uuid
@@ -15,8 +18,9 @@ from types import TracebackType
 from typing import Any, Generic, NoReturn, TypeVar, cast, overload
 
 from .. import core
-from .codec import Codec
+from .codec import BadValue, Codec, decoded, encoded
 from .durable import Durable, Leaf, Task, Tasks, select
+from .names import check_name
 from .services import App, Handler, I, O, Retry, TerminalError, to_text_headers
 
 T = TypeVar("T")
@@ -34,13 +38,30 @@ class CaughtTooMuch(Exception):
         super().__init__("the handler caught AttemptEnds, by `except BaseException` or a bare `except`; catch `Exception` instead")
 
 
+class OutsideHandler(RuntimeError):
+    """The context is used outside the handler's own code, as within a run. The invocation is paused: no retry helps."""
+
+
+class NoSuchUse(RuntimeError):
+    """A handler of this kind of service has no such call."""
+
+
 @dataclass
 class Action:
-    """What a run executes, and how it is retried."""
+    """What a run executes, and how it is retried. `key` names the run for systems outside, alike in each attempt."""
 
+    name: str
     function: Callable[..., Any]
     arguments: tuple[Any, ...]
     policy: core.RetryPolicy
+    key: str
+
+
+running: contextvars.ContextVar[Action | None] = contextvars.ContextVar("palqytun_run", default=None)
+"""The run that this code is executed for; none in a handler."""
+
+
+_FOREVER = core.retry_forever()
 
 
 def _ms(seconds: float) -> int:
@@ -62,12 +83,12 @@ def policy_of(retry: Retry) -> core.RetryPolicy:
 class ReplayLog(logging.LoggerAdapter):  # type: ignore[type-arg]
     """A logger that is silent while the journal is replayed, and names the invocation."""
 
-    def __init__(self, vm: core.VM, invocation: str):
+    def __init__(self, context: Context, invocation: str):
         super().__init__(handler_log, {"invocation": invocation})
-        self._vm = vm
+        self._context = context
 
     def isEnabledFor(self, level: int) -> bool:
-        return super().isEnabledFor(level) and self._vm.state() == "Processing"
+        return super().isEnabledFor(level) and self._context._is_new("ctx.log")
 
     def process(self, msg: Any, kwargs: MutableMapping[str, Any]) -> tuple[Any, MutableMapping[str, Any]]:
         return f"{self.extra['invocation'] if self.extra else ''} {msg}", kwargs
@@ -85,7 +106,7 @@ class Promise(Generic[T]):
     """A promise of the workflow."""
 
     def __init__(self, context: Context, name: str, kind: Any):
-        self._context, self._name, self._read = context, name, context._reader(kind)
+        self._context, self._name, self._read = context, name, context._result(kind)
 
     def value(self) -> Durable[T]:
         """Its value, once it is completed."""
@@ -104,6 +125,21 @@ class Promise(Generic[T]):
         return self.resolve(TerminalError(message, code))
 
 
+class _Chance(random.Random):
+    """Random numbers that are the same in each attempt. They are drawn in the handler's own code alone: a run isn't executed again in a replay,
+    so what it drew would be drawn by the next one."""
+
+    context: Context
+
+    def random(self) -> float:
+        self.context._own("ctx.random")
+        return super().random()
+
+    def getrandbits(self, k: int, /) -> int:
+        self.context._own("ctx.random")
+        return super().getrandbits(k)
+
+
 class _Entered(AbstractContextManager[None]):
     """The handler's own code runs. It is entered once a step, so it is no generator."""
 
@@ -111,27 +147,40 @@ class _Entered(AbstractContextManager[None]):
         self._context = context
 
     def __enter__(self) -> None:
-        self._context._in_handler = True
+        self._context._thread = threading.get_ident()
 
     def __exit__(self, kind: type[BaseException] | None, error: BaseException | None, trace: TracebackType | None) -> None:
-        self._context._in_handler = False
+        self._context._thread = None
         if kind is None and self._context.refused is not None:
             raise CaughtTooMuch()
+
+
+_INSTEAD = {
+    "ctx.uuid": "draw it before, in the handler, and give it to the run as an argument; or take `ctx.run_key`, which each run has of its own",
+    "ctx.random": "draw it before, in the handler, and give it to the run as an argument",
+    "ctx.log": "a run has a logger of its own, as logging.getLogger(__name__)",
+    "ctx.key": "take it before, in the handler, and give it to the run as an argument",
+    "ctx.headers": "take them before, in the handler, and give them to the run as an argument",
+}
 
 
 class Context:
     """The calls of a handler in one attempt."""
 
-    def __init__(self, vm: core.VM, input: core.Input, app: App, may_write: bool):
+    def __init__(self, vm: core.VM, input: core.Input, app: App, service: str, may_write: bool):
         self._vm, self._may_write, self._app = vm, may_write, app
+        self._service = app.services[service]
         self._codec: Codec = app.codec
-        self.invocation_id, self.key, self.headers = input.invocation_id, input.key, dict(input.headers)
-        self.random = random.Random(input.random_seed)
-        self.log = ReplayLog(vm, input.invocation_id)
+        self._key, self._headers = input.key, dict(input.headers)
+        self.invocation_id = input.invocation_id
+        self._random = _Chance(input.random_seed)
+        self._random.context = self
+        self._log = ReplayLog(self, input.invocation_id)
         self.actions: dict[int, Action] = {}
+        self.awakeables: dict[str, Callable[[Any], Any]] = {}  # by id: what reads the value
         self.tasks: Tasks | None = None
         self.refused: BaseException | None = None
-        self._in_handler = False
+        self._thread: int | None = None  # in which the handler's own code runs, while it does
         self._entered = _Entered(self)
 
     # ---- what the attempt does with it
@@ -145,23 +194,36 @@ class Context:
         what is wrong with a coroutine that doesn't let itself be closed."""
         self.refused = self.refused or RuntimeError("the attempt is over")
         fault: Exception | None = None
+        self._thread = threading.get_ident()
         for task in self.tasks.all if self.tasks is not None else ():
             try:
                 task.coroutine.close()
-            except (AttemptEnds, TerminalError):
-                pass
             except RuntimeError as error:
                 if "ignored GeneratorExit" in str(error):
                     fault = CaughtTooMuch()
-            except Exception:  # raised in a `finally` part, which counts as little as what it does
+            except BaseException:  # raised in a `finally` part, which counts as little as what it does
                 pass
+        self._thread = None
+        self.actions.clear()
         return fault
 
+    def _own(self, what: str) -> None:
+        """What is asked for belongs to the handler's own code."""
+        if self._thread != threading.get_ident():
+            where = f"within the run {run.name!r}" if (run := running.get()) is not None else "outside the handler's own code"
+            instead = _INSTEAD.get(what, "the context belongs to the handler: make its calls there, and give a run what it needs as arguments")
+            raise OutsideHandler(f"{what} is used {where}: {instead}")
+
+    def _is_new(self, what: str) -> bool:
+        """Whether the handler does something for the first time, which no attempt before did."""
+        self._own(what)
+        return self.refused is None and self._vm.state() == "Processing"
+
     def _vm_call(self, name: str, *arguments: Any, **options: Any) -> Any:
+        if self._thread != threading.get_ident():
+            self._own("the context")
         if self.refused is not None:
             raise AttemptEnds()
-        if not self._in_handler:
-            raise RuntimeError("the context is used outside the handler's own code, as within a run")
         try:
             return getattr(self._vm, name)(*arguments, **options)
         except (core.VMError, core.BadLine, UnicodeError) as error:
@@ -171,14 +233,68 @@ class Context:
         self.refused = error
         raise AttemptEnds() from error
 
+    def _only(self, is_allowed: bool, why: str) -> None:
+        """What a handler of this kind has no use for ends the invocation by an error that says why."""
+        if not is_allowed and self.refused is None:
+            self._own("the context")
+            self._vm.notify_error(500, why, behaviour="fail")
+            self._end(NoSuchUse(why))
+
     def _reader(self, kind: Any) -> Callable[[Any], Any]:
         """Reads what the VM has for a value; there being none is None, for every type."""
-        return lambda came: None if came is core.VOID else self._codec.decode(came, kind)
+        return lambda came: None if came is core.VOID else decoded(self._codec, came, kind)
+
+    def _result(self, kind: Any) -> Callable[[Any], Any]:
+        """As `_reader`, for what others gave: a value that isn't of its type is a failure at its await, by which the handler can undo what it
+        did."""
+        read = self._reader(kind)
+
+        def result(came: Any) -> Any:
+            try:
+                return read(came)
+            except BadValue as error:
+                raise TerminalError(f"a result that can't be read as {getattr(kind, '__name__', kind)}: {error}") from error
+
+        return result
 
     def _given(self, value: Any) -> bytes | core.Failure:
         if isinstance(value, TerminalError):
             return given_failure(value)
-        return self._codec.encode(value)
+        return encoded(self._codec, value)
+
+    @property
+    def key(self) -> str:
+        """The key that the handler is called with; empty in a service."""
+        self._own("ctx.key")
+        return self._key
+
+    @property
+    def headers(self) -> dict[str, str]:
+        """The headers that the handler is called with."""
+        self._own("ctx.headers")
+        return self._headers
+
+    @property
+    def log(self) -> ReplayLog:
+        """A logger that is silent while the journal is replayed, and names the invocation."""
+        self._own("ctx.log")
+        return self._log
+
+    @property
+    def random(self) -> random.Random:
+        """Random numbers, the same in each attempt."""
+        self._own("ctx.random")
+        return self._random
+
+    @property
+    def run_key(self) -> str:
+        """Within a run, a key for systems outside: it is the run's own, and the same each time that it is executed.
+
+        `await ctx.run("pay", lambda: pay(ctx.run_key, amount))`"""
+        run = running.get()
+        if run is None:
+            raise OutsideHandler("ctx.run_key is known within a run only: `ctx.run(name, lambda: pay(ctx.run_key, amount))`")
+        return run.key
 
     # ---- time, chance, effects
 
@@ -196,15 +312,22 @@ class Context:
         """Executes an effect once it is awaited, and keeps its result.
 
         It is executed at least once: a crash before the result is stored executes it again, so give what is outside an idempotency key, as
-        `ctx.uuid()`. A plain function runs in a thread. A `TerminalError` is its result; another error is tried again by `retry`, without
-        which it is tried for ever. `gives` is the result's type, if the function's annotation doesn't say it."""
+        `ctx.run_key` or `ctx.uuid()`. A plain function runs in a thread. A `TerminalError` is its result; another error is tried again by
+        `retry`, without which it is tried for ever. A result that the codec can't write is a `TerminalError`, so that the effect isn't executed
+        again. `gives` is the result's type, if the function's annotation doesn't say it."""
+        if not callable(function):
+            given = "its coroutine" if inspect.iscoroutine(function) else repr(function)
+            raise TypeError(f"ctx.run({name!r}, ..) takes a function, and its arguments after it; and not {given}")
+        policy = _FOREVER if retry is None else policy_of(retry)
         run = self._vm_call("sys_run", name)
-        self.actions[run.handle] = Action(function, arguments, core.retry_forever() if retry is None else policy_of(retry))
-        return Leaf(run.handle, self._reader(_result_of(function) if gives is None else gives))
+        key = f"{self.invocation_id}-{self._vm.last_command_index()}"
+        self.actions[run.handle] = Action(name, function, arguments, policy, key)
+        return Leaf(run.handle, self._result(_result_of(function) if gives is None else gives))
 
     def uuid(self) -> str:
         """A random UUID, the same in each attempt."""
-        return str(uuid.UUID(int=self.random.getrandbits(128), version=4))
+        self._own("ctx.uuid")
+        return str(uuid.UUID(int=self._random.getrandbits(128), version=4))
 
     def now(self) -> Durable[float]:
         """The time in seconds since the epoch, as it was when this was first awaited."""
@@ -243,9 +366,11 @@ class Context:
     ) -> Call[O]:
         """Calls a handler, or `"Service/handler"`. Awaited, it gives the handler's result."""
         service, name, gives = self._target(target)
+        check_name("the key", key or "")
+        check_name("the idempotency key", idempotency_key or "")
         options = {"key": key, "idempotency_key": idempotency_key, "headers": to_text_headers(headers)}
-        id, handle = self._vm_call("sys_call", service, name, self._codec.encode(argument), **options)
-        return Call(id, handle, self._reader(gives))
+        id, handle = self._vm_call("sys_call", service, name, encoded(self._codec, argument), **options)
+        return Call(id, handle, self._result(gives))
 
     def send(
         self,
@@ -259,9 +384,11 @@ class Context:
     ) -> Durable[str]:
         """Calls a handler, at once or after a delay in seconds, and doesn't wait for it. Awaited, it gives the invocation's id."""
         service, name, _ = self._target(target)
+        check_name("the key", key or "")
+        check_name("the idempotency key", idempotency_key or "")
         options = {"key": key, "idempotency_key": idempotency_key, "headers": to_text_headers(headers)}
         at = _ms(time.time() + delay) if delay else None
-        return Leaf(self._vm_call("sys_send", service, name, self._codec.encode(argument), at=at, **options), lambda came: str(came.id))
+        return Leaf(self._vm_call("sys_send", service, name, encoded(self._codec, argument), at=at, **options), lambda came: str(came.id))
 
     @overload
     def attach(self, invocation_id: str, gives: type[T]) -> Durable[T]: ...
@@ -269,7 +396,7 @@ class Context:
     def attach(self, invocation_id: str, gives: Any = Any) -> Durable[Any]: ...
     def attach(self, invocation_id: str, gives: Any = Any) -> Durable[Any]:
         """The result of another invocation, once it has ended."""
-        return Leaf(self._vm_call("sys_attach_invocation", core.InvocationId(invocation_id)), self._reader(gives))
+        return Leaf(self._vm_call("sys_attach_invocation", core.InvocationId(invocation_id)), self._result(gives))
 
     def cancel(self, invocation_id: str) -> None:
         """Cancels another invocation: what it awaits raises `Cancelled`."""
@@ -283,20 +410,25 @@ class Context:
     def get(self, name: str, kind: Any = Any) -> Durable[Any]: ...
     def get(self, name: str, kind: Any = Any) -> Durable[Any]:
         """The value of a state key, or none."""
+        self._keyed()
         return Leaf(self._vm_call("sys_state_get", name), self._reader(kind))
 
     def keys(self) -> Durable[list[str]]:
         """The names of the state's keys."""
+        self._keyed()
         return Leaf(self._vm_call("sys_state_get_keys"), lambda came: cast("list[str]", came))
 
+    def _keyed(self) -> None:
+        self._only(self._service.keyed, f"{self._service.name} is a Service, which has no key and so no state; a VirtualObject has one")
+
     def _write(self) -> None:
-        if not self._may_write and self._in_handler and self.refused is None:
-            self._vm.notify_error(500, "this handler only reads the state", behaviour="fail")
-            self._end(RuntimeError("this handler only reads the state"))
+        self._keyed()
+        self._only(self._may_write, "this handler only reads the state")
 
     def set(self, name: str, value: Any) -> None:
         self._write()
-        self._vm_call("sys_state_set", name, self._codec.encode(value))
+        check_name("the name of a state", name)
+        self._vm_call("sys_state_set", name, encoded(self._codec, value))
 
     def clear(self, name: str) -> None:
         self._write()
@@ -315,7 +447,8 @@ class Context:
     def awakeable(self, kind: Any = Any) -> tuple[str, Durable[Any]]:
         """An id to hand out, and what comes once others complete it."""
         awakeable = self._vm_call("sys_awakeable")
-        return awakeable.id, Leaf(awakeable.handle, self._reader(kind))
+        self.awakeables[awakeable.id] = self._reader(kind)
+        return awakeable.id, Leaf(awakeable.handle, self._result(kind))
 
     def resolve_awakeable(self, id: str, value: Any = None) -> None:
         self._vm_call("sys_complete_awakeable", id, self._given(value))
@@ -329,7 +462,7 @@ class Context:
     def signal(self, name: str, kind: Any = Any) -> Durable[Any]: ...
     def signal(self, name: str, kind: Any = Any) -> Durable[Any]:
         """The next signal of this name."""
-        return Leaf(self._vm_call("create_signal_handle", name), self._reader(kind))
+        return Leaf(self._vm_call("create_signal_handle", name), self._result(kind))
 
     def send_signal(self, invocation_id: str, name: str, value: Any = None) -> None:
         self._vm_call("sys_complete_signal", invocation_id, name, self._given(value))
@@ -340,6 +473,9 @@ class Context:
     def promise(self, name: str, kind: Any = Any) -> Promise[Any]: ...
     def promise(self, name: str, kind: Any = Any) -> Promise[Any]:
         """A promise of this workflow's key."""
+        kind_of = type(self._service).__name__
+        self._only(self._service.workflow, f"{self._service.name} is a {kind_of}, which has no promises; a Workflow has them, and an awakeable is one's own")
+        check_name("the name of a promise", name)
         return Promise(self, name, kind)
 
 
@@ -352,5 +488,5 @@ def _result_of(function: Any) -> Any:
         if function not in _results:
             _results[function] = typing.get_type_hints(function).get("return", Any)
         return _results[function]
-    except (TypeError, NameError):
+    except Exception:  # it can't be a key, or its annotations can't be evaluated here
         return Any

@@ -1,83 +1,71 @@
-"""When a schedule is due: every so many seconds, or by the five fields of cron, in UTC.
+"""When a schedule is due: every so many seconds, or by the five fields of cron, as croniter reads them, in a time zone.
 
-The fields are minute, hour, day of the month, month and day of the week (0 to 7; 0 and 7 are Sunday). Each is `*`, a number, a range `a-b`,
-one of these with a step `/n`, or a list of such parts. If both days are given, either of them will do.
+A time of the clock that summer time skips is due an hour later. One that comes twice is due at the first, unless the hours are `*`: then both count.
 """
 
 from __future__ import annotations
 
-import calendar
 import datetime
+import re
+import zoneinfo
 from collections.abc import Iterator
 from dataclasses import dataclass
+from typing import Any
 
-_FIELDS = (("minute", 0, 59), ("hour", 0, 23), ("day of the month", 1, 31), ("month", 1, 12), ("day of the week", 0, 7))
-_LONGEST = 8 * 366  # days between two times of one expression, as for the 29th of February
+from .extras import needed
 
-
-def _part(text: str, name: str, low: int, high: int) -> set[int]:
-    span, has_step, step = text.partition("/")
-    first, is_range, last = span.partition("-")
-    numbers = [it for it in (first, last, step) if it and it != "*"]
-    if not all(it.isascii() and it.isdigit() for it in numbers) or (has_step and not step) or (is_range and not last):
-        raise ValueError(f"{text!r} is no {name}")
-    if span == "*":
-        begin, end = low, high
-    elif not first or "*" in (first, last):
-        raise ValueError(f"{text!r} is no {name}")
-    else:
-        begin = int(first)
-        end = int(last) if is_range else high if has_step else begin
-    if not low <= begin <= end <= high or (has_step and int(step) == 0):
-        raise ValueError(f"{text!r} is no {name}, which is from {low} to {high}")
-    return set(range(begin, end + 1, int(step) if has_step else 1))
-
-
-def _field(text: str, name: str, low: int, high: int) -> frozenset[int]:
-    return frozenset(number for part in text.split(",") for number in _part(part, name, low, high))
+_RANDOM = re.compile(r"(?<![a-z])[rh](?![a-z])", re.IGNORECASE)  # croniter's own fields, which mean another time at each reading
+_SHIFT = datetime.timedelta(hours=3)  # more than any zone's clock is moved
 
 
 @dataclass(frozen=True)
 class Cron:
-    """A cron expression."""
+    """A cron expression, in a zone."""
 
     text: str
-    minutes: frozenset[int]
-    hours: frozenset[int]
-    days: frozenset[int]
-    months: frozenset[int]
-    weekdays: frozenset[int]
-    is_either: bool  # both days are given
+    zone: zoneinfo.ZoneInfo
 
     @staticmethod
-    def read(text: str) -> Cron:
-        fields = text.split()
-        if len(fields) != 5:
-            raise ValueError(f"a cron expression has 5 fields, and {text!r} has {len(fields)}")
-        minutes, hours, days, months, weekdays = (_field(it, *kind) for it, kind in zip(fields, _FIELDS))
-        found = Cron(text, minutes, hours, days, months, frozenset(it % 7 for it in weekdays), "*" not in (fields[2][0], fields[4][0]))
+    def read(text: str, zone: str = "UTC") -> Cron:
+        """Raises `ValueError` for what is no expression, is never due, or names no zone."""
+        count = len(text.split())
+        if count != 5 or _RANDOM.search(text):
+            raise ValueError(f"a cron expression has 5 fields, as '0 3 * * mon-fri', and {text!r} has {count}, or one that cron doesn't know")
+        try:
+            found = Cron(text, zoneinfo.ZoneInfo(zone))
+        except (zoneinfo.ZoneInfoNotFoundError, ValueError, OSError):
+            raise ValueError(f"{zone!r} is no time zone, as 'Europe/Berlin' is one") from None
         found.after(0)
         return found
 
-    def _has(self, day: datetime.date) -> bool:
-        of_month, of_week = day.day in self.days, day.isoweekday() % 7 in self.weekdays
-        return day.month in self.months and (of_month or of_week if self.is_either else of_month and of_week)
+    def _walls(self, since: datetime.datetime) -> Iterator[datetime.datetime]:
+        """Its times after one, by a clock on the wall."""
+        croniter: Any = needed("croniter", "server", "a schedule by cron").croniter
+        try:
+            times = croniter(self.text, since)
+            while True:
+                yield times.get_next(datetime.datetime)
+        except ValueError as error:
+            raise ValueError(f"{self.text!r} is no cron expression, or never due: {error}") from error
 
-    def _times(self, since: datetime.date) -> Iterator[int]:
-        """Its times from the begin of a day on, in seconds since the epoch."""
-        for number in range(_LONGEST):
-            day = since + datetime.timedelta(number)
-            if self._has(day):
-                midnight = calendar.timegm(day.timetuple())
-                yield from (midnight + 3600 * hour + 60 * minute for hour in sorted(self.hours) for minute in sorted(self.minutes))
+    def _instants(self, wall: datetime.datetime) -> Iterator[float]:
+        """When the clock on the wall shows a time, in seconds since the epoch."""
+        first, second = (wall.replace(tzinfo=self.zone, fold=fold).timestamp() for fold in (0, 1))
+        yield first
+        if second > first and self.text.split()[1].startswith("*"):
+            yield second
 
     def after(self, now: float) -> float:
         """The first time after `now`, in seconds since the epoch."""
-        today = datetime.datetime.fromtimestamp(now, datetime.timezone.utc).date()
-        for at in self._times(today):
-            if at > now:
-                return float(at)
-        raise ValueError(f"{self.text!r} is never due")
+        here = datetime.datetime.fromtimestamp(now, self.zone)
+        is_near_a_change = (here - _SHIFT).utcoffset() != (here + _SHIFT).utcoffset()
+        wall, shift = here.replace(tzinfo=None, fold=0), _SHIFT if is_near_a_change else datetime.timedelta()
+        found: list[float] = []
+        for it in self._walls(wall - shift):
+            found += [at for at in self._instants(it) if at > now]
+            if found and it > wall + shift:
+                break
+        return min(found)
 
 
 @dataclass(frozen=True)

@@ -5,6 +5,7 @@ from __future__ import annotations
 import base64
 import hashlib
 import struct
+import time
 from typing import Any
 
 from . import inbox, invocations, journal
@@ -48,7 +49,8 @@ class Performer:
             await method(self, it)
 
     async def _sleep(self, it: Sleep) -> None:
-        self.db.put("INSERT INTO timers(due, invocation, completes) VALUES (?,?,?)", (it.due / 1000, self.own, it.id))
+        due = self.db.now() + it.due / 1000 - time.time()  # the command has it by this worker's clock
+        self.db.put("INSERT INTO timers(due, invocation, completes) VALUES (?,?,?)", (due, self.own, it.id))
         self.out.is_due(it.due / 1000)
 
     async def _call(self, it: Call) -> None:

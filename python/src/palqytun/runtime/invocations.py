@@ -10,18 +10,20 @@ from dataclasses import dataclass, field, fields
 from typing import Any
 
 from . import inbox, journal
-from .database import Database
+from .database import Database, StatementFailed
 from .journal import Begin, Journal, Result
 from .lease import Fenced, Growth, Lease
+from .names import check_name
 from .outcome import Outcome
-from .services import App, TerminalError
+from .services import App, Handler, TerminalError
 
+SUSPECT, MOST_LOST = 2, 5  # attempts in a row that are lost with their workers: then an invocation is claimed alone, or not any more
 VERSION = 7  # of the core's protocol, for new invocations; one that is there keeps its own, for its journal was written by it
 
 
 @dataclass(frozen=True)
 class New:
-    """An invocation to make. `due` is when it begins, in seconds since the epoch; 0 is at once."""
+    """An invocation to make. `due` is when it begins, in seconds since the epoch by this process's clock; 0 is at once."""
 
     service: str
     handler: str
@@ -32,6 +34,16 @@ class New:
     due: float = 0
     id: str | None = None
 
+    def target(self, app: App) -> Handler[Any, Any]:
+        """The handler that it calls. Raises a `TerminalError` if there is none, or if it can't be stored as it is; so this is asked before a
+        transaction, which others share."""
+        handler = app.find(self.service, self.handler)
+        if bool(self.key) != handler.service.keyed:
+            raise TerminalError(f"{handler.path} is called {'with' if handler.service.keyed else 'without'} a key", 400)
+        check_name("the key", self.key)
+        check_name("the idempotency key", self.idempotency_key or "")
+        return handler
+
 
 def _seed(id: str | None) -> int:
     if id is None:
@@ -39,26 +51,37 @@ def _seed(id: str | None) -> int:
     return int.from_bytes(hashlib.blake2b(id.encode(), digest_size=7).digest(), "big")
 
 
-async def create(db: Database, app: App, out: Outcome, new: New) -> tuple[str, bool]:
-    """Makes an invocation; answers its id and True. If there is one with this idempotency key, or a workflow with this key, its id and False."""
+def check(app: App, new: New) -> Handler[Any, Any]:
+    """The handler of a new invocation. `TerminalError` with code 404 if there is none, or 400 if a key is missing, too long, or none that each
+    database can store."""
     handler = app.find(new.service, new.handler)
     if bool(new.key) != handler.service.keyed:
         raise TerminalError(f"{handler.path} is called {'with' if handler.service.keyed else 'without'} a key", 400)
+    check_name("the key", new.key)
+    check_name("the idempotency key", new.idempotency_key or "")
+    return handler
+
+
+async def create(db: Database, app: App, out: Outcome, new: New) -> tuple[str, bool]:
+    """Makes an invocation; returns its id and True. If there is one with this idempotency key, or a workflow with this key, its id and False."""
+    handler = check(app, new)
     is_main = handler.service.workflow and handler.exclusive
     idem = "" if is_main else new.idempotency_key or None  # a workflow's main runs once a key
-    now = time.time()
+    now = db.now()
+    due = now + new.due - time.time() if new.due else None if db.is_shared else now
     id = new.id or f"inv_{secrets.token_hex(12)}"
+    # What begins at once is due when the server makes this statement: so calls of a key are in their order, whichever worker stores them.
     sql = (
         "INSERT INTO invocations(id, service, handler, key, exclusive, version, idem, seed, status, due, entries, created)"
-        " VALUES (?,?,?,?,?,?,?,?,'ready',?,1,?) ON CONFLICT DO NOTHING"
+        f" VALUES (?,?,?,?,?,?,?,?,'ready',COALESCE(?,{db.clock}),1,?) ON CONFLICT DO NOTHING"
     )
-    row = (id, new.service, new.handler, new.key, int(handler.exclusive), VERSION, idem, _seed(new.id), new.due or now, now)
+    row = (id, new.service, new.handler, new.key, int(handler.exclusive), VERSION, idem, _seed(new.id), due, now)
     if not await db.change(sql, row):
         found = await db.rows("SELECT id FROM invocations WHERE service=? AND handler=? AND key=? AND idem=?", (new.service, new.handler, new.key, idem))
         return str(found[0][0]) if found else id, False
     sql = "INSERT INTO journal(invocation, at, frame, stored) VALUES (?,0,?,?)"
     db.put(sql, (id, journal.input_command(new.argument, new.headers), now))
-    out.is_due(new.due or now)
+    out.is_due(new.due or time.time())
     db.notify("ready")
     return id, True
 
@@ -85,6 +108,8 @@ async def end(db: Database, out: Outcome, invocation: str, service: str, key: st
         inbox.complete(db, out, waiter, completes, result)
     for table in ("waiters", "timers", "inbox"):
         db.put(f"DELETE FROM {table} WHERE invocation=?", (invocation,))
+    for table in ("waiters", "promise_waiters"):  # it waits for nothing any more
+        db.put(f"DELETE FROM {table} WHERE waiter=?", (invocation,))
     if key:
         db.put("DELETE FROM locks WHERE service=? AND key=? AND holder=?", (service, key, invocation))
         out.is_due(time.time())
@@ -108,6 +133,7 @@ class Claim:
     content_type: str
     begun: float
     input: bytes
+    by_run: bool = False  # the attempt has failed by a run, which has its own policy
 
     @property
     def invocation(self) -> str:
@@ -153,6 +179,14 @@ class Claimable:
     entries: int
     retries: int
     failing_since: float | None
+    status: str
+    worker: str | None
+    deaths: int
+
+    @property
+    def lost(self) -> int:
+        """How many attempts were lost with their workers since the last progress, with the one that this claim finds."""
+        return self.deaths + (self.status == "running")
 
 
 CLAIMED = ", ".join(it.name for it in fields(Claimable))
@@ -183,8 +217,9 @@ async def _lease(db: Database, worker: str, rows: list[Claimable], now: float) -
     )
     db.many(kept, [(now, it.id) for it in rows if it.epoch])
     sql = (
-        "UPDATE invocations SET status='running', epoch=epoch+1, worker=?, suspension=NULL, begun=?, stopped=NULL, how=NULL"
-        f" WHERE (id, epoch) IN (VALUES {_marks(len(rows), '(?,?)')})"
+        "UPDATE invocations SET status='running', epoch=epoch+1, worker=?, suspension=NULL, begun=?, stopped=NULL, how=NULL,"
+        " deaths=deaths+CASE WHEN status='running' THEN 1 ELSE 0 END"
+        f" FROM (VALUES {_marks(len(rows), '(?,?)')}) AS taken WHERE id=taken.column1 AND epoch=taken.column2"
     )
     if await db.change(sql, (worker, now, *[part for it in rows for part in (it.id, it.epoch)])) != len(rows):
         raise Fenced(", ".join(it.id for it in rows[:3]))
@@ -200,11 +235,41 @@ async def _by_invocation(db: Database, columns: str, table: str, order: str, ids
 
 
 async def claim(db: Database, worker: str, rows: list[Claimable]) -> list[Claim]:
-    """Takes the leases of invocations. One whose key another has is left out, and one whose stored journal breaks a rule is paused."""
+    """Takes the leases of invocations. One whose key another has is left out. One that can't be claimed is paused: its stored journal breaks a rule,
+    the database refuses a statement on it, or too many attempts were lost with their workers."""
+    rows = [it for it in rows if not await _is_deadly(db, it)]
+    if not rows:
+        return []
+    db.put("SAVEPOINT claim")
+    try:
+        return await _claims(db, worker, rows)
+    except StatementFailed as error:
+        await db.change("ROLLBACK TO claim")
+        if len(rows) > 1:
+            return [claimed for it in rows for claimed in await claim(db, worker, [it])]
+        sql = "UPDATE invocations SET status='paused', stopped=?, how='paused', error=? WHERE id=?"
+        db.put(sql, (db.now(), f"it can't be claimed: {error}", rows[0].id))
+        return []
+
+
+async def _is_deadly(db: Database, it: Claimable) -> bool:
+    """Whether the attempts of an invocation were lost so often that the next one might end another worker. Then it is paused."""
+    if it.lost < MOST_LOST:
+        return False
+    sql = f"SELECT worker FROM attempts WHERE invocation=? AND how='lost' ORDER BY epoch DESC LIMIT {MOST_LOST}"
+    workers = [it.worker, *[name for name, in await db.rows(sql, (it.id,))]][:MOST_LOST]
+    names = ", ".join(str(name) for name in dict.fromkeys(reversed(workers)) if name)
+    error = f"{it.lost} attempts in a row were lost before they stored anything, with the workers {names}: see how these ended, and then resume it"
+    sql = "UPDATE invocations SET status='paused', stopped=?, how='lost', deaths=?, error=? WHERE id=?"
+    db.put(sql, (db.now(), it.lost, error, it.id))
+    return True
+
+
+async def _claims(db: Database, worker: str, rows: list[Claimable]) -> list[Claim]:
     rows = await _with_keys(db, rows)
     if not rows:
         return []
-    now, ids = time.time(), [it.id for it in rows]
+    now, ids = db.now(), [it.id for it in rows]
     await _lease(db, worker, rows, now)
     entries = await _by_invocation(db, "at, frame", "journal", "invocation, at", ids)
     arrived = await _by_invocation(db, "seq, frame", "inbox", "seq", ids)
@@ -215,6 +280,7 @@ async def claim(db: Database, worker: str, rows: list[Claimable]) -> list[Claim]
         except journal.Dishonest as broken:
             sql = "UPDATE invocations SET status='paused', stopped=?, how='paused', error=? WHERE id=?"
             db.put(sql, (now, f"the stored journal is broken: {broken}", it.id))
+    await db.change("RELEASE claim")
     return claims
 
 

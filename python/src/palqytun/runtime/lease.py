@@ -5,7 +5,6 @@ Whoever lost a lease is fenced: the fence stands before any effect, so that noth
 
 from __future__ import annotations
 
-import time
 from dataclasses import dataclass, field
 
 from .database import Database
@@ -13,7 +12,9 @@ from .journal import Entry, Journal, Result, Stored, completion
 
 INSERTED = "INSERT INTO journal(invocation, at, completes, frame, stored) VALUES (?,?,?,?,?)"
 _FENCED = "WHERE id=? AND epoch=? AND entries=? AND status='running'"
-_PROGRESS = "retries=0, failing_since=NULL"  # the attempts before this one aren't counted any more
+# Once an attempt has stored something, those before it aren't counted any more.
+PROGRESS: dict[str, object] = {"retries": 0, "failing_since": None, "failures": 0, "failed_since": None, "deaths": 0}
+_PROGRESS = ", ".join(f"{name}={'NULL' if value is None else value}" for name, value in PROGRESS.items())
 
 
 class Fenced(Exception):
@@ -79,11 +80,11 @@ class Growth:
         elif await db.change(sql, values) != 1:
             raise self.lease.lost(self.before)
         if self.entries:
-            now = time.time()
+            now = db.now()
             rows = [(self.lease.invocation, it.at, it.completes, it.frame, now) for it in self.entries]
             db.many(INSERTED, rows)
 
     async def grow(self, db: Database) -> bool:
-        """Writes the new count of entries alone, if the lease isn't lost; answers whether it did."""
+        """Writes the new count of entries alone, if the lease isn't lost; returns whether it did."""
         sql = f"UPDATE invocations SET entries=?, {_PROGRESS} {_FENCED}" if self.has_progress else f"UPDATE invocations SET entries=? {_FENCED}"
         return await db.change(sql, (self.lease.journal.entries, self.lease.invocation, self.lease.epoch, self.before)) == 1

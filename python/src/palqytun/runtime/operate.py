@@ -7,6 +7,7 @@ from typing import Any
 
 from . import journal
 from .database import Database
+from .lease import PROGRESS
 from .outcome import Outcome
 
 _COLUMNS = ("id", "service", "handler", "key", "status", "created", "ended", "entries", "epoch", "retries", "worker", "error")
@@ -20,6 +21,8 @@ async def invocations(db: Database, status: str | None = None, service: str | No
     """The newest invocations first."""
     asked = [(name, it) for name, it in (("status", status), ("service", service)) if it is not None]
     where = " AND ".join(f"{name}=?" for name, _ in asked) or "1=1"
+    if status not in (None, "done"):
+        where += " AND status<>'done'"  # by this the index of those that haven't ended is known to have them all
     sql = f"SELECT {', '.join(_COLUMNS)} FROM invocations WHERE {where} ORDER BY seq DESC LIMIT ?"
     return [_shown(row) for row in await db.rows(sql, (*[it for _, it in asked], most))]
 
@@ -42,23 +45,24 @@ async def schedules(db: Database) -> list[dict[str, Any]]:
 
 async def resume(db: Database, out: Outcome, id: str) -> bool:
     """A paused invocation is tried again, as if it hadn't failed before."""
-    now = time.time()
-    sql = "UPDATE invocations SET status='ready', due=?, retries=0, failing_since=NULL WHERE id=? AND status='paused'"
-    if not await db.change(sql, (now, id)):
+    fresh = ", ".join(f"{name}=?" for name in PROGRESS)
+    sql = f"UPDATE invocations SET status='ready', due=?, {fresh} WHERE id=? AND status='paused'"
+    if not await db.change(sql, (db.now(), *PROGRESS.values(), id)):
         return False
-    out.is_due(now)
+    out.is_due(time.time())
     db.notify("ready")
     return True
 
 
-async def purge(db: Database, before: float, most: int = 1000) -> int:
-    """Deletes at most so many invocations that ended before a time, with their journals; answers how many. With a workflow's `main` go the
-    state and the promises of its key, so that the key can run again."""
+async def purge(db: Database, older: float, most: int = 200) -> int:
+    """Deletes at most so many invocations that ended more than `older` seconds ago, with their journals; returns how many. With a workflow's
+    `main` go the state and the promises of its key, so that the key can run again. It is called until it returns 0, each time in a transaction of
+    its own, so that no lock is kept for long."""
     sql = f"SELECT id, service, key, exclusive, idem FROM invocations WHERE status='done' AND ended<? ORDER BY ended LIMIT ?{db.skip}"
-    rows = await db.rows(sql, (before, most))
-    ids = [(row[0],) for row in rows]
-    for table, column in (("journal", "invocation"), ("attempts", "invocation"), ("invocations", "id")):
-        db.many(f"DELETE FROM {table} WHERE {column}=?", ids)
+    rows = await db.rows(sql, (db.now() - older, most))
+    ids = [row[0] for row in rows]
+    for table, column in (("journal", "invocation"), ("attempts", "invocation"), ("invocations", "id")) if ids else ():
+        db.put(f"DELETE FROM {table} WHERE {column} IN ({','.join('?' * len(ids))})", ids)
     workflows = [(service, key) for _, service, key, exclusive, idem in rows if exclusive and idem == ""]
     for table in ("state", "promises"):
         db.many(f"DELETE FROM {table} WHERE service=? AND key=?", workflows)
@@ -66,15 +70,8 @@ async def purge(db: Database, before: float, most: int = 1000) -> int:
 
 
 async def by_status(db: Database) -> dict[str, int]:
-    """How many invocations have each status."""
-    return dict(await db.rows("SELECT status, COUNT(*) FROM invocations GROUP BY status"))
-
-
-def metrics(statuses: dict[str, int], live: int, counts: dict[str, int]) -> str:
-    """Numbers for Prometheus, in its text format."""
-    lines = ["# HELP palqytun_invocations Invocations in the database, by status.", "# TYPE palqytun_invocations gauge"]
-    lines += [f'palqytun_invocations{{status="{it}"}} {statuses.get(it, 0)}' for it in ("ready", "running", "suspended", "paused", "done")]
-    lines += ["# HELP palqytun_live_attempts Attempts of this worker.", "# TYPE palqytun_live_attempts gauge", f"palqytun_live_attempts {live}"]
-    for name, count in counts.items():
-        lines += [f"# HELP palqytun_{name}_total Since this worker began.", f"# TYPE palqytun_{name}_total counter", f"palqytun_{name}_total {count}"]
-    return "\n".join(lines) + "\n"
+    """How many invocations have each status. Of those that are done it is an estimate, by the numbers of the oldest and the newest one: a count
+    would take the longer, the more there are."""
+    found = dict(await db.rows("SELECT status, COUNT(*) FROM invocations WHERE status<>'done' GROUP BY status"))
+    [(first, last)] = await db.rows("SELECT (SELECT MIN(seq) FROM invocations), (SELECT MAX(seq) FROM invocations)")
+    return {**found, "done": max(0, (last or 0) - (first or 1) + 1 - sum(found.values()))}

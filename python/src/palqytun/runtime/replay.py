@@ -12,12 +12,13 @@ from typing import Any
 
 from .. import core
 from . import journal
-from .context import AttemptEnds, CaughtTooMuch, Context, given_failure
+from .codec import BadValue, decoded
+from .context import AttemptEnds, CaughtTooMuch, Context, ReplayLog, given_failure
 from .database import Database
 from .durable import Task, Tasks
 from .invocations import CLAIMED, Claimable, load
 from .journal import Begin, Failed
-from .services import App, Cancelled, TerminalError
+from .services import App, Cancelled, Handler, TerminalError
 
 
 @dataclass(frozen=True)
@@ -30,30 +31,59 @@ class Difference:
     error: str
 
 
-async def replay(app: App, db: Database, it: Claimable) -> Difference | None:
+@dataclass(frozen=True)
+class Stored:
+    """An invocation, and the bytes that an attempt over its stored journal is fed."""
+
+    row: Claimable
+    start: bytes
+
+
+@dataclass(frozen=True)
+class Replayed:
+    """How far a handler went over a stored journal: up to the command with this index, and what was wrong there. `context` is that of the
+    handler, if it was called."""
+
+    command: int
+    error: str | None
+    context: Context | None = None
+
+
+class _Silent(ReplayLog):
+    """Says nothing: the attempts have said it."""
+
+    def isEnabledFor(self, level: int) -> bool:
+        return False
+
+
+async def stored(db: Database, it: Claimable) -> Stored:
+    """What is stored of an invocation."""
+    return Stored(it, (await load(db, it.id, it.entries, it.version)).start(Begin(it.id, it.key, it.seed, idempotency_key=it.idem or None)))
+
+
+def replayed(app: App, it: Stored) -> Replayed:
     """Replays the journal of one invocation."""
-    path = f"{it.service}/{it.handler}"
+    row = it.row
     try:
-        app.find(it.service, it.handler)
+        handler = app.find(row.service, row.handler)
     except TerminalError as error:
-        return Difference(it.id, path, -1, error.message)
-    start = (await load(db, it.id, it.entries, it.version)).start(Begin(it.id, it.key, it.seed, idempotency_key=it.idem or None))
-    with core.VM(f"application/vnd.restate.invocation.v{it.version}", awaiting="never") as vm:
-        vm.notify_input(start)
+        return Replayed(-1, error.message)
+    with core.VM(f"application/vnd.restate.invocation.v{row.version}", awaiting="never") as vm:
+        vm.notify_input(it.start)
         vm.notify_input_closed()
-        raised = _replayed(app, vm, it.service, it.handler, bool(it.exclusive))
+        input = vm.sys_input()
+        context = Context(vm, input, app, row.service, bool(row.exclusive))
+        context._log = _Silent(context, row.id)
+        raised = _replayed(app, vm, context, handler, input.value)
         said = [one for one in journal.messages_in(vm.take_output()) if isinstance(one, Failed)]
-        text = f"{said[0].code} {said[0].message}" if said else raised
-        return None if text is None else Difference(it.id, path, vm.last_command_index(), text)
+        return Replayed(vm.last_command_index(), f"{said[0].code} {said[0].message}" if said else raised, context)
 
 
-def _replayed(app: App, vm: core.VM, service: str, name: str, may_write: bool) -> str | None:
+def _replayed(app: App, vm: core.VM, context: Context, handler: Handler[Any, Any], given: bytes) -> str | None:
     """Runs the handler as far as the journal goes; answers what it raised while it was replayed."""
-    handler, input = app.find(service, name), vm.sys_input()
-    context = Context(vm, input, app, may_write)
     try:
-        argument = app.codec.decode(input.value, handler.takes)
-    except (ValueError, TypeError) as error:
+        argument = decoded(app.codec, given, handler.takes)
+    except BadValue as error:
         return f"the argument: {error}"
     main: Task[Any] = Task(handler.function(context, argument))  # type: ignore[arg-type]
     context.tasks = Tasks(main)
@@ -63,7 +93,7 @@ def _replayed(app: App, vm: core.VM, service: str, name: str, may_write: bool) -
         pass  # suspended at the journal's end, or refused, and then the core has said so
     except CaughtTooMuch as error:
         return str(error)
-    except Exception as error:
+    except BaseException as error:  # a handler's `sys.exit()` ends no command, and no worker
         return f"{type(error).__name__}: {error}" if vm.state() == "Replaying" else None
     finally:
         context.end()
@@ -95,7 +125,9 @@ def _drive(app: App, vm: core.VM, context: Context, tasks: Tasks) -> None:
 async def _all(app: App, db: Database, status: str | None) -> AsyncIterator[Difference | None]:
     where, values = ("WHERE status=?", (status,)) if status else ("", ())
     for row in await db.rows(f"SELECT {CLAIMED} FROM invocations {where} ORDER BY seq", values):
-        yield await replay(app, db, Claimable(*row))
+        it = Claimable(*row)
+        found = replayed(app, await stored(db, it))
+        yield None if found.error is None else Difference(it.id, f"{it.service}/{it.handler}", found.command, found.error)
 
 
 async def replay_all(app: App, db: Database, status: str | None) -> tuple[int, list[Difference]]:

@@ -3,25 +3,25 @@
 from __future__ import annotations
 
 import inspect
+import math
+import operator
 import typing
-from collections.abc import Awaitable, Callable, Iterable
+from collections.abc import Awaitable, Callable, Iterable, Mapping
 from dataclasses import dataclass, field
 from typing import TYPE_CHECKING, Any, Generic, TypeVar
 
-from .codec import Codec, JsonCodec
+from .codec import Codec, JsonCodec, decoded, encoded
+from .extras import needed
+from .texts import plain, said
 
 if TYPE_CHECKING:
     from .context import Context
     from .schedules import Schedule
+    from .serving import Mountable
 
 I = TypeVar("I")
 O = TypeVar("O")
 Function = Callable[["Context", I], Awaitable[O]]
-
-
-def plain(text: str) -> str:
-    """The text, with escapes in place of lone surrogates, as those of a file's name that isn't UTF-8."""
-    return text.encode("utf-8", "backslashreplace").decode()
 
 
 def to_text_headers(headers: dict[str, str] | None) -> tuple[tuple[str, str], ...]:
@@ -29,13 +29,33 @@ def to_text_headers(headers: dict[str, str] | None) -> tuple[tuple[str, str], ..
 
 
 class TerminalError(Exception):
-    """Ends the handler with a failure; nothing is tried again. A failed call, promise or signal raises it. `code` is of 16 bits."""
+    """Ends the handler with a failure; nothing is tried again. A failed call, promise or signal raises it.
 
-    def __init__(self, message: str, code: int = 500, metadata: tuple[tuple[str, str], ...] = ()):
-        super().__init__(message)
-        if not 0 <= code <= 0xFFFF:
-            raise ValueError(f"a failure's code is of 16 bits, not {code}")
-        self.message, self.code, self.metadata = plain(message), code, metadata
+    `message` is text, or an error whose text is taken. `code` is a whole number of 16 bits, and `metadata` has texts by their names, as a
+    mapping or as pairs."""
+
+    def __init__(self, message: object, code: int = 500, metadata: Mapping[str, str] | Iterable[tuple[str, str]] = ()):
+        text = message if isinstance(message, str) else said(message) if isinstance(message, BaseException) else str(message)
+        super().__init__(text)
+        self.message, self.code, self.metadata = plain(text), _code(code), _pairs(metadata)
+
+
+def _code(code: object) -> int:
+    try:
+        number = operator.index(code)  # type: ignore[arg-type]
+    except TypeError:
+        raise TypeError(f"a failure's code is a whole number, and not {code!r}") from None
+    if not 0 <= number <= 0xFFFF:
+        raise ValueError(f"a failure's code is of 16 bits, not {number}")
+    return number
+
+
+def _pairs(metadata: Mapping[str, str] | Iterable[tuple[str, str]]) -> tuple[tuple[str, str], ...]:
+    pairs = tuple(tuple(it) for it in (metadata.items() if isinstance(metadata, Mapping) else metadata))
+    for pair in pairs:
+        if len(pair) != 2 or not all(isinstance(it, str) for it in pair):
+            raise TypeError(f"a failure's metadata are pairs of texts, and not {pair!r}")
+    return tuple((plain(name), plain(value)) for name, value in pairs)
 
 
 class Cancelled(TerminalError):
@@ -59,12 +79,24 @@ class Retry:
     duration: float | None = None
     pause: bool = False
 
+    def __post_init__(self) -> None:
+        times = {"initial": self.initial, "longest": self.longest, "duration": 0.0 if self.duration is None else self.duration}
+        for name, seconds in times.items():
+            if not 0 <= seconds < math.inf:
+                raise ValueError(f"{name} is a number of seconds from 0, and not {seconds}")
+        if self.attempts is not None and self.attempts < 1:
+            raise ValueError(f"attempts is at least 1, and not {self.attempts}")
+        numerator, denominator = self.factor
+        if numerator < 0 or denominator < 1:
+            raise ValueError(f"factor is a pair of whole numbers (numerator, denominator), and not {self.factor}")
+
     def delay(self, failures: int) -> float:
         """The delay after so many failures, in seconds."""
         numerator, denominator = self.factor
-        if failures >= 64:
+        try:
+            return float(min(self.longest, self.initial * (numerator / denominator) ** (failures - 1)))
+        except OverflowError:
             return self.longest
-        return min(self.longest, self.initial * (numerator / denominator) ** (failures - 1))
 
     def is_over(self, failures: int, failing: float) -> bool:
         """Whether it is not tried again, after so many failures in so many seconds."""
@@ -167,12 +199,22 @@ class App:
             self.services[it.name] = it
         self.codec: Codec = JsonCodec() if codec is None else codec
         self.schedules: dict[str, Schedule] = {}
+        self.scheduled: dict[str, bytes] = {}  # the arguments of the schedules
         for one in schedules:
             if one.name in self.schedules:
                 raise ValueError(f"there are two schedules with the name {one.name}")
             if self.services.get(one.target.service.name) is not one.target.service:
                 raise ValueError(f"the schedule {one.name} calls {one.target.path}, which isn't of this app")
-            self.schedules[one.name] = one
+            self.schedules[one.name], self.scheduled[one.name] = one, self._argument(one)
+
+    def _argument(self, it: Schedule) -> bytes:
+        """A schedule's argument as it is stored, which its handler has to understand."""
+        try:
+            data = encoded(self.codec, it.argument)
+            decoded(self.codec, data, it.target.takes)
+        except Exception as error:
+            raise ValueError(f"the argument of the schedule {it.name} is none that {it.target.path} takes: {error}") from error
+        return data
 
     def limited(self) -> list[Handler[Any, Any]]:
         """The handlers that have a limit, in the order of their paths."""
@@ -196,3 +238,21 @@ class App:
         if found is None or handler not in found.handlers:
             raise TerminalError(f"there is no handler {service}/{handler}", 404)
         return found.handlers[handler]
+
+    def asgi(
+        self, url: str = "palqytun.db", *, token: str | None = None, origins: Iterable[str] = (), wait: float = 60.0, payload: int | None = None, **worker: Any
+    ) -> Mountable:
+        """The ingress as an ASGI application, with a worker of this app on the database `url`. Whoever serves it runs the worker by its
+        `lifespan`; mounted in another application, that one's lifespan has to do so:
+
+            durable = app.asgi("postgresql://..")
+            site = Starlette(routes=[Mount("/durable", durable)], lifespan=durable.lifespan)
+
+        `token` is the bearer token that requests need, and `origins` are addresses under which browsers know it, as "https://ops.example": without a
+        token, a request for another host than localhost and these is refused. A call waits `wait` seconds for its result, if it doesn't say, and a body has at
+        most `payload` bytes (4 MiB). `worker` are options of `Engine`, as `limit`. Raises `MissingExtra` if the extra `server` isn't installed."""
+        engine = needed("palqytun.runtime.engine", "server", "the ingress").Engine(self, url, **worker)
+        serving = needed("palqytun.runtime.serving", "server", "the ingress")
+        limits = {"wait": wait} if payload is None else {"wait": wait, "payload": payload}
+        made: Mountable = serving.Mountable(engine, serving.Settings(token, tuple(origins), **limits))
+        return made

@@ -3,15 +3,17 @@
 from __future__ import annotations
 
 import time
+from dataclasses import dataclass
 
 from . import inbox, invocations, journal
 from .database import Database
 from .effects import Performer
 from .invocations import Claim
 from .journal import Failed, Output, Result, Suspension
-from .lease import Growth
+from .lease import PROGRESS, Growth
 from .outcome import Outcome
 from .services import App
+from .texts import plain
 
 
 async def store(db: Database, app: App, claim: Claim, output: bytes, at: int) -> Outcome:
@@ -24,8 +26,7 @@ async def store(db: Database, app: App, claim: Claim, output: bytes, at: int) ->
     for command in stored.commands:
         await performer.perform(command)
     if stored.end is None:
-        changed = {"retries": 0, "failing_since": None} if growth.has_progress else {}
-        await growth.write(db, **changed)
+        await growth.write(db, **(PROGRESS if growth.has_progress else {}))
     elif isinstance(stored.end, Suspension):
         await _suspend(db, out, growth, stored.end)
     elif isinstance(stored.end, Failed):
@@ -48,33 +49,61 @@ def _leave_room(db: Database, app: App, out: Outcome, claim: Claim) -> None:
 
 async def _suspend(db: Database, out: Outcome, growth: Growth, suspension: Suspension) -> None:
     """The invocation waits; or it doesn't, if what wakes it came just now."""
-    now, own = time.time(), growth.lease.invocation
+    now, own = db.now(), growth.lease.invocation
     is_awake = journal.is_awake(suspension.frame, [it.frame for it in growth.entries]) or await inbox.wakes(db, own, suspension.frame)
     out.status = "ready" if is_awake else "suspended"
-    progress = {"retries": 0, "failing_since": None} if growth.has_progress else {}
+    progress = PROGRESS if growth.has_progress else {"deaths": 0}
     await growth.write(db, status=out.status, due=now, suspension=suspension.frame, stopped=now, how="suspended", **progress)
     if is_awake:
-        out.is_due(now)
+        out.is_due(time.time())
 
 
 async def _fail(db: Database, app: App, out: Outcome, claim: Claim, growth: Growth, error: Failed) -> None:
     """The attempt failed: it is tried again, or the invocation is paused, or the error is its result."""
-    own, now = claim.invocation, time.time()
+    now = db.now()
+    counted = await _counted(db, claim, growth, now)
     retry = app.retry_of(claim.service, claim.handler)
-    before, failing_since = 0, None  # what was stored before has reset them
-    if not growth.has_progress:
-        [(before, failing_since)] = await db.rows("SELECT retries, failing_since FROM invocations WHERE id=?", (own,))
-    failures, since = before + 1, claim.begun if failing_since is None else failing_since
-    is_over = retry.is_over(failures, now - since)
+    is_over = not claim.by_run and retry.is_over(counted.failures, now - (counted.failed_since or now))
     if error.behaviour == "fail" or (is_over and not retry.pause and error.behaviour != "pause"):
         await _end(db, out, claim, growth, journal.failure(error.code, error.message))
         return
     out.status = "paused" if is_over or error.behaviour == "pause" else "ready"
-    delay = retry.delay(failures) if error.delay is None else error.delay / 1000
-    text = f"{error.code} {error.message}\n{error.stacktrace}".rstrip()
+    delay = retry.delay(counted.retries if claim.by_run else counted.failures) if error.delay is None else error.delay / 1000
+    text = storable(f"{error.code} {error.message}\n{error.stacktrace}".rstrip())
     how = "paused" if out.status == "paused" else "failed"
-    await growth.write(db, status=out.status, due=now + delay, retries=failures, failing_since=since, error=text, stopped=now, how=how)
-    out.is_due(now + delay)
+    await growth.write(db, status=out.status, due=now + delay, error=text, stopped=now, how=how, deaths=0, **vars(counted))
+    out.is_due(time.time() + delay)
+
+
+@dataclass
+class _Counted:
+    """How often an invocation's attempts have failed since the last progress, and since when; `failures` are those of the handler itself, by which
+    its retries are over. A run has its own."""
+
+    retries: int
+    failing_since: float | None
+    failures: int
+    failed_since: float | None
+
+
+async def _counted(db: Database, claim: Claim, growth: Growth, now: float) -> _Counted:
+    """With the failure of this attempt."""
+    counted = _Counted(0, None, 0, None)
+    if not growth.has_progress:  # else what was stored before has reset them
+        sql = "SELECT retries, failing_since, failures, failed_since FROM invocations WHERE id=?"
+        rows = await db.rows(sql, (claim.invocation,))
+        counted = _Counted(*rows[0])
+    counted.retries += 1
+    counted.failing_since = claim.begun if counted.failing_since is None else counted.failing_since
+    if not claim.by_run:
+        counted.failures += 1
+        counted.failed_since = claim.begun if counted.failed_since is None else counted.failed_since
+    return counted
+
+
+def storable(text: str) -> str:
+    """A text that each database can store: without NUL, and without halves of surrogate pairs."""
+    return plain(text).replace("\0", "\\0")
 
 
 async def _stored_output(db: Database, invocation: str) -> Result:
@@ -84,7 +113,7 @@ async def _stored_output(db: Database, invocation: str) -> Result:
 
 
 async def _end(db: Database, out: Outcome, claim: Claim, growth: Growth, result: Result) -> None:
-    out.status, now = "done", time.time()
+    out.status, now = "done", db.now()
     await growth.write(db, status="done", ended=now, stopped=now, how="ended", result=result)
     await invocations.end(db, out, claim.invocation, claim.service, claim.key if claim.exclusive else "", result)
 
@@ -106,7 +135,30 @@ async def pull(db: Database, claim: Claim) -> Outcome:
 async def pause(db: Database, app: App, claim: Claim, why: str) -> Outcome:
     """The attempt stopped without an end: its invocation is paused, if it is still this worker's. What it wrote last isn't stored."""
     sql = "UPDATE invocations SET status='paused', stopped=?, how='paused', error=? WHERE id=? AND epoch=? AND status='running'"
-    await db.change(sql, (time.time(), why, claim.invocation, claim.lease.epoch))
+    await db.change(sql, (db.now(), storable(why), claim.invocation, claim.lease.epoch))
     out = Outcome(status="paused")
     _leave_room(db, app, out, claim)
     return out
+
+
+async def release(db: Database, app: App, claim: Claim) -> Outcome:
+    """The attempt stops because its worker does: another worker goes on at once. What it wrote last isn't stored."""
+    sql = "UPDATE invocations SET status='ready', due=?, stopped=?, how='released' WHERE id=? AND epoch=? AND status='running'"
+    now = db.now()
+    await db.change(sql, (now, now, claim.invocation, claim.lease.epoch))
+    out = Outcome(status="ready")
+    _leave_room(db, app, out, claim)
+    db.notify("ready")
+    return out
+
+
+async def held(db: Database, worker: str) -> list[tuple[str, int]]:
+    """The invocations that a worker has, each with its epoch."""
+    return [(id, epoch) for id, epoch in await db.rows("SELECT id, epoch FROM invocations WHERE status='running' AND worker=?", (worker,))]
+
+
+async def take_back(db: Database, invocation: str, epoch: int) -> None:
+    """An invocation whose attempt is gone is tried again, after a second. It counts as an attempt that was lost."""
+    sql = "UPDATE invocations SET status='ready', due=?, stopped=?, how='lost', deaths=deaths+1 WHERE id=? AND epoch=? AND status='running'"
+    now = db.now()
+    await db.change(sql, (now + 1, now, invocation, epoch))

@@ -7,29 +7,59 @@ from typing import Any, Protocol
 
 
 class Conflict(Exception):
-    """The database let this transaction not through. Nothing was stored; it is made again."""
+    """Something is in the way now: another's lock, a deadlock, a full disk, a database that may only be read. Nothing was stored, and the
+    transaction is made again until it is."""
 
 
 class Lost(Exception):
-    """The database can't be used: it can't be reached, its disk is full, or it is broken. Whether the last transaction was stored isn't known;
-    what stands in the database is what counts, and a worker goes on from there once the database can be used again."""
+    """The database can't be reached, or the connection has ended. Whether the last transaction was stored isn't known; what stands in the
+    database is what counts, and a worker goes on from there once the database can be used again."""
+
+
+class StatementFailed(Exception):
+    """The database refuses a statement or a value, by the operation's own fault. Nothing of its transaction was stored, and the connection can be
+    used. `code` is the SQLSTATE, or SQLite's name of the error."""
+
+    def __init__(self, code: str, text: str):
+        super().__init__(f"{code}: {text}")
+        self.code = code
 
 
 class Unsuitable(Exception):
     """The database is there, and can't be used as it is set up: what is wrong, and what is allowed."""
 
 
+class Beats(Protocol):
+    """A thread that keeps a worker's lease."""
+
+    def start(self) -> None: ...
+    def stop(self) -> None:
+        """Makes no more beats. It doesn't wait for the thread."""
+
+    @property
+    def last(self) -> float:
+        """When the last beat was stored, by `time.monotonic()`."""
+
+
 class Database(Protocol):
     """A connection, which belongs to an event loop. Each statement belongs to the transaction that `begin` began; any of them may raise
-    `Conflict` or `Lost`."""
+    `Conflict`, `Lost` or `StatementFailed`."""
 
     is_shared: bool  # several workers may use it at once
-    is_remote: bool  # each answer waits for a server, so few statements are better than many
+    is_remote: bool  # each statement's result waits for a server, so few statements are better than many
     skip: str  # after a SELECT that takes rows which no other worker is taking
     lock: str  # after a SELECT that keeps its rows until the commit
     clock: str  # the database's time in seconds
 
-    async def begin(self) -> None: ...
+    def now(self) -> float:
+        """The database's time, in seconds since the epoch, without asking it: as it was when it last told its time, and how long that is ago."""
+
+    def told(self, time: float) -> None:
+        """The database has just told its time."""
+
+    async def begin(self, reads: bool = False) -> None:
+        """Begins a transaction. With `reads` it only reads, sees the database as it is now, and keeps nobody out."""
+
     async def commit(self) -> None: ...
     async def rollback(self) -> None: ...
     async def rows(self, sql: str, values: Sequence[object] = ()) -> list[Any]: ...
@@ -40,6 +70,9 @@ class Database(Protocol):
     def many(self, sql: str, values: Iterable[Sequence[object]]) -> None:
         """A `put` for each of the rows of values."""
 
+    def hurry(self) -> None:
+        """The rest of this transaction waits for another's lock only a moment, and then raises `Conflict`."""
+
     def notify(self, word: str) -> None:
         """Tells this word to the workers that listen, once the transaction is committed."""
 
@@ -48,7 +81,14 @@ class Database(Protocol):
         ended. The lease is looked up just before the commit. A worker that takes it in between finds what came when it next looks by itself."""
 
     async def listen(self, worker: str, heard: Callable[[str], None]) -> Callable[[], None] | None:
-        """Calls `heard` for each word that others tell to all or to this worker; answers what ends it. None: there are no others."""
+        """Calls `heard` for each word that others tell to all or to this worker; returns what ends it. None: there are no others. If the
+        connection is lost it is made again, and then `heard` gets `ready`, since words may have been missed."""
+
+    async def another(self) -> Database | None:
+        """One more connection to this database, for a transaction at the same time; None if it takes one at a time."""
+
+    def beats(self, worker: str, lease: float, may_beat: Callable[[], bool]) -> Beats | None:
+        """A thread that keeps this worker's lease as long as `may_beat`; None if no other worker could take over."""
 
     def close(self) -> None: ...
 
@@ -66,4 +106,4 @@ async def connect(url: str, *, worker: bool = False) -> Database:
     return SQLite(path, synchronous=option or "FULL", worker=worker)
 
 
-__all__ = ["Conflict", "Database", "Lost", "Unsuitable", "connect"]
+__all__ = ["Beats", "Conflict", "Database", "Lost", "StatementFailed", "Unsuitable", "connect"]

@@ -3,13 +3,16 @@
 from __future__ import annotations
 
 import asyncio
+import contextlib
+import time
 from collections.abc import Awaitable, Callable, Iterable, Sequence
 from types import TracebackType
 from typing import Any, TypeVar
 
-from . import Database, connect
+from . import Conflict, Database, Lost, connect
 
 T = TypeVar("T")
+_PATIENCE = 30.0  # seconds that another's lock is waited for
 
 
 class Plain:
@@ -29,7 +32,7 @@ class Plain:
             raise
 
     def wait(self, asked: Awaitable[T]) -> T:
-        """What a statement or an operation answers."""
+        """What a statement or an operation returns."""
 
         async def answer() -> T:
             return await asked
@@ -37,18 +40,34 @@ class Plain:
         return self._loop.run_until_complete(answer())
 
     def done(self, operation: Callable[[Database], Awaitable[T]]) -> T:
-        """What an operation answers, in a transaction of its own, which is committed."""
-        self.begin()
-        try:
-            answer = self.wait(operation(self.db))
-        except BaseException:
-            self.rollback()
-            raise
-        self.commit()
-        return answer
+        """What an operation returns, in a transaction of its own, which is committed. If something is in the way it is made again, for some
+        seconds; then `Conflict`."""
+        until = time.monotonic() + _PATIENCE
+        while True:
+            try:
+                return self._transaction(operation, False)
+            except Conflict:
+                if time.monotonic() > until:
+                    raise
+            time.sleep(0.05)
 
-    def begin(self) -> None:
-        self.wait(self.db.begin())
+    def read(self, operation: Callable[[Database], Awaitable[T]]) -> T:
+        """What an operation returns that only reads: it sees the database as it is when it begins, and keeps no worker out."""
+        return self._transaction(operation, True)
+
+    def _transaction(self, operation: Callable[[Database], Awaitable[T]], reads: bool) -> T:
+        self.begin(reads)
+        try:
+            result = self.wait(operation(self.db))
+            self.commit()
+        except BaseException:
+            with contextlib.suppress(Lost):
+                self.rollback()
+            raise
+        return result
+
+    def begin(self, reads: bool = False) -> None:
+        self.wait(self.db.begin(reads))
 
     def commit(self) -> None:
         self.wait(self.db.commit())

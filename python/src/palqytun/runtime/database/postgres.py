@@ -1,7 +1,6 @@
-"""PostgreSQL, by psycopg2 in its asynchronous mode: workers on many machines. No thread waits for the server; the event loop does. Only a
-host's name is looked up at once, as libpq does, so for that time the loop stands still.
+"""PostgreSQL, by psycopg 3: workers on many machines. No thread waits for the server; the event loop does.
 
-What costs time is the round trip to the server. So statements that answer nothing are queued, and go with the next that answers something;
+What costs time is the round trip to the server. So statements whose results aren't asked for are queued, and go with the next that has one;
 a transaction's begin goes with its first statement, and its commit with the last.
 
 A session doesn't depend on the server's defaults: what matters is set when the connection is made, and what can't be set is checked.
@@ -11,46 +10,67 @@ from __future__ import annotations
 
 import asyncio
 import contextlib
-import functools
-import importlib
 import logging
-from collections.abc import Callable, Iterable, Iterator, Sequence
-from typing import Any
+import threading
+import time
+from collections.abc import Callable, Iterable, Sequence
+from dataclasses import dataclass, field
+from typing import TYPE_CHECKING, Any
 
-from . import Conflict, Lost, Unsuitable
-from .schema import VERSIONS, missing
+from . import Conflict, Lost, StatementFailed, Unsuitable
+from .schema import MIGRATIONS, VERSIONS, missing
+
+if TYPE_CHECKING:
+    import psycopg
+    from psycopg.pq.abc import PGresult
+
+    from .pipeline import Pipeline, Statement
 
 log = logging.getLogger("palqytun")
 
 _TYPES = {"serial": "BIGSERIAL PRIMARY KEY", "blob": "BYTEA", "float": "FLOAT8", "plain": ""}
 _CHANNEL = "palqytun"  # of all workers
 _OWN = 12  # each worker has a channel of its own too, named by so many last characters of its name, which are random
-_NOTIFIED = f"SELECT pg_notify('{_CHANNEL}', word) FROM unnest(?) AS word"
+_NOTIFIED = f"SELECT pg_notify('{_CHANNEL}', word) FROM unnest(?::text[]) AS word"
 _TO_HOLDERS = (
     f"SELECT pg_notify(CASE status WHEN 'running' THEN '{_CHANNEL}_' || right(worker, {_OWN}) ELSE '{_CHANNEL}' END, 'to ' || id)"
-    " FROM invocations WHERE id=ANY(?) AND status<>'done'"
+    " FROM invocations WHERE id=ANY(?::text[]) AND status<>'done'"
 )
 _MIGRATING = 7_401_953  # the advisory lock of whoever migrates
 _LEVEL = "ISOLATION LEVEL READ COMMITTED"  # each statement reads all that was committed before it; by an older snapshot changes are lost
-_BEGIN, _AT_ONCE = f"BEGIN {_LEVEL}".encode(), 200  # statements that go to the server together, at most
+_BEGIN = f"BEGIN {_LEVEL}"
+_BEGIN_READING = "BEGIN ISOLATION LEVEL REPEATABLE READ READ ONLY"
 _PATIENCE = 10.0  # seconds that a connection may take to be made
-_OPTIONS = {"keepalives": 1, "keepalives_idle": 5, "keepalives_interval": 2, "keepalives_count": 3, "tcp_user_timeout": 15000, "client_encoding": "UTF8"}
+_AGAIN = 0.5  # seconds until a connection that listens is made again
+_OPTIONS: dict[str, Any] = {
+    "keepalives": 1,
+    "keepalives_idle": 5,
+    "keepalives_interval": 2,
+    "keepalives_count": 3,
+    "tcp_user_timeout": 15000,
+    "client_encoding": "UTF8",
+}
 # In the place of the server's defaults, but not of what the URL's options say. A server lacks what its version doesn't have.
 _SETTINGS = {
-    "statement_timeout": "0",  # a statement that is ended loses the session: the next one would be no quicker
-    "lock_timeout": "0",
+    "statement_timeout": "0",  # a statement that is ended is made again: the next one would be no quicker
+    "lock_timeout": "1s",  # then the operations of a group are made without the one that waits
+    "idle_in_transaction_session_timeout": "60s",  # what stands still with rows that others wait for loses its session
     "transaction_timeout": "0",
     "idle_session_timeout": "0",  # the connection that listens is idle
-    "extra_float_digits": "3",  # a time is read as it was written
     "synchronous_commit": "on",
 }
+_HURRY = "SET LOCAL lock_timeout='100ms'"
 _ENOUGH = ("local", "remote_write", "remote_apply")  # of synchronous_commit: what is committed is on the disk with these too
 _SET_UP = (
-    f"SET SESSION CHARACTERISTICS AS TRANSACTION {_LEVEL};"
-    f" SELECT set_config(name, value, false) FROM (VALUES {', '.join(map(str, _SETTINGS.items()))}) AS wanted(name, value)"
-    f" JOIN pg_settings USING (name) WHERE source<>'client' AND NOT (name='synchronous_commit' AND setting IN {_ENOUGH})"
+    f"SET SESSION CHARACTERISTICS AS TRANSACTION {_LEVEL}",
+    f"SELECT set_config(name, value, false) FROM (VALUES {', '.join(map(str, _SETTINGS.items()))}) AS wanted(name, value)"
+    f" JOIN pg_settings USING (name) WHERE source<>'client' AND NOT (name='synchronous_commit' AND setting IN {_ENOUGH})",
 )
-_CHECKED = "SELECT current_setting('server_encoding'), current_schema(), current_setting('transaction_read_only'), current_setting('fsync')"
+_UNSAFE = "palqytun.unsafe"  # a setting of a session: `on` allows what may lose commits
+_CHECKED = (
+    "SELECT current_setting('server_encoding'), current_schema()::text, current_setting('transaction_read_only'), current_setting('fsync'),"
+    f" current_setting('synchronous_commit'), current_setting('{_UNSAFE}', true)"
+)
 _ENCODINGS = ("UTF8", "SQL_ASCII")
 
 
@@ -58,178 +78,169 @@ class NoDriver(ImportError):
     """The driver of PostgreSQL isn't installed."""
 
     def __init__(self) -> None:
-        super().__init__("PostgreSQL needs the package psycopg2: `pip install psycopg2`, or of Debian python3-psycopg2")
+        super().__init__("PostgreSQL needs the package psycopg, version 3: `pip install 'palqytun[postgres]'`, or of Debian python3-psycopg")
 
 
-class _Driver:
-    """psycopg2, which has no types."""
-
-    def __init__(self) -> None:
-        try:
-            self.psycopg2: Any = importlib.import_module("psycopg2")
-        except ImportError as error:
-            raise NoDriver() from error
-        errors, extensions = importlib.import_module("psycopg2.errors"), importlib.import_module("psycopg2.extensions")
-        self.error, self.forbidden = self.psycopg2.Error, errors.InsufficientPrivilege
-        self._conflicts = (errors.DeadlockDetected, errors.SerializationFailure, errors.LockNotAvailable)
-        self._statement = (self.psycopg2.IntegrityError, self.psycopg2.ProgrammingError, self.psycopg2.DataError)
-        self._ok, self._reads = extensions.POLL_OK, extensions.POLL_READ
-
-    @contextlib.contextmanager
-    def named(self) -> Iterator[None]:
-        """Errors of the driver as those of `Database`."""
-        try:
-            yield
-        except self._conflicts as error:
-            raise Conflict(str(error)) from error
-        except self._statement:
-            raise
-        except self.error as error:
-            raise Lost(str(error).strip() or type(error).__name__) from error
-
-    async def connected(self, url: str) -> Any:
-        """A new connection, with the settings of a session."""
-        with self.named():
-            connection = self.psycopg2.connect(url, async_=1, **_OPTIONS)
-            try:
-                await asyncio.wait_for(self._set_up(connection), _PATIENCE)
-            except asyncio.TimeoutError:
-                connection.close()
-                raise Lost(f"the server hasn't answered for {_PATIENCE} seconds") from None
-            except BaseException:
-                connection.close()
-                raise
-        return connection
-
-    async def _set_up(self, connection: Any) -> None:
-        await self.ready(connection)
-        cursor = connection.cursor()  # it is kept until the answer is there
-        cursor.execute(_SET_UP)
-        await self.ready(connection)
-
-    async def ready(self, connection: Any) -> None:
-        """Waits until a connection has done what was asked last, and raises what is wrong with it."""
-        while (state := connection.poll()) != self._ok:
-            await _moved(connection.fileno(), state == self._reads)
-
-
-@functools.cache
-def _warn_of_fsync() -> None:
-    """Once in a process."""
-    log.warning("the server's fsync is off: when its machine stops, it may lose what was committed")
-
-
-async def _moved(number: int, reads: bool) -> None:
-    """Waits until a socket can be read, or else written."""
-    loop = asyncio.get_running_loop()
-    moved: asyncio.Future[None] = loop.create_future()
-
-    def tell() -> None:
-        if not moved.done():
-            moved.set_result(None)
-
-    watch, leave = (loop.add_reader, loop.remove_reader) if reads else (loop.add_writer, loop.remove_writer)
-    watch(number, tell)
+def _driver() -> Any:
+    """The module that talks to the server, and psycopg with it."""
     try:
-        await moved
-    finally:
-        leave(number)
+        from . import pipeline
+    except ImportError as error:
+        raise NoDriver() from error
+    return pipeline
+
+
+@dataclass
+class _Server:
+    """What the connections of one `connect` share."""
+
+    url: str
+    processes: set[int] = field(default_factory=set)  # of the server, for these connections
+    clock: float = 0.0  # the server's time at 0 of the monotonic clock
+
+    async def reached(self) -> psycopg.AsyncConnection[Any]:
+        """A new connection, as the server's defaults have it."""
+        driver = _driver()
+        try:
+            with driver.named():
+                making = driver.psycopg.AsyncConnection.connect(self.url, autocommit=True, **_OPTIONS)
+                return await asyncio.wait_for(making, _PATIENCE)
+        except asyncio.TimeoutError:
+            raise Lost(f"the server hasn't answered for {_PATIENCE} seconds") from None
+        except StatementFailed as error:  # the URL, the user or the database's name
+            raise Unsuitable(str(error)) from error
+
+    async def session(self) -> Pipeline:
+        """A new connection, with the settings of a session."""
+        driver = _driver()
+        found: Pipeline = driver.Pipeline(await self.reached())
+        try:
+            await asyncio.wait_for(found.made([driver.statement(it) for it in _SET_UP]), _PATIENCE)
+        except asyncio.TimeoutError:
+            found.close()
+            raise Lost(f"the server hasn't answered for {_PATIENCE} seconds") from None
+        except BaseException:
+            found.close()
+            raise
+        self.processes.add(found.process)
+        return found
 
 
 class Postgres:
     is_shared, is_remote, skip, lock = True, True, " FOR UPDATE SKIP LOCKED", " FOR UPDATE"
     clock = "extract(epoch from clock_timestamp())::float8"
 
-    def __init__(self, url: str, driver: _Driver, connection: Any):
+    def __init__(self, server: _Server, pipeline: Pipeline):
         """`connected` makes one."""
-        self._url, self._driver, self._connection = url, driver, connection
-        self._cursor = connection.cursor()
+        self._server, self._pipeline = server, pipeline
+        self._statement: Callable[..., Statement] = _driver().statement
+        self._begin = self._statement(_BEGIN)
         self._words: set[str] = set()  # that this transaction tells
         self._touched: set[str] = set()  # the invocations whose holders it tells
-        self._queue: list[bytes] = []
+        self._queue: list[Statement] = []
 
     @staticmethod
     async def connected(url: str, *, worker: bool = False) -> Postgres:
         """A connection to a database of the newest version. A worker has to write there."""
-        driver = _Driver()
-        found = Postgres(url, driver, await driver.connected(url))
+        server = _Server(url)
+        found = Postgres(server, await server.session())
         try:
             await found._check(worker)
             await found._migrate()
-        except driver.forbidden as error:
+            found.told((await found.rows(f"SELECT {found.clock}"))[0][0])
+        except StatementFailed as error:
             found.close()
-            raise Unsuitable(f"{str(error).strip()}: the user has to own the tables, and to have CREATE on their schema") from error
+            if error.code != "42501":
+                raise
+            raise Unsuitable(f"{error}: the user has to own the tables, and to have CREATE on their schema") from error
         except BaseException:
             found.close()
             raise
         return found
 
+    async def another(self) -> Postgres | None:
+        return Postgres(self._server, await self._server.session())
+
     async def _check(self, worker: bool) -> None:
         """Refuses a database that can't be used as it is set up."""
-        [(encoding, schema, read_only, fsync)] = await self.rows(_CHECKED)
+        [(encoding, schema, read_only, fsync, synchronous, unsafe)] = await self.rows(_CHECKED)
         if encoding not in _ENCODINGS:
             raise Unsuitable(f"the database's encoding is {encoding}, and has to be UTF8: CREATE DATABASE .. ENCODING 'UTF8' TEMPLATE template0")
         if schema is None:
             raise Unsuitable("the search_path names no schema that is there and that the user may use, so there is no place for the tables")
         if worker and read_only == "on":
             raise Lost("a worker has to write, and this session may only read: the server is a standby, or default_transaction_read_only is on")
-        if worker and fsync == "off":
-            _warn_of_fsync()
+        loses = [f"{name}=off" for name, value in (("fsync", fsync), ("synchronous_commit", synchronous)) if value == "off"]
+        if worker and loses and unsafe != "on":
+            text = f"with {' and '.join(loses)} what was committed may be lost when the server's machine stops"
+            raise Unsuitable(f"{text}; to allow it, set {_UNSAFE}=on, as by postgresql://..?options=-c{_UNSAFE}%3Don")
 
     async def _migrate(self) -> None:
+        if await self._version() == len(MIGRATIONS):
+            return
         await self.begin()
-        [(_, versions)] = await self.rows("SELECT pg_advisory_xact_lock(?), to_regclass('schema_versions')", (_MIGRATING,))
-        if versions is None:
-            self.put(VERSIONS)
-        [(found,)] = await self.rows("SELECT COALESCE(MAX(version), 0) FROM schema_versions")
-        for version, statements in missing(found):
-            self._queue.append(statements.format(**_TYPES).encode())
+        await self.rows("SELECT pg_advisory_xact_lock(?)", (_MIGRATING,))
+        self.put(VERSIONS)
+        for version, statements in missing(await self._version()):
+            for it in statements.format(**_TYPES).split(";\n"):
+                self.put(it)
             self.put("INSERT INTO schema_versions VALUES (?)", (version,))
         await self.commit()
 
-    async def _send(self, statement: bytes) -> None:
-        """Makes what is queued, and then this statement, in one round trip unless they are many; the cursor has this one's answer."""
-        statements, self._queue = [*self._queue, statement], []
-        with self._driver.named():
-            for first in range(0, len(statements), _AT_ONCE):
-                self._cursor.execute(b";".join(statements[first : first + _AT_ONCE]))
-                await self._driver.ready(self._connection)
+    async def _version(self) -> int:
+        """The schema's version; 0 if there is none."""
+        [(is_there,)] = await self.rows("SELECT to_regclass('schema_versions') IS NOT NULL")
+        return int((await self.rows("SELECT COALESCE(MAX(version), 0) FROM schema_versions"))[0][0]) if is_there else 0
 
-    def _text(self, sql: str, values: Sequence[object]) -> bytes:
-        with self._driver.named():
-            return self._cursor.mogrify(sql.replace("?", "%s"), tuple(values))  # type: ignore[no-any-return]
+    # ---- the clock
 
-    async def begin(self) -> None:
+    def now(self) -> float:
+        return self._server.clock + time.monotonic()
+
+    def told(self, time_of_server: float) -> None:
+        self._server.clock = time_of_server - time.monotonic()
+
+    # ---- statements
+
+    async def _send(self, it: Statement) -> PGresult:
+        """Makes what is queued, and then this statement, in one round trip."""
+        statements, self._queue = [*self._queue, it], []
+        return await self._pipeline.made(statements)
+
+    async def begin(self, reads: bool = False) -> None:
         self._words.clear()
         self._touched.clear()
-        self._queue = [_BEGIN]
+        self._queue = [self._statement(_BEGIN_READING) if reads else self._begin]
 
     async def commit(self) -> None:
         for sql, names in ((_NOTIFIED, self._words), (_TO_HOLDERS, self._touched)):
             if names:
                 self.put(sql, (sorted(names),))
-        await self._send(b"COMMIT")
-        if self._cursor.statusmessage != "COMMIT":
+        done = await self._send(self._statement("COMMIT"))
+        if done.command_status != b"COMMIT":
             raise Conflict("the transaction was rolled back")
 
     async def rollback(self) -> None:
-        has_begun, self._queue = self._queue[:1] != [_BEGIN], []
+        has_begun, self._queue = not self._queue or not self._queue[0].sql.startswith(b"BEGIN"), []
         if has_begun:
-            await self._send(b"ROLLBACK")
+            await self._send(self._statement("ROLLBACK"))
 
     async def rows(self, sql: str, values: Sequence[object] = ()) -> list[Any]:
-        await self._send(self._text(sql, values))
-        return self._cursor.fetchall()  # type: ignore[no-any-return]
+        return self._pipeline.rows(await self._send(self._statement(sql, values)))
 
     async def change(self, sql: str, values: Sequence[object] = ()) -> int:
-        await self._send(self._text(sql, values))
-        return self._cursor.rowcount  # type: ignore[no-any-return]
+        return (await self._send(self._statement(sql, values))).command_tuples or 0
 
     def put(self, sql: str, values: Sequence[object] = ()) -> None:
-        self._queue.append(self._text(sql, values))
+        self._queue.append(self._statement(sql, values))
 
     def many(self, sql: str, values: Iterable[Sequence[object]]) -> None:
-        self._queue += [self._text(sql, row) for row in values]
+        self._queue += [self._statement(sql, row) for row in values]
+
+    def hurry(self) -> None:
+        self.put(_HURRY)
+
+    # ---- other workers
 
     def notify(self, word: str) -> None:
         self._words.add(word)
@@ -238,39 +249,95 @@ class Postgres:
         self._touched.add(invocation)
 
     async def listen(self, worker: str, heard: Callable[[str], None]) -> Callable[[], None] | None:
-        connection = await self._driver.connected(self._url)
-        try:
-            with self._driver.named():
-                cursor = connection.cursor()  # it is kept until the answer is there
-                cursor.execute(f'LISTEN {_CHANNEL}; LISTEN "{_CHANNEL}_{worker[-_OWN:]}"')
-                await self._driver.ready(connection)
-        except BaseException:
-            connection.close()
-            raise
-        loop, number, own = asyncio.get_running_loop(), connection.fileno(), self._connection.info.backend_pid
-        has_ended = False
-
-        def readable() -> None:
-            try:
-                connection.poll()
-            except self._driver.error as error:
-                log.warning("notifications have ended, and the worker polls: %s", str(error).strip())
-                end()
-                return
-            while connection.notifies:
-                it = connection.notifies.pop(0)
-                if it.pid != own:  # this worker's own are known to it
-                    heard(it.payload)
+        task = asyncio.create_task(self._hear(await self._listening(worker), worker, heard))
 
         def end() -> None:
-            nonlocal has_ended
-            if not has_ended:
-                has_ended = True
-                loop.remove_reader(number)
-                connection.close()
+            task.cancel()
 
-        loop.add_reader(number, readable)
         return end
 
+    async def _listening(self, worker: str) -> psycopg.AsyncConnection[Any]:
+        connection = await self._server.reached()
+        try:
+            with _driver().named():
+                for channel in (_CHANNEL, f"{_CHANNEL}_{worker[-_OWN:]}"):
+                    await connection.execute(f'LISTEN "{channel}"')
+        except BaseException:
+            connection.pgconn.finish()
+            raise
+        return connection
+
+    async def _hear(self, connection: psycopg.AsyncConnection[Any], worker: str, heard: Callable[[str], None]) -> None:
+        """Until it is cancelled."""
+        while True:
+            try:
+                with _driver().named():
+                    async for it in connection.notifies():
+                        if it.pid not in self._server.processes:  # this worker's own are known to it
+                            heard(it.payload)
+            except (Lost, StatementFailed) as error:
+                log.warning("notifications have ended, and are asked for again: %s", error)
+            finally:
+                connection.pgconn.finish()
+            connection = await self._listening_again(worker)
+            heard("ready")
+
+    async def _listening_again(self, worker: str) -> psycopg.AsyncConnection[Any]:
+        while True:
+            await asyncio.sleep(_AGAIN)
+            with contextlib.suppress(Lost, Conflict, StatementFailed, Unsuitable):
+                return await self._listening(worker)
+
+    def beats(self, worker: str, lease: float, may_beat: Callable[[], bool]) -> ThreadOfBeats:
+        return ThreadOfBeats(self._server.url, worker, lease, may_beat)
+
     def close(self) -> None:
-        self._connection.close()
+        self._server.processes.discard(self._pipeline.process)
+        self._pipeline.close()
+
+
+class ThreadOfBeats:
+    """Keeps a worker's lease from a thread with a connection of its own. So neither a busy event loop nor a slow transaction makes a dead worker."""
+
+    _LIVES = f"UPDATE workers SET lease={Postgres.clock}+%(lease)s WHERE id=%(id)s"
+    _LIVES_AGAIN = f"INSERT INTO workers(id, lease) VALUES (%(id)s, {Postgres.clock}+%(lease)s) ON CONFLICT(id) DO NOTHING"
+
+    def __init__(self, url: str, worker: str, lease: float, may_beat: Callable[[], bool]):
+        self._url, self._values, self._lease, self._may_beat = url, {"id": worker, "lease": lease}, lease, may_beat
+        self._is_over = threading.Event()
+        self._thread = threading.Thread(target=self._run, name=f"palqytun-beats-{worker}", daemon=True)
+        self._connection: psycopg.Connection[Any] | None = None
+        self.last = time.monotonic()
+
+    def start(self) -> None:
+        self._thread.start()
+
+    def stop(self) -> None:
+        self._is_over.set()
+
+    def _run(self) -> None:
+        while not self._is_over.wait(self._lease / 3):
+            if self._may_beat():
+                self._beat()
+        self._drop()
+
+    def _beat(self) -> None:
+        import psycopg
+
+        try:
+            if self._connection is None:
+                options: dict[str, Any] = {**_OPTIONS, "connect_timeout": max(2, round(self._lease / 3))}
+                self._connection = psycopg.connect(self._url, autocommit=True, **options)
+                self._connection.execute(f"SET statement_timeout='{int(self._lease * 1000 / 3)}ms'")
+            is_there = self._connection.execute(self._LIVES, self._values).rowcount
+            if not is_there and not self._is_over.is_set():  # it was thought dead, and is removed
+                self._connection.execute(self._LIVES_AGAIN, self._values)
+            self.last = time.monotonic()
+        except psycopg.Error as error:
+            log.warning("a beat wasn't stored: %s", str(error).strip())
+            self._drop()
+
+    def _drop(self) -> None:
+        if self._connection is not None:
+            self._connection.close()
+            self._connection = None

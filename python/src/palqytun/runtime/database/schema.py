@@ -68,7 +68,19 @@ CREATE TABLE limits(path TEXT PRIMARY KEY){plain}
 # A suspension and a result are whole frames from here on.
 _THIRD = "ALTER TABLE invocations RENAME COLUMN future TO suspension"
 
-MIGRATIONS = [_FIRST, _SECOND, _THIRD]
+# Attempts that were lost, and a handler's own failures, since the last progress. Indexes by which no query looks at what has ended.
+_FOURTH = """
+ALTER TABLE invocations ADD COLUMN deaths INTEGER NOT NULL DEFAULT 0;
+ALTER TABLE invocations ADD COLUMN failures INTEGER NOT NULL DEFAULT 0;
+ALTER TABLE invocations ADD COLUMN failed_since {float};
+CREATE INDEX invocations_queue ON invocations(service, key, due, seq) WHERE status='ready' AND exclusive=1;
+CREATE INDEX invocations_unfinished ON invocations(status, seq) WHERE status<>'done';
+CREATE INDEX waiters_by ON waiters(waiter);
+CREATE INDEX promise_waiters_by ON promise_waiters(waiter);
+DELETE FROM promise_waiters WHERE waiter NOT IN (SELECT id FROM invocations WHERE status<>'done')
+"""
+
+MIGRATIONS = [_FIRST, _SECOND, _THIRD, _FOURTH]
 _OLDEST = 3  # what older databases hold can't be read any more
 
 VERSIONS = "CREATE TABLE IF NOT EXISTS schema_versions(version INTEGER PRIMARY KEY)"

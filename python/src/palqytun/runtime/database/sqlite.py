@@ -6,17 +6,32 @@ import asyncio
 import collections
 import concurrent.futures
 import fcntl
+import os
 import sqlite3
 import statistics
 import time
 from collections.abc import Callable, Iterable, Sequence
 from types import TracebackType
-from typing import Any
+from typing import Any, TextIO
 
-from . import Conflict, Lost
+from . import Beats, Conflict, Lost, StatementFailed
 from .schema import VERSIONS, missing
 
 _QUICK = 0.001  # seconds; a commit that takes less isn't worth a thread
+_OPENING = 10.0  # seconds that another program's lock is waited for when a file is opened
+_BUSY = (sqlite3.SQLITE_BUSY, sqlite3.SQLITE_LOCKED)
+_UNUSABLE = (
+    sqlite3.SQLITE_CANTOPEN,
+    sqlite3.SQLITE_CORRUPT,
+    sqlite3.SQLITE_FULL,
+    sqlite3.SQLITE_INTERRUPT,
+    sqlite3.SQLITE_IOERR,
+    sqlite3.SQLITE_NOLFS,
+    sqlite3.SQLITE_NOTADB,
+    sqlite3.SQLITE_PERM,
+    sqlite3.SQLITE_PROTOCOL,
+    sqlite3.SQLITE_READONLY,
+)
 _TYPES = {"serial": "INTEGER PRIMARY KEY AUTOINCREMENT", "blob": "BLOB", "float": "REAL", "plain": " WITHOUT ROWID"}
 
 
@@ -27,6 +42,18 @@ class InUse(Exception):
         super().__init__(f"another worker uses {path}; several workers need PostgreSQL")
 
 
+def _only_worker(path: str) -> TextIO:
+    """The lock of a file's only worker, whatever name it has the file by. It is a file of its own beside it: SQLite keeps locks of the process on the
+    database's, which closing it would end."""
+    lock = open(f"{os.path.realpath(path)}.lock", "w")
+    try:
+        fcntl.flock(lock, fcntl.LOCK_EX | fcntl.LOCK_NB)
+    except BlockingIOError:
+        lock.close()
+        raise InUse(path) from None
+    return lock
+
+
 class _Named:
     """Errors of SQLite as those of `Database`. It is entered for each statement, so it is no generator."""
 
@@ -34,11 +61,21 @@ class _Named:
         pass
 
     def __exit__(self, kind: type[BaseException] | None, error: BaseException | None, trace: TracebackType | None) -> None:
-        if not isinstance(error, sqlite3.Error) or isinstance(error, sqlite3.IntegrityError):
-            return
-        if isinstance(error, sqlite3.OperationalError) and ("locked" in str(error) or "busy" in str(error)):
-            raise Conflict(str(error)) from error
-        raise Lost(str(error)) from error
+        if isinstance(error, sqlite3.Error):
+            raise _named_by(error) from error
+        if isinstance(error, (OverflowError, UnicodeEncodeError)):
+            raise StatementFailed("value", str(error)) from error
+
+
+def _named_by(error: sqlite3.Error) -> Exception:
+    """The database is lost if its file can't be used; all else is the statement's own fault, or another's lock."""
+    code = getattr(error, "sqlite_errorcode", None)
+    primary = None if code is None else code & 0xFF
+    if primary in _BUSY:
+        return Conflict(str(error))
+    if primary in _UNUSABLE:
+        return Lost(str(error))
+    return StatementFailed(getattr(error, "sqlite_errorname", type(error).__name__), str(error))
 
 
 _named = _Named()
@@ -53,31 +90,41 @@ class SQLite:
             raise ValueError(f"synchronous is FULL, NORMAL or OFF, and not {synchronous}")
         self._thread = concurrent.futures.ThreadPoolExecutor(1, thread_name_prefix="palqytun-database")
         self._lasted: collections.deque[float] = collections.deque([0.0], maxlen=5)  # how long the last commits took
-        self._lock = None
-        if worker:
-            self._lock = open(f"{path}.lock", "w")
-            try:
-                fcntl.flock(self._lock, fcntl.LOCK_EX | fcntl.LOCK_NB)
-            except BlockingIOError:
-                self._lock.close()
-                raise InUse(path) from None
+        self._lock = _only_worker(path) if worker else None
         try:
             with _named:
-                self._connection = sqlite3.connect(path, isolation_level=None, timeout=10, cached_statements=500, check_same_thread=False)
-                self._connection.execute("PRAGMA journal_mode=WAL")
-                self._connection.execute(f"PRAGMA synchronous={synchronous}")
-                self._migrate()
+                self._connection = sqlite3.connect(path, isolation_level=None, timeout=_OPENING, cached_statements=500, check_same_thread=False)
+                self._set_up(synchronous)
+        except Conflict as error:
+            self._unlock()
+            raise Lost(f"another program has locked {path} for {_OPENING:g} seconds") from error
         except BaseException:
-            if self._lock is not None:
-                self._lock.close()
+            self._unlock()
             raise
+
+    def _set_up(self, synchronous: str) -> None:
+        self._connection.execute("PRAGMA journal_mode=WAL")
+        self._connection.execute(f"PRAGMA synchronous={synchronous}")
+        if missing(self._version()):
+            self._migrate()
+        # From here on whoever is locked out waits in the event loop, which goes on.
+        self._connection.execute("PRAGMA busy_timeout=0")
+
+    def _unlock(self) -> None:
+        if self._lock is not None:
+            self._lock.close()
+
+    def _version(self) -> int:
+        """The schema's version; 0 if there is none."""
+        if not self._connection.execute("SELECT 1 FROM sqlite_master WHERE name='schema_versions'").fetchall():
+            return 0
+        return int(self._connection.execute("SELECT COALESCE(MAX(version), 0) FROM schema_versions").fetchone()[0])
 
     def _migrate(self) -> None:
         self._connection.execute("BEGIN IMMEDIATE")
         try:
             self._connection.execute(VERSIONS)
-            [(found,)] = self._connection.execute("SELECT COALESCE(MAX(version), 0) FROM schema_versions").fetchall()
-            for version, statements in missing(found):
+            for version, statements in missing(self._version()):
                 for statement in statements.format(**_TYPES).split(";\n"):
                     self._connection.execute(statement)
                 self._connection.execute("INSERT INTO schema_versions VALUES (?)", (version,))
@@ -87,9 +134,15 @@ class SQLite:
                 self._connection.execute("ROLLBACK")
             raise
 
-    async def begin(self) -> None:
+    def now(self) -> float:
+        return time.time()
+
+    def told(self, time: float) -> None:
+        """The database's clock is that of this machine."""
+
+    async def begin(self, reads: bool = False) -> None:
         with _named:
-            self._connection.execute("BEGIN IMMEDIATE")
+            self._connection.execute("BEGIN" if reads else "BEGIN IMMEDIATE")
 
     async def commit(self) -> None:
         """In the event loop, if commits are quick here; else, as they wait for the disk, in a thread."""
@@ -125,6 +178,9 @@ class SQLite:
         with _named:
             self._connection.executemany(sql, values)
 
+    def hurry(self) -> None:
+        """Nothing waits for a lock here."""
+
     def notify(self, word: str) -> None:
         """There is no other worker to tell."""
 
@@ -134,8 +190,13 @@ class SQLite:
     async def listen(self, worker: str, heard: Callable[[str], None]) -> Callable[[], None] | None:
         return None
 
+    async def another(self) -> SQLite | None:
+        return None
+
+    def beats(self, worker: str, lease: float, may_beat: Callable[[], bool]) -> Beats | None:
+        return None
+
     def close(self) -> None:
         self._thread.shutdown(wait=True)
         self._connection.close()
-        if self._lock is not None:
-            self._lock.close()
+        self._unlock()

@@ -53,6 +53,7 @@ from .frames import (
     only_runs,
     only_steps,
     signal,
+    split,
     value,
     void,
 )
@@ -99,6 +100,7 @@ __all__ = [
     "only_runs",
     "only_steps",
     "signal",
+    "split",
     "value",
     "void",
 ]

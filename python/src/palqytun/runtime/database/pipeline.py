@@ -1,0 +1,226 @@
+"""Statements over one connection of psycopg 3, many in one round trip: libpq's pipeline mode, with prepared statements and binary values.
+
+They are sent by `psycopg.pq`, psycopg's own layer over libpq, and not by its cursors: where psycopg has no part in C, a cursor takes some 150
+microseconds of the processor for a statement, and this some 20 (docs/DECISIONS.md)."""
+
+from __future__ import annotations
+
+import asyncio
+import contextlib
+import functools
+import struct
+from collections import Counter
+from collections.abc import Callable, Iterator, Sequence
+from dataclasses import dataclass
+from typing import Any
+
+import psycopg
+from psycopg.adapt import Transformer
+from psycopg.pq import ConnStatus, DiagnosticField, ExecStatus, Format
+from psycopg.pq.abc import PGresult
+
+from . import Conflict, Lost, StatementFailed
+
+_BLOB, _INT, _TEXT, _FLOAT, _BOOL, _UNKNOWN = 17, 20, 25, 701, 16, 0  # the server's numbers of types
+_OFTEN, _PREPARED = 3, 500  # a statement is prepared when it is made so often; at most so many are
+_IN_THE_WAY = frozenset(("40001", "40P01", "55P03", "57014", "25006", "58030"))
+_TOO_LARGE = "53200"  # of class 53, insufficient resources, this one is for want of memory: by the statement's own size
+_BROKEN = (ExecStatus.FATAL_ERROR, ExecStatus.PIPELINE_ABORTED)
+
+Types = tuple[int, ...]
+
+
+@contextlib.contextmanager
+def named() -> Iterator[None]:
+    """Errors of the connection as those of `Database`. Those of statements are results, and no exceptions."""
+    try:
+        yield
+    except psycopg.ProgrammingError as error:
+        raise StatementFailed(error.sqlstate or "driver", str(error).strip()) from error
+    except psycopg.Error as error:
+        raise named_by(error.sqlstate, str(error).strip() or type(error).__name__) from error
+
+
+def named_by(state: str | None, text: str) -> Exception:
+    """The error with this SQLSTATE: only classes 08 and 57P, and none at all, say that the connection has ended."""
+    if not state or state.startswith(("08", "57P")):
+        return Lost(text)
+    if state in _IN_THE_WAY or (state.startswith("53") and state != _TOO_LARGE):
+        return Conflict(text)
+    return StatementFailed(state, text)
+
+
+# ---- values
+
+
+def _whole(number: int) -> bytes:
+    return number.to_bytes(8, "big", signed=True)
+
+
+_DUMPED: dict[type, tuple[int, Callable[[Any], bytes]]] = {
+    bool: (_BOOL, lambda it: b"\x01" if it else b"\x00"),
+    str: (_TEXT, str.encode),
+    int: (_INT, _whole),
+    float: (_FLOAT, struct.Struct(">d").pack),
+    bytes: (_BLOB, bytes),
+    memoryview: (_BLOB, bytes),
+}
+
+
+def _list(values: list[Any]) -> bytes:
+    """An array, of the type of its first value."""
+    type, dumped = _how(next((it for it in values if it is not None), ""))
+    parts = [struct.pack(">iiiii", 1, 1, type, len(values), 1) if values else struct.pack(">iii", 0, 0, type)]
+    for it in values:
+        data = None if it is None else dumped(it)
+        parts += (b"\xff\xff\xff\xff",) if data is None else (len(data).to_bytes(4, "big"), data)
+    return b"".join(parts)
+
+
+_DUMPED[list] = (_UNKNOWN, _list)  # the statement says which: `?::text[]`
+
+
+def _how(value: object) -> tuple[int, Callable[[Any], bytes]]:
+    """The type that the server is told, and what makes the bytes."""
+    found = _DUMPED.get(type(value))
+    return found or next(_DUMPED[it] for it in type(value).__mro__ if it in _DUMPED)
+
+
+@functools.lru_cache(1000)
+def _numbered(sql: str) -> bytes:
+    """A statement with `$1`, `$2`, .. in the place of each `?`."""
+    first, *rest = sql.split("?")
+    return "".join([first, *(f"${number}{it}" for number, it in enumerate(rest, 1))]).encode()
+
+
+@dataclass(frozen=True)
+class Statement:
+    """A statement with its values, as they are sent."""
+
+    sql: bytes
+    types: Types
+    values: list[bytes | None]
+
+
+def statement(sql: str, values: Sequence[object] = ()) -> Statement:
+    """`StatementFailed` if a value is none that can be stored."""
+    types, data = list[int](), list[bytes | None]()
+    try:
+        for it in values:
+            if it is None:
+                types.append(_UNKNOWN)
+                data.append(None)
+            else:
+                type, dumped = _how(it)
+                types.append(type)
+                data.append(dumped(it))
+    except (ValueError, OverflowError, StopIteration) as error:
+        raise StatementFailed("value", f"{it!r:.200}: {error or 'a value of a type that is not stored'}") from error
+    return Statement(_numbered(sql), tuple(types), data)
+
+
+# ---- a connection
+
+
+class Pipeline:
+    def __init__(self, connection: psycopg.AsyncConnection[Any]):
+        self._connection, self._pg = connection, connection.pgconn  # the connection closes when nothing refers to it any more
+        self._pg.enter_pipeline_mode()
+        self.process = self._pg.backend_pid
+        self._counts: Counter[tuple[bytes, Types]] = Counter()
+        self._names: dict[tuple[bytes, Types], bytes] = {}
+        self._is_stuck = False  # the results of what was sent before weren't read
+
+    async def made(self, statements: Sequence[Statement]) -> PGresult:
+        """Makes statements in one round trip; returns the last one's result. An error in one of them is raised, and those after it aren't made."""
+        if self._is_stuck or self._pg.status != ConnStatus.OK:
+            raise Lost("the connection has ended")
+        self._is_stuck = True
+        with named():
+            new = dict[tuple[bytes, Types], bytes]()
+            expected = [name for it in statements for name in self._sent(it, new)]
+            self._pg.pipeline_sync()
+            results = await self._results()
+        self._is_stuck = False
+        self._names |= {key: key_name for key, key_name in new.items() if self._is_prepared(key_name, expected, results)}
+        for it in results:
+            if it.status in _BROKEN:
+                raise self._failed(it)
+        return results[-1]
+
+    def _sent(self, it: Statement, new: dict[tuple[bytes, Types], bytes]) -> Iterator[bytes | None]:
+        """Sends a statement, which is prepared before if it is made often; the name that each result is of, if it is of a preparation."""
+        key, formats = (it.sql, it.types), [Format.BINARY] * len(it.values)
+        name = self._names.get(key) or new.get(key)
+        if name is None and len(self._names) + len(new) < _PREPARED:
+            self._counts[key] += 1
+            if self._counts[key] >= _OFTEN:
+                del self._counts[key]
+                name = new[key] = b"p%d" % (len(self._names) + len(new))
+                self._pg.send_prepare(name, it.sql, it.types)
+                yield name
+        if name is not None:
+            self._pg.send_query_prepared(name, it.values, formats, Format.BINARY)
+        else:
+            self._pg.send_query_params(it.sql, it.values, it.types, formats, Format.BINARY)
+        yield None
+
+    @staticmethod
+    def _is_prepared(name: bytes, expected: list[bytes | None], results: list[PGresult]) -> bool:
+        at = expected.index(name)
+        return at < len(results) and results[at].status == ExecStatus.COMMAND_OK
+
+    async def _results(self) -> list[PGresult]:
+        """What the server says of each statement up to the synchronisation. Meanwhile what the socket didn't take is sent."""
+        found, ended, pg = list[PGresult](), False, self._pg
+        while True:
+            has_more = pg.flush()
+            while not pg.is_busy():
+                result = pg.get_result()
+                if result is None:  # once after each statement
+                    if ended:
+                        raise Lost("the connection has ended")
+                    ended = True
+                    continue
+                ended = False
+                if result.status == ExecStatus.PIPELINE_SYNC:
+                    return found
+                found.append(result)
+            await _moved(pg.socket, bool(has_more))
+            pg.consume_input()
+
+    def _failed(self, result: PGresult) -> Exception:
+        state = result.error_field(DiagnosticField.SQLSTATE)
+        text = (result.error_field(DiagnosticField.MESSAGE_PRIMARY) or result.error_message).decode("utf-8", "replace").strip()
+        found = named_by(state.decode() if state else None, text)
+        return found if self._pg.status == ConnStatus.OK or isinstance(found, Lost) else Lost(text)
+
+    def rows(self, result: PGresult) -> list[tuple[Any, ...]]:
+        if result.ntuples == 0:
+            return []
+        reader = Transformer(self._connection)
+        reader.set_pgresult(result)
+        return reader.load_rows(0, result.ntuples, tuple)
+
+    def close(self) -> None:
+        self._pg.finish()
+
+
+async def _moved(number: int, writes: bool) -> None:
+    """Waits until a socket can be read, or, if it `writes`, be written."""
+    loop = asyncio.get_running_loop()
+    moved: asyncio.Future[None] = loop.create_future()
+
+    def tell() -> None:
+        if not moved.done():
+            moved.set_result(None)
+
+    loop.add_reader(number, tell)
+    if writes:
+        loop.add_writer(number, tell)
+    try:
+        await moved
+    finally:
+        loop.remove_reader(number)
+        if writes:
+            loop.remove_writer(number)

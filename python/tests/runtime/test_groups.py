@@ -1,0 +1,197 @@
+"""Groups of operations: a bad member undoes nothing of the others, and what is in the way of one keeps nobody else out."""
+
+import asyncio
+import sqlite3
+import time
+import unittest
+from unittest import mock
+
+import support  # isort: skip
+import runtime_app
+from palqytun.runtime import TerminalError, committer
+from palqytun.runtime.committer import Committer
+from palqytun.runtime.database import Conflict, StatementFailed, connect
+from palqytun.runtime.database.plain import Plain
+
+
+def inserted(name):
+    return lambda db: db.change("INSERT INTO workers VALUES (?, 0)", (name,))
+
+
+def put(*names):
+    """Changes whose errors are raised later."""
+
+    async def operation(db):
+        for it in names:
+            db.put("INSERT INTO workers VALUES (?, 0)", (it,))
+
+    return operation
+
+
+async def refused(db):
+    await inserted("refused")(db)
+    raise TerminalError("no", 400)
+
+
+@support.on_each_database
+class Groups(support.OnADatabase):
+    def with_committer(self, test):
+        async def go():
+            to = Committer(await connect(self.url))
+            try:
+                await test(to)
+            finally:
+                await to.close()
+
+        asyncio.run(go())
+
+    def names(self):
+        with Plain(self.url) as db:
+            return [it for it, in db.rows("SELECT id FROM workers ORDER BY id")]
+
+    def test_bad_members(self):
+        """Whatever is wrong with them: the operation's own refusal, a row that is there, a value that can't be stored, a statement without
+        meaning. The others are committed, by two transactions however many are bad."""
+        wrong = [
+            refused,
+            inserted("first"),
+            put("second", "second"),
+            lambda db: db.rows("SELECT no FROM nothing"),
+            lambda db: db.change("INSERT INTO workers VALUES (?, 0)", (2**80,)),
+            lambda db: db.change("INSERT INTO workers VALUES (?, 0)", ("\ud800",)),
+        ]
+
+        async def test(to):
+            await to.submit(inserted("first"))
+            before = to.counts["transactions"]
+            good = [to.submit(inserted(f"good {n:02d}")) for n in range(10)]
+            bad = [to.submit(it) for it in wrong]
+            more = [to.submit(put(f"more {n:02d}")) for n in range(10)]
+            errors = [type(it) for it in await asyncio.gather(*bad, return_exceptions=True)]
+            self.assertEqual(errors, [TerminalError, *[StatementFailed] * 5])
+            self.assertEqual(await asyncio.gather(*good), [1] * 10)
+            await asyncio.gather(*more)
+            self.assertLessEqual(to.counts["transactions"] - before, 4)
+
+        self.with_committer(test)
+        self.assertEqual(self.names(), ["first", *[f"good {n:02d}" for n in range(10)], *[f"more {n:02d}" for n in range(10)]])
+
+    def test_a_conflict_is_never_final(self):
+        """However often it is met; and meanwhile others are stored."""
+        tries = []
+
+        async def conflicts(db):
+            tries.append(1)
+            await inserted("late")(db)
+            if len(tries) < 40:
+                raise Conflict("not yet")
+
+        async def test(to):
+            with mock.patch.object(committer, "_LONGEST", 0.05):
+                late = to.submit(conflicts)
+                for n in range(20):
+                    await to.submit(inserted(f"{n:02d}"))
+                self.assertFalse(late.done())
+                await asyncio.wait_for(late, 60)
+
+        self.with_committer(test)
+        self.assertEqual((len(tries), len(self.names())), (40, 21))
+
+    def test_who_does_not_wait_any_more(self):
+        """An operation whose future was cancelled isn't made again."""
+
+        async def conflicts(db):
+            raise Conflict("for ever")
+
+        async def test(to):
+            future = to.submit(conflicts)
+            await asyncio.sleep(0.2)
+            future.cancel()
+            await to.submit(inserted("next"))
+            count = to.counts["conflicts"]
+            await asyncio.sleep(0.5)
+            self.assertLessEqual(to.counts["conflicts"], count + 1)
+
+        self.with_committer(test)
+
+    def test_a_claim_whose_row_fails(self):
+        """The invocation is paused with what the database says, and the worker goes on with the others."""
+        if self.kind == "sqlite":
+            statements = [
+                "CREATE TRIGGER fails BEFORE UPDATE ON invocations WHEN NEW.id='inv_bad' AND NEW.status='running'"
+                " BEGIN SELECT RAISE(ABORT, 'it fails'); END"
+            ]
+        else:
+            statements = [
+                "CREATE FUNCTION fails() RETURNS trigger LANGUAGE plpgsql AS $$ BEGIN RAISE EXCEPTION 'it fails'; END $$",
+                "CREATE TRIGGER fails BEFORE UPDATE ON invocations FOR EACH ROW WHEN (NEW.id='inv_bad' AND NEW.status='running') EXECUTE FUNCTION fails()",
+            ]
+            self.addCleanup(self.change, "DROP FUNCTION fails CASCADE")
+        self.change(*statements)
+
+        async def go():
+            async with support.Runtime(runtime_app.app, self.url) as runtime:
+                good = [await runtime.send("S/echo", n) for n in range(3)]
+                await runtime.send("S/echo", 1, id="inv_bad")
+                good += [await runtime.send("S/echo", n) for n in range(3)]
+                self.assertEqual([await runtime.result(it) for it in good], [0, 1, 2] * 2)
+                self.assertRegex((await runtime.until("inv_bad", "paused"))[1], "it can't be claimed: .*it fails")
+
+        asyncio.run(go())
+
+    def change(self, *statements):
+        with Plain(self.url) as db:
+            for it in statements:
+                db.change(it)
+
+
+class AFileThatIsLocked(support.OnADatabase, unittest.TestCase):
+    """Another program writes to the worker's SQLite file."""
+
+    def test_the_loop_goes_on_and_so_does_the_worker(self):
+        async def go():
+            async with support.Runtime(runtime_app.app, self.url) as runtime:
+                self.assertEqual(await runtime.call("S/echo", 1), 1)
+                other = sqlite3.connect(self.url, isolation_level=None)
+                other.execute("BEGIN IMMEDIATE")
+                waits, longest, last = asyncio.create_task(runtime.call("S/echo", 2)), 0.0, time.monotonic()
+                end = last + 3
+                while time.monotonic() < end:
+                    await asyncio.sleep(0.01)
+                    longest, last = max(longest, time.monotonic() - last), time.monotonic()
+                self.assertFalse(waits.done())
+                other.execute("ROLLBACK")
+                self.assertEqual(await asyncio.wait_for(waits, 20), 2)
+                self.assertLess(longest, 1.0)
+                other.close()
+
+        asyncio.run(go())
+
+    def test_a_reader_keeps_no_worker_out(self):
+        """What reads sees one state of the database, as long as it takes."""
+
+        async def counts(db):
+            before = await db.rows("SELECT COUNT(*) FROM workers")
+            writer.execute("INSERT INTO workers VALUES ('new', 0)")
+            return before == await db.rows("SELECT COUNT(*) FROM workers")
+
+        with Plain(self.url) as reader:
+            writer = sqlite3.connect(self.url, isolation_level=None)
+            self.assertTrue(reader.read(counts))
+            self.assertEqual(reader.rows("SELECT id FROM workers"), [("new",)])
+            writer.close()
+
+    def test_a_file_that_is_locked_when_it_is_opened(self):
+        """One that was opened before needs no lock to be opened again."""
+        Plain(self.url).close()
+        other = sqlite3.connect(self.url, isolation_level=None)
+        other.execute("BEGIN IMMEDIATE")
+        with Plain(self.url) as db:
+            self.assertEqual(db.rows("SELECT * FROM workers"), [])
+            with self.assertRaises(Conflict):
+                db.change("INSERT INTO workers VALUES ('one', 0)")
+        other.close()
+
+
+if __name__ == "__main__":
+    unittest.main()

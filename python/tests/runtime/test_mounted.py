@@ -1,0 +1,82 @@
+"""The ingress as a part of another ASGI application, whose lifespan runs the worker."""
+
+import asyncio
+import unittest
+
+import support  # isort: skip
+import needs
+
+if lacks := needs.lacks_server() or needs.lacks_module("httpx"):
+    raise unittest.SkipTest(lacks)
+import httpx
+import runtime_app
+from palqytun.runtime.database import Lost
+from starlette.applications import Starlette
+from starlette.responses import PlainTextResponse
+from starlette.routing import Mount, Route
+
+
+@support.on_each_database
+class Mounted(support.OnADatabase):
+    def asked(self, *requests, **options):
+        """The answers of an application in which the ingress is mounted at /durable."""
+        durable = runtime_app.app.asgi(self.url, poll=0.2, **options)
+        own = Route("/own", lambda request: PlainTextResponse("its own"))
+        site = Starlette(routes=[own, Mount("/durable", durable)], lifespan=durable.lifespan)
+
+        async def go():
+            async with site.router.lifespan_context(site), httpx.AsyncClient(app=site, base_url="http://localhost") as client:
+                return [await client.request(*it[:2], **(it[2] if len(it) > 2 else {})) for it in requests]
+
+        return asyncio.run(asyncio.wait_for(go(), 60))
+
+    def test_handlers_and_the_page(self):
+        own, called, keyed, listed, none = self.asked(
+            ("GET", "/own"),
+            ("POST", "/durable/S/echo", {"json": [1, "é"]}),
+            ("POST", "/durable/O/a%2Fb/add", {"json": 1}),
+            ("GET", "/durable/-/page"),
+            ("GET", "/S/echo"),
+        )
+        self.assertEqual((own.text, called.json(), keyed.json(), none.status_code), ("its own", [1, "é"], [1, ["n"]], 404))
+        self.assertIn("O/a/b/add", listed.text)
+
+    def test_who_may_ask(self):
+        known = {"authorization": "Bearer secret"}
+        asked, refused, entered, foreign = self.asked(
+            ("POST", "/durable/S/echo", {"json": 1, "headers": known}),
+            ("POST", "/durable/S/echo", {"json": 1}),
+            ("POST", "/durable/-/page/token", {"data": {"token": "secret"}, "headers": {"origin": "http://localhost"}}),
+            ("POST", "/durable/S/echo", {"json": 1, "headers": {**known, "origin": "http://evil.example"}}),
+            token="secret",
+        )
+        self.assertEqual([it.status_code for it in (asked, refused, entered, foreign)], [200, 401, 303, 403])
+        self.assertEqual(entered.headers["location"], "/durable/-/page")
+        self.assertIn("Path=/durable/-/page", entered.headers["set-cookie"])
+        [other] = self.asked(("POST", "/durable/S/echo", {"json": 1, "headers": {"host": "shop.example"}}))
+        self.assertEqual(other.status_code, 403)
+
+    def test_limits(self):
+        large, slow = self.asked(("POST", "/durable/S/echo", {"content": b"1" * 11}), ("POST", "/durable/S/waits"), payload=10, wait=0.1)
+        self.assertEqual((large.status_code, slow.status_code, slow.json()["status"]), (413, 202, "pending"))
+
+
+class Broken(support.InAFolder, unittest.TestCase):
+    def test_a_database_that_is_in_use(self):
+        """The application doesn't begin."""
+        from palqytun.runtime.database.sqlite import InUse
+
+        url = str(self.folder / "db")
+
+        async def go():
+            first, second = runtime_app.app.asgi(url), runtime_app.app.asgi(url)
+            async with first.lifespan():
+                with self.assertRaises((InUse, Lost)):
+                    async with second.lifespan():
+                        self.fail("it began")
+
+        asyncio.run(asyncio.wait_for(go(), 60))
+
+
+if __name__ == "__main__":
+    unittest.main()

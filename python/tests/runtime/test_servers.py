@@ -1,0 +1,341 @@
+"""A PostgreSQL server that hurts: it restarts, ends sessions and statements, has locks of others, a full disk, or may only be read."""
+
+import asyncio
+import contextlib
+import os
+import subprocess
+import time
+import unittest
+from unittest import mock
+
+import support  # isort: skip
+import needs
+import postgres
+import runtime_app
+from palqytun.runtime import App, Context, Service
+from palqytun.runtime.committer import Committer
+from palqytun.runtime.database import Conflict, Lost, StatementFailed, connect
+from palqytun.runtime.database.plain import Plain
+from palqytun.runtime.invocations import New
+from postgres import with_settings
+from support import Runtime
+
+service = Service("Servers")
+app = App(service)
+
+
+async def nothing() -> int:
+    return 1
+
+
+@service.handler()
+async def steps(ctx: Context, count: int) -> int:
+    return sum([await ctx.run("step", nothing) for _ in range(count)])
+
+
+@contextlib.asynccontextmanager
+async def two(url):
+    """Two connections."""
+    one, other = await connect(url), await connect(url)
+    try:
+        yield one, other
+    finally:
+        one.close()
+        other.close()
+
+
+class Errors(unittest.TestCase):
+    def setUp(self):
+        if lacks := needs.lacks_module("psycopg"):
+            self.skipTest(lacks)
+
+    def test_by_their_sqlstate(self):
+        from palqytun.runtime.database.pipeline import named_by
+
+        kinds = {
+            Lost: ("08006", "08P01", "57P01", "57P02", "57P03", "", None),
+            Conflict: ("40001", "40P01", "55P03", "57014", "25006", "53100", "53300"),
+            StatementFailed: ("54000", "53200", "22021", "23505", "42601", "42P01", "XX000", "P0001"),
+        }
+        for kind, states in kinds.items():
+            for state in states:
+                self.assertIs(type(named_by(state, "text")), kind, state)
+
+
+class OnAServer(support.OnADatabase, unittest.TestCase):
+    kind = "postgres"
+
+    def test_a_statement_that_takes_too_long(self):
+        """It is ended by the server, the connection stays, and the operation is made again."""
+        tries = []
+
+        async def slow(db):
+            tries.append(1)
+            await db.rows("SELECT pg_sleep(?::float8)", (20.0 if len(tries) < 3 else 0.0,))
+            return "done"
+
+        async def go():
+            to = Committer(await connect(with_settings(self.url, {"statement_timeout": "200ms"})))
+            self.assertEqual(await asyncio.wait_for(to.submit(slow), 60), "done")
+            self.assertEqual((len(tries), to.lost), (3, None))
+            await to.close()
+
+        asyncio.run(go())
+
+    def test_a_row_that_another_has_locked(self):
+        """Who needs it waits, and nobody else: neither those of its group, nor other operations, nor beats."""
+        with Plain(self.url) as db:
+            db.change("INSERT INTO state VALUES ('S', 'k', 'locked', '1')")
+
+        async def go():
+            async with two(self.url) as (outside, _):
+                async with Runtime(runtime_app.app, self.url, lease=3) as runtime:
+                    await outside.begin()
+                    await outside.rows("SELECT * FROM state WHERE name='locked' FOR UPDATE")
+                    submit = runtime.engine._committer.submit
+                    beside = [submit(lambda db, n=n: db.change("INSERT INTO state VALUES ('S', 'k', ?, '1')", (f"beside {n}",))) for n in range(5)]
+                    waits = submit(lambda db: db.change("UPDATE state SET value='2' WHERE name='locked'"))
+                    await asyncio.wait_for(asyncio.gather(*beside), 20)
+                    end = time.monotonic() + 4
+                    while time.monotonic() < end:
+                        self.assertEqual(await asyncio.wait_for(runtime.call("S/echo", 1), 20), 1)
+                    is_alive = f"SELECT COUNT(*) FROM workers WHERE lease>{outside.clock}"
+                    self.assertEqual((await runtime.rows(is_alive), waits.done()), ([(1,)], False))
+                    await outside.rollback()
+                    self.assertEqual(await asyncio.wait_for(waits, 20), 1)
+                    self.assertEqual(runtime.engine.counts["sessions"], 1)
+
+        asyncio.run(go())
+
+    def test_a_slow_statement_stops_nobody(self):
+        async def go():
+            async with Runtime(runtime_app.app, self.url) as runtime:
+                slow = runtime.engine._committer.submit(lambda db: db.rows("SELECT pg_sleep(12)"), is_slow=True)
+                self.assertEqual(await runtime.call("S/echo", 1), 1)
+                self.assertFalse(slow.done())
+                await slow
+
+        asyncio.run(go())
+
+    def test_a_deadlock(self):
+        """Two workers take two rows, each in another order. Both get them."""
+        with Plain(self.url) as db:
+            db.many("INSERT INTO workers VALUES (?, 0)", [("a",), ("b",)])
+            db.change("SELECT 1")
+
+        def both(first, second):
+            async def operation(db):
+                await db.change("UPDATE workers SET lease=lease+1 WHERE id=?", (first,))
+                await asyncio.sleep(0.3)
+                await db.change("UPDATE workers SET lease=lease+1 WHERE id=?", (second,))
+
+            return operation
+
+        async def go():
+            url = with_settings(self.url, {"deadlock_timeout": "100ms"})
+            one, other = Committer(await connect(url)), Committer(await connect(url))
+            await asyncio.wait_for(asyncio.gather(one.submit(both("a", "b")), other.submit(both("b", "a"))), 60)
+            self.assertEqual(await one.submit(lambda db: db.rows("SELECT id, lease FROM workers ORDER BY id")), [("a", 2.0), ("b", 2.0)])
+            self.assertGreater(one.counts["conflicts"] + other.counts["conflicts"], 0)
+            await one.close()
+            await other.close()
+
+        asyncio.run(go())
+
+    def test_a_connection_that_listens_is_made_again(self):
+        async def go():
+            async with two(self.url) as (one, other):
+                words = []
+                end = await one.listen("listener", words.append)
+                await other.rows("SELECT pg_terminate_backend(pid) FROM pg_stat_activity WHERE query LIKE 'LISTEN%' AND pid<>pg_backend_pid()")
+                until = time.monotonic() + 30
+                while "ready" not in words and time.monotonic() < until:
+                    await asyncio.sleep(0.05)
+                await other.begin()
+                other.notify("ended inv_1")
+                await other.commit()
+                while "ended inv_1" not in words and time.monotonic() < until:
+                    await asyncio.sleep(0.05)
+                self.assertEqual(words, ["ready", "ended inv_1"])
+                end()
+
+        asyncio.run(go())
+
+    def test_a_busy_loop_is_no_dead_worker(self):
+        """The thread keeps the lease, while the event loop does nothing for it."""
+
+        async def go():
+            async with Runtime(runtime_app.app, self.url, lease=2) as runtime:
+                time.sleep(5)
+                [(left,)] = await runtime.rows("SELECT MAX(lease) - extract(epoch from clock_timestamp())::float8 FROM workers")
+                self.assertGreater(left, 0)
+                [worker] = {it for it, in await runtime.rows("SELECT id FROM workers")}
+                await runtime.rows("SELECT 1 FROM workers FOR UPDATE")
+                await runtime.engine.transact(lambda db: db.change("DELETE FROM workers"))  # it was thought dead
+                while not (found := await runtime.rows("SELECT id FROM workers")):
+                    await asyncio.sleep(0.05)
+                self.assertEqual(found, [(worker,)])
+
+        asyncio.run(go())
+
+
+class OwnCluster(unittest.TestCase):
+    """A server of its own, which the test may hurt."""
+
+    def setUp(self):
+        if lacks := needs.lacks_postgres():
+            self.skipTest(lacks)
+        self.cluster = self.enterContext(postgres.cluster({"restart_after_crash": "on"}))
+
+    async def ended(self, runtime, count):
+        until = time.monotonic() + 120
+        while time.monotonic() < until:
+            with contextlib.suppress(Exception):  # the database is away
+                if (await runtime.rows("SELECT COUNT(*) FROM invocations WHERE status='done'")) == [(count,)]:
+                    return await runtime.rows("SELECT COUNT(*) FROM journal")
+            await asyncio.sleep(0.1)
+        raise AssertionError(await runtime.rows("SELECT id, status, error FROM invocations WHERE status<>'done'"))
+
+    def test_restarts(self):
+        """Fast and immediate, in the middle of the work: each step is stored once, and each workflow ends."""
+
+        async def go():
+            async with Runtime(app, self.cluster.url, lease=5) as runtime:
+                for n in range(10):
+                    await runtime.send("Servers/steps", 30)
+                for mode in ("fast", "immediate"):
+                    await asyncio.to_thread(self.cluster.restart, mode)
+                    await asyncio.wait_for(runtime.engine.is_open(), 60)
+                self.assertEqual(await self.ended(runtime, 10), [(10 * (2 + 2 * 30),)])
+                self.assertGreater(runtime.engine.counts["sessions"], 1)
+
+        asyncio.run(go())
+
+    def test_a_database_that_may_only_be_read(self):
+        """What is to be stored waits until it may be written again, by the same sessions."""
+
+        def only_reads(value):
+            with Plain(self.cluster.url) as db:
+                db.change(f"ALTER SYSTEM SET default_transaction_read_only={value}")
+                db.change("SELECT pg_reload_conf()")
+
+        async def go():
+            async with Runtime(runtime_app.app, self.cluster.url) as runtime:
+                self.assertEqual(await runtime.call("S/echo", 1), 1)
+                await asyncio.to_thread(only_reads, "on")
+                await asyncio.sleep(0.3)
+                waits = asyncio.create_task(runtime.call("S/echo", 2))
+                await asyncio.sleep(1.5)
+                self.assertFalse(waits.done())
+                await asyncio.to_thread(only_reads, "off")
+                self.assertEqual(await asyncio.wait_for(waits, 60), 2)
+                self.assertEqual(runtime.engine.counts["sessions"], 1)
+
+        asyncio.run(go())
+
+    def test_a_full_disk(self):
+        """That of the journal: a small file system. What is to be stored waits for room, and no invocation is paused."""
+        place = self.cluster.folder / "small"
+        place.mkdir()
+        words = ["mount", "-t", "tmpfs", "-o", "size=4m", "palqytun", str(place)]
+        if os.geteuid() != 0 or subprocess.run(words, capture_output=True).returncode:
+            self.skipTest("a small file system can't be mounted")
+        self.addCleanup(subprocess.run, ["umount", "-l", str(place)], check=False)
+        self.cluster.owned(place)
+        with Plain(self.cluster.url) as db:
+            db.change(f"CREATE TABLESPACE small LOCATION '{place}'")
+            db.change("ALTER TABLE journal SET TABLESPACE small")
+        filler = place / "filler"
+
+        def fill():
+            with filler.open("wb", buffering=0) as file, contextlib.suppress(OSError):
+                while True:
+                    file.write(bytes(65536))
+
+        async def go():
+            async with Runtime(app, self.cluster.url, lease=5) as runtime:
+                ids = [await runtime.engine.submit(New("Servers", "steps", argument=b"20")) for _ in range(5)]
+                fill()
+                sent = [asyncio.create_task(runtime.engine.submit(New("Servers", "steps", argument=b"300"))) for _ in range(10)]
+                until = time.monotonic() + 60
+                while not (conflicts := runtime.engine._committer.counts["conflicts"]) and time.monotonic() < until:
+                    await asyncio.sleep(0.05)
+                self.assertGreater(conflicts, 0)
+                filler.unlink()
+                for id in [*ids, *await asyncio.wait_for(asyncio.gather(*sent), 60)]:
+                    self.assertIn(await runtime.result(id, 60), (20, 300))
+                self.assertEqual(runtime.engine.counts["sessions"], 1)
+
+        asyncio.run(go())
+
+
+class Pipelines(support.OnADatabase, unittest.TestCase):
+    """Statements over one connection."""
+
+    kind = "postgres"
+
+    def test_statements_that_are_made_often_are_prepared(self):
+        async def go():
+            db = await connect(self.url)
+            for n in range(5):
+                await db.begin()
+                db.put("INSERT INTO workers VALUES (?, ?)", (str(n), float(n)))
+                self.assertEqual((await db.rows("SELECT MAX(lease) FROM workers"))[0][0], n)
+                await db.commit()
+            prepared = {it for it, in await db.rows("SELECT statement FROM pg_prepared_statements")}
+            self.assertIn("INSERT INTO workers VALUES ($1, $2)", prepared)
+            db.close()
+
+        asyncio.run(go())
+
+    def test_one_that_fails_when_it_is_prepared(self):
+        """And those behind it that weren't prepared then are later."""
+
+        async def go():
+            db = await connect(self.url)
+            for _ in range(5):
+                await db.begin()
+                db.put("SELECT no FROM nothing")
+                db.put("SELECT 1 FROM workers WHERE id=?", ("x",))
+                with self.assertRaisesRegex(StatementFailed, "42P01"):
+                    await db.commit()
+                await db.rollback()
+            await db.change("CREATE TEMP TABLE nothing(no INTEGER)")
+            for _ in range(5):
+                self.assertEqual(await db.rows("SELECT no FROM nothing"), [])
+                self.assertEqual(await db.rows("SELECT 1 FROM workers WHERE id=?", ("x",)), [])
+            db.close()
+
+        asyncio.run(go())
+
+    def test_a_statement_that_is_given_up(self):
+        """The connection can't be used then, and says so."""
+
+        async def go():
+            db = await connect(self.url)
+            with self.assertRaises(asyncio.TimeoutError):
+                await asyncio.wait_for(db.rows("SELECT pg_sleep(5)"), 0.2)
+            with self.assertRaises(Lost):
+                await db.rows("SELECT 1")
+            db.close()
+
+        asyncio.run(go())
+
+    def test_no_further_connection(self):
+        """The server has no room for one: what there is goes on."""
+
+        async def go():
+            to = Committer(await connect(self.url))
+            with mock.patch.object(to.db, "another", side_effect=Conflict("too many")), self.assertLogs("palqytun") as said:
+                slow = to.submit(lambda db: db.rows("SELECT pg_sleep(0.5)"))
+                await asyncio.sleep(0.05)
+                self.assertEqual(await to.submit(lambda db: db.rows("SELECT 1")), [(1,)])
+                self.assertTrue(slow.done())
+            self.assertIn("too many", said.output[0])
+            await to.close()
+
+        asyncio.run(go())
+
+
+if __name__ == "__main__":
+    unittest.main()
