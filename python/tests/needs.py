@@ -18,7 +18,8 @@ from dataclasses import dataclass
 import postgres
 
 SERVER = ("starlette", "uvicorn", "jinja2", "prometheus_client", "croniter")  # of the extra `server`
-MODULES = {"psycopg": "python3-psycopg", "pydantic": "python3-pydantic", "httpx": "python3-httpx", **{it: f"python3-{it.replace('_', '-')}" for it in SERVER}}
+_ALIKE = ("psycopg", "pydantic", "httpx", "hypothesis", *SERVER)  # named as their packages
+MODULES = {it: f"python3-{it.replace('_', '-')}" for it in _ALIKE}
 _BROWSERS = ("chromium", "chromium-browser", "google-chrome")
 _OLDEST = (3, 11)
 _ASKED = (

@@ -12,7 +12,7 @@ import time
 from dataclasses import dataclass
 
 import crash_app
-from palqytun.runtime import invocations, journal
+from palqytun.runtime import invocations, journal, operate
 from palqytun.runtime.database import Database
 from palqytun.runtime.database.plain import Plain
 from palqytun.runtime.invocations import New
@@ -45,13 +45,22 @@ def left(db: Plain) -> int:
     return rows(db, "SELECT COUNT(*) FROM invocations WHERE status<>'done'")[0][0]
 
 
-def wait(db: Plain, seconds: float) -> None:
-    until = time.monotonic() + seconds
+async def _resumed(db: Database) -> int:
+    """Resumes what was paused because its attempts were lost so often in a row, as an operator does."""
+    found = await db.rows("SELECT id FROM invocations WHERE status='paused' AND how='lost'")
+    return sum([await operate.resume(db, Outcome(), id) for (id,) in found])
+
+
+def wait(db: Plain, seconds: float) -> int:
+    """Waits until all have ended; answers how many were resumed for that."""
+    until, resumed = time.monotonic() + seconds, 0
     while left(db):
+        resumed += db.done(_resumed)
         if time.monotonic() > until:
             found = rows(db, "SELECT id, service, handler, status, worker, retries, error FROM invocations WHERE status<>'done' LIMIT 5")
             raise Wrong(f"{left(db)} invocations haven't ended after {seconds} s, as {found}")
         time.sleep(0.1)
+    return resumed
 
 
 def _compared(frame: bytes, handler: str) -> str:

@@ -9,7 +9,7 @@ import time
 from collections.abc import Callable
 
 import crash_app
-from palqytun.runtime import appending, claiming, committer, effects, inbox, invocations, journal, lease, storing
+from palqytun.runtime import App, appending, claiming, committer, effects, inbox, invocations, journal, lease, storing
 from palqytun.runtime.database import Database
 from palqytun.runtime.database.sqlite import SQLite
 from palqytun.runtime.engine import Engine, Unavailable
@@ -46,6 +46,7 @@ def until_all_ended(
     jumps: bool = False,
     is_checkpointed: bool = False,
     wrong: str = "",
+    app: App = crash_app.app,
 ) -> None:
     """Runs a worker until each invocation has ended, or it dies at commit number `dies`; or when a wrong runtime has committed a first part,
     the `dies_between`th time. It is the whole of a process."""
@@ -66,7 +67,7 @@ def until_all_ended(
         return db
 
     async def run() -> None:
-        engine = Engine(crash_app.app, path, grouped=is_grouped, idle=idle, poll=0.1, connect=connect)
+        engine = Engine(app, path, grouped=is_grouped, idle=idle, poll=0.1, connect=connect)
         task = asyncio.create_task(engine.run())
         await engine.is_open()
         last = time.monotonic()

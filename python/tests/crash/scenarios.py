@@ -135,6 +135,7 @@ class Report:
     full_disks: int = 0
     open_at_faults: int = 0
     lost_attempts: int = 0
+    resumed: int = 0
     fenced: int = 0
     lost: int = 0
     journals: int = 0
@@ -467,7 +468,7 @@ def kills(
                     running.kill(at)
                     report.kills += 1
                 _logged_without_errors(folder)
-            wait(db, seconds)
+            report.resumed = wait(db, seconds)
             time.sleep(LEASE / 3 + 0.5)  # after the last beats
         finally:
             running.end()

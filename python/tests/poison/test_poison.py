@@ -3,8 +3,10 @@
 After each of them the worker lives, says so, and the healthy one ends in its usual time; the poisoned one ends in a retry, a pause or a result. At
 last SIGTERM ends the worker within its grace."""
 
+import contextlib
 import pathlib
 import socket
+import subprocess
 import sys
 import time
 import unittest
@@ -149,6 +151,25 @@ class Poison(support.OnADatabase):
                 time.sleep(0.02)
             self.worker.is_well()
         self.worker.ends()
+
+    def test_one_that_ends_its_worker(self):
+        """It is paused after some deaths, and those that stood beside it aren't."""
+        others = [self.worker.send("hangs", "an async run") for _ in range(8)]
+        id = self.worker.send("dies", "")
+        while self.worker.process.poll() is not None or self.died():
+            self.worker.kill()
+            self.worker = Worker(self.url, self.folder, is_checked=False)
+            self.addCleanup(self.worker.kill)
+        self.worker.is_well()
+        assert self.worker.status(id)["status"] == "paused"
+        assert {self.worker.status(it)["status"] for it in others} == {"running"}
+
+    def died(self):
+        """Whether the worker dies in the next moment."""
+        with contextlib.suppress(subprocess.TimeoutExpired):
+            self.worker.process.wait(12)
+            return True
+        return False
 
     def test_the_second_signal_ends_at_once(self):
         self.worker.send("hangs", "a plain run")

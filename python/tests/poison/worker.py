@@ -21,6 +21,7 @@ HERE = pathlib.Path(__file__).parent
 SOURCES = HERE.parent.parent / "src"
 GRACE = 2.0  # seconds
 _ENDS = GRACE + 10.0  # seconds after SIGTERM; parts of a shutdown beside the grace have limits of their own
+_KEYS = itertools.count()  # of the healthy ones
 _SLOWEST = 8.0  # seconds that the healthy one may take on a machine that is busy, whatever it takes usually
 
 
@@ -35,21 +36,20 @@ class Reply:
 
 
 class Worker:
-    def __init__(self, url: str, folder: pathlib.Path, *more: str):
+    def __init__(self, url: str, folder: pathlib.Path, is_checked: bool = True):
         command = [sys.executable, "-m", "palqytun", "run", str(HERE / "poison_app.py"), "--db", url, "--port", "0", "--grace", str(GRACE)]
-        command += ["--lease", "3", "--idle", "0.2", *more]
+        command += ["--lease", "3", "--idle", "0.2"]
         environment = {**os.environ, "PYTHONPATH": f"{SOURCES}:{HERE}", "PYTHONUNBUFFERED": "1"}
         self.log_file = folder / "log"
         self._log = self.log_file.open("ab")
         self.process = subprocess.Popen(command, env=environment, cwd=folder, stdout=subprocess.PIPE, stderr=self._log, text=True)
         assert self.process.stdout is not None
-        address = urllib.parse.urlsplit(self.process.stdout.readline().strip())
-        assert address.hostname is not None and address.port is not None, self.log
-        self.at = address.hostname, address.port
+        address = urllib.parse.urlsplit(self.process.stdout.readline().strip())  # it is empty if the worker has died before
+        assert address.port is not None or not is_checked, self.log
+        self.at = str(address.hostname), address.port or 0
         self._usual = _SLOWEST
-        self._count = itertools.count()
-        taken = [self.healthy() for _ in range(5)]
-        self._usual = max(_SLOWEST, 10 * statistics.median(taken))
+        if is_checked:
+            self._usual = max(_SLOWEST, 10 * statistics.median([self.healthy() for _ in range(5)]))
 
     @property
     def log(self) -> str:
@@ -93,7 +93,7 @@ class Worker:
 
     def healthy(self) -> float:
         """Calls the healthy handler, which ends in its usual time: for how many seconds."""
-        key, begun = f"key {next(self._count)}", time.monotonic()
+        key, begun = f"key {next(_KEYS)}", time.monotonic()
         reply = self.call("healthy", key)
         took = time.monotonic() - begun
         assert (reply.status, reply.body) == (200, b"[1,2,1]"), (reply, self.log[-3000:])

@@ -163,6 +163,26 @@ class Lost(OnOne):
         self.assertTrue(self.db.done(lambda db: operate.resume(db, Outcome(), id)))
         self.assertEqual(len(self.lost("worker-6")), 1)
 
+    def test_those_that_a_worker_had_beside_it(self):
+        """After two deaths each is claimed alone, so one that ends workers takes no other with it."""
+        ids = [self.create("Claims", "echoes", argument=b"1") for _ in range(4)]
+        for worker in ("one", "two"):
+            self.assertEqual(len(self.lost(worker)), 4)
+        self.enter("three")
+        new = self.create("Claims", "echoes", argument=b"1")
+        claimed = {it.invocation for it in self.claim("three")}
+        [first] = claimed - {new}
+        self.assertEqual(self.claim("three"), [])
+        self.db.change("UPDATE invocations SET deaths=0 WHERE id=?", (first,))  # it has stored something
+        [second] = self.claim("three")
+        self.assertIn(second.invocation, set(ids) - {first})
+        # The one that ends its worker is claimed last from then on.
+        self.db.change("DELETE FROM workers WHERE id='three'")
+        self.db.change("UPDATE invocations SET status='done' WHERE id IN (?, ?)", (first, new))
+        self.enter("four")
+        [third] = self.claim("four")
+        self.assertNotEqual(third.invocation, second.invocation)
+
     def test_others_are_claimed_beside_it(self):
         id, other = self.create("Claims", "echoes", argument=b"1"), self.create("Claims", "echoes", argument=b"2")
         self.lost("one")

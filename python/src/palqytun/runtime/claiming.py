@@ -9,10 +9,11 @@ from typing import Any
 
 from . import inbox, invocations, journal, schedules
 from .database import Database
-from .invocations import CLAIMED, Claim, Claimable
+from .invocations import CLAIMED, MOST_LOST, SUSPECT, Claim, Claimable
 from .outcome import Outcome
 from .services import App
 
+_ALONE = 1.0  # seconds for which one that may end its worker is alone with it
 _FOR_GOOD = 1e9  # seconds
 _TIMERS = 1000  # at most so many fire in one transaction
 _FRESH = 5000
@@ -84,11 +85,24 @@ class Claimer:
         fresh = {row[0] for row in await db.rows("SELECT DISTINCT invocation FROM inbox WHERE fresh=1 LIMIT ?", (_FRESH,))}
         found.out.touched |= fresh
         rows = [Claimable(*row) for row in await self._rows(db, found, now, room, bool(fresh))]
-        free = [it for it in rows if it.id not in live]
+        free = await self._without_suspects(db, [it for it in rows if it.id not in live])
         for first in range(0, len(free), _AT_ONCE):
             found.claims += await invocations.claim(db, self.worker, free[first : first + _AT_ONCE])
+        if len(free) < sum(it.id not in live for it in rows):
+            found.has_more = False  # who is left out is looked for by and by
         found.next_due = await self._next_due(db, now)
         return found
+
+    async def _without_suspects(self, db: Database, rows: list[Claimable]) -> list[Claimable]:
+        """Of those whose attempts were lost again and again with their workers, one at a time is claimed: that which was lost least often, and the
+        next one after a moment. So the one that ends workers is found, and the others that they had go on."""
+        suspects = [it for it in rows if SUSPECT <= it.lost < MOST_LOST]
+        if not suspects:
+            return rows
+        sql = "SELECT COUNT(*) FROM invocations WHERE status='running' AND worker=? AND deaths>=? AND begun>?"
+        [(has_one,)] = await db.rows(sql, (self.worker, SUSPECT, db.now() - _ALONE))
+        chosen = None if has_one else min(suspects, key=lambda it: it.lost)
+        return [it for it in rows if it is chosen or not SUSPECT <= it.lost < MOST_LOST]
 
     async def _fire(self, db: Database, out: Outcome, now: float) -> None:
         due = await db.rows(f"SELECT seq, invocation, completes FROM timers WHERE due<=? ORDER BY due LIMIT {_TIMERS}{db.skip}", (now,))
@@ -164,5 +178,5 @@ class Claimer:
         )
         [(found, clock)] = await db.rows(sql, (now,))
         db.told(float(clock))
-        scheduled = await schedules.next_due(db, self.app, now)
+        scheduled = await schedules.next_due(db, self.app)
         return min((float(it) - db.now() + time.time() for it in (found, scheduled) if it is not None), default=None)

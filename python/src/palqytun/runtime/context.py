@@ -366,6 +366,8 @@ class Context:
     ) -> Call[O]:
         """Calls a handler, or `"Service/handler"`. Awaited, it gives the handler's result."""
         service, name, gives = self._target(target)
+        check_name("the key", key or "")
+        check_name("the idempotency key", idempotency_key or "")
         options = {"key": key, "idempotency_key": idempotency_key, "headers": to_text_headers(headers)}
         id, handle = self._vm_call("sys_call", service, name, encoded(self._codec, argument), **options)
         return Call(id, handle, self._result(gives))
@@ -382,6 +384,8 @@ class Context:
     ) -> Durable[str]:
         """Calls a handler, at once or after a delay in seconds, and doesn't wait for it. Awaited, it gives the invocation's id."""
         service, name, _ = self._target(target)
+        check_name("the key", key or "")
+        check_name("the idempotency key", idempotency_key or "")
         options = {"key": key, "idempotency_key": idempotency_key, "headers": to_text_headers(headers)}
         at = _ms(time.time() + delay) if delay else None
         return Leaf(self._vm_call("sys_send", service, name, encoded(self._codec, argument), at=at, **options), lambda came: str(came.id))

@@ -17,7 +17,7 @@ from .names import check_name
 from .outcome import Outcome
 from .services import App, Handler, TerminalError
 
-_MOST_DEATHS = 5  # attempts in a row that are lost with their workers
+SUSPECT, MOST_LOST = 2, 5  # attempts in a row that are lost with their workers: then an invocation is claimed alone, or not any more
 VERSION = 7  # of the core's protocol, for new invocations; one that is there keeps its own, for its journal was written by it
 
 
@@ -183,6 +183,11 @@ class Claimable:
     worker: str | None
     deaths: int
 
+    @property
+    def lost(self) -> int:
+        """How many attempts were lost with their workers since the last progress, with the one that this claim finds."""
+        return self.deaths + (self.status == "running")
+
 
 CLAIMED = ", ".join(it.name for it in fields(Claimable))
 
@@ -249,15 +254,14 @@ async def claim(db: Database, worker: str, rows: list[Claimable]) -> list[Claim]
 
 async def _is_deadly(db: Database, it: Claimable) -> bool:
     """Whether the attempts of an invocation were lost so often that the next one might end another worker. Then it is paused."""
-    lost = it.deaths + (it.status == "running")
-    if lost < _MOST_DEATHS:
+    if it.lost < MOST_LOST:
         return False
-    sql = f"SELECT worker FROM attempts WHERE invocation=? AND how='lost' ORDER BY epoch DESC LIMIT {_MOST_DEATHS}"
-    workers = [it.worker, *[name for name, in await db.rows(sql, (it.id,))]][:_MOST_DEATHS]
+    sql = f"SELECT worker FROM attempts WHERE invocation=? AND how='lost' ORDER BY epoch DESC LIMIT {MOST_LOST}"
+    workers = [it.worker, *[name for name, in await db.rows(sql, (it.id,))]][:MOST_LOST]
     names = ", ".join(str(name) for name in dict.fromkeys(reversed(workers)) if name)
-    error = f"{lost} attempts in a row were lost before they stored anything, with the workers {names}: see how these ended, and then resume it"
+    error = f"{it.lost} attempts in a row were lost before they stored anything, with the workers {names}: see how these ended, and then resume it"
     sql = "UPDATE invocations SET status='paused', stopped=?, how='lost', deaths=?, error=? WHERE id=?"
-    db.put(sql, (db.now(), lost, error, it.id))
+    db.put(sql, (db.now(), it.lost, error, it.id))
     return True
 
 
