@@ -58,6 +58,8 @@ _SETTINGS = {
     "transaction_timeout": "0",
     "idle_session_timeout": "0",  # the connection that listens is idle
     "synchronous_commit": "on",
+    "enable_seqscan": "off",  # a plan that was made when a table was small is kept when it is large: each query has its index
+    "jit": "off",  # statements are short, and a table without an index for one is small
 }
 _HURRY = "SET LOCAL lock_timeout='100ms'"
 _ENOUGH = ("local", "remote_write", "remote_apply")  # of synchronous_commit: what is committed is on the disk with these too
