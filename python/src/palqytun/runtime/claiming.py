@@ -178,5 +178,5 @@ class Claimer:
         )
         [(found, clock)] = await db.rows(sql, (now,))
         db.told(float(clock))
-        scheduled = await schedules.next_due(db, self.app)
+        scheduled = await schedules.next_due(db, self.app, now)
         return min((float(it) - db.now() + time.time() for it in (found, scheduled) if it is not None), default=None)
