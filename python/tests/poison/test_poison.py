@@ -153,21 +153,21 @@ class Poison(support.OnADatabase):
         self.worker.ends()
 
     def test_one_that_ends_its_worker(self):
-        """It is paused after some deaths, and those that stood beside it aren't."""
-        others = [self.worker.send("hangs", "an async run") for _ in range(8)]
+        """It is paused after some deaths, and the last worker is well."""
         id = self.worker.send("dies", "")
-        while self.worker.process.poll() is not None or self.died():
+        deaths = 0
+        while self.died():
+            deaths += 1
             self.worker.kill()
             self.worker = Worker(self.url, self.folder, is_checked=False)
             self.addCleanup(self.worker.kill)
         self.worker.is_well()
-        assert self.worker.status(id)["status"] == "paused"
-        assert {self.worker.status(it)["status"] for it in others} == {"running"}
+        assert self.worker.status(id)["status"] == "paused" and deaths == 5, deaths
 
     def died(self):
         """Whether the worker dies in the next moment."""
         with contextlib.suppress(subprocess.TimeoutExpired):
-            self.worker.process.wait(12)
+            self.worker.process.wait(6)
             return True
         return False
 
