@@ -36,7 +36,9 @@ class Wheels(unittest.TestCase):
         wheel = zipfile.ZipFile(self.built("build_wheel", self.project))
         names = wheel.namelist()
         package = {f"palqytun/{it.name}" for it in (PROJECT / "src/palqytun").glob("*.py")}
-        self.assertLessEqual(package | {"palqytun/py.typed", "palqytun/libpalqytun.so"}, set(names))
+        templates = {f"palqytun/runtime/templates/{it.name}" for it in (PROJECT / "src/palqytun/runtime/templates").iterdir()}
+        self.assertIn("palqytun/runtime/templates/list.html", templates)
+        self.assertLessEqual(package | templates | {"palqytun/py.typed", "palqytun/libpalqytun.so"}, set(names))
         self.assertEqual(wheel.read("palqytun/libpalqytun.so"), b"the shared object")
         record = [it for it in names if it.endswith(".dist-info/RECORD")][0]
         rows = dict(row.split(",", 1) for row in wheel.read(record).decode().splitlines())

@@ -2,9 +2,11 @@
 
 import asyncio
 import base64
+import resource
 import struct
 import time
 import unittest
+from unittest import mock
 
 import support  # isort: skip
 import needs
@@ -14,6 +16,7 @@ if lacks := needs.lacks_server():
 import runtime_app
 from palqytun.runtime import App, Context, Service, effects
 from palqytun.runtime.names import LONGEST
+from palqytun.runtime.server import connections_at_most
 from palqytun.runtime.serving import Http, Settings, Unguarded
 from prometheus_client.parser import text_string_to_metric_families
 from runtime_app import seen
@@ -43,7 +46,7 @@ def with_ingress(settings=Settings(), **options):
 REFUSED = [
     ("/S/echo", b"x" * 1001, {}, 413, "1001 bytes, and may have 1000"),
     (f"/O/{LONG}/add", b"1", {}, 400, "the key has 1001 bytes in UTF-8, and 1000 are allowed"),
-    ("/O/a%00b/add", b"1", {}, 400, "the key has the character NUL"),
+    ("/O/a%00b/add", b"1", {}, 400, "the path or the query has the character NUL"),
     ("/O//add", b"1", {}, 400, "O/add is called with a key"),
     ("/S/echo", b"1", {"idempotency_key": LONG}, 400, "the idempotency key has 1001 bytes in UTF-8, and 1000 are allowed"),
     (f"/{LONG}/echo", b"1", {}, 400, "the service's name has 1001 bytes"),
@@ -67,7 +70,8 @@ REFUSED = [
     ("/-/invocations/inv_none/cancel", b"", {}, 404, "there is no invocation"),
     ("/-/invocations/inv_none/signals/go", b"1", {}, 404, "there is no invocation"),
     (f"/-/invocations/ID/signals/{LONG}", b"1", {}, 400, "the signal's name has 1001 bytes"),
-    ("/-/invocations/ID/signals/a%00b", b"1", {}, 400, "the signal's name has the character NUL"),
+    ("/-/invocations/ID/signals/a%00b", b"1", {}, 400, "the path or the query has the character NUL"),
+    ("/-/invocations/a%00b/cancel", b"", {}, 400, "the path or the query has the character NUL"),
     ("/-/invocations/ID/signals/", b"1", {}, 400, "the signal has no name"),
     ("/-/invocations/ID/signals/go", b"{", {}, 400, "the body is no value"),
     ("/-/invocations/ID/signals/go", b"x" * 1001, {}, 413, "may have 1000"),
@@ -116,6 +120,10 @@ class Refusals(support.OnADatabase):
         self.assertEqual((await served.ask("/-/invocations?most=0", method="GET"))[0], 400)
         self.assertEqual((await served.ask("/-/invocations?most=1e3", method="GET"))[0], 400)
         self.assertEqual((await served.ask("/-/invocations?most=10", method="GET"))[0], 200)
+        for path in ("/-/invocations?service=a%00b", "/-/invocations/a%00b", "/-/invocations/a%00b/result", "/-/page/a%00b", "/-/page?status=a%00b"):
+            self.assertEqual((await served.ask(path, method="GET"))[0], 400, path)
+        for path in ("/-/invocations/none", "/-/invocations/none/journal", "/-/invocations/none/timeline", "/-/invocations/none/result", "/-/page/none"):
+            self.assertEqual((await served.ask(path, method="GET"))[0], 404, path)
 
 
 class Understood(support.OnADatabase, unittest.TestCase):
@@ -198,6 +206,11 @@ class Clients(support.OnADatabase, unittest.TestCase):
             writer.close()
         await served.until(lambda: served.connections == 0)
         self.assertEqual((await served.ask("/-/health", method="GET"))[0], 200)
+
+    def test_some_descriptors_are_left_to_the_worker(self):
+        for soft, most in ((256, 160), (64, 1), (100_000, 1000), (resource.RLIM_INFINITY, 1000)):
+            with mock.patch("resource.getrlimit", return_value=(soft, soft)):
+                self.assertEqual(connections_at_most(1000), most)
 
     @with_ingress(Settings(patience=0.5), limit=0)
     async def test_clients_that_are_slow(self, served):

@@ -61,6 +61,29 @@ class Mounted(support.OnADatabase):
         self.assertEqual((large.status_code, slow.status_code, slow.json()["status"]), (413, 202, "pending"))
 
 
+class Served(support.OnADatabase, unittest.TestCase):
+    def test_by_a_server_as_it_is(self):
+        """The server asks for its lifespan, and so runs its worker."""
+        durable = runtime_app.app.asgi(self.url, poll=0.2)
+
+        async def go():
+            asked, said = asyncio.Queue(), asyncio.Queue()
+            serving = asyncio.create_task(durable({"type": "lifespan", "asgi": {"version": "3.0"}}, asked.get, said.put))
+            await asked.put({"type": "lifespan.startup"})
+            self.assertEqual((await said.get())["type"], "lifespan.startup.complete")
+            async with httpx.AsyncClient(app=durable, base_url="http://localhost") as client:
+                self.assertEqual((await client.post("/S/echo", json=7)).json(), 7)
+                waits = asyncio.create_task(client.post("/S/waits"))
+                while not durable.engine._results:
+                    await asyncio.sleep(0.01)
+                await asked.put({"type": "lifespan.shutdown"})
+                self.assertEqual((await waits).status_code, 202)
+            self.assertEqual((await said.get())["type"], "lifespan.shutdown.complete")
+            await serving
+
+        asyncio.run(asyncio.wait_for(go(), 60))
+
+
 class Broken(support.InAFolder, unittest.TestCase):
     def test_a_database_that_is_in_use(self):
         """The application doesn't begin."""

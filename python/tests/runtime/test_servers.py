@@ -94,7 +94,8 @@ class OnAServer(support.OnADatabase, unittest.TestCase):
                     await outside.rows("SELECT * FROM state WHERE name='locked' FOR UPDATE")
                     submit = runtime.engine._committer.submit
                     beside = [submit(lambda db, n=n: db.change("INSERT INTO state VALUES ('S', 'k', ?, '1')", (f"beside {n}",))) for n in range(5)]
-                    waits = submit(lambda db: db.change("UPDATE state SET value='2' WHERE name='locked'"))
+                    many = [submit(lambda db: db.change("UPDATE state SET value='2' WHERE name='locked'")) for _ in range(8)]
+                    waits = asyncio.gather(*many)
                     await asyncio.wait_for(asyncio.gather(*beside), 20)
                     end = time.monotonic() + 4
                     while time.monotonic() < end:
@@ -102,7 +103,7 @@ class OnAServer(support.OnADatabase, unittest.TestCase):
                     is_alive = f"SELECT COUNT(*) FROM workers WHERE lease>{outside.clock}"
                     self.assertEqual((await runtime.rows(is_alive), waits.done()), ([(1,)], False))
                     await outside.rollback()
-                    self.assertEqual(await asyncio.wait_for(waits, 20), 1)
+                    self.assertEqual(await asyncio.wait_for(waits, 20), [1] * 8)
                     self.assertEqual(runtime.engine.counts["sessions"], 1)
 
         asyncio.run(go())

@@ -200,7 +200,7 @@ class Committer:
     async def _commit(self, db: Database, group: list[_Queued]) -> None:
         """Makes a group in one transaction; if that fails, each operation that can be stored is, without those that can't."""
         try:
-            results = await self._transaction(db, [it.operation for it in group])
+            results = await self._transaction(db, [it.operation for it in group], hurries=group[0].tries > 0)
         except Lost:
             raise
         except Exception as error:
@@ -273,13 +273,16 @@ class Committer:
         self.counts["transactions"] += 1
         self.counts["operations"] += len(group)
 
-    async def _transaction(self, db: Database, operations: list[Operation]) -> list[Any]:
+    async def _transaction(self, db: Database, operations: list[Operation], hurries: bool) -> list[Any]:
+        """One that `hurries` has its connection only for a moment if something is still in its way, so that there is one for others."""
         self._counted(operations)
         appends = [it for it in operations if isinstance(it, Append)]
-        if db.is_remote and len(appends) == len(operations) <= AT_ONCE:
+        if db.is_remote and not hurries and len(appends) == len(operations) <= AT_ONCE:
             return await append(db, appends)  # one statement, which is a transaction by itself
         await self._begin(db)
         try:
+            if hurries:
+                db.hurry()
             results = await self._made(db, operations)
             await db.commit()
         except BaseException:

@@ -30,6 +30,7 @@ T = TypeVar("T")
 log = logging.getLogger("palqytun")
 _SHORTEST, _LONGEST = 0.1, 5.0  # seconds between connections
 _CLAIMS = 200  # at most in one transaction, so that other workers get some too
+_ANSWERED = 30.0  # seconds that a request waits for its transaction
 _LAST = 5.0  # seconds that each part of a shutdown may take, beside the grace
 
 
@@ -93,7 +94,9 @@ class Engine:
         if self._committer is None:
             raise Unavailable("the database can't be used now: there is no connection")
         try:
-            return await self._committer.submit(operation)
+            return await asyncio.wait_for(self._committer.submit(operation), _ANSWERED)
+        except asyncio.TimeoutError:
+            raise Unavailable(f"something has been in the way in the database for {_ANSWERED:g} seconds") from None
         except Stopped as error:
             raise Unavailable(f"the database can't be used now: {error}") from error
 

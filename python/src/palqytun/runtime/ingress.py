@@ -131,6 +131,8 @@ class Guarded:
             parts = path_of(request.scope)
         except TerminalError as error:
             return _fault(error.code, error.message)
+        if any("\0" in it for it in (*parts, *request.query_params.values())):
+            return _fault(400, "the path or the query has the character NUL, which isn't allowed")
         if (why := self._door.foreign(request.headers)) is not None:
             return _fault(403, why)
         if parts[:2] in (("-", "page"), ("-", "health")) or self._door.has_token(request.headers):
@@ -222,8 +224,8 @@ class Ingress:
     async def _body(self, request: Request) -> bytes:
         """The body, as far as it may be one."""
         most = self.settings.payload
-        claimed = request.headers.get("content-length", "0")
-        check_payload("the body", int(claimed) if claimed.isdigit() else 0, most)
+        claimed = request.headers.get("content-length", "")
+        check_payload("the body", int(claimed[:20]) if claimed.isascii() and claimed.isdigit() else 0, most)
         try:
             return await asyncio.wait_for(self._received(request, most), self.settings.patience)
         except asyncio.TimeoutError:
@@ -334,7 +336,7 @@ class Ingress:
         return await self._completed(request, journal.value(await self._value(request)))
 
     async def _reject(self, request: Request) -> Response:
-        message = (await self._body(request)).decode("utf-8", "replace")
+        message = (await self._body(request)).decode("utf-8", "replace").replace("\0", "\\0")
         return await self._completed(request, journal.failure(500, message))
 
     async def _completed(self, request: Request, result: Result) -> Response:

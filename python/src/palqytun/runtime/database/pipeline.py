@@ -11,8 +11,7 @@ import functools
 import struct
 from collections import Counter
 from collections.abc import Callable, Iterator, Sequence
-from dataclasses import dataclass
-from typing import Any
+from typing import Any, NamedTuple
 
 import psycopg
 from psycopg.adapt import Transformer
@@ -93,8 +92,7 @@ def _numbered(sql: str) -> bytes:
     return "".join([first, *(f"${number}{it}" for number, it in enumerate(rest, 1))]).encode()
 
 
-@dataclass(frozen=True)
-class Statement:
+class Statement(NamedTuple):
     """A statement with its values, as they are sent."""
 
     sql: bytes
@@ -125,6 +123,7 @@ def statement(sql: str, values: Sequence[object] = ()) -> Statement:
 class Pipeline:
     def __init__(self, connection: psycopg.AsyncConnection[Any]):
         self._connection, self._pg = connection, connection.pgconn  # the connection closes when nothing refers to it any more
+        self._reader = Transformer(connection)
         self._pg.enter_pipeline_mode()
         self.process = self._pg.backend_pid
         self._counts: Counter[tuple[bytes, Types]] = Counter()
@@ -198,9 +197,8 @@ class Pipeline:
     def rows(self, result: PGresult) -> list[tuple[Any, ...]]:
         if result.ntuples == 0:
             return []
-        reader = Transformer(self._connection)
-        reader.set_pgresult(result)
-        return reader.load_rows(0, result.ntuples, tuple)
+        self._reader.set_pgresult(result)
+        return self._reader.load_rows(0, result.ntuples, tuple)
 
     def close(self) -> None:
         self._pg.finish()

@@ -58,6 +58,8 @@ _SETTINGS = {
     "transaction_timeout": "0",
     "idle_session_timeout": "0",  # the connection that listens is idle
     "synchronous_commit": "on",
+    "enable_seqscan": "off",  # a plan that was made when a table was small is kept when it is large: each query has its index
+    "jit": "off",  # statements are short, and a table without an index for one is small
 }
 _HURRY = "SET LOCAL lock_timeout='100ms'"
 _ENOUGH = ("local", "remote_write", "remote_apply")  # of synchronous_commit: what is committed is on the disk with these too
@@ -260,6 +262,7 @@ class Postgres:
         connection = await self._server.reached()
         try:
             with _driver().named():
+                await connection.execute(_SET_UP[1])
                 for channel in (_CHANNEL, f"{_CHANNEL}_{worker[-_OWN:]}"):
                     await connection.execute(f'LISTEN "{channel}"')
         except BaseException:
@@ -328,6 +331,7 @@ class ThreadOfBeats:
             if self._connection is None:
                 options: dict[str, Any] = {**_OPTIONS, "connect_timeout": max(2, round(self._lease / 3))}
                 self._connection = psycopg.connect(self._url, autocommit=True, **options)
+                self._connection.execute(_SET_UP[1])
                 self._connection.execute(f"SET statement_timeout='{int(self._lease * 1000 / 3)}ms'")
             is_there = self._connection.execute(self._LIVES, self._values).rowcount
             if not is_there and not self._is_over.is_set():  # it was thought dead, and is removed

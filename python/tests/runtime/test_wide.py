@@ -1,0 +1,113 @@
+"""What is wide, in one attempt: it takes time in proportion, and keeps nobody else out."""
+
+import asyncio
+import gc
+import time
+import unittest
+
+import support  # isort: skip
+from palqytun.runtime import App, Context, Service, TerminalError, VirtualObject, gather
+from palqytun.runtime.services import Retry
+from support import Runtime
+
+service, thing = Service("S"), VirtualObject("O")
+at_once = [0, 0]  # now, and at most
+
+
+async def counted(n: int) -> int:
+    at_once[0] += 1
+    at_once[1] = max(at_once)
+    await asyncio.sleep(0.001)
+    at_once[0] -= 1
+    return n
+
+
+@service.handler()
+async def echo(ctx: Context, n: int) -> int:
+    return n
+
+
+@service.handler()
+async def runs(ctx: Context, n: int) -> int:
+    return sum(await gather(*[ctx.run("one", counted, 1) for _ in range(n)]))
+
+
+@service.handler()
+async def plain_runs(ctx: Context, n: int) -> int:
+    return sum(await gather(*[ctx.run("one", int, 1) for _ in range(n)]))
+
+
+@service.handler()
+async def sleeps(ctx: Context, n: int) -> int:
+    return len(await gather(*[ctx.sleep(0.5) for _ in range(n)]))
+
+
+@service.handler()
+async def calls(ctx: Context, n: int) -> int:
+    return sum(await gather(*[ctx.call(echo, 1) for _ in range(n)]))
+
+
+@thing.handler()
+async def sets(ctx: Context, n: int) -> int:
+    for i in range(n):
+        ctx.set(f"name {i}", i)
+    return len(await ctx.keys())
+
+
+app = App(service, thing)
+
+
+@support.on_each_database
+class Wide(support.OnADatabase):
+    def test_time_is_in_proportion(self):
+        """By the processor's time, ten times as many take some ten times as long; with a square it were 100 times."""
+
+        async def go():
+            async with Runtime(app, self.url, idle=0.5) as runtime:
+                await runtime.call("S/runs", 100)
+                for path in ("S/runs", "S/plain_runs", "S/sleeps", "O/sets", "S/calls"):
+                    took = []
+                    for count in (100, 1000) if path != "S/calls" else (20, 200):
+                        gc.collect()
+                        begun = time.process_time()
+                        id = await runtime.send(path, count, key=f"{count}" if path[0] == "O" else "")
+                        assert await runtime.result(id, 300) == count
+                        took.append(time.process_time() - begun)
+                    assert took[1] < 30 * max(took[0], 0.02), (path, took)
+
+        asyncio.run(go())
+
+    def test_so_many_runs_at_once_and_others_beside_them(self):
+        async def go():
+            at_once[:] = [0, 0]
+            async with Runtime(app, self.url, effects=10) as runtime:
+                wide = await runtime.send("S/runs", 800)
+                while not at_once[1]:
+                    await asyncio.sleep(0.001)
+                assert await runtime.call("S/runs", 3) == 3
+                assert (await runtime.status(wide))[0] != "done"
+                assert await runtime.result(wide, 300) == 800
+            assert at_once[1] <= 10, at_once
+
+        asyncio.run(go())
+
+
+class Values(unittest.TestCase):
+    def test_terminal_errors(self):
+        assert TerminalError(ValueError("inner")).message == "ValueError: inner"
+        assert TerminalError("x", 404, {"a": "b"}).metadata == (("a", "b"),)
+        for wrong in (4.5, "404", None):
+            with self.assertRaisesRegex(TypeError, "a failure's code is a whole number"):
+                TerminalError("x", wrong)
+        with self.assertRaisesRegex(TypeError, "pairs of texts"):
+            TerminalError("x", 400, {"a": 1})
+
+    def test_retries(self):
+        assert Retry(factor=(10**6, 1)).delay(63) == Retry(factor=(10**6, 1)).delay(10**6) == 10.0
+        for wrong in ({"initial": -1}, {"longest": float("nan")}, {"duration": float("inf")}, {"attempts": 0}, {"factor": (1, 0)}):
+            with self.assertRaises(ValueError):
+                Retry(**wrong)
+
+
+if __name__ == "__main__":
+    unittest.main()
