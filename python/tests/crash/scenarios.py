@@ -373,10 +373,11 @@ class Workers:
         self.all[at] = self.start()
 
     def stop(self, at: int) -> None:
-        """SIGTERM, within whose grace each effect ends."""
+        """SIGTERM, within whose grace each effect ends. A worker that has just begun, and doesn't listen for signals yet, ends by this one: it
+        has claimed nothing."""
         self.all[at].terminate()
         status = self.all[at].wait(60)
-        if status:
+        if status not in (0, -signal.SIGTERM):
             raise Wrong(f"a worker that was told to stop ended with {status}")
         self.all[at] = self.start()
 
