@@ -289,6 +289,17 @@ class Pipelines(support.OnADatabase, unittest.TestCase):
 
         asyncio.run(go())
 
+    def test_arrays_without_a_value_have_their_type(self):
+        async def go():
+            db = await connect(self.url)
+            sql = "SELECT * FROM unnest(?::bigint[], ?::bytea[], ?::text[], ?::boolean[])"
+            self.assertEqual(await db.rows(sql, ([None], [None], [None], [None])), [(None, None, None, None)])
+            self.assertEqual(await db.rows(sql, ([], [], [], [])), [])
+            self.assertEqual(await db.rows(sql, ([None, 2], [b"", None], ["a", None], [None, True])), [(None, b"", "a", None), (2, None, None, True)])
+            db.close()
+
+        asyncio.run(go())
+
     def test_one_that_fails_when_it_is_prepared(self):
         """And those behind it that weren't prepared then are later."""
 

@@ -8,6 +8,7 @@ from __future__ import annotations
 import asyncio
 import contextlib
 import functools
+import re
 import struct
 from collections import Counter
 from collections.abc import Callable, Iterator, Sequence
@@ -66,17 +67,24 @@ _DUMPED: dict[type, tuple[int, Callable[[Any], bytes]]] = {
 }
 
 
-def _list(values: list[Any]) -> bytes:
-    """An array, of the type of its first value."""
-    type, dumped = _how(next((it for it in values if it is not None), ""))
+_ELEMENTS: dict[str, type] = {"bigint": int, "text": str, "bytea": bytes, "boolean": bool, "double precision": float}
+_PLACES = re.compile(r"\?(?:::([a-z ]+)\[\])?")
+
+
+@functools.lru_cache(1000)
+def _elements(sql: str) -> tuple[type, ...]:
+    """For each place of a statement the type of an array's elements there, as in `?::bigint[]`."""
+    return tuple(_ELEMENTS[it[1]] if it[1] else str for it in _PLACES.finditer(sql))
+
+
+def _list(values: list[Any], element: type) -> bytes:
+    """An array. The server refuses one whose elements are of another type, also if it has no value."""
+    type, dumped = _DUMPED[element]
     parts = [struct.pack(">iiiii", 1, 1, type, len(values), 1) if values else struct.pack(">iii", 0, 0, type)]
     for it in values:
         data = None if it is None else dumped(it)
         parts += (b"\xff\xff\xff\xff",) if data is None else (len(data).to_bytes(4, "big"), data)
     return b"".join(parts)
-
-
-_DUMPED[list] = (_UNKNOWN, _list)  # the statement says which: `?::text[]`
 
 
 def _how(value: object) -> tuple[int, Callable[[Any], bytes]]:
@@ -104,10 +112,13 @@ def statement(sql: str, values: Sequence[object] = ()) -> Statement:
     """`StatementFailed` if a value is none that can be stored."""
     types, data = list[int](), list[bytes | None]()
     try:
-        for it in values:
+        for it, element in zip(values, _elements(sql), strict=True):
             if it is None:
                 types.append(_UNKNOWN)
                 data.append(None)
+            elif isinstance(it, list):
+                types.append(_UNKNOWN)  # the statement says which
+                data.append(_list(it, element))
             else:
                 type, dumped = _how(it)
                 types.append(type)
