@@ -327,7 +327,7 @@ def full_disk(room: Room, seed: int, is_mounted: bool) -> Report:
     """The disk is full for some moments: a small file system, or by a limit."""
     chance, folder = random.Random(seed), room.folder / f"disk-{seed}-{is_mounted}"
     folder.mkdir()
-    with _small_disk(folder, 4) if is_mounted else contextlib.nullcontext():
+    with _small_disk(folder, 64) if is_mounted else contextlib.nullcontext():
         path, effects = folder / "db", room.folder / f"{folder.name}.effects"
         effects.touch()
         shutil.copy(room.folder / "begin", path)
