@@ -7,11 +7,11 @@ use Rattle.journal_protocol.specs.Notification.{Notification}
 use Rattle.journal_protocol.specs.NotificationId.{NotificationId}
 use Rattle.journal_protocol.specs.NotificationResult.{NotificationResult}
 use Rattle.journal_protocol.specs.NotificationResult.TheVariants.{Void, Value, Failure, StateKeys, InvocationId}
-use Rattle.arrivals.specs.Came.{enough}
-use Rattle.arrivals.specs.Ids.{same_id}
-use Rattle.arrivals.specs.Results.{results_of, first, newest, newest_after}
-use Rattle.arrivals.proofs.Awaited.{results-append}
-use Rattle.arrivals.proofs.Tracking.{has_is}
+use Rattle.await_arrivals.specs.Came.{enough}
+use Rattle.await_arrivals.specs.Ids.{same_id}
+use Rattle.await_arrivals.specs.Results.{results_of, first, newest, newest_after}
+use Rattle.await_arrivals.proofs.Awaited.{results-append}
+use Rattle.await_arrivals.proofs.Tracking.{has_is}
 use Rattle.await_trees.specs.declared.nodes.Node.{Node}
 use Rattle.await_trees.specs.declared.nodes.Label.TheVariants.{Leaf, Inner}
 use Rattle.await_trees.specs.declared.outcome.Outcome.{Outcome}

@@ -7,8 +7,8 @@ use Rattle.journal_protocol.specs.Notification.{Notification}
 use Rattle.journal_protocol.specs.NotificationId.{NotificationId}
 use Rattle.journal_protocol.specs.NotificationId.TheVariants.{CompletionId, SignalId, SignalName}
 use Rattle.journal_protocol.specs.NotificationResult.{NotificationResult}
-use Rattle.arrivals.specs.Results.{results_of, first, newest}
-use Rattle.arrivals.proofs.Awaited.{results-append}
+use Rattle.await_arrivals.specs.Results.{results_of, first, newest}
+use Rattle.await_arrivals.proofs.Awaited.{results-append}
 use Rattle.journal_protocol.specs.SignalDelivery.{SignalDelivery}
 use Rattle.journal_protocol.specs.SignalDelivery.TheVariants.{Queued}
 use Rattle.vm_parts.specs.Arrived.{Arrived, Ready}

@@ -9,7 +9,7 @@ use Rattle.journal_protocol.specs.NotificationId.{NotificationId}
 use Rattle.journal_protocol.specs.NotificationId.TheVariants.{CompletionId, SignalId, SignalName}
 use Rattle.journal_protocol.specs.NotificationResult.{NotificationResult}
 use Rattle.journal_protocol.specs.NotificationResult.TheVariants.{Void, Value, Failure, StateKeys, InvocationId}
-use Rattle.arrivals.specs.Results.{results_of, first, newest}
+use Rattle.await_arrivals.specs.Results.{results_of, first, newest}
 use Rattle.journal_protocol.specs.SignalDelivery.{SignalDelivery}
 use Rattle.journal_protocol.specs.SignalDelivery.TheVariants.{Queued}
 use Rattle.vm_parts.specs.Arrived.{Arrived}
@@ -27,7 +27,7 @@ use Rattle.await_tries.specs.Later.{with_later, EachLeaf, EachLeafOf, IsAbsent}
 use Rattle.await_tries.specs.Leaves.{leaf_outcome, result_outcome}
 use Rattle.await_tries.specs.Message.{ids, first_delivery, MessageWakes}
 use Rattle.await_tries.specs.Used.{used}
-use Rattle.arrivals.proofs.Awaited.{results-append}
+use Rattle.await_arrivals.proofs.Awaited.{results-append}
 use Rattle.await_tries.proofs.LaterArrivals.{ready, id_outcome, once_stays, wakes_alike, first_is_now}
 
 -- where two give the same to what waits, they agree on a tree whose leaves wait

@@ -1,7 +1,7 @@
 -- The first of two leaves wakes by the lesser of their uses; while it stays pending all of it is left.
 use Rattle.std.proofs.Common.{◌≡◌, ℕ, Bool, true, false, ◌||◌, length, Option, Some, None, refl, ◌∙◌, arith}
 use Rattle.std.specs.Prelude.{IfNone, IfSome}
-use Rattle.arrivals.specs.Came.{enough}
+use Rattle.await_arrivals.specs.Came.{enough}
 use Rattle.await_trees.specs.Outcomes.{awake, is_done}
 use Rattle.await_trees.specs.Residual.{same_leaf, same_kind, nothing, kept, here}
 use Rattle.journal_protocol.specs.SignalDelivery.{SignalDelivery}

@@ -5,7 +5,7 @@ use Rattle.std.specs.Option.{is_some}
 use Rattle.std.proofs.lemmas.Bool.Decides.{nat_tests}
 use Rattle.std.proofs.lemmas.List.{take_all}
 use Rattle.std.proofs.lemmas.Bool.{cases_lt}
-use Rattle.arrivals.specs.Came.{enough}
+use Rattle.await_arrivals.specs.Came.{enough}
 use Rattle.await_trees.specs.declared.outcome.Outcome.TheVariants.{Pending}
 use Rattle.await_trees.specs.Outcomes.{outcome, fires, awake, is_done}
 use Rattle.await_trees.specs.Residual.{Residual}

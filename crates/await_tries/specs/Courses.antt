@@ -2,7 +2,7 @@
 use Rattle.std.specs.Prelude.{ℕ, ◌≡◌, Bool, true, false, cond, ◌&&◌, ◌||◌, List, [], ◌∷◌, get_or, Option, None}
 use Rattle.std.specs.Option.{is_some}
 use Rattle.journal_protocol.specs.FutureKind.{FutureKind}
-use Rattle.arrivals.specs.Came.{enough}
+use Rattle.await_arrivals.specs.Came.{enough}
 use Rattle.await_trees.specs.declared.outcome.Outcome.{Outcome}
 use Rattle.await_trees.specs.declared.outcome.Outcome.TheVariants.{Pending}
 use Rattle.await_trees.specs.Outcomes.{outcome, fires, fires_on, waits_for, is_done}

@@ -2,7 +2,7 @@
 use Rattle.std.specs.Prelude.{ℕ, ◌≡◌, ◌+◌, List, take, length, Option}
 use Rattle.journal_protocol.specs.Notification.{Notification}
 use Rattle.journal_protocol.specs.NotificationId.{NotificationId}
-use Rattle.arrivals.specs.Results.{results_of, first}
+use Rattle.await_arrivals.specs.Results.{results_of, first}
 use Rattle.journal_protocol.specs.SignalDelivery.{SignalDelivery}
 use Rattle.vm_parts.specs.Arrived.{Arrived}
 use Rattle.vm_parts.specs.Deliveries.{id_at}

@@ -1,6 +1,6 @@
 //! The outcome of a tree as notifications are used, and how many it takes.
 ghost use Rattle.std.specs.Prelude.{◌≡◌, ◌≢◌, ◌<◌, ℕ, ◌&&◌, ◌||◌, true, false, Some, length, slice_index_or};
-ghost use Rattle.arrivals.specs.Came.{enough};
+ghost use Rattle.await_arrivals.specs.Came.{enough};
 ghost use Rattle.await_trees.specs.Outcomes.{outcome_of, is_done, fires_on, waits_for};
 ghost use Rattle.await_tries.specs.Courses.{outcome_by, course_at, any_fires_by, all_wait_by, end_of};
 

@@ -1,10 +1,10 @@
 -- The approval: it hands an awakeable's id to the mail, and gives what the awakeable is completed
 -- with.
 use Rattle.std.specs.Prelude.{codes, List, ℕ}
-use Rattle.flows.specs.Calls.{value}
-use Rattle.flows.specs.Code.{Code, ◌>>=◌}
-use Rattle.flows.specs.Promises.{awakeable}
-use Rattle.flows.specs.Steps.{send}
+use Rattle.handler_flows.specs.Calls.{value}
+use Rattle.handler_flows.specs.Code.{Code, ◌>>=◌}
+use Rattle.handler_flows.specs.Promises.{awakeable}
+use Rattle.handler_flows.specs.Steps.{send}
 
 abbrev pub approval : Code (List ℕ)
 approval =

@@ -1,9 +1,9 @@
 -- The race: it calls and sleeps, and gives what the call gave if its answer is there first.
 use Rattle.std.specs.Prelude.{Bool, if◌then◌else◌, codes, List, ℕ}
 use Rattle.await_trees.specs.declared.handle.NotificationHandle.{NotificationHandle}
-use Rattle.flows.specs.Calls.{select, value}
-use Rattle.flows.specs.Code.{Code, Give, ◌>>=◌}
-use Rattle.flows.specs.Steps.{start_call, start_sleep}
+use Rattle.handler_flows.specs.Calls.{select, value}
+use Rattle.handler_flows.specs.Code.{Code, Give, ◌>>=◌}
+use Rattle.handler_flows.specs.Steps.{start_call, start_sleep}
 
 -- the call's answer if it came first, and else that the time is over
 unfoldable pub answer_or_timeout : Bool → NotificationHandle → Code (List ℕ)

@@ -1,9 +1,9 @@
 -- The reminder: it asks what time it is, sleeps until an hour later, and sends.
 use Rattle.std.specs.Prelude.{◌+◌, ◌-◌, ◌^◌, ◌==◌, if◌then◌else◌, codes, length, min, List, [], ℕ}
 use Rattle.std.specs.Int.{from_be_bytes, w64}
-use Rattle.flows.specs.Calls.{run, sleep}
-use Rattle.flows.specs.Code.{Code, Give, ◌>>=◌}
-use Rattle.flows.specs.Steps.{send}
+use Rattle.handler_flows.specs.Calls.{run, sleep}
+use Rattle.handler_flows.specs.Code.{Code, Give, ◌>>=◌}
+use Rattle.handler_flows.specs.Steps.{send}
 
 -- the second that a run has given: eight bytes, the most significant first; 0 for any other bytes
 abbrev pub second_in : List ℕ → ℕ

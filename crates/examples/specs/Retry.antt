@@ -2,9 +2,9 @@
 -- and gives it.
 use Rattle.std.specs.Prelude.{◌+◌, if◌then◌else◌, codes, List, None, Option, Some, ℕ, suc, zero}
 use Rattle.std.specs.Str.{bytes_eq}
-use Rattle.flows.specs.Calls.{call, sleep}
-use Rattle.flows.specs.Code.{Code, Give, ◌>>=◌}
-use Rattle.flows.specs.Steps.{set}
+use Rattle.handler_flows.specs.Calls.{call, sleep}
+use Rattle.handler_flows.specs.Code.{Code, Give, ◌>>=◌}
+use Rattle.handler_flows.specs.Steps.{set}
 
 -- what a receipt gives: it is kept, but for "busy", which is none
 unfoldable pub kept : List ℕ → Code (Option (List ℕ))

@@ -13,7 +13,7 @@ impl Flow for Approval {
 
     ghost code = { λ _ _. approval };
 
-    #[tactic(auto, using(flows::specs::Code::goes_on))]
+    #[tactic(auto, using(handler_flows::specs::Code::goes_on))]
     fn run(&self, ctx: &mut Context<'_>, _input: &Input) -> Result<Bytes, Exit> {
         let approval = ctx.awakeable()?;
         let id = Bytes::copy_from_slice(ctx.alloc(), approval.id.as_str().as_bytes())?;

@@ -1,6 +1,6 @@
 //! It calls another handler, and waits for its answer until one second after the Unix epoch.
 ghost use Rattle.examples.specs.Race.{answer_or_timeout, in_time};
-ghost use Rattle.flows.specs.Follows.{Follows};
+ghost use Rattle.handler_flows.specs.Follows.{Follows};
 
 use bytes::Bytes;
 use palqytun::handler::{Context, Exit, Flow};
@@ -11,7 +11,7 @@ use std::time::Duration;
 pub struct Race;
 
 /// The call's answer if it came first, and else that the time is over.
-#[tactic(auto, using(flows::specs::Code::goes_on), unfolding(crate::specs::Race::answer_or_timeout))]
+#[tactic(auto, using(handler_flows::specs::Code::goes_on), unfolding(crate::specs::Race::answer_or_timeout))]
 fn first(ctx: &mut Context<'_>, is: bool, answer: NotificationHandle) -> Result<Bytes, Exit>
     ensures { Follows (answer_or_timeout is answer) ctx.old result ctx.new }
 {
@@ -22,7 +22,7 @@ fn first(ctx: &mut Context<'_>, is: bool, answer: NotificationHandle) -> Result<
 }
 
 /// What comes first counts.
-#[tactic(auto, using(flows::specs::Code::goes_on), unfolding(crate::specs::Race::in_time))]
+#[tactic(auto, using(handler_flows::specs::Code::goes_on), unfolding(crate::specs::Race::in_time))]
 fn in_time(
     ctx: &mut Context<'_>,
     answer: NotificationHandle,
@@ -40,7 +40,7 @@ impl Flow for Race {
 
     ghost code = { λ _ input. race input.input };
 
-    #[tactic(auto, using(flows::specs::Code::goes_on))]
+    #[tactic(auto, using(handler_flows::specs::Code::goes_on))]
     fn run(&self, ctx: &mut Context<'_>, input: &Input) -> Result<Bytes, Exit> {
         let answer = ctx.start_call("Greeter", "greet", &input.input)?;
         let deadline = ctx.start_sleep(Duration::from_secs(1))?;

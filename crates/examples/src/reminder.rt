@@ -29,7 +29,7 @@ impl Flow for Reminder {
 
     ghost code = { λ _ input. reminder input.input };
 
-    #[tactic(auto, using(flows::specs::Code::goes_on))]
+    #[tactic(auto, using(handler_flows::specs::Code::goes_on))]
     fn run(&self, ctx: &mut Context<'_>, input: &Input) -> Result<Bytes, Exit> {
         let now = ctx.run("now")?;
         ctx.sleep(Duration::from_secs(second_in(&now).saturating_add(3600)))?;

@@ -1,6 +1,6 @@
 //! It charges a card, up to three times, after sleeps until the seconds 1, 2 and 3 since the Unix epoch, and keeps the receipt.
 ghost use Rattle.examples.specs.Retry.{kept, turn};
-ghost use Rattle.flows.specs.Follows.{Follows};
+ghost use Rattle.handler_flows.specs.Follows.{Follows};
 
 use bytes::Bytes;
 use palqytun::handler::{Context, Exit, Flow};
@@ -11,7 +11,7 @@ use std::time::Duration;
 pub struct Retry;
 
 /// What a receipt gives: it is kept, but for "busy", which is none.
-#[tactic(auto, using(flows::specs::Code::goes_on), unfolding(crate::specs::Retry::kept))]
+#[tactic(auto, using(handler_flows::specs::Code::goes_on), unfolding(crate::specs::Retry::kept))]
 fn kept(ctx: &mut Context<'_>, receipt: Bytes) -> Result<Option<Bytes>, Exit>
     ensures { Follows (kept receipt) ctx.old result ctx.new }
 {
@@ -23,7 +23,7 @@ fn kept(ctx: &mut Context<'_>, receipt: Bytes) -> Result<Option<Bytes>, Exit>
 }
 
 /// One try at this second: the receipt, or nothing if the service is busy.
-#[tactic(auto, using(flows::specs::Code::goes_on), unfolding(crate::specs::Retry::turn))]
+#[tactic(auto, using(handler_flows::specs::Code::goes_on), unfolding(crate::specs::Retry::turn))]
 fn turn(ctx: &mut Context<'_>, order: &Bytes, second: u64) -> Result<Option<Bytes>, Exit>
     ensures { Follows (turn order.now second) ctx.old result ctx.new }
 {
@@ -38,7 +38,7 @@ impl Flow for Retry {
 
     ghost code = { λ _ input. tries input.input 3 1 };
 
-    #[tactic(auto, using(flows::specs::Code::goes_on))]
+    #[tactic(auto, using(handler_flows::specs::Code::goes_on))]
     fn run(&self, ctx: &mut Context<'_>, input: &Input) -> Result<Bytes, Exit> {
         for second in 1..4 {
             if let Some(receipt) = turn(ctx, &input.input, second)? {

@@ -11,7 +11,7 @@ impl Flow for Saga {
 
     ghost code = { λ _ input. saga input.input };
 
-    #[tactic(auto, using(flows::specs::Code::goes_on, flows::specs::Code::is_rescued))]
+    #[tactic(auto, using(handler_flows::specs::Code::goes_on, handler_flows::specs::Code::is_rescued))]
     fn run(&self, ctx: &mut Context<'_>, input: &Input) -> Result<Bytes, Exit> {
         let flight = ctx.call("Flights", "book", &input.input)?;
         match ctx.call("Hotels", "book", &input.input) {

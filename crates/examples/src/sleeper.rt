@@ -12,7 +12,7 @@ impl Flow for Sleeper {
 
     ghost code = { λ _ _. sleeper };
 
-    #[tactic(auto, using(flows::specs::Code::goes_on))]
+    #[tactic(auto, using(handler_flows::specs::Code::goes_on))]
     fn run(&self, ctx: &mut Context<'_>, _input: &Input) -> Result<Bytes, Exit> {
         ctx.sleep(Duration::from_secs(1))?;
         Ok(Bytes::new())

@@ -1,12 +1,12 @@
 //! The calls on frames.
 ghost use Rattle.std.specs.Prelude.{◌≤◌};
-ghost use Rattle.frame_calls.specs.Answers.{IsJudged, LineRead};
-ghost use Rattle.frame_calls.specs.Reading.{awake_at, line_at, notification_at};
-ghost use Rattle.loose_boxes.specs.Statuses.{status_by};
-ghost use Rattle.loose_boxes.specs.Written.{WrittenOrWhy};
+ghost use Rattle.c_frames.specs.Answers.{IsJudged, LineRead};
+ghost use Rattle.c_frames.specs.Reading.{awake_at, line_at, notification_at};
+ghost use Rattle.c_values.specs.Statuses.{status_by};
+ghost use Rattle.c_values.specs.Written.{WrittenOrWhy};
 
-use frame_calls::{Judged, calls};
-use loose_boxes::Told;
+use c_frames::{Judged, calls};
+use c_values::Told;
 use std::alloc::Global;
 
 /// Writes the line of a frame to the front of `out`, if there is room for it, and says how long it is.

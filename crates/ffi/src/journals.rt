@@ -2,12 +2,12 @@
 ghost use Rattle.std.specs.Prelude.{◌≡◌, ◌≤◌, None};
 ghost use Rattle.journal_entries.specs.Arrivals.{arrival_fault};
 ghost use Rattle.journal_entries.specs.Given.{given_fault};
-ghost use Rattle.held_journals.specs.Journals.{HasEntries, EntryAnswered, FeedAnswered, FrameAnswered, IsNewJournal, CommitAnswered, OutputAnswered, RowAnswered, UndoAnswered};
-ghost use Rattle.held_journals.specs.Statuses.{version_named};
-ghost use Rattle.loose_boxes.specs.Statuses.{status_by};
+ghost use Rattle.c_journals.specs.Journals.{HasEntries, EntryAnswered, FeedAnswered, FrameAnswered, IsNewJournal, CommitAnswered, OutputAnswered, RowAnswered, UndoAnswered};
+ghost use Rattle.c_journals.specs.Statuses.{version_named};
+ghost use Rattle.c_values.specs.Statuses.{status_by};
 
-use held_journals::{Journal, Row, Stored, calls};
-use loose_boxes::Told;
+use c_journals::{Journal, Row, Stored, calls};
+use c_values::Told;
 use std::alloc::Global;
 
 /// Makes a journal without entries, if memory is found. One that was there is dropped.

@@ -1,5 +1,5 @@
-//! A VM, and a stored journal, for callers of C: the functions that C calls. What each does stands in `sessions`, `session_lines`,
-//! `typed_calls`, `held_journals`, `frame_calls` and `frame_rows`.
+//! A VM, and a stored journal, for callers of C: the functions that C calls. What each does stands in `c_sessions`, `c_lines`,
+//! `c_calls`, `c_journals`, `c_frames` and `c_rows`.
 #![tactic(auto)]
 
 mod frames;
@@ -8,13 +8,13 @@ mod rows;
 mod typed;
 
 ghost use Rattle.std.specs.Prelude.{◌≡◌, ◌≤◌, None};
-ghost use Rattle.session_lines.specs.Lines.{LineSent};
-ghost use Rattle.sessions.specs.Sessions.{AnswerRead, InputFed, IsNewSession, OutputTaken};
-ghost use Rattle.loose_boxes.specs.Statuses.{status_by};
+ghost use Rattle.c_lines.specs.Lines.{LineSent};
+ghost use Rattle.c_sessions.specs.Sessions.{AnswerRead, InputFed, IsNewSession, OutputTaken};
+ghost use Rattle.c_values.specs.Statuses.{status_by};
 
-use loose_boxes::Told;
-use session_lines::perform_line;
-use sessions::{Vm, calls};
+use c_lines::perform_line;
+use c_sessions::{Vm, calls};
+use c_values::Told;
 use std::alloc::Global;
 
 /// Makes an empty session, if memory is found. One that was there is dropped.

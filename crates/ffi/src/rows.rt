@@ -1,12 +1,12 @@
 //! The calls that read and make frames without text.
 ghost use Rattle.std.specs.Prelude.{◌≤◌, Ok};
-ghost use Rattle.frame_rows.specs.Making.{input_with, value_frame};
-ghost use Rattle.frame_rows.specs.Reading.{RowRead, message_at, part_behind};
-ghost use Rattle.loose_boxes.specs.Statuses.{status_by};
-ghost use Rattle.loose_boxes.specs.Written.{WrittenOrWhy};
+ghost use Rattle.c_rows.specs.Making.{input_with, value_frame};
+ghost use Rattle.c_rows.specs.Reading.{RowRead, message_at, part_behind};
+ghost use Rattle.c_values.specs.Statuses.{status_by};
+ghost use Rattle.c_values.specs.Written.{WrittenOrWhy};
 
-use frame_rows::{FrameRow, calls};
-use loose_boxes::Told;
+use c_rows::{FrameRow, calls};
+use c_values::Told;
 use std::alloc::Global;
 
 /// The row of a frame: the type of its message, and its numbers.

@@ -1,34 +1,34 @@
 //! The typed calls of the VM.
 ghost use Rattle.std.specs.Prelude.{◌≡◌, ◌≤◌};
-ghost use Rattle.sessions.specs.Calls.{CalledFromC, PartRead};
-ghost use Rattle.loose_boxes.specs.Statuses.{status_by};
-ghost use Rattle.typed_calls.specs.Making.{MakesAsGiven};
-ghost use Rattle.typed_calls.specs.Calls.{AsksCompleted, AsksIndex, AsksReady, AsksState, AttachesTo, AwaitsHandle, AwaitsNodes, CallsHandler, CallsWithDeadline, CancelsInvocation, ClearsAllState, ClearsState, ClosesInput, CompletesAwakeable, CompletesPromise, CompletesSignal, EndsHandler, GetsOutput, GetsPromise, MakesAwakeable, MakesSignal, PeeksPromise, ProposesResult, ProposesRetryable, ReadsEphemerally, ReadsHead, ReadsInput, ReadsKeys, ReadsState, ReportsError, CallsARun, SendsTo, SetsState, CallsSleep, TakesResult, TakesEphemeral, TakesOutputOf, WritesOutput};
+ghost use Rattle.c_sessions.specs.Calls.{CalledFromC, PartRead};
+ghost use Rattle.c_values.specs.Statuses.{status_by};
+ghost use Rattle.c_calls.specs.Making.{MakesAsGiven};
+ghost use Rattle.c_calls.specs.Calls.{AsksCompleted, AsksIndex, AsksReady, AsksState, AttachesTo, AwaitsHandle, AwaitsNodes, CallsHandler, CallsWithDeadline, CancelsInvocation, ClearsAllState, ClearsState, ClosesInput, CompletesAwakeable, CompletesPromise, CompletesSignal, EndsHandler, GetsOutput, GetsPromise, MakesAwakeable, MakesSignal, PeeksPromise, ProposesResult, ProposesRetryable, ReadsEphemerally, ReadsHead, ReadsInput, ReadsKeys, ReadsState, ReportsError, CallsARun, SendsTo, SetsState, CallsSleep, TakesResult, TakesEphemeral, TakesOutputOf, WritesOutput};
 
-use loose_boxes::Told;
-use sessions::vm_call::{call, read_part};
-use sessions::{Replied, Vm};
-use std::alloc::Global;
-use typed_calls::awaits::{AwaitCall, AwaitTreeCall, TakeCall};
-use typed_calls::callees::{CallCall, DeadlineCall, GivenTarget, SendCall};
-use typed_calls::given::{Lent, MayLend};
-use typed_calls::invocations::{AttachCall, GetOutputCall, GivenInvocation};
-use typed_calls::journal::{
+use c_calls::awaits::{AwaitCall, AwaitTreeCall, TakeCall};
+use c_calls::callees::{CallCall, DeadlineCall, GivenTarget, SendCall};
+use c_calls::given::{Lent, MayLend};
+use c_calls::invocations::{AttachCall, GetOutputCall, GivenInvocation};
+use c_calls::journal::{
     AwakeableCall, CancelCall, CompleteAwakeableCall, CompletePromiseCall, CompleteSignalCall,
     EndCall, GetPromiseCall, PeekPromiseCall, SignalCall, SleepCall, WriteOutputCall,
 };
-use typed_calls::making::{GivenOptions, make_vm};
-use typed_calls::nodes::Node;
-use typed_calls::policies::GivenPolicy;
-use typed_calls::queries::{
+use c_calls::making::{GivenOptions, make_vm};
+use c_calls::nodes::Node;
+use c_calls::policies::GivenPolicy;
+use c_calls::queries::{
     CloseCall, CompletedCall, HeadCall, IndexCall, InputCall, OutputCall, ReadyCall, StateCall,
 };
-use typed_calls::reports::{GivenCommand, GivenError, ReportCall};
-use typed_calls::run_calls::{ProposeCall, ProposeRetryableCall, RunCall};
-use typed_calls::state::{
+use c_calls::reports::{GivenCommand, GivenError, ReportCall};
+use c_calls::run_calls::{ProposeCall, ProposeRetryableCall, RunCall};
+use c_calls::state::{
     ClearAllCall, ClearCall, EphemeralGetCall, GetCall, GetKeysCall, SetCall, TakeEphemeralCall,
 };
-use typed_calls::values::GivenValue;
+use c_calls::values::GivenValue;
+use c_sessions::vm_call::{call, read_part};
+use c_sessions::{Replied, Vm};
+use c_values::Told;
+use std::alloc::Global;
 
 /// Writes a part of the last reply to the front of `out`, if it has room for it. Returns the part's length either way.
 #[unsafe(no_mangle)]

@@ -1,7 +1,7 @@
 -- What each call does to a VM that has failed.
 use Rattle.vm_machine.specs.Proposals.{Proposes}
 use Rattle.vm_types.specs.declared.runs.RunExitResult.{RunExitResult}
-use Rattle.retries.specs.declared.policy.RetryPolicy.{RetryPolicy}
+use Rattle.vm_retries.specs.declared.policy.RetryPolicy.{RetryPolicy}
 use Rattle.std.proofs.Common.{◌≡◌, inl, inr, Option, Some, None, List, refl, sym, ap, ◌∙◌, subst}
 use Rattle.std.specs.Prelude.{Bool, true, false, not, ◌&&◌, is_some, Result, Ok, Err}
 use Rattle.std.specs.declared.alloc.AllocError.{AllocError}

@@ -21,7 +21,6 @@ use await_trees::{NotificationHandle, UnresolvedFuture};
 use bytes::Bytes;
 use journal_protocol::{Decoder, Error, HeaderMap, InvocationTarget, NamedFault, Version};
 use plain::Text;
-use retries::RetryPolicy;
 use std::alloc::{AllocError, Global};
 use std::fmt;
 use std::time::Duration;
@@ -30,6 +29,7 @@ use vm_awaits::{Awaited, await_tree, drop_cancel, flatten};
 use vm_inputs::close_input;
 use vm_machine::Machine;
 use vm_parts::{StateKey, TrackedCall};
+use vm_retries::RetryPolicy;
 use vm_types::{
     AwaitResponse, AwakeableHandle, CallHandle, CommandRelationship, DeadlineCallHandle,
     EphemeralCompletionId, Input, NonEmptyValue, PayloadOptions, ResponseHead, RunExitResult,

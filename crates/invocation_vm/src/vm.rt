@@ -19,9 +19,9 @@ ghost use Rattle.invocation_vm.specs.Views.{View, Calls, Leaves, TakesOutput, af
 use await_trees::{NotificationHandle, UnresolvedFuture};
 use bytes::Bytes;
 use journal_protocol::{Error, HeaderMap, InvocationTarget};
-use retries::RetryPolicy;
 use std::alloc::{AllocError, Global};
 use std::time::Duration;
+use vm_retries::RetryPolicy;
 use vm_types::{
     AwaitResponse, AwakeableHandle, CallHandle, CommandRelationship, DeadlineCallHandle,
     EphemeralCompletionId, Input, NonEmptyValue, PayloadOptions, ResponseHead, RunExitResult,

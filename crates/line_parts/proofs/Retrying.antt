@@ -3,9 +3,9 @@ use Rattle.std.proofs.Common.{◌≡◌, ◌≢◌, ◌<◌, ◌+◌, ℕ, false
 use Rattle.std.specs.Borrow.{Bor}
 use Rattle.plain.specs.declared.fault.Fault.{Fault}
 use Rattle.plain.specs.declared.fault.Fault.TheVariants.{Malformed}
-use Rattle.retries.specs.declared.policy.RetryPolicy.{RetryPolicy}
-use Rattle.retries.specs.declared.policy.RetryPolicy.TheVariants as policy
-use Rattle.retries.specs.Policies.{is_pause}
+use Rattle.vm_retries.specs.declared.policy.RetryPolicy.{RetryPolicy}
+use Rattle.vm_retries.specs.declared.policy.RetryPolicy.TheVariants as policy
+use Rattle.vm_retries.specs.Policies.{is_pause}
 use Rattle.lines.specs.Pieces.{AreWordsWithin}
 use Rattle.lines.specs.Readings.{Blames}
 use Rattle.lines.proofs.Once.{Same, words_within_once}

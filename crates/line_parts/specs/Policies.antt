@@ -1,10 +1,10 @@
 -- Policies of retries, by their words.
 use Rattle.std.specs.Prelude.{◌≡◌, ◌+◌, ◌==◌, ℕ, Bool, true, List, [], ◌∷◌, drop, take, position, Some, codes}
 use Rattle.std.specs.Borrow.{Bor}
-use Rattle.retries.specs.declared.fraction.Fraction.{Fraction}
-use Rattle.retries.specs.Policies.{is_pause}
-use Rattle.retries.specs.declared.policy.RetryPolicy.{RetryPolicy}
-use Rattle.retries.specs.declared.policy.RetryPolicy.TheVariants as policy
+use Rattle.vm_retries.specs.declared.fraction.Fraction.{Fraction}
+use Rattle.vm_retries.specs.Policies.{is_pause}
+use Rattle.vm_retries.specs.declared.policy.RetryPolicy.{RetryPolicy}
+use Rattle.vm_retries.specs.declared.policy.RetryPolicy.TheVariants as policy
 use Rattle.lines.specs.Pieces.{AreWordsWithin}
 use Rattle.line_parts.specs.declared.policies.Bounds.{Bounds}
 use Rattle.line_parts.specs.declared.policies.Growth.{Growth}

@@ -3,7 +3,7 @@ use Rattle.std.specs.Prelude.{◌≡◌, ℕ, Bool, true, List, [], ◌∷◌, d
 use Rattle.std.specs.Borrow.{Bor}
 use Rattle.std.specs.declared.time.Duration.{Duration}
 use Rattle.journal_protocol.specs.Error.{Error}
-use Rattle.retries.specs.declared.policy.RetryPolicy.TheVariants as policy
+use Rattle.vm_retries.specs.declared.policy.RetryPolicy.TheVariants as policy
 use Rattle.vm_types.specs.declared.runs.RunExitResult.{RunExitResult}
 use Rattle.vm_types.specs.declared.runs.RunExitResult.TheVariants as exit
 use Rattle.vm_types.specs.declared.values.NonEmptyValue.TheVariants as value

@@ -1,7 +1,7 @@
 //! Policies of retries: `infinite`, `none`, `fixed(..)` or `exp(..)`.
 ghost use Rattle.std.specs.Prelude.{◌≡◌, ◌<◌, ◌==◌, codes, length, position, IfErr, IfOk, IfSome};
-ghost use Rattle.retries.specs.Policies.{is_pause};
-ghost use Rattle.retries.specs.declared.policy.RetryPolicy.TheVariants as policy;
+ghost use Rattle.vm_retries.specs.Policies.{is_pause};
+ghost use Rattle.vm_retries.specs.declared.policy.RetryPolicy.TheVariants as policy;
 ghost use Rattle.lines.specs.Readings.{Blames};
 ghost use Rattle.lines.specs.Fields.{IsOptional, IsRequired, IsSet, are_named, texts_named};
 ghost use Rattle.line_parts.specs.Policies.{AreBounds, AreGrowth, IsExponential, IsFixed, IsFraction, IsPolicy, exponential_names, fixed_names, is_slash};
@@ -15,9 +15,9 @@ use lines::durations::duration_of;
 use lines::fields::{are_named, field_of, text_behind};
 use lines::pieces::words_within;
 use plain::Fault;
-use retries::{Fraction, OnMaxAttempts, RetryPolicy};
 use std::alloc::Global;
 use std::time::Duration;
+use vm_retries::{Fraction, OnMaxAttempts, RetryPolicy};
 
 /// What policies with a delay have in common.
 #[derive(Drop)]

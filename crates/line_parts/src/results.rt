@@ -13,9 +13,9 @@ use journal_protocol::Error;
 use lines::fields::are_named;
 use lines::words::{behind, but_first, time_in, u32_in};
 use plain::Fault;
-use retries::RetryPolicy;
 use std::alloc::Global;
 use std::time::Duration;
+use vm_retries::RetryPolicy;
 use vm_types::RunExitResult;
 
 /// The result of a run, as it is proposed.

@@ -9,7 +9,7 @@ use Rattle.journal_protocol.specs.Types.{type_number}
 use Rattle.journal_entries.specs.Frames.{frames_of}
 use Rattle.journal_entries.specs.JournalFrames.{commands_among}
 use Rattle.journal_entries.specs.Entries.{frame_of}
-use Rattle.vm_rounds.specs.declared.types.Report.{Report}
+use Rattle.world_rounds.specs.declared.types.Report.{Report}
 use Rattle.palqytun.specs.declared.reports.Ending.{Ending}
 use Rattle.palqytun.specs.declared.reports.Ending.TheVariants.{Crashed, Ended, Failed, Suspended}
 

@@ -4,9 +4,9 @@ use Rattle.journal_protocol.specs.Frames.{encoding}
 use Rattle.journal_protocol.specs.Message.TheVariants as message
 use Rattle.journal_protocol.specs.Version.TheVariants as version
 use Rattle.vm_types.specs.Options.{default_options}
-use Rattle.vm_rounds.specs.Worlds.{WorldView}
-use Rattle.vm_rounds.specs.declared.types.Identity.{Identity}
-use Rattle.vm_rounds.specs.declared.types.Setting.{Setting}
+use Rattle.world_rounds.specs.Worlds.{WorldView}
+use Rattle.world_rounds.specs.declared.types.Identity.{Identity}
+use Rattle.world_rounds.specs.declared.types.Setting.{Setting}
 
 -- whose invocation a test's is, if the test doesn't say
 abbrev pub test_identity : Identity

@@ -1,6 +1,6 @@
 //! Handlers: as ordinary code (`Flow`, which `Durable` makes a handler), or step by step (`Handler`); and one attempt of one.
 
-pub use flows::{Context, Durable, Exit, Fault, Flow};
+pub use handler_flows::{Context, Durable, Exit, Fault, Flow};
 pub use vm_attempt::Attempt;
 pub use vm_steps::{Fed, Progress};
 pub use vm_types::{Answer, Handler, Step};

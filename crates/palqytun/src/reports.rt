@@ -8,7 +8,7 @@ use journal_entries::entry::is_command_frame;
 use journal_protocol::{Decoder, MessageType, RawMessage};
 use plain::Fault;
 use std::alloc::AllocError;
-use vm_rounds::Report;
+use world_rounds::Report;
 
 /// How a round's attempt ended.
 #[derive(Clone, Copy, Debug, PartialEq, Eq)]

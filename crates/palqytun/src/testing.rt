@@ -2,8 +2,8 @@
 ghost use Rattle.std.specs.Prelude.{◌≡◌, ◌↔◌, IfOk, IsOk, OnOk, vec_len};
 ghost use Rattle.palqytun.specs.Reports.{HasError, commands_sent, ending_of};
 ghost use Rattle.palqytun.specs.Worlds.{test_world};
-ghost use Rattle.vm_rounds.specs.Guarantees.{told};
-ghost use Rattle.vm_rounds.specs.Rounds.{RoundsDo};
+ghost use Rattle.world_rounds.specs.Guarantees.{told};
+ghost use Rattle.world_rounds.specs.Rounds.{RoundsDo};
 
 pub use crate::frames::{
     cancel, failed, failed_output, input, invocation_id, named_signal, output, signal, sleep,
@@ -15,13 +15,13 @@ use await_trees::NotificationHandle;
 use bytes::Bytes;
 pub use journal_entries::JournalFault;
 use plain::Items;
-use retries::RetryPolicy;
 use std::alloc::{AllocError, Global};
 use std::test::Fail;
-pub use vm_rounds::{
+use vm_retries::RetryPolicy;
+use vm_types::{Handler, RunExitResult};
+pub use world_rounds::{
     Event, Identity, PlacedFault, Report, Round, StoppedRounds, World, play_rounds, run_rounds,
 };
-use vm_types::{Handler, RunExitResult};
 
 fn no_world(fault: JournalFault) -> Fail {
     Fail::new(format_args!("there is no world: {fault}"))

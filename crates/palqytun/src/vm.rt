@@ -7,7 +7,7 @@ pub use journal_protocol::{
     InvocationTarget as AttachInvocationTarget, SignalDelivery, Version, WorkflowId,
 };
 pub use plain::{Items, Text};
-pub use retries::{EntryRetryInfo, Fraction, OnMaxAttempts, RetryPolicy};
+pub use vm_retries::{EntryRetryInfo, Fraction, OnMaxAttempts, RetryPolicy};
 pub use vm_types::{
     AwaitResponse, AwaitingOnPolicy, AwakeableHandle, CallHandle, CommandRelationship, CommandType,
     DeadlineCallHandle, EphemeralCompletionId, ImplicitCancellationOption, Input,

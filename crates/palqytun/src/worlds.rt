@@ -9,8 +9,8 @@ use journal_protocol::Version;
 use plain::Text;
 use std::alloc::{AllocError, Global};
 use std::marker::Model;
-use vm_rounds::{Identity, World};
 use vm_types::VMOptions;
+use world_rounds::{Identity, World};
 
 /// A world that a test describes, part by part. Contracts see the world that it will be.
 pub struct WorldBuilder {
@@ -40,7 +40,7 @@ impl Drop for WorldBuilder {
 }
 
 impl Model for WorldBuilder {
-    ghost use Rattle.vm_rounds.specs.Worlds.{WorldView, pairs_given};
+    ghost use Rattle.world_rounds.specs.Worlds.{WorldView, pairs_given};
 
     ghost Value = { WorldView };
 

@@ -4,7 +4,7 @@
 use bytes::Bytes;
 use std::alloc::Global;
 use std::test::Fail;
-use vectors::headers::Headers;
+use test_support::headers::Headers;
 use vm_attempt::Attempt;
 use vm_steps::Progress;
 use vm_types::{Answer, AwaitingOnPolicy, Handler, VMOptions, VMResult, Value};

@@ -5,7 +5,7 @@ use crate::frames::{START_BACK, START_FRONT};
 use crate::told::Told;
 use std::alloc::{AllocError, Global};
 use std::test::Fail;
-use vectors::frames::END;
+use test_support::frames::END;
 
 /// An entry of a journal.
 #[derive(Clone, Copy)]

@@ -7,8 +7,8 @@ use Rattle.plain.specs.declared.fault.Fault.TheVariants as fault
 use Rattle.journal_protocol.specs.Types.{type_at}
 use Rattle.journal_protocol.specs.MessageType.{MessageType}
 use Rattle.journal_protocol.specs.Message.{Message}
-use Rattle.layers.specs.Layers.{IsFrontRead, Malformed, Whole, layer_fault}
-use Rattle.layers.specs.Own.{front_if}
+use Rattle.journal_layers.specs.Layers.{IsFrontRead, Malformed, Whole, layer_fault}
+use Rattle.journal_layers.specs.Own.{front_if}
 use Rattle.test_journals.specs.Laws.{whole_frame}
 use Rattle.test_journals.specs.Short.{body_in, short_front, short_front_in}
 

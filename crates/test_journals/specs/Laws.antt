@@ -13,8 +13,8 @@ use Rattle.journal_protocol.specs.Bodies.{message_in}
 use Rattle.journal_protocol.specs.Message.{Message}
 use Rattle.journal_protocol.proofs.Facts as alone
 use Rattle.journal_protocol.proofs.Facts.{small_number, type_found}
-use Rattle.layers.specs.Layers.{Front, Whole, Partial, Malformed}
-use Rattle.layers.specs.Own.{front_if, malformed_if, rest_if, whole_if}
+use Rattle.journal_layers.specs.Layers.{Front, Whole, Partial, Malformed}
+use Rattle.journal_layers.specs.Own.{front_if, malformed_if, rest_if, whole_if}
 use Rattle.test_journals.specs.declared.short.Short.{Short}
 use Rattle.test_journals.specs.Short.{IsShort, body_in, mark_of, short, short_frame, short_front, sized, short_front_in}
 

@@ -7,8 +7,8 @@ use Rattle.journal_protocol.specs.MessageType.{MessageType}
 use Rattle.journal_protocol.specs.Frames.{IsWhole, body, type_of}
 use Rattle.journal_protocol.specs.Bodies.{message_in}
 use Rattle.journal_protocol.specs.Message.{Message}
-use Rattle.layers.specs.Layers.{Front, Whole, Partial, Malformed}
-use Rattle.layers.specs.Own.{front_if}
+use Rattle.journal_layers.specs.Layers.{Front, Whole, Partial, Malformed}
+use Rattle.journal_layers.specs.Own.{front_if}
 use Rattle.test_journals.specs.declared.short.Short.{Short}
 
 abbrev pub mark_of : Bool → ℕ

@@ -4,15 +4,15 @@ use crate::short::Short;
 use await_trees::{NotificationHandle, UnresolvedFuture};
 use bytes::Bytes;
 use invocation_vm::{CoreVM, VM};
-use layers::{Layer, LayerFault, Own, translate};
+use journal_layers::{Layer, LayerFault, Own, translate};
 use std::alloc::Global;
 use std::process::Abort;
 use std::test::Fail;
 use std::time::Duration;
-use vectors::frames::{
+use test_support::frames::{
     AWAITING_ON_1, COMPLETION_1, END, INPUT_TILL, OUTPUT_X, SLEEP_TO_1000, START_1,
 };
-use vectors::headers::Headers;
+use test_support::headers::Headers;
 use vm_types::{AwaitResponse, NonEmptyValue, PayloadOptions, VMOptions, VMResult, Value};
 
 fn answered<T>(given: VMResult<T>) -> Result<T, Fail> {

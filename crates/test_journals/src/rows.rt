@@ -2,10 +2,10 @@
 use bytes::{Bytes, BytesMut};
 use journal_entries::JournalFault;
 use journal_protocol::{Decoder, Version};
+use journal_store::{StoredJournal, store_from};
 use std::alloc::Global;
 use std::test::Fail;
-use stored_journals::{StoredJournal, store_from};
-use vectors::frames::{COMPLETION_1, COMPLETION_9, INPUT_TILL, SIGNAL_17, SLEEP_TO_1000};
+use test_support::frames::{COMPLETION_1, COMPLETION_9, INPUT_TILL, SIGNAL_17, SLEEP_TO_1000};
 
 /// A run with the name "a", completed under id 2.
 const RUN_2: &[u8] = b"\0\x1a\0\0\0\0\0\0\0\x0d\

@@ -3,13 +3,13 @@ ghost use Rattle.std.specs.Prelude.{◌≡◌, ◌<◌, ◌≤◌, ◌+◌, ◌^
 ghost use Rattle.std.specs.Int.{from_be_bytes, w16, w32};
 ghost use Rattle.journal_protocol.specs.Types.{type_at};
 ghost use Rattle.journal_protocol.specs.Frames.{IsWhole, body, type_of};
-ghost use Rattle.layers.specs.Layers.{Partial};
-ghost use Rattle.layers.specs.declared.layer.LayerFault.TheVariants.{Memory};
+ghost use Rattle.journal_layers.specs.Layers.{Partial};
+ghost use Rattle.journal_layers.specs.declared.layer.LayerFault.TheVariants.{Memory};
 ghost use Rattle.test_journals.specs.Short.{body_in, short_front};
 
 use bytes::Bytes;
+use journal_layers::{Layer, LayerFault};
 use journal_protocol::{Decoder, Encoder, Message, MessageType, RawMessage};
-use layers::{Layer, LayerFault};
 use std::alloc::{AllocError, Global};
 
 /// A frame is a length (4 bytes, the most significant first), as many bytes, and the type's number (2 bytes). The first of those bytes is a

@@ -4,7 +4,7 @@ use std::alloc::Global;
 use std::io::Cursor;
 use std::process::Abort;
 use std::test::Fail;
-use vectors::transports::{Breaking, Pipe};
+use test_support::transports::{Breaking, Pipe};
 use world_scripts::run::run;
 use world_scripts::run_end::{Ending, Refusal, RunEnd};
 

@@ -1,13 +1,13 @@
 // A run of the program's library: how it ends, and what it has written then.
+use call_scripts::run::run;
+use call_scripts::run_end::RunEnd;
 use program_runs::exit_status::ExitStatus;
 use program_runs::streams::{Plain, Sink, Source};
-use scripts::run::run;
-use scripts::run_end::RunEnd;
 use std::alloc::Global;
 use std::io::{Cursor, ErrorKind};
 use std::process::Abort;
 use std::test::Fail;
-use vectors::transports::{Breaking, Pipe};
+use test_support::transports::{Breaking, Pipe};
 
 /// How a run ends, as a row has it.
 #[derive(Clone, Copy, Debug)]

@@ -8,9 +8,9 @@ use Rattle.std.proofs.lemmas.Option.{same_Some}
 use Rattle.await_trees.specs.declared.handle.NotificationHandle.{NotificationHandle}
 use Rattle.journal_protocol.specs.Message.{Message}
 use Rattle.journal_protocol.specs.Message.TheVariants as message
-use Rattle.runs.specs.Firsts.{with_first, without_first}
-use Rattle.runs.specs.Pending.{handle_of, has_handle, is_one_of, may_execute, run_started, to_execute, is_waiting_run}
-use Rattle.runs.specs.declared.pending.PendingRun.{PendingRun}
+use Rattle.vm_runs.specs.Firsts.{with_first, without_first}
+use Rattle.vm_runs.specs.Pending.{handle_of, has_handle, is_one_of, may_execute, run_started, to_execute, is_waiting_run}
+use Rattle.vm_runs.specs.declared.pending.PendingRun.{PendingRun}
 use Rattle.vm_parts.specs.Counting.{next_index}
 use Rattle.vm_machine.specs.declared.machine.Machine.{Machine}
 use Rattle.vm_awaits.specs.Awaits.{executed}

@@ -1,8 +1,8 @@
 -- What frames bring to a machine: arrivals, where they are notifications or acknowledge what it has proposed; else it fails.
 use Rattle.std.specs.List.{find}
 use Rattle.std.specs.Option.{option_map}
-use Rattle.runs.specs.Firsts.{without_first}
-use Rattle.runs.specs.Kept.{is_for}
+use Rattle.vm_runs.specs.Firsts.{without_first}
+use Rattle.vm_runs.specs.Kept.{is_for}
 use Rattle.journal_protocol.specs.ProposeRunCompletion.{ProposeRunCompletion}
 use Rattle.journal_protocol.specs.ProposeRunCompletionAck.{ProposeRunCompletionAck}
 use Rattle.std.proofs.Common.{◌≡◌, ◌⊎◌, ℕ, Bool, true, false, cond, List, [], ◌∷◌, ◌++◌, Option, Some, None, refl, sym, ap, ◌∙◌, subst, inl, inr, ⊎_elim, append_assoc, append-nil}

@@ -3,7 +3,7 @@
 use Rattle.std.proofs.Common.{◌≡◌, ◌≤◌, ℕ, zero, suc, ◌+◌, Bool, true, false, cond, List, [], ◌∷◌, ◌++◌, take, drop, length, Option, Some, None, refl, sym, ap, ◌∙◌, subst, inl, append-nil, length-append, Ok, Err, arith}
 use Rattle.std.specs.Prelude.{if◌then◌else◌, ◌||◌, ◌&&◌, is_some, Result}
 use Rattle.std.specs.Option.{option_and_then}
-use Rattle.arrivals.specs.Results.{results_of}
+use Rattle.await_arrivals.specs.Results.{results_of}
 use Rattle.await_trees.specs.declared.outcome.Outcome.{Outcome as Come}
 use Rattle.await_trees.specs.declared.tree.UnresolvedFuture.{UnresolvedFuture}
 use Rattle.await_trees.specs.Outcomes.{awake, is_done}

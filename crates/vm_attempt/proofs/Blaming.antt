@@ -1,6 +1,6 @@
 -- A frame that comes is taken in, or refused for the reason that the table of frames says.
 use Rattle.std.specs.List.{find}
-use Rattle.runs.specs.Kept.{is_for}
+use Rattle.vm_runs.specs.Kept.{is_for}
 use Rattle.journal_protocol.specs.ProposeRunCompletion.{ProposeRunCompletion}
 use Rattle.journal_protocol.specs.ProposeRunCompletionAck.{ProposeRunCompletionAck}
 use Rattle.std.proofs.Common.{◌≡◌, ◌⊎◌, ℕ, Bool, true, false, List, [], ◌∷◌, Option, Some, None, refl, sym, ap, ◌∙◌, inl, inr, ⊎_elim}

@@ -16,14 +16,14 @@ use Rattle.journal_protocol.specs.Message.TheVariants as message
 use Rattle.journal_protocol.specs.RawMessage.{RawMessage}
 use Rattle.journal_protocol.specs.Frames.{IsWhole, encoding}
 use Rattle.journal_protocol.specs.ValueOrFailure.{ValueOrFailure}
-use Rattle.retries.specs.declared.policy.RetryPolicy.{RetryPolicy}
-use Rattle.runs.specs.declared.settling.Settlement.{Settlement}
-use Rattle.runs.specs.declared.settling.Settlement.TheVariants as settlement
+use Rattle.vm_retries.specs.declared.policy.RetryPolicy.{RetryPolicy}
+use Rattle.vm_runs.specs.declared.settling.Settlement.{Settlement}
+use Rattle.vm_runs.specs.declared.settling.Settlement.TheVariants as settlement
 use Rattle.vm_types.specs.declared.runs.RunExitResult.{RunExitResult}
-use Rattle.runs.specs.Firsts.{without_first}
-use Rattle.runs.specs.Pending.{has_handle}
+use Rattle.vm_runs.specs.Firsts.{without_first}
+use Rattle.vm_runs.specs.Pending.{has_handle}
 use Rattle.journal_protocol.specs.ProposeRunCompletion.{ProposeRunCompletion}
-use Rattle.runs.specs.declared.pending.PendingRun.{PendingRun}
+use Rattle.vm_runs.specs.declared.pending.PendingRun.{PendingRun}
 use Rattle.vm_types.specs.declared.steps.Answer.{Answer}
 use Rattle.vm_parts.specs.Outboxes.{WholeFrames}
 use Rattle.vm_machine.specs.declared.machine.Machine.{Machine}

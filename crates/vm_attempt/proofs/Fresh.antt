@@ -13,7 +13,7 @@ use Rattle.journal_protocol.specs.VoidOrValue.{VoidOrValue}
 use Rattle.journal_protocol.specs.Bodies.{ephemeral_notification_in, acknowledgement_in, notification_in, start_in}
 use Rattle.vm_machine.specs.Ephemerals.{completed_by, result_comes}
 use Rattle.journal_protocol.specs.Notification.{Notification}
-use Rattle.runs.specs.Kept.{is_for}
+use Rattle.vm_runs.specs.Kept.{is_for}
 use Rattle.journal_entries.specs.Carried.{AreBelow, AreFrom, AreGreater, all_carried}
 use Rattle.vm_parts.specs.declared.context.Counters.{Counters}
 use Rattle.journal_protocol.specs.ProposeRunCompletion.{ProposeRunCompletion}

@@ -25,7 +25,7 @@ use Rattle.await_trees.specs.Handles.{handles_of}
 use Rattle.await_trees.specs.Tree.{Tree, leaf, tree_of}
 use Rattle.await_trees.specs.Wires.{sent}
 use Rattle.await_tries.specs.Message.{ids}
-use Rattle.runs.specs.Pending.{is_executing, is_executing_in, may_execute}
+use Rattle.vm_runs.specs.Pending.{is_executing, is_executing_in, may_execute}
 use Rattle.vm_types.specs.declared.options.AwaitingOnPolicy.{AwaitingOnPolicy}
 use Rattle.vm_types.specs.declared.steps.Step.{Step}
 use Rattle.vm_types.specs.declared.types.AwaitResponse.{AwaitResponse}
@@ -37,7 +37,7 @@ use Rattle.vm_types.specs.Values.{value_of, id_of_value}
 use Rattle.vm_parts.specs.declared.context.Known.{Known}
 use Rattle.vm_parts.specs.declared.context.Known.TheVariants.{Unknown, Empty, Value as Given}
 use Rattle.vm_parts.specs.declared.context.StateMap.{StateMap}
-use Rattle.runs.specs.declared.pending.PendingRun.{PendingRun}
+use Rattle.vm_runs.specs.declared.pending.PendingRun.{PendingRun}
 use Rattle.vm_parts.specs.declared.tracked_call.TrackedCall.{TrackedCall}
 use Rattle.vm_parts.specs.Counting.{missing_number, missing_signals}
 use Rattle.vm_parts.specs.Deliveries.{id_at, present_result_for, taken_by}

@@ -1,6 +1,6 @@
 -- Input writes no command: what it writes is one Error at most.
 use Rattle.std.specs.List.{find}
-use Rattle.runs.specs.Kept.{is_for}
+use Rattle.vm_runs.specs.Kept.{is_for}
 use Rattle.journal_protocol.specs.ProposeRunCompletionAck.{ProposeRunCompletionAck}
 use Rattle.std.proofs.Common.{◌≡◌, ℕ, Bool, true, false, cond, List, [], ◌∷◌, ◌++◌, map, Option, Some, None, refl, sym, ap, ◌∙◌, subst, append_assoc, append-nil}
 use Rattle.std.specs.Prelude.{◌==◌, ◌&&◌, if◌then◌else◌, nat_le, nat_lt}

@@ -1,7 +1,7 @@
 -- What a call of a step writes and leaves, after any calls before it: frames of messages, and a VM
 -- that runs, is closed or has failed.
-use Rattle.runs.specs.declared.pending.PendingRun.{PendingRun}
-use Rattle.runs.specs.Pending.{is_executing, is_executing_in, may_execute, handle_of}
+use Rattle.vm_runs.specs.declared.pending.PendingRun.{PendingRun}
+use Rattle.vm_runs.specs.Pending.{is_executing, is_executing_in, may_execute, handle_of}
 use Rattle.await_trees.specs.Handles.{handles_of}
 use Rattle.std.specs.List.{find, list_any}
 use Rattle.vm_asks.specs.declared.state_read.StateRead.{StateRead}

@@ -13,7 +13,7 @@ use Rattle.journal_protocol.specs.VoidOrValue.{VoidOrValue}
 use Rattle.journal_protocol.specs.Bodies.{ephemeral_notification_in, notification_in, acknowledgement_in}
 use Rattle.vm_machine.specs.Ephemerals.{completed_by, result_comes}
 use Rattle.journal_protocol.specs.Notification.{Notification}
-use Rattle.runs.specs.Kept.{is_for}
+use Rattle.vm_runs.specs.Kept.{is_for}
 use Rattle.journal_protocol.specs.ProposeRunCompletion.{ProposeRunCompletion}
 use Rattle.vm_machine.specs.declared.machine.Machine.{Machine}
 use Rattle.vm_machine.specs.declared.phase.Phase.{Phase}

@@ -1,5 +1,5 @@
 -- A step keeps what is kept of an attempt.
-use Rattle.runs.specs.Pending.{is_executing}
+use Rattle.vm_runs.specs.Pending.{is_executing}
 use Rattle.std.specs.List.{list_any}
 use Rattle.vm_asks.specs.declared.state_read.StateRead.{StateRead}
 use Rattle.vm_parts.specs.declared.context.StateMap.{StateMap}

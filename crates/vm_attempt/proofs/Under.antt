@@ -3,8 +3,8 @@ use Rattle.std.proofs.Common.{◌≡◌, ◌≢◌, ◌⊎◌, ◌≤◌, ◌+�
 use Rattle.std.specs.declared.alloc.AllocError.{AllocError}
 use Rattle.journal_protocol.specs.Error.{Error}
 use Rattle.journal_protocol.specs.Notification.{Notification}
-use Rattle.arrivals.specs.Results.{results_of}
-use Rattle.arrivals.proofs.Awaited.{results-append}
+use Rattle.await_arrivals.specs.Results.{results_of}
+use Rattle.await_arrivals.proofs.Awaited.{results-append}
 use Rattle.journal_protocol.specs.NotificationId.TheVariants.{CompletionId}
 use Rattle.journal_protocol.specs.NotificationResult.{NotificationResult}
 use Rattle.journal_protocol.specs.Version.{Version}

@@ -1,9 +1,9 @@
 -- An await, in a machine that agrees with a point: it uses arrivals until its tree wakes or none is left.
 use Rattle.std.specs.Option.{option_map}
-use Rattle.runs.specs.Settling.{run_as_related}
-use Rattle.runs.specs.Firsts.{with_first}
-use Rattle.runs.specs.declared.pending.PendingRun.{PendingRun}
-use Rattle.runs.specs.Pending.{is_executing, is_executing_in, may_execute, run_started}
+use Rattle.vm_runs.specs.Settling.{run_as_related}
+use Rattle.vm_runs.specs.Firsts.{with_first}
+use Rattle.vm_runs.specs.declared.pending.PendingRun.{PendingRun}
+use Rattle.vm_runs.specs.Pending.{is_executing, is_executing_in, may_execute, run_started}
 use Rattle.await_trees.specs.Handles.{handles_of}
 use Rattle.std.specs.List.{find, list_any}
 use Rattle.std.proofs.Common.{◌≡◌, ◌<◌, ◌≤◌, ℕ, zero, suc, ◌+◌, Bool, true, false, List, [], ◌∷◌, ◌++◌, map, take, drop, length, Option, Some, None, refl, sym, ap, ◌∙◌, subst, ⊎_elim, append-nil, Ok, Err, arith}

@@ -16,7 +16,7 @@ use Rattle.vm_parts.specs.declared.context.LastCommand.{LastCommand}
 use Rattle.vm_parts.specs.declared.context.StartInfo.{StartInfo}
 use Rattle.vm_parts.specs.declared.context.StateMap.{StateMap}
 use Rattle.journal_protocol.specs.ProposeRunCompletion.{ProposeRunCompletion}
-use Rattle.runs.specs.declared.pending.PendingRun.{PendingRun}
+use Rattle.vm_runs.specs.declared.pending.PendingRun.{PendingRun}
 use Rattle.vm_types.specs.declared.steps.Answer.{Answer}
 use Rattle.vm_types.specs.declared.steps.Step.TheVariants as step
 use Rattle.await_trees.specs.declared.tree.UnresolvedFuture.{UnresolvedFuture}
@@ -24,7 +24,7 @@ use Rattle.await_trees.specs.Residual.{Residual}
 use Rattle.await_trees.specs.Tree.{Tree, leaf, tree_of}
 use Rattle.await_trees.specs.Wires.{sent}
 use Rattle.await_tries.specs.Await.{AwakeAlike}
-use Rattle.runs.specs.Pending.{is_executing}
+use Rattle.vm_runs.specs.Pending.{is_executing}
 use Rattle.vm_parts.specs.Deliveries.{id_at}
 use Rattle.vm_parts.specs.Ephemerals.{no_ephemerals}
 use Rattle.vm_asks.specs.declared.asks.Ask.{Ask}

@@ -7,8 +7,8 @@ use Rattle.journal_protocol.specs.ProposeRunCompletionAck.{ProposeRunCompletionA
 use Rattle.journal_protocol.specs.RawMessage.{RawMessage}
 use Rattle.journal_protocol.specs.Bodies.{acknowledgement_in, notification_in}
 use Rattle.journal_protocol.specs.Notification.{Notification}
-use Rattle.runs.specs.Firsts.{without_first}
-use Rattle.runs.specs.Kept.{is_for}
+use Rattle.vm_runs.specs.Firsts.{without_first}
+use Rattle.vm_runs.specs.Kept.{is_for}
 use Rattle.journal_protocol.specs.ProposeRunCompletion.{ProposeRunCompletion}
 use Rattle.journal_entries.specs.Proposals.{acknowledged_completion}
 use Rattle.journal_entries.specs.JournalFrames.{is_acknowledgement, is_notification, notified_by}

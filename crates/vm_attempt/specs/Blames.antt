@@ -15,9 +15,9 @@ use Rattle.journal_protocol.specs.MessageType.TheVariants as type
 use Rattle.journal_protocol.specs.Errors.{named_error, no_memory}
 use Rattle.journal_protocol.specs.ProposeRunCompletionAck.{ProposeRunCompletionAck}
 use Rattle.journal_protocol.specs.Bodies.{acknowledgement_in, notification_in, start_in, ephemeral_notification_in}
-use Rattle.retries.specs.declared.policy.RetryPolicy.{RetryPolicy}
+use Rattle.vm_retries.specs.declared.policy.RetryPolicy.{RetryPolicy}
 use Rattle.vm_types.specs.declared.runs.RunExitResult.{RunExitResult}
-use Rattle.runs.specs.Kept.{is_for}
+use Rattle.vm_runs.specs.Kept.{is_for}
 use Rattle.await_trees.specs.declared.handle.NotificationHandle.{NotificationHandle}
 use Rattle.await_trees.specs.declared.tree.UnresolvedFuture.{UnresolvedFuture}
 use Rattle.journal_protocol.specs.ProposeRunCompletion.{ProposeRunCompletion}

@@ -3,7 +3,7 @@ use Rattle.std.specs.Prelude.{◌≡◌, ℕ, zero, suc, List, Some, None, Resul
 use Rattle.std.specs.declared.alloc.AllocError.{AllocError}
 use Rattle.await_trees.specs.declared.handle.NotificationHandle.{NotificationHandle}
 use Rattle.journal_protocol.specs.Error.{Error}
-use Rattle.retries.specs.declared.policy.RetryPolicy.{RetryPolicy}
+use Rattle.vm_retries.specs.declared.policy.RetryPolicy.{RetryPolicy}
 use Rattle.vm_types.specs.declared.runs.RunExitResult.{RunExitResult}
 use Rattle.vm_steps.specs.declared.progress.Progress.{Progress}
 use Rattle.vm_steps.specs.Record.{Record}

@@ -5,9 +5,9 @@ use await_trees::NotificationHandle;
 use bytes::Bytes;
 use invocation_vm::{CoreVM, VM};
 use journal_protocol::{HeaderMap, Version};
-use retries::RetryPolicy;
 use std::alloc::{AllocError, Global};
 use std::marker::Model;
+use vm_retries::RetryPolicy;
 use vm_steps::{Inner, Progress};
 use vm_types::{Answer, Handler, RunExitResult, State, VMOptions, VMResult};
 

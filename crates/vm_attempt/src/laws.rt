@@ -42,7 +42,7 @@ ghost use Rattle.std.specs.Prelude.{Result, Ok};
 ghost use Rattle.journal_protocol.specs.Error.{Error};
 ghost use Rattle.std.specs.declared.alloc.AllocError.{AllocError};
 ghost use Rattle.await_trees.specs.declared.handle.NotificationHandle.{NotificationHandle};
-ghost use Rattle.retries.specs.declared.policy.RetryPolicy.{RetryPolicy};
+ghost use Rattle.vm_retries.specs.declared.policy.RetryPolicy.{RetryPolicy};
 ghost use Rattle.vm_types.specs.declared.runs.RunExitResult.{RunExitResult};
 ghost use Rattle.vm_steps.specs.Stepping.{CloseDoes, FeedDoes, FinishDoes, StepDoes, Takes, fresh_record};
 ghost use Rattle.vm_steps.specs.Heard.{Heard};

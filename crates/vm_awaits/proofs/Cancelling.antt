@@ -7,9 +7,9 @@ use Rattle.await_trees.specs.Handles.{handles_of}
 use Rattle.await_trees.specs.Tree.{Tree, leaf}
 use Rattle.journal_protocol.specs.Error.{Error}
 use Rattle.journal_protocol.specs.NamedFault.TheVariants as fault
-use Rattle.runs.specs.Pending.{is_executing_in, may_execute}
+use Rattle.vm_runs.specs.Pending.{is_executing_in, may_execute}
 use Rattle.vm_parts.specs.Ephemerals.{any_in_flight}
-use Rattle.runs.specs.declared.pending.PendingRun.{PendingRun}
+use Rattle.vm_runs.specs.declared.pending.PendingRun.{PendingRun}
 use Rattle.vm_types.specs.declared.types.AwaitResponse.{AwaitResponse}
 use Rattle.vm_types.specs.declared.types.AwaitResponse.TheVariants.{AnyCompleted, CancelSignalReceived, EphemeralNotificationReady, ExecuteRun, WaitingExternalProgress}
 use Rattle.vm_parts.specs.declared.tracked_call.TrackedCall.{TrackedCall}

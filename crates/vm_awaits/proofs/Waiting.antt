@@ -4,11 +4,11 @@ use Rattle.std.specs.Prelude.{if◌then◌else◌}
 use Rattle.std.specs.List.{find, list_any}
 use Rattle.std.specs.Option.{option_map, option_or}
 use Rattle.await_trees.specs.declared.handle.NotificationHandle.{NotificationHandle}
-use Rattle.runs.specs.Firsts.{with_first}
-use Rattle.runs.specs.Pending.{handle_of, is_executing_in, may_execute, run_started}
-use Rattle.runs.specs.Settling.{run_as_related}
+use Rattle.vm_runs.specs.Firsts.{with_first}
+use Rattle.vm_runs.specs.Pending.{handle_of, is_executing_in, may_execute, run_started}
+use Rattle.vm_runs.specs.Settling.{run_as_related}
 use Rattle.vm_parts.specs.Ephemerals.{any_in_flight}
-use Rattle.runs.specs.declared.pending.PendingRun.{PendingRun}
+use Rattle.vm_runs.specs.declared.pending.PendingRun.{PendingRun}
 use Rattle.vm_machine.specs.declared.fault.Fault.{Fault}
 use Rattle.vm_machine.specs.declared.machine.Machine.{Machine}
 use Rattle.await_trees.specs.Handles.{handles_of}

@@ -21,12 +21,12 @@ use Rattle.journal_protocol.specs.Message.TheVariants as message
 use Rattle.journal_protocol.specs.Frames.{encoding}
 use Rattle.journal_protocol.specs.NotificationId.{NotificationId}
 use Rattle.journal_protocol.specs.NotificationResult.{NotificationResult}
-use Rattle.runs.specs.Firsts.{with_first}
-use Rattle.runs.specs.Pending.{handle_of, has_handle, is_executing, is_executing_in, may_execute, run_started}
-use Rattle.runs.specs.Settling.{run_as_related}
+use Rattle.vm_runs.specs.Firsts.{with_first}
+use Rattle.vm_runs.specs.Pending.{handle_of, has_handle, is_executing, is_executing_in, may_execute, run_started}
+use Rattle.vm_runs.specs.Settling.{run_as_related}
 use Rattle.vm_types.specs.declared.options.AwaitingOnPolicy.{AwaitingOnPolicy}
 use Rattle.vm_types.specs.declared.options.AwaitingOnPolicy.TheVariants as policy
-use Rattle.runs.specs.declared.pending.PendingRun.{PendingRun}
+use Rattle.vm_runs.specs.declared.pending.PendingRun.{PendingRun}
 use Rattle.vm_types.specs.declared.types.AwaitResponse.{AwaitResponse}
 use Rattle.vm_types.specs.declared.types.AwaitResponse.TheVariants.{AnyCompleted, CancelSignalReceived, EphemeralNotificationReady, ExecuteRun, WaitingExternalProgress}
 use Rattle.vm_parts.specs.Deliveries.{id_at, present_result_for}

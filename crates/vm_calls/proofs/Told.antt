@@ -7,7 +7,7 @@ use Rattle.vm_types.specs.declared.types.AwaitResponse.{AwaitResponse}
 use Rattle.await_trees.specs.declared.tree.UnresolvedFuture.{UnresolvedFuture}
 use Rattle.vm_types.specs.declared.steps.Answer.TheVariants as answer
 use Rattle.await_trees.specs.declared.handle.NotificationHandle.{NotificationHandle}
-use Rattle.retries.specs.declared.policy.RetryPolicy.{RetryPolicy}
+use Rattle.vm_retries.specs.declared.policy.RetryPolicy.{RetryPolicy}
 use Rattle.vm_types.specs.declared.runs.RunExitResult.{RunExitResult}
 use Rattle.vm_types.specs.declared.runs.RunHandle.{RunHandle}
 use Rattle.vm_machine.specs.declared.machine.Machine.{Machine}

@@ -7,8 +7,8 @@ use Rattle.journal_protocol.specs.Errors.{named_error}
 use Rattle.journal_protocol.specs.NotificationId.TheVariants.{CompletionId}
 use Rattle.journal_protocol.specs.NotificationResult.{NotificationResult}
 use Rattle.journal_protocol.specs.ValueOrFailure.{ValueOrFailure}
-use Rattle.runs.specs.Firsts.{without_first}
-use Rattle.runs.specs.Kept.{is_for, result_of}
+use Rattle.vm_runs.specs.Firsts.{without_first}
+use Rattle.vm_runs.specs.Kept.{is_for, result_of}
 use Rattle.journal_entries.specs.Proposals.{completion_result, acknowledged_completion}
 use Rattle.vm_parts.specs.Arrived.{Arrived}
 use Rattle.journal_protocol.specs.ProposeRunCompletion.{ProposeRunCompletion}

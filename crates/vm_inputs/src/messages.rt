@@ -1,6 +1,6 @@
 //! Messages that come in: Start, the recorded commands, notifications, the results of ephemeral reads, and the closing of the input.
 ghost use Rattle.std.specs.Prelude.{◌≡◌, find, Some, None, IfOk, OnErr, true};
-ghost use Rattle.runs.specs.Kept.{is_for};
+ghost use Rattle.vm_runs.specs.Kept.{is_for};
 ghost use Rattle.vm_machine.specs.Ephemerals.{ephemeral_notification_step};
 ghost use Rattle.vm_machine.specs.Outcomes.{Gives};
 ghost use Rattle.vm_machine.specs.Phases.{is_waiting};

@@ -26,10 +26,10 @@ use Rattle.journal_protocol.specs.Bodies.{acknowledgement_in, input_in, message_
 use Rattle.journal_protocol.specs.ProposeRunCompletionAck.{ProposeRunCompletionAck}
 use Rattle.std.specs.List.{find, list_any}
 use Rattle.await_trees.specs.Handles.{handles_of}
-use Rattle.runs.specs.Kept.{is_for}
-use Rattle.runs.specs.Pending.{is_executing, is_executing_in, may_execute}
+use Rattle.vm_runs.specs.Kept.{is_for}
+use Rattle.vm_runs.specs.Pending.{is_executing, is_executing_in, may_execute}
 use Rattle.journal_protocol.specs.ProposeRunCompletion.{ProposeRunCompletion}
-use Rattle.runs.specs.declared.pending.PendingRun.{PendingRun}
+use Rattle.vm_runs.specs.declared.pending.PendingRun.{PendingRun}
 use Rattle.journal_protocol.specs.Types.{type_number}
 use Rattle.vm_types.specs.declared.command_type.CommandRelationship.{CommandRelationship}
 use Rattle.vm_types.specs.declared.types.AwaitResponse.{AwaitResponse}
@@ -79,9 +79,9 @@ use Rattle.journal_protocol.specs.Versions.{is_from_v7}
 use Rattle.vm_asks.specs.Requests.{ids_of, name_of, shown_type, with_ids}
 use Rattle.vm_machine.proofs.Calling.{called_from}
 use Rattle.vm_asks.proofs.Numbering.{same_type}
-use Rattle.retries.specs.declared.policy.RetryPolicy.{RetryPolicy}
-use Rattle.runs.specs.declared.settling.Settlement.{Settlement}
-use Rattle.runs.specs.declared.settling.Settlement.TheVariants as settlement
+use Rattle.vm_retries.specs.declared.policy.RetryPolicy.{RetryPolicy}
+use Rattle.vm_runs.specs.declared.settling.Settlement.{Settlement}
+use Rattle.vm_runs.specs.declared.settling.Settlement.TheVariants as settlement
 use Rattle.vm_types.specs.declared.runs.RunExitResult.{RunExitResult}
 use Rattle.journal_protocol.specs.ValueOrFailure.{ValueOrFailure}
 use Rattle.vm_machine.specs.Proposals.{Proposes, Settled, SettledAt, SettledUnless, SettlesAs, proposal_fault, proposed, without_run}

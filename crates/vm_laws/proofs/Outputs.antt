@@ -42,7 +42,7 @@ use Rattle.vm_laws.proofs.Endings.{answered, awaited_writes, awakeable_writes, s
 use Rattle.vm_laws.proofs.Ephemerals.{ephemeral_writes, take_ephemeral_writes}
 use Rattle.vm_asks.specs.declared.state_read.StateRead.{StateRead}
 use Rattle.vm_machine.specs.Reads.{read_step}
-use Rattle.retries.specs.declared.policy.RetryPolicy.{RetryPolicy}
+use Rattle.vm_retries.specs.declared.policy.RetryPolicy.{RetryPolicy}
 use Rattle.vm_types.specs.declared.runs.RunExitResult.{RunExitResult}
 use Rattle.vm_machine.specs.Proposals.{Proposes}
 use Rattle.invocation_vm.specs.Calls.{AnswersReady, CallsAwaitBy, CallsCommand, CallsFlatAwait, CallsFor, CallsProposal, CallsRead, new_awakeable_step, CallsAllFor}

@@ -14,7 +14,7 @@ ghost use Rattle.vm_types.specs.declared.types.DeadlineCallHandle.{DeadlineCallH
 ghost use Rattle.await_trees.specs.declared.handle.NotificationHandle.{NotificationHandle};
 ghost use Rattle.vm_types.specs.declared.types.EphemeralCompletionId.{EphemeralCompletionId};
 ghost use Rattle.vm_types.specs.declared.types.SendHandle.{SendHandle};
-ghost use Rattle.retries.specs.declared.policy.RetryPolicy.{RetryPolicy};
+ghost use Rattle.vm_retries.specs.declared.policy.RetryPolicy.{RetryPolicy};
 ghost use Rattle.vm_types.specs.declared.runs.RunExitResult.{RunExitResult};
 ghost use Rattle.vm_types.specs.declared.runs.RunHandle.{RunHandle};
 ghost use Rattle.await_trees.specs.declared.tree.UnresolvedFuture.{UnresolvedFuture};

@@ -5,12 +5,12 @@ use Rattle.std.specs.Option.{option_map}
 use Rattle.await_trees.specs.declared.handle.NotificationHandle.{NotificationHandle}
 use Rattle.journal_protocol.specs.NamedFault.TheVariants as name
 use Rattle.journal_protocol.specs.Errors.{named_error}
-use Rattle.retries.specs.declared.policy.RetryPolicy.{RetryPolicy}
-use Rattle.runs.specs.declared.settling.Settlement.{Settlement}
+use Rattle.vm_retries.specs.declared.policy.RetryPolicy.{RetryPolicy}
+use Rattle.vm_runs.specs.declared.settling.Settlement.{Settlement}
 use Rattle.vm_types.specs.declared.runs.RunExitResult.{RunExitResult}
-use Rattle.runs.specs.Firsts.{without_first}
-use Rattle.runs.specs.Settling.{SettlesRun}
-use Rattle.runs.specs.declared.pending.PendingRun.{PendingRun}
+use Rattle.vm_runs.specs.Firsts.{without_first}
+use Rattle.vm_runs.specs.Settling.{SettlesRun}
+use Rattle.vm_runs.specs.declared.pending.PendingRun.{PendingRun}
 use Rattle.vm_machine.specs.declared.fault.Fault.{Fault}
 use Rattle.vm_machine.specs.declared.fault.Fault.TheVariants.{Memory, Refused}
 use Rattle.vm_machine.specs.declared.machine.Machine.{Machine}

@@ -25,8 +25,8 @@ use Rattle.vm_machine.specs.declared.phase.Phase.{Phase}
 use Rattle.vm_machine.specs.declared.phase.Phase.TheVariants.{Replaying, Processing}
 use Rattle.vm_machine.specs.Outcomes.{Outcome, Done, Failed, ◌>>>◌, Gives, about_last, refused}
 use Rattle.vm_machine.specs.Phases.{is_running, is_processing, state_fault}
-use Rattle.runs.specs.Pending.{to_execute}
-use Rattle.runs.specs.declared.pending.PendingRun.{PendingRun}
+use Rattle.vm_runs.specs.Pending.{to_execute}
+use Rattle.vm_runs.specs.declared.pending.PendingRun.{PendingRun}
 use Rattle.journal_protocol.specs.Message.TheVariants as message
 use Rattle.vm_asks.specs.Requests.{changed, ids_of, name_of, shown_type, tracked_after, with_ids}
 

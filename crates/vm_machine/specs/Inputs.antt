@@ -14,8 +14,8 @@ use Rattle.journal_protocol.specs.Start.{Start}
 use Rattle.journal_protocol.specs.MessageType.TheVariants as type
 use Rattle.journal_protocol.specs.Frames.{encoding}
 use Rattle.journal_protocol.specs.Bodies.{acknowledgement_in, start_in, input_in, notification_in}
-use Rattle.runs.specs.Firsts.{without_first}
-use Rattle.runs.specs.Kept.{is_for}
+use Rattle.vm_runs.specs.Firsts.{without_first}
+use Rattle.vm_runs.specs.Kept.{is_for}
 use Rattle.journal_entries.specs.Proposals.{acknowledged_completion}
 use Rattle.journal_protocol.specs.ProposeRunCompletion.{ProposeRunCompletion}
 use Rattle.journal_protocol.specs.Types.{type_number}

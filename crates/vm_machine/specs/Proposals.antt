@@ -11,18 +11,18 @@ use Rattle.journal_protocol.specs.Types.{type_number}
 use Rattle.journal_protocol.specs.Frames.{IsWhole, encoding}
 use Rattle.journal_protocol.specs.Bodies.{acknowledgement_in}
 use Rattle.journal_protocol.specs.ValueOrFailure.{ValueOrFailure}
-use Rattle.retries.specs.declared.policy.RetryPolicy.{RetryPolicy}
-use Rattle.retries.specs.Policies.{pauses_on_max}
-use Rattle.runs.specs.declared.settling.Settlement.{Settlement}
-use Rattle.runs.specs.declared.settling.Settlement.TheVariants as settlement
+use Rattle.vm_retries.specs.declared.policy.RetryPolicy.{RetryPolicy}
+use Rattle.vm_retries.specs.Policies.{pauses_on_max}
+use Rattle.vm_runs.specs.declared.settling.Settlement.{Settlement}
+use Rattle.vm_runs.specs.declared.settling.Settlement.TheVariants as settlement
 use Rattle.vm_types.specs.declared.runs.RunExitResult.{RunExitResult}
-use Rattle.runs.specs.Firsts.{without_first}
-use Rattle.runs.specs.Pending.{has_handle}
-use Rattle.runs.specs.Settling.{SettlesRun}
+use Rattle.vm_runs.specs.Firsts.{without_first}
+use Rattle.vm_runs.specs.Pending.{has_handle}
+use Rattle.vm_runs.specs.Settling.{SettlesRun}
 use Rattle.vm_types.specs.Exits.{exit_has_metadata}
 use Rattle.vm_parts.specs.declared.context.StartInfo.{StartInfo}
 use Rattle.vm_parts.specs.Deliveries.{id_at}
-use Rattle.runs.specs.declared.pending.PendingRun.{PendingRun}
+use Rattle.vm_runs.specs.declared.pending.PendingRun.{PendingRun}
 use Rattle.vm_machine.specs.declared.machine.Machine.{Machine}
 use Rattle.vm_machine.specs.declared.phase.Phase.{Phase}
 use Rattle.vm_machine.specs.declared.phase.Phase.TheVariants.{Processing}

@@ -6,12 +6,12 @@ use crate::phase::Phase;
 use bytes::Bytes;
 use journal_protocol::{Error, MessageType, RawMessage, Version};
 use plain::Text;
-use runs::{KeptProposals, RunState};
 use std::alloc::{AllocError, Global};
 use vm_parts::{
     AsyncResults, Counters, EphemeralCommands, LastCommand, Outbox, Queue, StartInfo,
     StateCoverage, StateMap, TrackedCalls,
 };
+use vm_runs::{KeptProposals, RunState};
 use vm_types::VMOptions;
 
 /// All that a machine is.

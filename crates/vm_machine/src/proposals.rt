@@ -3,7 +3,7 @@ ghost use Rattle.std.specs.Prelude.{◌≡◌, ◌++◌, ◌∷◌, [], Some, If
 ghost use Rattle.std.specs.Duration.{as_nanos};
 ghost use Rattle.journal_protocol.specs.Frames.{IsWhole, encoding};
 ghost use Rattle.journal_protocol.specs.Message.TheVariants as message;
-ghost use Rattle.runs.specs.Pending.{has_handle};
+ghost use Rattle.vm_runs.specs.Pending.{has_handle};
 ghost use Rattle.vm_machine.specs.Outcomes.{GivesBy, lasting};
 ghost use Rattle.vm_machine.specs.Proposals.{Proposes, Settled, SettlesAs, earlier_count, earlier_nanos, proposal_kept, proposal_fault, proposed, run_at, without_run};
 
@@ -11,11 +11,11 @@ use crate::fault::{Fault, refuse};
 use crate::machine::Machine;
 use await_trees::NotificationHandle;
 use journal_protocol::{Message, NamedFault, ProposeRunCompletion, ValueOrFailure, Version};
-use retries::{EntryRetryInfo, RetryPolicy};
-use runs::{PendingRun, Settlement, settle};
 use std::alloc::AllocError;
 use std::time::Duration;
 use vm_parts::StartInfo;
+use vm_retries::{EntryRetryInfo, RetryPolicy};
+use vm_runs::{PendingRun, Settlement, settle};
 use vm_types::RunExitResult;
 
 /// Why the version can't take a run's result, if it can't.

@@ -4,7 +4,7 @@ use native.Mathlib.Nat.{add-zero}
 use Rattle.std.specs.Prelude.{◌==◌, if◌then◌else◌, option_and_then, Result, Ok, Err}
 use Rattle.std.specs.Option.{option_or}
 use Rattle.std.proofs.lemmas.Option.{same_Some}
-use Rattle.arrivals.specs.Results.{first, newest, results_of}
+use Rattle.await_arrivals.specs.Results.{first, newest, results_of}
 use Rattle.journal_protocol.specs.Equality.{header_equal}
 use Rattle.journal_protocol.specs.NamedFault.{NamedFault}
 use Rattle.journal_protocol.specs.NamedFault.TheVariants as fault

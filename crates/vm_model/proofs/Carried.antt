@@ -6,8 +6,8 @@ use Rattle.std.specs.Cmp.Lexicographic.{pointwise}
 use Rattle.std.proofs.lemmas.Bool.{eqb-true}
 use Rattle.std.proofs.lemmas.List.{append_cancel_right}
 use Rattle.std.proofs.lemmas.Option.{same_Some}
-use Rattle.arrivals.specs.Results.{results_of}
-use Rattle.arrivals.proofs.Awaited.{results-append}
+use Rattle.await_arrivals.specs.Results.{results_of}
+use Rattle.await_arrivals.proofs.Awaited.{results-append}
 use Rattle.journal_protocol.specs.InputCommand.{InputCommand}
 use Rattle.journal_protocol.specs.CallRequest.{CallRequest}
 use Rattle.journal_protocol.specs.NamedFault.{NamedFault}

@@ -1,8 +1,8 @@
 -- If signals queue, what is left of a signal's deliveries begins at the index, from 0, that is the
 -- number of its takes.
 use Rattle.std.proofs.Common.{◌≡◌, ◌≤◌, ℕ, zero, suc, true, cond, List, [], ◌∷◌, ◌++◌, length, drop, Some, refl, sym, ap, ◌∙◌, subst, arith, append-nil}
-use Rattle.arrivals.specs.Results.{results_of}
-use Rattle.arrivals.proofs.Awaited.{results-append}
+use Rattle.await_arrivals.specs.Results.{results_of}
+use Rattle.await_arrivals.proofs.Awaited.{results-append}
 use Rattle.journal_protocol.specs.InputCommand.{InputCommand}
 use Rattle.journal_protocol.specs.RawMessage.{RawMessage}
 use Rattle.journal_protocol.specs.Notification.{Notification}

@@ -5,8 +5,8 @@ use Rattle.std.specs.List.{AllByRecursion}
 use Rattle.std.specs.Option.{option_map, option_or}
 use Rattle.std.proofs.lemmas.Bool.{eq-eqb, eqb-true}
 use Rattle.std.proofs.lemmas.Option.{same_Some}
-use Rattle.arrivals.specs.Results.{results_of}
-use Rattle.arrivals.proofs.Awaited.{results-append}
+use Rattle.await_arrivals.specs.Results.{results_of}
+use Rattle.await_arrivals.proofs.Awaited.{results-append}
 use Rattle.journal_protocol.specs.InputCommand.{InputCommand}
 use Rattle.journal_protocol.specs.NamedFault.{NamedFault}
 use Rattle.journal_protocol.specs.NamedFault.TheVariants as fault

@@ -1,13 +1,13 @@
 -- An await of a tree in a machine is the model's: the least prefix of the arrivals at a point.
 use Rattle.std.proofs.Common.{◌≡◌, ℕ, ◌+◌, ◌≤◌, Bool, true, false, cond, List, [], ◌∷◌, ◌++◌, drop, length, take, refl, sym, ap, ◌∙◌, subst, arith, append_assoc, append-nil, length-append}
-use Rattle.arrivals.specs.Results.{results_of}
+use Rattle.await_arrivals.specs.Results.{results_of}
 use Rattle.await_trees.specs.Outcomes.{awake}
 use Rattle.await_trees.specs.Tree.{Tree}
 use Rattle.await_tries.specs.Await.{LeastAwake, NeverAwake, outcomes}
 use Rattle.await_tries.specs.Later.{EachOnce, Stays}
 use Rattle.await_tries.specs.Leaves.{leaf_outcome, result_outcome}
 use Rattle.await_tries.specs.Used.{used}
-use Rattle.arrivals.proofs.Awaited.{results-append}
+use Rattle.await_arrivals.proofs.Awaited.{results-append}
 use Rattle.await_tries.proofs.LaterArrivals.{first_is_now, once_stays, plainly_least}
 use Rattle.journal_protocol.specs.Notification.{Notification}
 use Rattle.journal_protocol.specs.NotificationId.{NotificationId}

@@ -2,7 +2,7 @@
 -- which kind these are.
 use Rattle.std.specs.Prelude.{◌≡◌, ◌≤◌, ◌==◌, ℕ, Bool, true, false, List, [], length, Option, Some, None, IsSome}
 use Rattle.std.specs.List.{AllByRecursion, list_any}
-use Rattle.arrivals.specs.Results.{results_of}
+use Rattle.await_arrivals.specs.Results.{results_of}
 use Rattle.journal_protocol.specs.Message.{Message}
 use Rattle.journal_protocol.specs.Message.TheVariants as message
 use Rattle.journal_protocol.specs.RawMessage.{RawMessage}

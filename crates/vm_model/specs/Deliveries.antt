@@ -1,7 +1,7 @@
 -- What came for an id and how often its results were taken, by the arrivals that awaits have used,
 -- and those that wait.
 use Rattle.std.specs.Prelude.{◌≡◌, ◌⊎◌, ◌≤◌, ◌+◌, ◌==◌, ◌||◌, ℕ, zero, suc, length, Bool, true, false, cond, is_some, List, [], ◌∷◌, ◌++◌, drop, Option, Some, None}
-use Rattle.arrivals.specs.Results.{results_of}
+use Rattle.await_arrivals.specs.Results.{results_of}
 use Rattle.journal_protocol.specs.NotificationId.{NotificationId}
 use Rattle.journal_protocol.specs.NotificationId.TheVariants.{CompletionId}
 use Rattle.journal_protocol.specs.NotificationResult.{NotificationResult}

@@ -1,6 +1,6 @@
 -- What is left of the deliveries of a signal, for takes to come.
 use Rattle.std.specs.Prelude.{List, ◌++◌}
-use Rattle.arrivals.specs.Results.{results_of}
+use Rattle.await_arrivals.specs.Results.{results_of}
 use Rattle.journal_protocol.specs.NotificationId.{NotificationId}
 use Rattle.journal_protocol.specs.NotificationId.TheVariants.{CompletionId, SignalId, SignalName}
 use Rattle.journal_protocol.specs.NotificationResult.{NotificationResult}

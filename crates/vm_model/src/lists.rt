@@ -1,6 +1,6 @@
 //! Laws of what a run used of its journal, and of what its handles stand for.
 ghost use Rattle.std.specs.Prelude.{◌≡◌, ◌≢◌, ◌⊎◌, ◌+◌, ◌++◌, [], List, ℕ, Some, take, true};
-ghost use Rattle.arrivals.specs.Results.{results_of};
+ghost use Rattle.await_arrivals.specs.Results.{results_of};
 ghost use Rattle.vm_asks.specs.Asks.{ask_of};
 ghost use Rattle.journal_protocol.specs.InputCommand.{InputCommand};
 ghost use Rattle.journal_protocol.specs.NamedFault.TheVariants as fault;

@@ -1,6 +1,6 @@
 //! Laws of the deliveries of signals.
 ghost use Rattle.std.specs.Prelude.{◌≡◌, List, ℕ, Some, drop};
-ghost use Rattle.arrivals.specs.Results.{results_of};
+ghost use Rattle.await_arrivals.specs.Results.{results_of};
 ghost use Rattle.journal_protocol.specs.InputCommand.{InputCommand};
 ghost use Rattle.journal_protocol.specs.RawMessage.{RawMessage};
 ghost use Rattle.journal_protocol.specs.Notification.{Notification};

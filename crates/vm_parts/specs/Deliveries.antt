@@ -6,9 +6,9 @@ use Rattle.journal_protocol.specs.Notification.{Notification}
 use Rattle.journal_protocol.specs.NotificationId.{NotificationId}
 use Rattle.journal_protocol.specs.NotificationId.TheVariants.{CompletionId, SignalId, SignalName}
 use Rattle.journal_protocol.specs.NotificationResult.{NotificationResult}
-use Rattle.arrivals.specs.Came.{one_used}
-pub use Rattle.arrivals.specs.Ids.{same_id}
-pub use Rattle.arrivals.specs.Results.{results_of, has_result_among, first, newest_after, newest, without_oldest, without_all}
+use Rattle.await_arrivals.specs.Came.{one_used}
+pub use Rattle.await_arrivals.specs.Ids.{same_id}
+pub use Rattle.await_arrivals.specs.Results.{results_of, has_result_among, first, newest_after, newest, without_oldest, without_all}
 use Rattle.vm_parts.specs.declared.async_results.Mapping.{Mapping}
 use Rattle.journal_protocol.specs.SignalDelivery.{SignalDelivery}
 use Rattle.journal_protocol.specs.SignalDelivery.TheVariants.{Queued, Overwrite}

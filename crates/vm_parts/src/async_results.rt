@@ -2,11 +2,11 @@
 //! each handle stands for.
 ghost use Rattle.std.specs.Prelude.{◌≡◌, ℕ, ◌∷◌, ◌++◌, [], OnOk, OnErr, IfOk};
 ghost use Rattle.std.specs.Option.{option_copied};
-ghost use Rattle.arrivals.specs.Came.{is_queued, enough};
+ghost use Rattle.await_arrivals.specs.Came.{is_queued, enough};
 ghost use Rattle.vm_parts.specs.Deliveries.{id_at, is_known, no_results, is_listed, left_among, present_among, present_result_for, has_result_for, next_used, with_eager, ready_after, first_result_for, IsTakeOf};
 
 use crate::handles::Handles;
-use arrivals::{Arrivals, EagerResults};
+use await_arrivals::{Arrivals, EagerResults};
 use journal_protocol::{Notification, NotificationId, NotificationResult, SignalDelivery};
 use plain::copy_of;
 use std::alloc::{AllocError, Global};

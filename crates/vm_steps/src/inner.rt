@@ -12,8 +12,8 @@ use await_trees::{NotificationHandle, UnresolvedFuture};
 use bytes::Bytes;
 use invocation_vm::{CoreVM, VM};
 use journal_protocol::{Error, NamedFault};
-use retries::RetryPolicy;
 use std::alloc::{AllocError, Global};
+use vm_retries::RetryPolicy;
 use vm_types::{Answer, Handler, RunExitResult, State, Step, VMResult};
 
 /// The fields of an attempt.

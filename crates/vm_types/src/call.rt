@@ -8,7 +8,7 @@ use await_trees::NotificationHandle;
 use bytes::Bytes;
 use journal_protocol::Error;
 use plain::Text;
-use retries::RetryPolicy;
+use vm_retries::RetryPolicy;
 
 /// A call of the VM, with its arguments.
 #[derive(Debug, Drop)]

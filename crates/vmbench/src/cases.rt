@@ -4,9 +4,9 @@ use crate::frames::Frames;
 use crate::player::{Failed, awaits, begin, bytes, done, feed, string, take, take_awaited};
 use invocation_vm::{CoreVM, VM};
 use plain::{Items, Text};
-use retries::RetryPolicy;
 use std::alloc::Global;
 use std::time::Duration;
+use vm_retries::RetryPolicy;
 use vm_types::{AwaitResponse, PayloadOptions, RunExitResult, Target};
 
 /// Sleeps, and answers nothing of it.

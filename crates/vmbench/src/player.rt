@@ -5,7 +5,7 @@ use await_trees::{NotificationHandle, UnresolvedFuture};
 use bytes::Bytes;
 use invocation_vm::{CoreVM, VM};
 use std::alloc::{AllocError, Global};
-use vectors::headers::Headers;
+use test_support::headers::Headers;
 use vm_types::{AwaitResponse, ImplicitCancellationOption, VMOptions, VMResult};
 
 /// A call was refused, an await wasn't done, or no memory was found.

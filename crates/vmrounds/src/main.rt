@@ -1,9 +1,9 @@
 //! `vmrounds`: plays rounds of one invocation from a script on standard input, and prints their report.
 #![tactic(auto)]
 
+use handler_plans::reading::plan_of;
 use hints::note::round_note;
 use plain::Fault;
-use plans::reading::plan_of;
 use program_runs::command_line::asks_for_help;
 use program_runs::streams::Plain;
 use std::env::{self, Env};

@@ -4,7 +4,7 @@
 use program_runs::command_line::asks_for_help;
 use program_runs::exit_status::ExitStatus;
 use program_runs::streams::Plain;
-use runner::run::run;
+use program_vmrun::run::run;
 use std::env::{self, Env};
 use std::io;
 use std::process::ExitCode;

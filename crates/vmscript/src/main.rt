@@ -1,11 +1,11 @@
 //! `vmscript`: drives one VM from a script on standard input, a call or some bytes a line, and prints an answer for each of its lines. It is for
-//! trying a single call, and for the rows that test them; what a line does stands in `scripts`.
+//! trying a single call, and for the rows that test them; what a line does stands in `call_scripts`.
 #![tactic(auto)]
 
+use call_scripts::run::run;
 use program_runs::command_line::asks_for_help;
 use program_runs::exit_status::ExitStatus;
 use program_runs::streams::Plain;
-use scripts::run::run;
 use std::env::{self, Env};
 use std::io;
 use std::process::ExitCode;

@@ -10,8 +10,8 @@ use Rattle.frame_lines.specs.FrameLines.{Shows}
 use Rattle.line_parts.specs.Results.{IsProposal}
 use Rattle.lines.specs.Words.{IsNumberOf, words_after_first, text_at}
 use Rattle.lines.proofs.Places.{word_at}
-use Rattle.vm_rounds.specs.declared.types.Event.{Event}
-use Rattle.vm_rounds.specs.declared.types.Event.TheVariants as event
+use Rattle.world_rounds.specs.declared.types.Event.{Event}
+use Rattle.world_rounds.specs.declared.types.Event.TheVariants as event
 use Rattle.world_scripts.specs.Rounds.{SaysRound}
 use Rattle.world_scripts.specs.Said.{AreSteps, IsCount, IsOneCount, SayNothing, SaysBehind, SaysEvent, SaysNothing, SaysWords, ShowsBytes, are_bytes, are_rest}
 use Rattle.world_scripts.specs.Worlds.{SaysWorld}

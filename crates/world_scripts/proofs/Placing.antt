@@ -1,7 +1,7 @@
 -- What has no place after what the lines before it have said, and those lines.
 use Rattle.std.proofs.Common.{◌≡◌, ◌≢◌, ◌+◌, inl, inr, ℕ, List, [], ◌∷◌, ◌++◌, None, length, ap, refl, sym, subst, ◌∙◌, arith, length-append}
 use Rattle.lines.specs.Text.{AreFirstLines, IsFirstLine}
-use Rattle.vm_rounds.specs.declared.types.Event.{Event}
+use Rattle.world_rounds.specs.declared.types.Event.{Event}
 use Rattle.world_scripts.specs.declared.given.Given.{Given}
 use Rattle.world_scripts.specs.declared.script_line.ScriptLine.{ScriptLine}
 use Rattle.world_scripts.specs.declared.script_line.ScriptLine.TheVariants as line

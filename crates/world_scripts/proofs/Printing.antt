@@ -1,7 +1,7 @@
 -- Texts that are printed one after another.
 use Rattle.std.proofs.Common.{◌≡◌, ℕ, suc, ◌+◌, ◌<◌, ◌≤◌, List, [], ◌∷◌, ◌++◌, length, drop, slice_index_or, refl, sym, ap, subst, ◌∙◌, append_assoc, arith, codes}
 use Rattle.std.proofs.lemmas.List.{append-nil, drop_all, drop_more}
-use Rattle.vm_rounds.specs.Rounds.{ReportView}
+use Rattle.world_rounds.specs.Rounds.{ReportView}
 use Rattle.world_scripts.specs.Printed.{AddsSuch, AddsSome, AreEach, IsRoundText, answer_lines, count_text, error_line}
 
 -- ---- something is added

@@ -7,9 +7,9 @@ use Rattle.journal_protocol.specs.Error.{Error}
 use Rattle.vm_types.specs.declared.steps.Answer.{Answer}
 use Rattle.vm_types.specs.declared.steps.Answer.TheVariants as answer
 use Rattle.call_lines.specs.Answers.{answer_text}
-use Rattle.vm_rounds.specs.Inside.{report_view}
-use Rattle.vm_rounds.specs.Rounds.{ReportView}
-use Rattle.vm_rounds.specs.declared.types.Report.{Report}
+use Rattle.world_rounds.specs.Inside.{report_view}
+use Rattle.world_rounds.specs.Rounds.{ReportView}
+use Rattle.world_rounds.specs.declared.types.Report.{Report}
 use Rattle.journal_entries.specs.declared.fault.JournalFault.{JournalFault}
 use Rattle.journal_entries.specs.declared.fault.JournalFault.TheVariants as journal_fault
 

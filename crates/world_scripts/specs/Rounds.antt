@@ -9,7 +9,7 @@ use Rattle.lines.specs.Fields.{IsSet, are_named, texts_named}
 use Rattle.line_parts.specs.Values.{HasFlag, words_without}
 use Rattle.lines.specs.Durations.{IsTime}
 use Rattle.lines.specs.Words.{IsNumberOf}
-use Rattle.vm_rounds.specs.declared.types.Round.{Round}
+use Rattle.world_rounds.specs.declared.types.Round.{Round}
 
 -- texts that are these keys
 abbrev pub AreKeys : List (List ℕ) → List (List ℕ) → Type 0

@@ -10,16 +10,16 @@ use Rattle.journal_protocol.specs.Frames.{encoding}
 use Rattle.journal_protocol.specs.Message.TheVariants as message
 use Rattle.journal_protocol.specs.Version.{Version}
 use Rattle.vm_model.specs.Calls.{Meaning}
-use Rattle.vm_rounds.specs.Inside.{report_view}
-use Rattle.vm_rounds.specs.Places.{RoundsStop}
-use Rattle.vm_rounds.specs.Rounds.{RoundsDo, RoundsFault}
+use Rattle.world_rounds.specs.Inside.{report_view}
+use Rattle.world_rounds.specs.Places.{RoundsStop}
+use Rattle.world_rounds.specs.Rounds.{RoundsDo, RoundsFault}
 use Rattle.journal_entries.specs.Given.{AreGiven, FirstGiven}
-use Rattle.vm_rounds.specs.Worlds.{pairs_given}
-use Rattle.vm_rounds.specs.declared.types.Report.{Report}
-use Rattle.vm_rounds.specs.declared.types.Round.{Round}
+use Rattle.world_rounds.specs.Worlds.{pairs_given}
+use Rattle.world_rounds.specs.declared.types.Report.{Report}
+use Rattle.world_rounds.specs.declared.types.Round.{Round}
 use Rattle.journal_entries.specs.declared.fault.JournalFault.{JournalFault}
 use Rattle.journal_entries.specs.declared.fault.JournalFault.TheVariants as journal_fault
-use Rattle.vm_rounds.specs.declared.types.Setting.{Setting}
+use Rattle.world_rounds.specs.declared.types.Setting.{Setting}
 use Rattle.program_runs.specs.Streams.{AppendsSome}
 use Rattle.world_scripts.specs.Scripts.{IsScriptRead, StopsAt, no_parts}
 use Rattle.world_scripts.specs.declared.given.Given.{Given}

@@ -11,8 +11,8 @@ use Rattle.frame_lines.specs.FrameLines.{Shows}
 use Rattle.lines.specs.Text.{says_nothing}
 use Rattle.line_parts.specs.Results.{IsProposal}
 use Rattle.lines.specs.Words.{IsNumberOf, words_after_first, text_at}
-use Rattle.vm_rounds.specs.declared.types.Event.{Event}
-use Rattle.vm_rounds.specs.declared.types.Event.TheVariants as event
+use Rattle.world_rounds.specs.declared.types.Event.{Event}
+use Rattle.world_rounds.specs.declared.types.Event.TheVariants as event
 use Rattle.world_scripts.specs.declared.script_line.ScriptLine.{ScriptLine}
 use Rattle.world_scripts.specs.declared.script_line.ScriptLine.TheVariants as line
 use Rattle.world_scripts.specs.Rounds.{SaysRound}

@@ -1,8 +1,8 @@
 -- What a whole script says: its lines, read one after another, make a world and rounds.
 use Rattle.std.specs.Prelude.{◌≡◌, ◌⊎◌, ◌+◌, ℕ, List, [], ◌∷◌, ◌++◌, Option, Some, None, length}
 use Rattle.lines.specs.Text.{AreFirstLines, IsFirstLine}
-use Rattle.vm_rounds.specs.declared.types.Event.{Event}
-use Rattle.vm_rounds.specs.declared.types.Round.{Round}
+use Rattle.world_rounds.specs.declared.types.Event.{Event}
+use Rattle.world_rounds.specs.declared.types.Round.{Round}
 use Rattle.world_scripts.specs.declared.given.Given.{Given}
 use Rattle.world_scripts.specs.declared.script.Script.{Script}
 use Rattle.world_scripts.specs.declared.script.Unread.{Unread}

@@ -10,7 +10,7 @@ use Rattle.lines.specs.Fields.{IsOptional, IsSet, are_named, texts_named}
 use Rattle.line_parts.specs.VmOptions.{ArePolicies}
 use Rattle.lines.specs.Words.{IsNumberOf, text_at}
 use Rattle.vm_types.specs.Options.{default_options}
-use Rattle.vm_rounds.specs.declared.types.Identity.{Identity}
+use Rattle.world_rounds.specs.declared.types.Identity.{Identity}
 use Rattle.world_scripts.specs.declared.given.Given.{Given}
 
 -- the invocation "abc"

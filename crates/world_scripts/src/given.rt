@@ -13,8 +13,8 @@ use lines::fields::{are_named, field_of, text_behind};
 use lines::pieces::words_within;
 use plain::{Fault, Text};
 use std::alloc::{AllocError, Global};
-use vm_rounds::Identity;
 use vm_types::VMOptions;
+use world_rounds::Identity;
 
 /// What a world is made of, but for the version of its attempts.
 #[derive(Drop)]

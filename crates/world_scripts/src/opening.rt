@@ -11,7 +11,7 @@ use lines::durations::duration_of;
 use lines::fields::{are_named, field_of, text_behind};
 use plain::{Fault, Items, Text};
 use std::alloc::Global;
-use vm_rounds::Round;
+use world_rounds::Round;
 
 /// `[key=T]..`, among other words.
 #[tactic(auto, using(crate::proofs::Beginning::keys_blamed))]

@@ -17,7 +17,7 @@ use lines::text::is_silent;
 use lines::words::bytes_in;
 use plain::Fault;
 use std::alloc::Global;
-use vm_rounds::Event;
+use world_rounds::Event;
 
 /// A number, or the greatest one where it is `all`.
 #[tactic(auto, using(crate::proofs::Nothing::count_blamed))]

@@ -13,8 +13,8 @@ use journal_entries::JournalFault;
 use journal_protocol::Version;
 use lines::line::Line;
 use std::alloc::{AllocError, Global};
-use vm_rounds::{Round, World, play_rounds};
 use vm_types::Handler;
+use world_rounds::{Round, World, play_rounds};
 
 /// The report of a script, and what stopped it, if a fault did.
 #[derive(Drop)]

@@ -1,7 +1,7 @@
 //! Prints the report of a run: a text for each round, then the journal after the last round.
 ghost use Rattle.std.specs.Prelude.{◌≡◌, ◌++◌, IfOk, IfSome, OnOk};
 ghost use Rattle.journal_protocol.specs.Frames.{frame};
-ghost use Rattle.vm_rounds.specs.Inside.{report_view};
+ghost use Rattle.world_rounds.specs.Inside.{report_view};
 ghost use Rattle.world_scripts.specs.Printed.{AddsSuch, AddsSome, AreRoundTexts, IsJournalText, IsPrinted, IsRoundText, answer_line, answer_lines, answer_value, answer_word, count_text, error_line, fault_name, fault_text};
 
 use bytes::Bytes;
@@ -12,8 +12,8 @@ use journal_protocol::{Decoder, Error, RawMessage};
 use lines::line::Line;
 use plain::Fault;
 use std::alloc::{AllocError, Global};
-use vm_rounds::{Report, World};
 use vm_types::Answer;
+use world_rounds::{Report, World};
 
 /// The word by which an answer is called.
 #[tactic(auto, unfolding(crate::specs::Printed::answer_word))]

@@ -11,7 +11,7 @@ use bytes::Bytes;
 use lines::text::first_line;
 use plain::Fault;
 use std::alloc::{AllocError, Global};
-use vm_rounds::{Event, Round};
+use world_rounds::{Event, Round};
 
 /// What a whole script says.
 #[derive(Drop)]

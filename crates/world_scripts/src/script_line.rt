@@ -1,7 +1,7 @@
 //! What a line of a script of rounds says.
 use crate::given::Given;
 use bytes::Bytes;
-use vm_rounds::{Event, Round};
+use world_rounds::{Event, Round};
 
 /// A line of a script, read as a whole.
 #[derive(Drop)]

@@ -1,6 +1,6 @@
 //! What stops a script.
 use journal_entries::JournalFault;
-use vm_rounds::PlacedFault;
+use world_rounds::PlacedFault;
 
 /// What stops a script.
 #[derive(Clone, Copy, Debug, PartialEq, Eq)]

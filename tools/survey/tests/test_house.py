@@ -19,13 +19,13 @@ from .support import TreeTest
 LONG = "fn long() {\n" + "    step();\n" * 41 + "}\n"
 SIX = "".join(f"    call_{at}(given);\n" for at in range(6))
 FILES = {
-    "crates.txt": "plain:\nvm_types: plain\nvm_parts: vm_types\nstored_journals: vm_types\nlines: plain\nsessions: vm_parts lines\nvm_vectors: vm_parts\n",
+    "crates.txt": "plain:\nvm_types: plain\nvm_parts: vm_types\njournal_store: vm_types\nlines: plain\nc_sessions: vm_parts lines\nvm_vectors: vm_parts\n",
     "crates/plain/src/lib.rt": f"//! Plain.\n{LONG}{SIX}",
     "crates/vm_types/src/lib.rt": "//! Types.\nuse plain::X;\npub struct Step;\npub struct PeekPromise;\n",
     "crates/vm_parts/src/lib.rt": "//! Parts.\npub use vm_types::Step;\n",
-    "crates/stored_journals/src/lib.rt": "//! Journals.\nuse vm_types::Step;\n",
+    "crates/journal_store/src/lib.rt": "//! Journals.\nuse vm_types::Step;\n",
     "crates/lines/src/lib.rt": f"//! Lines.\n{SIX}",
-    "crates/sessions/src/lib.rt": "//! Sessions.\nuse vm_parts::Step;\nuse lines::L;\n",
+    "crates/c_sessions/src/lib.rt": "//! Sessions.\nuse vm_parts::Step;\nuse lines::L;\n",
     "crates/vm_vectors/src/lib.rt": "//! Rows.\nuse vm_parts::Step;\nfn row() { vm_parts::Step }\n",
 }
 VALUES = {
@@ -61,12 +61,12 @@ class FiguresTest(TreeTest):
         self.assertEqual(found["imports by a second name"].these, ("vm_types::Step by vm_parts: 2",))
         self.assertEqual(found["items passed on"].these, ("vm_parts: vm_types: 1",))
         self.assertEqual(found["unnamed libraries"].these, ("lines: plain",))
-        self.assertEqual(found["C that names lines"].these, ("sessions: lines",))
-        self.assertEqual(found["longest chain"].said, "plain vm_types vm_parts sessions")
+        self.assertEqual(found["C that names lines"].these, ("c_sessions: lines",))
+        self.assertEqual(found["longest chain"].said, "plain vm_types vm_parts c_sessions")
 
     def test_the_ways_of_the_engine_are_counted_apart(self) -> None:
-        engine = {"crates.txt": FILES["crates.txt"] + "vm_engine: vm_parts\nengine_vectors: vm_engine\n", "crates/vm_engine/src/lib.rt": "//! E.\n"}
-        found = self.figures(**engine, **{"crates/engine_vectors/src/lib.rt": "//! R.\n"})
+        engine = {"crates.txt": FILES["crates.txt"] + "engines: vm_parts\ntest_engine: engines\n", "crates/engines/src/lib.rt": "//! E.\n"}
+        found = self.figures(**engine, **{"crates/test_engine/src/lib.rt": "//! R.\n"})
         self.assertEqual((found["ways"].value, found["ways without the engine's"].value), (21 + 4 + 5, 21))
 
     def test_the_most_frequent_is_counted_first(self) -> None:
@@ -137,7 +137,7 @@ class CommandTest(TreeTest):
         self.run_house("--shrink")
         survey = Survey(self.again(self.house))
         self.assertEqual(limits.check(survey, survey.figures()), (4, []))
-        self.put("crates/sessions/src/lib.rt", "//! Sessions.\nuse vm_types::Step;\nuse lines::L;\n")
+        self.put("crates/c_sessions/src/lib.rt", "//! Sessions.\nuse vm_types::Step;\nuse lines::L;\n")
         survey = Survey(self.again(self.house))
         passed, wrong = limits.check(survey, survey.figures())
         self.assertEqual((passed, len(wrong)), (3, 1))

@@ -1,5 +1,5 @@
 use Rattle.std.proofs.Common.{◌≡◌, ◌≤◌, ℕ, length, drop}
-use Rattle.arrivals.specs.Came.{enough}
+use Rattle.await_arrivals.specs.Came.{enough}
 use Rattle.await_trees.specs.Outcomes.{outcome_of}
 use Rattle.await_tries.specs.Courses.{course_at, any_fires_by, all_wait_by}
 use Rattle.await_tries.proofs.course.course_of.Given as goal

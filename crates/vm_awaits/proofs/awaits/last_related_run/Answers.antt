@@ -1,7 +1,7 @@
 use Rattle.std.proofs.Common.{ap, get_or, sym, take, ◌∙◌}
 use Rattle.std.specs.Option.{option_map, option_or}
 use Rattle.std.proofs.lemmas.List.{take_more}
-use Rattle.runs.specs.Settling.{run_as_related}
+use Rattle.vm_runs.specs.Settling.{run_as_related}
 use Rattle.vm_awaits.specs.Awaits.{last_run}
 use Rattle.vm_machine.specs.Proposals.{run_at}
 use Rattle.vm_awaits.proofs.Waiting.{last_related_behind}

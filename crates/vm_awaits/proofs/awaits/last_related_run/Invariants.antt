@@ -1,6 +1,6 @@
 use Rattle.std.proofs.Common.{◌≡◌, take}
 use Rattle.std.specs.Option.{option_map}
-use Rattle.runs.specs.Settling.{run_as_related}
+use Rattle.vm_runs.specs.Settling.{run_as_related}
 use Rattle.vm_awaits.specs.Awaits.{last_run}
 use Rattle.vm_awaits.proofs.awaits.last_related_run.Given as goal
 

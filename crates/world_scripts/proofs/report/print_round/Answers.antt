@@ -1,6 +1,6 @@
 use Rattle.std.proofs.Common.{◌++◌, ◌∙◌, ap, codes}
 use Rattle.world_scripts.specs.Printed.{answer_lines, count_text}
-use Rattle.vm_rounds.specs.Inside.{report_view}
+use Rattle.world_rounds.specs.Inside.{report_view}
 use Rattle.world_scripts.proofs.Printing.{round_printed}
 use Rattle.world_scripts.proofs.report.print_round.Goals as goal
 

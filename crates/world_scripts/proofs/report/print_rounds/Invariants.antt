@@ -1,5 +1,5 @@
 use Rattle.std.proofs.Common.{◌≡◌}
-use Rattle.vm_rounds.specs.Inside.{report_view}
+use Rattle.world_rounds.specs.Inside.{report_view}
 use Rattle.world_scripts.specs.Printed.{IsRoundText}
 use Rattle.world_scripts.proofs.Printing.{PrintsOn}
 use Rattle.world_scripts.proofs.report.print_rounds.Given as goal

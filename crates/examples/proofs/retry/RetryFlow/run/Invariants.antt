@@ -1,5 +1,5 @@
 use Rattle.std.proofs.Common.{◌≡◌, ◌-◌}
-use Rattle.flows.specs.Code.{outcome}
+use Rattle.handler_flows.specs.Code.{outcome}
 use Rattle.examples.specs.Retry.{tries}
 use Rattle.examples.proofs.retry.RetryFlow.run.Given as goal
 

@@ -1,5 +1,5 @@
 use Rattle.std.proofs.Common.{ap, sym, ◌∙◌}
-use Rattle.runs.specs.Pending.{has_handle}
+use Rattle.vm_runs.specs.Pending.{has_handle}
 use Rattle.vm_machine.specs.declared.machine.Machine.{Machine}
 use Rattle.vm_machine.proofs.Running.{not_found}
 use Rattle.vm_machine.proofs.machine.Machine.take_run.Goals as goal

@@ -1,8 +1,0 @@
-use Rattle.std.proofs.Common.{ap, ◌∙◌}
-use Rattle.arrivals.specs.Entries.{not_taken}
-use Rattle.arrivals.proofs.Moves.{entered, given_push, where_ok}
-use Rattle.arrivals.proofs.eager.EagerResults.push.Goals as goal
-
-pub returns-clause-ok : goal.returns-clause-ok
-returns-clause-ok c =
-    where_ok c.push.result (λ e. rw (← c.self.view_is) (ap not_taken e ∙ given_push c.self.inside.log (entered c.args.read))) c.push.ensures.ok

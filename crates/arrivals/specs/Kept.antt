@@ -1,9 +1,0 @@
--- The places of an id, however they are kept.
-use Rattle.std.specs.Prelude.{ℕ, List, [], ◌∷◌}
-use Rattle.arrivals.specs.declared.places.Kept.{Kept}
-use Rattle.arrivals.specs.declared.places.Kept.TheVariants.{Nowhere, One, Many}
-
-abbrev pub places_kept : Kept → List ℕ
-places_kept Nowhere = []
-places_kept (One place) = place ∷ []
-places_kept (Many queue) = queue.value

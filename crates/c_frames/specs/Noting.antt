@@ -1,0 +1,19 @@
+-- How far a stream is read, and which notifications came.
+use Rattle.std.specs.Prelude.{◌≡◌, ℕ, List, ◌++◌}
+use Rattle.await_arrivals.specs.Came.{Came}
+use Rattle.journal_protocol.specs.RawMessage.{RawMessage}
+use Rattle.journal_entries.specs.Frames.{frames_of}
+use Rattle.frame_lines.specs.Printed.{HasNoFrame}
+use Rattle.c_frames.specs.Waking.{only_came}
+use Rattle.c_frames.specs.Reading.{notes_among}
+
+-- the first frames of a stream were read up to this rest, and their notifications came
+pub record NotedUpTo (stream : List ℕ) (came : Came) (rest : List ℕ) : Type 0 where
+  pub seen : List RawMessage
+  pub noted : came ≡ only_came (notes_among seen)
+  pub frames : frames_of stream ≡ (seen ++ (frames_of rest).0, (frames_of rest).1)
+
+-- all whole frames of a stream were read
+pub record AllRead (stream : List ℕ) (came : Came) (rest : List ℕ) : Type 0 where
+  pub read : NotedUpTo stream came rest
+  pub ended : HasNoFrame rest

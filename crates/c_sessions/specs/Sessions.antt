@@ -1,0 +1,69 @@
+-- What a call from C does to the session that it is given.
+use Rattle.std.specs.Prelude.{◌≡◌, ◌⊎◌, ◌<◌, ◌++◌, ℕ, List, [], length, drop, Option, Some, None, Ok}
+use Rattle.std.specs.List.{concat}
+use Rattle.vm_parts.specs.Outboxes.{len_of}
+use Rattle.invocation_vm.specs.declared.core_vm.CoreVM.{CoreVM}
+use Rattle.invocation_vm.specs.Seen.{seen}
+use Rattle.invocation_vm.specs.Views.{StarvesAmong, TakesOutput, after_input, messages_in_bytes}
+use Rattle.vm_types.specs.declared.reply.Reply.TheVariants as reply
+use Rattle.c_sessions.specs.declared.session.Session.{Session}
+use Rattle.c_values.specs.declared.status.Status.{Status}
+use Rattle.c_values.specs.declared.status.Status.TheVariants as status
+
+-- no VM, no answer and no reply
+abbrev pub IsEmpty : Session → Type 0
+IsEmpty s = (s.vm ≡ None) × (s.answer ≡ []) × (s.reply ≡ reply.Nothing)
+
+-- a session was made, and it is empty; or no memory was found, and there is none
+abbrev pub IsNewSession : Status → Option Session → Type 0
+IsNewSession status.Done (Some made) = IsEmpty made
+IsNewSession status.NoMemory None = Unit {0}
+IsNewSession told made = ⊥
+
+-- The last answer is written to the front of the room for it, if there is so much.
+abbrev pub AnswerRead : Status → ℕ → List ℕ → List ℕ → Option Session → Type 0
+AnswerRead status.Done len before after (Some s) = (len ≡ length s.answer)
+    × (after ≡ s.answer ++ drop len before)
+AnswerRead status.NoRoom len before after (Some s) = (len ≡ length s.answer) × (length before < len)
+    × (after ≡ before)
+AnswerRead status.NoSession len before after None = (len ≡ 0) × (after ≡ before)
+AnswerRead told len before after s = ⊥
+
+-- Bytes are fed to a VM. Without memory it is as it was, or has failed for it among the messages
+-- that the bytes bring.
+abbrev pub Fed : List ℕ → Status → Option CoreVM → Option CoreVM → Type 0
+Fed bytes status.Done (Some old) (Some new) = seen new ≡ after_input (seen old) bytes
+Fed bytes status.NoMemory (Some old) (Some new) =
+    (new ≡ old) ⊎ StarvesAmong (messages_in_bytes (seen old) bytes) (seen old).machine
+    (seen new).machine
+Fed bytes status.NoVm None None = Unit {0}
+Fed bytes told old new = ⊥
+
+-- Bytes are fed to the VM of the session that there is.
+abbrev pub InputFed : List ℕ → Status → Option Session → Option Session → Type 0
+InputFed bytes status.NoSession None None = Unit {0}
+InputFed bytes told (Some old) (Some new) = Fed bytes told old.vm new.vm × (new.answer ≡ old.answer)
+    × (new.reply ≡ old.reply)
+InputFed bytes told old new = ⊥
+
+-- The output of a VM is taken, and written to the front of the room for it, if there is so much;
+-- else nothing is changed.
+abbrev pub Drained : Status → ℕ → List ℕ → List ℕ → Option CoreVM → Option CoreVM → Type 0
+Drained status.Done len before after (Some old) (Some new) =
+    let output = concat (seen old).machine.output in
+    TakesOutput (Ok output) (seen old) (seen new) × (len ≡ length output)
+    × (after ≡ output ++ drop len before)
+Drained status.NoRoom len before after (Some old) (Some new) =
+    (len ≡ len_of (seen old).machine.output) × (length before < len) × (after ≡ before)
+    × (new ≡ old)
+Drained status.NoMemory len before after (Some old) (Some new) = (len
+    ≡ len_of (seen old).machine.output) × (after ≡ before) × (new ≡ old)
+Drained status.NoVm len before after None None = (len ≡ 0) × (after ≡ before)
+Drained told len before after old new = ⊥
+
+-- The output of the VM of the session that there is.
+abbrev pub OutputTaken : Status → ℕ → List ℕ → List ℕ → Option Session → Option Session → Type 0
+OutputTaken status.NoSession len before after None None = (len ≡ 0) × (after ≡ before)
+OutputTaken told len before after (Some old) (Some new) = Drained told len before after old.vm
+    new.vm × (new.answer ≡ old.answer) × (new.reply ≡ old.reply)
+OutputTaken told len before after old new = ⊥

@@ -1,0 +1,79 @@
+//! What each call from C does: bytes go in and come out as they are, and the answer to the last line is read.
+ghost use Rattle.std.specs.Prelude.{◌≡◌, ◌≤◌, None};
+ghost use Rattle.c_sessions.specs.Sessions.{AnswerRead, InputFed, IsNewSession, OutputTaken};
+ghost use Rattle.c_values.specs.Statuses.{status_by};
+
+use crate::held::{Vm, give, take};
+use crate::session::Session;
+use c_values::{Status, Told, tell};
+use std::alloc::Global;
+
+/// Makes an empty session, if memory is found. One that was there is dropped.
+pub fn open(alloc: Global, vm: &mut Vm) -> u32
+    ensures made { IsNewSession (status_by result) vm.new.value }
+    ensures known { result ≤ 24 }
+{
+    close(alloc, vm);
+    match Box::new(alloc, Session::new(alloc)) {
+        Ok(made) => {
+            give(alloc, vm, made);
+            Status::Done.code()
+        }
+        Err(_) => Status::NoMemory.code(),
+    }
+}
+
+/// Writes the last answer to the front of `out`, if it has room for it. Returns the answer's length either way.
+pub fn read_answer(alloc: Global, vm: &mut Vm, out: &mut [u8]) -> Told
+    ensures kept { vm.new.value ≡ vm.old.value }
+    ensures known { result.status ≤ 24 }
+    ensures read { AnswerRead (status_by result.status) result.len out.old out.new vm.old.value }
+{
+    match take(alloc, vm) {
+        Some(session) => {
+            let (status, len) = session.read_answer(out);
+            give(alloc, vm, session);
+            tell(status, len)
+        }
+        None => tell(Status::NoSession, 0),
+    }
+}
+
+/// Feeds the VM bytes of its input.
+pub fn feed(alloc: Global, vm: &mut Vm, bytes: &[u8]) -> u32
+    ensures fed { InputFed bytes.now (status_by result) vm.old.value vm.new.value }
+    ensures known { result ≤ 24 }
+{
+    match take(alloc, vm) {
+        Some(mut session) => {
+            let status = session.feed(alloc, bytes);
+            give(alloc, vm, session);
+            status.code()
+        }
+        None => Status::NoSession.code(),
+    }
+}
+
+/// Moves all of the VM's output to the front of `out`, if it has room for it. Returns the output's length either way.
+pub fn take_output(alloc: Global, vm: &mut Vm, out: &mut [u8]) -> Told
+    ensures taken { OutputTaken (status_by result.status) result.len out.old out.new vm.old.value
+        vm.new.value }
+    ensures known { result.status ≤ 24 }
+{
+    match take(alloc, vm) {
+        Some(mut session) => {
+            let (status, len) = session.take_output(out);
+            give(alloc, vm, session);
+            tell(status, len)
+        }
+        None => tell(Status::NoSession, 0),
+    }
+}
+
+/// Drops the session, if there is one.
+pub fn close(alloc: Global, vm: &mut Vm)
+    ensures { vm.new.value ≡ None }
+{
+    let session = take(alloc, vm);
+    drop(session);
+}

@@ -1,0 +1,135 @@
+//! One VM, its last answer to a line, and its last reply to a call.
+ghost use Rattle.std.specs.Prelude.{◌≡◌, Some, codes};
+ghost use Rattle.invocation_vm.specs.Making.{version_in};
+ghost use Rattle.vm_types.specs.ContentTypes.{header_under};
+ghost use Rattle.vm_calls.specs.Making.{VmIsMade};
+ghost use Rattle.c_sessions.specs.Calls.{OnVm, part_read};
+ghost use Rattle.c_sessions.specs.Replies.{part_of, summary};
+ghost use Rattle.c_sessions.specs.Sessions.{AnswerRead, Drained, Fed, IsEmpty};
+
+use crate::kept::keep;
+use crate::parts::part_of;
+use crate::replied::{Replied, tell_status};
+use crate::vm_call::VmCall;
+use bytes::Bytes;
+use c_values::{Status, write};
+use invocation_vm::{CoreVM, VM};
+use plain::Text;
+use std::alloc::Global;
+use vm_calls::making::make_anew;
+use vm_types::{ContentType, Reply, VMOptions};
+
+/// One VM, if it was made, the answer to the last line, and the reply to the last call.
+#[derive(Drop)]
+pub struct Session {
+    pub vm: Option<CoreVM>,
+    pub answer: Text,
+    pub reply: Reply,
+}
+
+/// Feeds a VM bytes of its input.
+fn feed_vm(alloc: Global, vm: &mut CoreVM, bytes: &[u8]) -> Status
+    ensures { Fed bytes.now result (Some vm.old) (Some vm.new) }
+{
+    let Ok(bytes) = Bytes::copy_from_slice(alloc, bytes) else {
+        return Status::NoMemory;
+    };
+    match vm.notify_input(bytes) {
+        Ok(()) => Status::Done,
+        Err(_) => Status::NoMemory,
+    }
+}
+
+/// Moves all of a VM's output to the front of `out`, if it has room for it. Returns the output's length either way.
+fn drain_vm(vm: &mut CoreVM, out: &mut [u8]) -> (Status, usize)
+    ensures { Drained result.0 result.1 out.old out.new (Some vm.old) (Some vm.new) }
+{
+    let len = vm.waiting_len();
+    if out.len() < len {
+        return (Status::NoRoom, len);
+    }
+    out[..len].copy_from_slice(vm.waiting_bytes());
+    vm.clear_output();
+    (Status::Done, len)
+}
+
+impl Session {
+    pub fn new(alloc: Global) -> Session
+        ensures { IsEmpty result }
+    {
+        Session {
+            vm: None,
+            answer: Text::empty(alloc),
+            reply: Reply::Nothing,
+        }
+    }
+
+    /// Writes the last answer to the front of `out`, if it has room for it. Returns the answer's length either way.
+    pub fn read_answer(&self, out: &mut [u8]) -> (Status, usize)
+        ensures { AnswerRead result.0 result.1 out.old out.new (Some self.now) }
+    {
+        write(self.answer.as_str().as_bytes(), out)
+    }
+
+    /// Makes a call of the VM, keeps its reply, and returns the reply's summary. If the call isn't made, the last reply stays.
+    #[tactic(auto, using(crate::proofs::Made::is_called, crate::proofs::Made::is_kept))]
+    pub fn call<C: VmCall>(&mut self, alloc: Global, call: C) -> Replied
+        ensures answer { self.new.answer ≡ self.old.answer }
+        ensures called { OnVm (C.does call) result self.old.vm self.new.vm self.old.reply
+            self.new.reply }
+    {
+        let Some(vm) = &mut self.vm else {
+            return tell_status(Status::NoVm);
+        };
+        match call.make(alloc, vm, &mut self.reply) {
+            Ok(replied) => replied,
+            Err(status) => tell_status(status),
+        }
+    }
+
+    /// Puts a new VM in the place of the last. Returns its version, or why there is none.
+    pub fn make(&mut self, alloc: Global, content_type: ContentType, options: VMOptions) -> Replied
+        ensures answer { self.new.answer ≡ self.old.answer }
+        ensures made { VmIsMade alloc options
+            (version_in (header_under content_type (codes "content-type")))
+            self.new.reply self.new.vm }
+        ensures told { result ≡ summary self.new.reply }
+    {
+        let reply = make_anew(alloc, &mut self.vm, content_type, options);
+        keep(&mut self.reply, reply)
+    }
+
+    /// Writes a part of the last reply to the front of `out`, if it has room for it. Returns the part's length either way.
+    pub fn read_part(&self, at: usize, out: &mut [u8]) -> (Status, usize)
+        ensures { part_read (part_of self.now.reply at) result.0 result.1 out.old out.new }
+    {
+        match part_of(&self.reply, at) {
+            Some(part) => write(part, out),
+            None => (Status::NoPart, 0),
+        }
+    }
+
+    /// Feeds the VM bytes of its input.
+    pub fn feed(&mut self, alloc: Global, bytes: &[u8]) -> Status
+        ensures answer { self.new.answer ≡ self.old.answer }
+        ensures reply { self.new.reply ≡ self.old.reply }
+        ensures fed { Fed bytes.now result self.old.vm self.new.vm }
+    {
+        match &mut self.vm {
+            Some(vm) => feed_vm(alloc, vm, bytes),
+            None => Status::NoVm,
+        }
+    }
+
+    /// Moves all of the VM's output to the front of `out`, if it has room for it. Returns the output's length either way.
+    pub fn take_output(&mut self, out: &mut [u8]) -> (Status, usize)
+        ensures answer { self.new.answer ≡ self.old.answer }
+        ensures reply { self.new.reply ≡ self.old.reply }
+        ensures taken { Drained result.0 result.1 out.old out.new self.old.vm self.new.vm }
+    {
+        match &mut self.vm {
+            Some(vm) => drain_vm(vm, out),
+            None => (Status::NoVm, 0),
+        }
+    }
+}

@@ -1,0 +1,77 @@
+//! Calls of a session's VM from C, whichever they are.
+ghost use Rattle.std.specs.Prelude.{◌≡◌, ◌≤◌, codes};
+ghost use Rattle.invocation_vm.specs.Making.{version_in};
+ghost use Rattle.vm_types.specs.ContentTypes.{header_under};
+ghost use Rattle.c_sessions.specs.Calls.{CalledFromC, MadeFromC, PartRead};
+ghost use Rattle.c_values.specs.Statuses.{status_by};
+
+use crate::held::{Vm, give, take};
+use crate::replied::{Replied, tell_status};
+use c_values::{Status, Told, tell};
+use invocation_vm::CoreVM;
+use std::alloc::Global;
+use vm_types::{ContentType, Reply, VMOptions};
+
+/// A call of a VM, with what C gave for it.
+pub trait VmCall: Drop {
+    ghost use Rattle.std.specs.Prelude.{Result};
+    ghost use Rattle.invocation_vm.specs.Seen.{seen};
+    ghost use Rattle.invocation_vm.specs.Views.{View};
+    ghost use Rattle.vm_types.specs.declared.reply.Reply.{Reply};
+    ghost use Rattle.c_sessions.specs.Calls.{IsMadeOf};
+    ghost use Rattle.c_values.specs.declared.status.Status.{Status};
+
+    /// What the call does to a VM: its reply, or why it isn't made; and the VM before and after.
+    ghost does: { Self → Result Reply Status → View → View → Type 0 };
+
+    /// Makes the call, keeps its reply in the place of the last, and returns the reply's summary. An `Err` if what C gave can't be used.
+    fn make(self, alloc: Global, vm: &mut CoreVM, kept: &mut Reply) -> Result<Replied, Status>
+        ensures { IsMadeOf (does self) result (seen vm.old) (seen vm.new) kept.old kept.new };
+}
+
+/// Makes a call of the session's VM, keeps its reply, and returns the reply's summary.
+pub fn call<C: VmCall>(alloc: Global, vm: &mut Vm, call: C) -> Replied
+    ensures { CalledFromC (C.does call) result vm.old.value vm.new.value }
+{
+    match take(alloc, vm) {
+        Some(mut session) => {
+            let replied = session.call(alloc, call);
+            give(alloc, vm, session);
+            replied
+        }
+        None => tell_status(Status::NoSession),
+    }
+}
+
+/// Puts a new VM into the session in the place of the last. Returns its version, or why there is none.
+pub fn make(alloc: Global, vm: &mut Vm, content_type: ContentType, options: VMOptions) -> Replied
+    ensures { MadeFromC alloc options
+        (version_in (header_under content_type (codes "content-type")))
+        result vm.old.value vm.new.value }
+{
+    match take(alloc, vm) {
+        Some(mut session) => {
+            let replied = session.make(alloc, content_type, options);
+            give(alloc, vm, session);
+            replied
+        }
+        None => tell_status(Status::NoSession),
+    }
+}
+
+/// Writes a part of the last reply to the front of `out`, if it has room for it. Returns the part's length either way.
+pub fn read_part(alloc: Global, vm: &mut Vm, at: usize, out: &mut [u8]) -> Told
+    ensures kept { vm.new.value ≡ vm.old.value }
+    ensures known { result.status ≤ 24 }
+    ensures read { PartRead at (status_by result.status) result.len out.old out.new
+        vm.old.value }
+{
+    match take(alloc, vm) {
+        Some(session) => {
+            let (status, len) = session.read_part(at, out);
+            give(alloc, vm, session);
+            tell(status, len)
+        }
+        None => tell(Status::NoSession, 0),
+    }
+}

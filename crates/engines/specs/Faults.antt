@@ -1,0 +1,21 @@
+-- What the faults of rounds are to an engine.
+use Rattle.std.specs.Prelude.{◌≡◌, ◌⊎◌}
+use Rattle.journal_entries.specs.declared.fault.JournalFault.{JournalFault}
+use Rattle.journal_entries.specs.declared.fault.JournalFault.TheVariants as journal_fault
+use Rattle.engines.specs.declared.types.EngineFault.{EngineFault}
+use Rattle.engines.specs.declared.types.EngineFault.TheVariants as fault
+
+-- what the fault of an arrival is
+abbrev pub fault_of_arrival : JournalFault → EngineFault
+fault_of_arrival journal_fault.Memory = fault.Memory
+fault_of_arrival journal_fault.JournalFull = fault.Full
+fault_of_arrival f = fault.Arrival f
+
+-- it is out of memory, or a journal is full
+abbrev pub IsMemoryOrFull : EngineFault → Type 0
+IsMemoryOrFull f = (f ≡ fault.Memory) ⊎ (f ≡ fault.Full)
+
+-- it is not that of an arrival
+abbrev pub IsNoArrival : EngineFault → Type 0
+IsNoArrival (fault.Arrival f) = ⊥
+IsNoArrival f = Unit {0}

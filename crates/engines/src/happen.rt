@@ -1,0 +1,228 @@
+//! The events of an engine, one by one.
+ghost use Rattle.std.specs.Prelude.{◌≡◌, ◌⊎◌, ◌≤◌, length, None, IfErr, IfOk, OnOk};
+ghost use Rattle.engines.specs.Members.{Acts, MemberView, stopped};
+ghost use Rattle.engines.specs.Engines.{AllHappen, BeginsIn, ChangesAt, DeliversAt, MemberGoes, HappeningDoes, IsThereAt, StoresIn, StoresAndPerforms};
+ghost use Rattle.engines.specs.Faults.{IsNoArrival};
+
+use crate::engine::{Engine, whole_round};
+use crate::types::{EngineFault, Happening, Order};
+use engine_effects::Effect;
+use engine_inboxes::Brought;
+use std::alloc::AllocError;
+use vm_types::Handler;
+use world_rounds::Event;
+
+fn copy_order(order: &Order) -> Result<Order, AllocError> {
+    Ok(Order {
+        service: order.service.clone()?,
+        handler: order.handler.clone()?,
+        key: order.key.clone()?,
+        idempotency_key: order.idempotency_key.clone()?,
+        parameter: order.parameter.clone()?,
+        begins: order.begins,
+    })
+}
+
+impl<'a, H: Handler + Drop> Engine<'a, H> {
+    fn submit(&mut self, order: &Order) -> Result<(), EngineFault>
+        ensures err { IfErr result IsNoArrival }
+    {
+        let Ok(order) = copy_order(order) else {
+            return Err(EngineFault::Memory);
+        };
+        match self.ordered(order, None) {
+            Ok(_) => Ok(()),
+            Err(fault) => Err(fault),
+        }
+    }
+
+    fn begin(&mut self, place: usize) -> Result<(), EngineFault>
+        ensures does { OnOk result ((self.new ≡ self.old)
+            ⊎ ChangesAt place (BeginsIn self.old.clock) self.old self.new) }
+        ensures err { IfErr result IsNoArrival }
+    {
+        if !self.may_begin(place) {
+            return Ok(());
+        }
+        let Some(it) = self.invocations.get_mut(place) else {
+            return Ok(());
+        };
+        let Some(member) = it.member.take() else {
+            return Ok(());
+        };
+        match member.begin(&whole_round(self.alloc)) {
+            Err(fault) => Err(fault),
+            Ok(member) => {
+                it.member = Some(member);
+                Ok(())
+            }
+        }
+    }
+
+    fn act(&mut self, place: usize, event: &Event) -> Result<(), EngineFault>
+        ensures does { OnOk result
+            (ChangesAt place (MemberGoes
+            (λ (m : MemberView _). Acts (H.meaning m.course.handler) event.now m)) self.old
+            self.new) }
+        ensures err { IfErr result IsNoArrival }
+    {
+        let Some(it) = self.invocations.get_mut(place) else {
+            return Ok(());
+        };
+        let Some(member) = it.member.take() else {
+            return Ok(());
+        };
+        match member.act(event) {
+            Err(fault) => Err(fault),
+            Ok(member) => {
+                it.member = Some(member);
+                Ok(())
+            }
+        }
+    }
+
+    /// What is there for what waits at this place.
+    fn brought_at(&self, place: usize, at: usize) -> Result<Option<Brought>, AllocError>
+        ensures { IfOk result (IsThereAt place at self.now) }
+    {
+        let Some(it) = self.invocations.get(place) else {
+            return Ok(None);
+        };
+        let Some(member) = &it.member else {
+            return Ok(None);
+        };
+        match member.inbox().get(at) {
+            None => Ok(None),
+            Some(waiting) => self.brought(place, waiting),
+        }
+    }
+
+    fn deliver(&mut self, place: usize, at: usize) -> Result<(), EngineFault>
+        ensures does { OnOk result (DeliversAt (λ h. H.meaning h) place at self.old self.new) }
+        ensures err { IfErr result IsNoArrival }
+    {
+        let brought = match self.brought_at(place, at) {
+            Err(_) => return Err(EngineFault::Memory),
+            Ok(None) => return Ok(()),
+            Ok(Some(brought)) => brought,
+        };
+        let Some(it) = self.invocations.get_mut(place) else {
+            return Ok(());
+        };
+        if it.ended.is_some() {
+            return Ok(());
+        }
+        let Some(member) = it.member.take() else {
+            return Ok(());
+        };
+        match member.deliver(at, brought) {
+            Err(fault) => Err(fault),
+            Ok(member) => {
+                it.member = Some(member);
+                Ok(())
+            }
+        }
+    }
+
+    /// The next frame is stored, unless the invocation has ended.
+    fn store_next(&mut self, place: usize) -> Result<Option<Effect>, EngineFault>
+        ensures does { IfOk result
+            (λ asks. ChangesAt place (StoresIn (λ h. H.meaning h) asks) self.old self.new) }
+        ensures none { IfOk result (λ asks. length self.old.invocations.items ≤ place → asks
+            ≡ None) }
+        ensures err { IfErr result IsNoArrival }
+    {
+        let Some(it) = self.invocations.get_mut(place) else {
+            return Ok(None);
+        };
+        if it.ended.is_some() {
+            return Ok(None);
+        }
+        let Some(member) = it.member.take() else {
+            return Ok(None);
+        };
+        match member.store() {
+            Err(fault) => Err(fault),
+            Ok((member, effect)) => {
+                it.member = Some(member);
+                Ok(effect)
+            }
+        }
+    }
+
+    /// The next frame is stored, and what it asks for is done.
+    fn store(&mut self, place: usize) -> Result<(), EngineFault>
+        ensures does { OnOk result (StoresAndPerforms (λ h. H.meaning h) place self.old self.new) }
+        ensures err { IfErr result IsNoArrival }
+    {
+        match self.store_next(place) {
+            Ok(Some(effect)) => self.perform(place, effect),
+            Ok(None) => Ok(()),
+            Err(fault) => Err(fault),
+        }
+    }
+
+    fn stop(&mut self, place: usize)
+        ensures { ChangesAt place (MemberGoes (λ old new. new ≡ stopped old)) self.old self.new }
+    {
+        if let Some(it) = self.invocations.get_mut(place) {
+            if let Some(member) = it.member.take() {
+                it.member = Some(member.stop());
+            }
+        }
+    }
+
+    fn stop_all(&mut self) {
+        for place in 0..self.invocations.len() {
+            self.stop(place);
+        }
+    }
+
+    /// One event.
+    pub fn happen(&mut self, happening: &Happening) -> Result<(), EngineFault>
+        // What each event does.
+        ensures does { OnOk result
+            (HappeningDoes (λ h. H.meaning h) happening.now self.old self.new) }
+        ensures err { IfErr result IsNoArrival }
+    {
+        match happening {
+            Happening::Submit(order) => self.submit(order),
+            Happening::Begin(place) => self.begin(*place),
+            Happening::Act(place, event) => self.act(*place, event),
+            Happening::Deliver(place, at) => self.deliver(*place, *at),
+            Happening::Store(place) => self.store(*place),
+            Happening::Stop(place) => {
+                self.stop(*place);
+                Ok(())
+            }
+            Happening::StopAll => {
+                self.stop_all();
+                Ok(())
+            }
+            Happening::Clock(time) => {
+                self.clock = self.clock.max(*time);
+                Ok(())
+            }
+        }
+    }
+}
+
+/// Events, one after another. The first that has a fault stops the engine.
+pub fn run_engine<'a, H: Handler + Drop>(
+    engine: Engine<'a, H>,
+    events: &[Happening],
+) -> Result<Engine<'a, H>, EngineFault>
+    // What each event does, one after another.
+    ensures does { IfOk result (AllHappen (λ h. H.meaning h) events.now engine.entry) }
+    // No arrival has a fault.
+    ensures err { IfErr result IsNoArrival }
+{
+    let mut engine = engine;
+    for event in events {
+        match engine.happen(event) {
+            Ok(()) => {}
+            Err(fault) => return Err(fault),
+        }
+    }
+    Ok(engine)
+}

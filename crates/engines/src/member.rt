@@ -1,0 +1,338 @@
+//! An invocation by itself: its rounds, and what waits for it. What waits comes without a fault.
+ghost use Rattle.std.specs.Prelude.{◌≡◌, ◌<◌, ◌++◌, ◌∷◌, [], true, false, length, is_some, ℕ, List, Some, None, IfOk, IfErr, OnOk};
+ghost use Rattle.engine_inboxes.specs.Deliverable.{Deliverable, IsUnknownFrom, known_in};
+ghost use Rattle.journal_entries.specs.Arrivals.{arrival_fault, room_fault};
+ghost use Rattle.journal_entries.specs.Entries.{note_in};
+ghost use Rattle.engines.specs.Faults.{IsMemoryOrFull, IsNoArrival};
+ghost use Rattle.engines.specs.Members.{Acts, CantCome, Delivers, GoesBy, IsOwn, MayStoreOne, StoresNextEntry, with_signal, stopped};
+ghost use Rattle.engine_inboxes.specs.Deliverable.{Entered, effect_at};
+ghost use Rattle.world_rounds.specs.Course.{BeginsRound, HappensTo};
+ghost use Rattle.world_rounds.specs.declared.types.Event.TheVariants as event;
+
+use crate::types::{EngineFault, arrival_of, inbox_of, stored_of};
+use bytes::Bytes;
+use engine_effects::Effect;
+use engine_inboxes::{Brought, Inbox, InboxFault, Waiting};
+use journal_protocol::{Encoder, Message, Notification, NotificationResult, Signal};
+use std::alloc::{AllocError, Global};
+use std::marker::Model;
+use vm_types::Handler;
+use world_rounds::{Course, Event, Round};
+
+/// The rounds of an invocation, and what waits for it.
+pub struct Member<'a, H: Handler> {
+    alloc: Global,
+    course: Course<'a, H>,
+    inbox: Inbox,
+}
+
+impl<'a, H: Handler> Model for Member<'a, H> {
+    ghost use Rattle.engines.specs.Members.{MemberView};
+    ghost use Rattle.engine_inboxes.specs.Deliverable.{Deliverable};
+    ghost use Rattle.await_trees.specs.contracts.tree.UnresolvedFuture as future;
+    ghost use Rattle.std.specs.Coded.{codes};
+
+    ghost Value = { MemberView H };
+
+    ghost coded = { Prim.hlevel (codes, future.the_row.coded) };
+
+    ghost view = { λ a. record { course = a.course; waiting = a.inbox.waiting.items; next = a.inbox.next } };
+
+    ghost invariant = { λ a. Deliverable a.course.journal a.inbox.waiting.items a.inbox.next };
+}
+
+/// Written out, as for a setting.
+impl<'a, H: Handler> Drop for Member<'a, H> {
+    fn drop(self) {
+        let Self {
+            alloc: _,
+            course,
+            inbox,
+        } = self;
+        drop(course);
+        drop(inbox);
+    }
+}
+
+/// The frame of a notification.
+fn note_bytes(alloc: Global, note: Notification) -> Result<Bytes, AllocError>
+    ensures { IfOk result (λ b. note_in b ≡ Some note) }
+{
+    Encoder::new(alloc).encode(&Message::Notification(note))
+}
+
+/// A notification that can come arrives.
+fn arrive<'a, H: Handler>(course: Course<'a, H>, entry: Bytes) -> Result<Course<'a, H>, EngineFault>
+    requires live { is_some course.live ≡ true }
+    requires comes { arrival_fault entry course.journal ≡ room_fault course.journal }
+    ensures ok { IfOk result (λ c. c.journal ≡ course.entry.journal ++ entry ∷ []) }
+    ensures arrived { IfOk result
+        (λ c. HappensTo (H.meaning course.entry.handler) (event.Arrive entry)
+        course.entry.live course.entry c) }
+    ensures err { IfErr result IsMemoryOrFull }
+{
+    match course.happen(&Event::Arrive(entry)) {
+        Ok(course) => Ok(course),
+        Err(fault) => Err(arrival_of(fault)),
+    }
+}
+
+/// The next command or proposal is stored.
+fn store_one<'a, H: Handler>(course: Course<'a, H>) -> Result<Course<'a, H>, EngineFault>
+    ensures ok { IfOk result (λ c. MayStoreOne course.entry.journal c.journal) }
+    ensures stored { IfOk result
+        (HappensTo (H.meaning course.entry.handler) (event.Store 1) course.entry.live
+        course.entry) }
+    ensures err { IfErr result IsNoArrival }
+{
+    match course.happen(&Event::Store(1)) {
+        Ok(course) => Ok(course),
+        Err(fault) => Err(stored_of(fault)),
+    }
+}
+
+/// What the entry at this place asks for, if there is one: it was stored after those before it.
+fn stored_at(
+    alloc: Global,
+    inbox: &mut Inbox,
+    journal: &[Bytes],
+    before: usize,
+) -> Result<Option<Effect>, InboxFault>
+    ensures lasts { OnOk result ((old : List (List ℕ)) → length old ≡ before
+        → MayStoreOne old journal.now
+        → Deliverable old inbox.old.waiting.items inbox.old.next
+        → Deliverable journal.now inbox.new.waiting.items inbox.new.next) }
+    ensures none { OnOk result (length journal.now ≡ before
+        → (inbox.new.waiting.items ≡ inbox.old.waiting.items)
+        × (inbox.new.next ≡ inbox.old.next)) }
+    ensures no_effect { IfOk result (λ e. length journal.now ≡ before → e ≡ None) }
+    ensures entered { OnOk result ((old : List (List ℕ)) (x : List ℕ) → length old ≡ before
+        → journal.now ≡ old ++ x ∷ []
+        → Entered x inbox.old.waiting.items inbox.old.next inbox.new.waiting.items inbox.new.next) }
+    ensures effect { IfOk result (λ e. (old : List (List ℕ)) (x : List ℕ) → length old ≡ before
+        → journal.now ≡ old ++ x ∷ [] → e ≡ effect_at x) }
+{
+    match journal.get(before) {
+        None => Ok(None),
+        Some(entry) => inbox.stored(alloc, entry),
+    }
+}
+
+/// An event of the attempt's own.
+fn act_in<'a, H: Handler>(
+    course: Course<'a, H>,
+    event: &Event,
+) -> Result<Course<'a, H>, EngineFault>
+    requires { IsOwn event.now }
+    ensures ok { IfOk result (λ c. c.journal ≡ course.entry.journal) }
+    ensures happens { IfOk result
+        (HappensTo (H.meaning course.entry.handler) event.now course.entry.live
+        course.entry) }
+    ensures err { IfErr result IsNoArrival }
+{
+    match course.happen(event) {
+        Ok(course) => Ok(course),
+        Err(fault) => Err(stored_of(fault)),
+    }
+}
+
+/// Whether an event is the attempt's own: neither an arrival nor a store.
+fn is_own(event: &Event) -> bool
+    ensures own { result ≡ true → IsOwn event.now }
+    ensures other { result ≡ false → IsOwn event.now → ⊥ }
+{
+    match event {
+        Event::Arrive(_) | Event::Store(_) => false,
+        _ => true,
+    }
+}
+
+impl<'a, H: Handler> Member<'a, H> {
+    /// An invocation before its first round.
+    pub fn new(alloc: Global, course: Course<'a, H>) -> Self
+        requires { IsUnknownFrom (known_in course.journal) 0 }
+    {
+        Member {
+            alloc,
+            course,
+            inbox: Inbox::new(alloc),
+        }
+    }
+
+    pub fn is_live(&self) -> bool
+        ensures { result ≡ is_some self.now.course.live }
+    {
+        self.course.is_live()
+    }
+
+    /// The journal, one frame an entry.
+    pub fn journal(&self) -> &[Bytes]
+        ensures { result.now ≡ self.now.course.journal }
+    {
+        self.course.journal()
+    }
+
+    /// What waits for it.
+    pub fn inbox(&self) -> &[Waiting]
+        ensures { result.now ≡ self.now.waiting }
+    {
+        self.inbox.waiting.as_slice()
+    }
+
+    /// A new attempt begins.
+    pub fn begin(self, round: &Round) -> Result<Self, EngineFault>
+        ensures ok { IfOk result (GoesBy (BeginsRound round.now) self.entry) }
+        ensures err { IfErr result IsNoArrival }
+    {
+        let Member {
+            alloc,
+            course,
+            inbox,
+        } = self;
+        match course.begin(round) {
+            Err(fault) => Err(stored_of(fault)),
+            Ok(course) => Ok(Member {
+                alloc,
+                course,
+                inbox,
+            }),
+        }
+    }
+
+    /// The attempt is lost.
+    pub fn stop(self) -> Self
+        ensures { result ≡ stopped self.entry }
+    {
+        let Member {
+            alloc,
+            course,
+            inbox,
+        } = self;
+        Member {
+            alloc,
+            course: course.stop(),
+            inbox,
+        }
+    }
+
+    /// An event of the attempt's own. An arrival or a store is nothing here.
+    pub fn act(self, event: &Event) -> Result<Self, EngineFault>
+        ensures ok { IfOk result (Acts (H.meaning self.entry.course.handler) event.now self.entry) }
+        ensures err { IfErr result IsNoArrival }
+    {
+        if !is_own(event) {
+            return Ok(self);
+        }
+        let Member {
+            alloc,
+            course,
+            inbox,
+        } = self;
+        match act_in(course, event) {
+            Err(fault) => Err(fault),
+            Ok(course) => Ok(Member {
+                alloc,
+                course,
+                inbox,
+            }),
+        }
+    }
+
+    /// A signal waits.
+    pub fn signal(self, signal: Signal, brings: NotificationResult) -> Result<Self, EngineFault>
+        ensures ok { IfOk result (λ new. new ≡ with_signal signal brings self.entry) }
+        ensures err { IfErr result IsNoArrival }
+    {
+        let Member {
+            alloc,
+            course,
+            mut inbox,
+        } = self;
+        match inbox.signal(signal, brings) {
+            Err(_) => Err(EngineFault::Memory),
+            Ok(()) => Ok(Member {
+                alloc,
+                course,
+                inbox,
+            }),
+        }
+    }
+
+    /// What waits at this place is delivered to the attempt, if one lives and this is what it waits for.
+    pub fn deliver(self, at: usize, brought: Brought) -> Result<Self, EngineFault>
+        // What comes is what stood there, by what was there for it: a sleep's completion no sooner than its time.
+        ensures ok { IfOk result
+            (Delivers at brought (H.meaning self.entry.course.handler) self.entry) }
+        // No arrival has a fault.
+        ensures err { IfErr result IsMemoryOrFull }
+    {
+        if !self.course.is_live() || at >= self.inbox.waiting.len() {
+            return Ok(self);
+        }
+        self.take(at, brought)
+    }
+
+    fn take(self, at: usize, brought: Brought) -> Result<Self, EngineFault>
+        requires live { is_some self.course.live ≡ true }
+        requires at { at < length self.waiting }
+        ensures ok { IfOk result
+            (Delivers at brought (H.meaning self.entry.course.handler) self.entry) }
+        ensures err { IfErr result IsMemoryOrFull }
+    {
+        let Member {
+            alloc,
+            course,
+            mut inbox,
+        } = self;
+        let Ok(taken) = inbox.take(at, brought) else {
+            return Err(EngineFault::Memory);
+        };
+        let Some(note) = taken else {
+            return Ok(Member {
+                alloc,
+                course,
+                inbox,
+            });
+        };
+        let Ok(entry) = note_bytes(alloc, note) else {
+            return Err(EngineFault::Memory);
+        };
+        match arrive(course, entry) {
+            Err(fault) => Err(fault),
+            Ok(course) => Ok(Member {
+                alloc,
+                course,
+                inbox,
+            }),
+        }
+    }
+
+    /// The next command or proposal that the attempt wrote is stored; this answers what it asks for.
+    pub fn store(self) -> Result<(Self, Option<Effect>), EngineFault>
+        ensures ok { IfOk result
+            (λ r. StoresNextEntry (H.meaning self.entry.course.handler) self.entry r.0 r.1) }
+        ensures err { IfErr result IsNoArrival }
+    {
+        let Member {
+            alloc,
+            course,
+            mut inbox,
+        } = self;
+        let before = course.journal().len();
+        let course = match store_one(course) {
+            Err(fault) => return Err(fault),
+            Ok(course) => course,
+        };
+        match stored_at(alloc, &mut inbox, course.journal(), before) {
+            Err(fault) => Err(inbox_of(fault)),
+            Ok(effect) => Ok((
+                Member {
+                    alloc,
+                    course,
+                    inbox,
+                },
+                effect,
+            )),
+        }
+    }
+}

@@ -1,6 +1,0 @@
-use Rattle.std.proofs.Common.{take}
-use Rattle.plans.specs.Said.{AreSaid}
-use Rattle.plans.proofs.reading.plan_of.Given as goal
-
-abbrev pub invariant-loop-line : goal.invariant-loop-line
-invariant-loop-line l = AreSaid (take l.line-index l.lines) l.steps.items

@@ -1,5 +1,0 @@
-use Rattle.vm_engine.proofs.Storing.{first_unknown}
-use Rattle.vm_engine.proofs.engine.world_of.Goals as goal
-
-pub returns-in-Ok-new-clause-new : goal.returns-in-Ok-new-clause-new
-returns-in-Ok-new-clause-new c = first_unknown c.in-Ok-clone.input c.in-Ok-new.world.journal c.in-Ok-new.ensures.journal c.in-Ok-new.ensures.whole

@@ -1,6 +1,0 @@
-use Rattle.std.proofs.Common.{take}
-use Rattle.vm_engine.specs.Engines.{AllHappen}
-use Rattle.vm_engine.proofs.happen.run_engine.Given as goal
-
-abbrev pub invariant-loop-event : goal.invariant-loop-event
-invariant-loop-event g l = AllHappen (λ h. g.H.Handler.meaning h) (take l.event-index l.events) l.initial.engine l.engine

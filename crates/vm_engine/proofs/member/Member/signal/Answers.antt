@@ -1,5 +1,0 @@
-use Rattle.vm_inboxes.proofs.Coming.{signal_stays}
-use Rattle.vm_engine.proofs.member.Member.signal.Goals as goal
-
-pub invariant_of-result : goal.invariant_of-result
-invariant_of-result g c = signal_stays c.self.inside.course.journal c.self.inside.inbox.waiting.items c.self.inside.inbox.next c.args.signal c.args.brings c.signal.new.self.waiting.items c.signal.new.self.next c.in-Ok.ensures.0 c.in-Ok.ensures.1 c.self.invariant

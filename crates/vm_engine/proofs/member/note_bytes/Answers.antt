@@ -1,5 +1,0 @@
-use Rattle.vm_engine.proofs.Storing.{bytes_read}
-use Rattle.vm_engine.proofs.member.note_bytes.Goals as goal
-
-pub returns : goal.returns
-returns c = bytes_read c.args.note c.encode.result c.encode.ensures.written c.encode.ensures.valid

@@ -1,7 +1,0 @@
-use Rattle.std.proofs.Common.{◌≡◌, take}
-use Rattle.vm_parts.specs.declared.context.StateCoverage.TheVariants.{Complete}
-use Rattle.vm_parts.specs.Entries.{entries_of as state_entries}
-use Rattle.vm_rounds.proofs.handed.base_values.Given as goal
-
-abbrev pub invariant-loop-key : goal.invariant-loop-key
-invariant-loop-key l = record { so_far : l.values ≡ record { entries = state_entries (take l.key-index l.base); coverage = Complete } }

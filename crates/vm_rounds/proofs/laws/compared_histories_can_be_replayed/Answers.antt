@@ -1,5 +1,0 @@
-use Rattle.vm_rounds.proofs.Takeover.{compared_replayable}
-use Rattle.vm_rounds.proofs.laws.compared_histories_can_be_replayed.Goals as goal
-
-pub returns : goal.returns
-returns c = compared_replayable

@@ -1,6 +1,0 @@
-use Rattle.std.proofs.Common.{take}
-use Rattle.vm_rounds.specs.Rounds.{ArrivalsDo}
-use Rattle.vm_rounds.proofs.round.arrive_all.Given as goal
-
-abbrev pub invariant-loop-place : goal.invariant-loop-place
-invariant-loop-place l = record { so_far : ArrivalsDo (take l.place l.events) l.fn.journal l.journal }

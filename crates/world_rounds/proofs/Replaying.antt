@@ -1,0 +1,133 @@
+-- What a replay of a world's journal shows: it is a history of the handler.
+use Rattle.std.proofs.Common.{◌≡◌, ◌≢◌, ⊎_elim, ℕ, List, [], ◌∷◌, ◌++◌, length, take, ◌≤◌, Result, Ok, Err, false, sym, ap, ◌∙◌, subst, append-nil, Global}
+use Rattle.std.proofs.lemmas.Option.{same_Some}
+use Rattle.std.specs.List.{concat}
+use Rattle.std.specs.Result.{is_err}
+use Rattle.std.specs.declared.alloc.AllocError.{AllocError}
+use Rattle.journal_protocol.specs.Error.{Error}
+use Rattle.journal_protocol.specs.Version.{Version}
+use Rattle.vm_types.specs.declared.options.VMOptions.{VMOptions}
+use Rattle.vm_model.specs.Fixed.{fixed_by}
+use Rattle.vm_steps.specs.declared.progress.Progress.{Progress}
+use Rattle.vm_attempt.proofs.Under.{step_fed}
+use Rattle.std.proofs.lemmas.List.{take_all}
+use Rattle.journal_protocol.specs.Start.{Start}
+use Rattle.journal_protocol.specs.RawMessage.{RawMessage}
+use Rattle.journal_protocol.specs.Notification.{Notification}
+use Rattle.journal_protocol.specs.Message.TheVariants as message
+use Rattle.journal_protocol.specs.Frames.{IsWhole, encoding}
+use Rattle.journal_protocol.specs.Bodies.{start_in}
+use Rattle.journal_entries.specs.Frames.{Tail, frames_of}
+use Rattle.vm_model.specs.Calls.{Meaning, Setup}
+use Rattle.vm_model.specs.Deliveries.{HasNoTwo}
+use Rattle.vm_model.specs.Histories.{EagerFrom, History, Told, after_head}
+use Rattle.journal_entries.specs.Journal.{commands_in, notifications_in, stored_form}
+use Rattle.journal_entries.specs.JournalFrames.{as_entries}
+use Rattle.vm_model.specs.Moves.{Point}
+use Rattle.vm_model.proofs.Compared.{attempt_is_told}
+use Rattle.vm_attempt.specs.Journals.{setup_for}
+use Rattle.vm_attempt.specs.Told.{Journal, MovesTo, ProvesHistory, ReplayPremises, arrivals, bytes_fed, bytes_in, start_state}
+use Rattle.vm_attempt.proofs.Proving.{alone_arrivals}
+use Rattle.vm_attempt.proofs.Replayed.{commands_same, head_same, tail_same}
+use Rattle.invocation_vm.specs.Making.{made}
+use Rattle.vm_steps.specs.Heard.{Heard}
+use Rattle.vm_steps.specs.Record.{Record, heard}
+use Rattle.vm_steps.specs.Stepping.{FeedDoes, StepDoes, fresh_record}
+use Rattle.world_rounds.specs.declared.types.Round.{Round}
+use Rattle.world_rounds.specs.declared.types.Setting.{Setting}
+use Rattle.journal_entries.specs.Entries.{journal_entries, journal_frames}
+use Rattle.world_rounds.specs.States.{base_of}
+use Rattle.world_rounds.specs.Worlds.{IsJournal, fixed_in, setup_of, start_for, start_message}
+use Rattle.journal_entries.proofs.Framing.{AreFrames, join, journal_framed, journal_length, same_front}
+use Rattle.world_rounds.specs.Rounds.{CompletesOnce, ReplaysAndQueues}
+use Rattle.world_rounds.proofs.Rounding.{start_framed, start_reads}
+
+module _ (m : Meaning) (w : Setting) (round : Round) (old : List (List ℕ)) (fed : Heard) (j : IsJournal old) (whole : IsWhole (start_message w round old)) (bytes : bytes_fed fed ≡ encoding (start_message w round old) ++ concat old) where
+  abbrev st : Start
+  st = start_for w round old
+
+  abbrev raw : RawMessage
+  raw = stored_form (message.Start st)
+
+  -- what was fed is the world's journal, and nothing more
+  record IsAlone (J : Journal fed) : Type 0 where
+    start : J.start ≡ st
+    entries : J.entries ≡ journal_frames old
+    others : J.others ≡ []
+
+  is_alone : (J : Journal fed) → IsAlone J
+  is_alone J =
+      let framed : AreFrames (encoding (message.Start st) ++ concat old) (raw ∷ journal_frames old) = join (encoding (message.Start st)) (concat old) (raw ∷ []) (journal_frames old) (start_framed st whole) (journal_framed old j.entries) in
+      let same : raw ∷ journal_frames old ≡ J.first_frame ∷ (J.entries ++ J.others) = ap (λ (p : List RawMessage × Tail). p.0) (sym framed) ∙ ap (λ b. (frames_of b).0) (sym bytes) ∙ J.frames in
+      let head : raw ≡ J.first_frame = head_same raw J.first_frame (journal_frames old) (J.entries ++ J.others) same in
+      let tail : journal_frames old ≡ J.entries ++ J.others = tail_same raw J.first_frame (journal_frames old) (J.entries ++ J.others) same in
+      let is_st : J.start ≡ st = same_Some J.start st (sym J.reads_start ∙ ap (λ (x : RawMessage). start_in x.body) (sym head) ∙ start_reads st whole) in
+      let count : length (journal_frames old) ≡ length J.entries = journal_length old j.entries ∙ sym (J.count ∙ ap (λ (x : Start). x.known_entries) is_st) in
+      let both = same_front (journal_frames old) J.entries [] J.others count (append-nil (journal_frames old) ∙ tail) in
+      record { start = is_st; entries = sym both.0; others = sym both.1 }
+
+  -- what is so of the world's journal is so of what was fed
+  of_fed : (T : Setup → List RawMessage → Type 0) (J : Journal fed) → T (setup_of w) (journal_frames old) → T (setup_for (fixed_in m w) J.start) J.entries
+  of_fed T J t = let x = is_alone J in subst (λ (z : Start × List RawMessage). T (setup_for (fixed_in m w) z.0) z.1) (λ i. (sym x.start i, sym x.entries i)) t
+
+  -- and the other way round
+  of_world : (T : Setup → List RawMessage → Type 0) (J : Journal fed) → T (setup_for (fixed_in m w) J.start) J.entries → T (setup_of w) (journal_frames old)
+  of_world T J t = let x = is_alone J in subst (λ (z : Start × List RawMessage). T (setup_for (fixed_in m w) z.0) z.1) (λ i. (x.start i, x.entries i)) t
+
+  -- the premises of replay
+  pub replay_premises : ReplaysAndQueues w.options → CompletesOnce (setup_of w) m (journal_entries old) → ReplayPremises (fixed_in m w) fed
+  replay_premises r once = record {
+    replays = r.replays;
+    queues = r.queues;
+    once = λ J n made p run some. one_each J n made p run some;
+  }
+    where
+      one_each : (J : Journal fed) (n : ℕ) (made : List RawMessage) (p : Point) → MovesTo (fixed_in m w) J n made p → p.left ≢ [] → HasNoTwo p
+      one_each J n made p run some =
+          let s = setup_for (fixed_in m w) J.start in
+          let t = attempt_is_told s m (start_state J) J.input n (arrivals J) J.rest made p run in
+          let none : made ≡ [] = ⊎_elim (λ (e : made ≡ []). e) (λ (e : p.left ≡ []). absurd (some e)) t.1 in
+          let told : Told s m J.input (notifications_in (as_entries J.entries)) J.rest p = subst (λ (z : List Notification × List RawMessage). Told s m J.input z.0 z.1 p) (λ i. (alone_arrivals fed J (is_alone J).others i, (ap (λ l. J.rest ++ l) none ∙ append-nil J.rest) i)) t.0 in
+          of_fed (λ z raws. CompletesOnce z m (as_entries raws)) J once J.first J.input J.rest p (commands_same J.entries ∙ J.commands) J.reads_input told
+
+  -- what is shown of what was fed
+  pub world_history : ProvesHistory (fixed_in m w) fed → EagerFrom (base_of w) (after_head (commands_in (journal_entries old))) → History (setup_of w) m (base_of w) (journal_entries old)
+  world_history h eager =
+      let J = h.journal in
+      let reads : EagerFrom (base_of w) J.rest = subst (λ l. EagerFrom (base_of w) (after_head l)) (commands_same J.entries ∙ J.commands) (of_fed (λ z raws. EagerFrom (base_of w) (after_head (commands_in (as_entries raws)))) J eager) in
+      of_world (λ z raws. History z m (base_of w) (as_entries raws)) J (h.history (is_alone J).others (base_of w) reads)
+
+-- ---- an attempt that is fed this alone
+
+-- a new attempt that was fed a piece was fed its bytes
+fed_bytes : (alloc : Global) (w : Setting) (piece : List ℕ) (a : Record) → FeedDoes false piece (fresh_record (made alloc w.options w.version)) (Ok tt) a → bytes_fed (heard w.version a) ≡ piece
+fed_bytes alloc w piece a does = ap (λ (r : Record). bytes_in r.fed) does ∙ append-nil piece
+
+-- A new attempt was fed Start and the journal. If what it was fed proves its journal, under the premises of replay, the journal is a
+-- history.
+pub alone_history : (alloc : Global) (m : Meaning) (w : Setting) (round : Round) (old : List (List ℕ)) (piece : List ℕ) (a b : Record) → IsJournal old → IsWhole (start_message w round old) → piece ≡ encoding (start_message w round old) ++ concat old
+    → FeedDoes false piece (fresh_record (made alloc w.options w.version)) (Ok tt) a → heard w.version b ≡ heard w.version a → (ReplayPremises (fixed_in m w) (heard w.version b) → ProvesHistory (fixed_in m w) (heard w.version b))
+    → ReplaysAndQueues w.options → CompletesOnce (setup_of w) m (journal_entries old) → EagerFrom (base_of w) (after_head (commands_in (journal_entries old))) → History (setup_of w) m (base_of w) (journal_entries old)
+alone_history alloc m w round old piece a b j whole is does same proves r once eager =
+    let fed = heard w.version b in
+    let bytes : bytes_fed fed ≡ encoding (start_message w round old) ++ concat old = ap bytes_fed same ∙ fed_bytes alloc w piece a does ∙ is in
+    world_history m w round old fed j whole bytes (proves (replay_premises m w round old fed j whole bytes r once)) eager
+
+-- ---- as the check makes it
+
+-- what an attempt was fed stays over a step
+pub step_heard : (m : Meaning) (version later : Version) (old : Record) (result : Result Progress Error) (new : Record) → StepDoes m old result new → later ≡ version → heard later new ≡ heard version old
+step_heard m version later old result new does same = ap (λ v. heard v new) same ∙ step_fed version m old result new does
+
+fed_well : (alloc : Global) (w : Setting) (piece : List ℕ) (first a : Record) (result : Result Unit AllocError) → first ≡ fresh_record (made alloc w.options w.version) → is_err result ≡ false → FeedDoes first.starved piece first result a → FeedDoes false piece (fresh_record (made alloc w.options w.version)) (Ok tt) a
+fed_well alloc w piece first a (Ok t) new well does = subst (λ (r : Record). FeedDoes r.starved piece r (Ok t) a) new does
+fed_well alloc w piece first a (Err e) new well does = absurd (cc)
+
+pub checked_history : (alloc : Global) (m : Meaning) (w : Setting) (round : Round) (old : List (List ℕ)) (n : ℕ) (waiting piece : List ℕ) (first a b : Record) (result : Result Unit AllocError) (m' : Meaning) (va vb : Version) (options : VMOptions) → IsJournal old → IsWhole (start_message w round old) → waiting ≡ encoding (start_message w round old) ++ concat old → piece ≡ take n waiting → length waiting ≤ n
+    → first ≡ fresh_record (made alloc w.options w.version) → is_err result ≡ false → FeedDoes first.starved piece first result a → heard vb b ≡ heard va a → va ≡ w.version → vb ≡ w.version → options ≡ w.options → m' ≡ m → (ReplayPremises (fixed_by m' vb options) (heard vb b) → ProvesHistory (fixed_by m' vb options) (heard vb b))
+    → ReplaysAndQueues w.options → CompletesOnce (setup_of w) m (journal_entries old) → EagerFrom (base_of w) (after_head (commands_in (journal_entries old))) → History (setup_of w) m (base_of w) (journal_entries old)
+checked_history alloc m w round old n waiting piece first a b result m' va vb options j whole bytes front long new well does same va_is vb_is options_is m_is proves r once eager =
+    let all : piece ≡ encoding (start_message w round old) ++ concat old = front ∙ take_all n waiting long ∙ bytes in
+    let heard_is : heard w.version b ≡ heard w.version a = ap (λ v. heard v b) (sym vb_is) ∙ same ∙ ap (λ v. heard v a) va_is in
+    let shows : ReplayPremises (fixed_in m w) (heard w.version b) → ProvesHistory (fixed_in m w) (heard w.version b) = subst (λ (z : Meaning × Version × VMOptions). ReplayPremises (fixed_by z.0 z.1 z.2) (heard z.1 b) → ProvesHistory (fixed_by z.0 z.1 z.2) (heard z.1 b)) (λ i. (m_is i, vb_is i, options_is i)) proves in
+    alone_history alloc m w round old piece a b j whole all (fed_well alloc w piece first a result new well does) heard_is shows r once eager

@@ -1,0 +1,6 @@
+use Rattle.world_rounds.proofs.Placing.{faults_at}
+use Rattle.world_rounds.proofs.round.happen_all.Goals as goal
+
+pub returns-in-Err-clause-err : goal.returns-in-Err-clause-err
+returns-in-Err-clause-err g c =
+    faults_at (g.H.Handler.meaning c.args.attempt.now.handler.now) c.args.events.now _ _ c.loop-place.place c.index-events-place.result c.in-Err.fault c.loop-place-test.true c.index-events-place.is c.loop-place.invariant.so_far c.in-Err.ensures.does

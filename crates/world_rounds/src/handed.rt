@@ -1,0 +1,129 @@
+//! What a round hands out: its Start message, with the state as the journal's commands have changed it.
+ghost use Rattle.std.specs.Prelude.{◌≡◌, ◌∷◌, [], ◌≤◌, length, IfOk, OnOk};
+ghost use Rattle.journal_protocol.specs.Frames.{encoding, IsWhole};
+ghost use Rattle.journal_protocol.specs.Message.TheVariants as message;
+ghost use Rattle.vm_parts.specs.declared.context.StateCoverage.TheVariants.{Complete};
+ghost use Rattle.vm_parts.specs.Entries.{entries_of as state_entries};
+ghost use Rattle.vm_model.specs.Moves.{changed_by};
+ghost use Rattle.journal_entries.specs.Arrivals.{most_entries};
+ghost use Rattle.journal_entries.specs.Entries.{said_in};
+ghost use Rattle.world_rounds.specs.States.{HaveTextKeys, pairs_for, state_after};
+ghost use Rattle.world_rounds.specs.Worlds.{start_message, start_of};
+
+use crate::types::{Identity, Round, Setting};
+use crate::values::Values;
+use bytes::Bytes;
+use journal_entries::entry::said_at;
+use journal_protocol::{Encoder, Message, Start};
+use plain::{Items, Text};
+use std::alloc::{AllocError, Global};
+
+/// The state before any command.
+fn base_values(alloc: Global, base: &[(Text, Bytes)]) -> Result<Values, AllocError>
+    ensures { IfOk result (λ v. v
+        ≡ record { entries = state_entries base.now; coverage = Complete }) }
+{
+    let mut values = Values::new(alloc);
+    for (key, value) in base {
+        values.set(key, value)?;
+    }
+    Ok(values)
+}
+
+/// What an entry changes of the state.
+fn apply(alloc: Global, values: &mut Values, entry: &Bytes) -> Result<(), AllocError>
+    ensures { OnOk result (values.new ≡ changed_by (said_in (entry.now ∷ [])) values.old) }
+{
+    match said_at(alloc, entry) {
+        Err(error) => Err(error),
+        Ok(None) => Ok(()),
+        Ok(Some(command)) => {
+            let changed = values.change(&command);
+            drop(command);
+            changed
+        }
+    }
+}
+
+/// The state after the journal's commands.
+fn values_after(alloc: Global, setting: &Setting, journal: &[Bytes]) -> Result<Values, AllocError>
+    ensures { IfOk result (λ v. v ≡ state_after setting.now journal.now) }
+{
+    let mut values = base_values(alloc, setting.base.as_slice())?;
+    for entry in journal {
+        apply(alloc, &mut values, entry)?;
+    }
+    Ok(values)
+}
+
+/// The pairs that a round hands out.
+fn handed_pairs(
+    alloc: Global,
+    setting: &Setting,
+    round: &Round,
+    journal: &[Bytes],
+) -> Result<Items<(Bytes, Bytes)>, AllocError>
+    ensures pairs { IfOk result (λ pairs. pairs ≡ pairs_for setting.now round.now journal.now) }
+    ensures texts { OnOk result (HaveTextKeys (pairs_for setting.now round.now journal.now)) }
+{
+    let values = values_after(alloc, setting, journal)?;
+    values.pairs(alloc, round.partial, round.keys.as_slice())
+}
+
+/// The Start of an attempt.
+fn start_with(
+    identity: Identity,
+    state: Items<(Bytes, Bytes)>,
+    round: &Round,
+    known_entries: u32,
+) -> Start
+    ensures { result ≡ start_of identity state round.now known_entries }
+{
+    Start {
+        id: identity.id,
+        debug_id: identity.debug_id,
+        key: identity.key,
+        known_entries,
+        state,
+        partial: round.partial,
+        retry_count: round.retry_count,
+        duration: round.duration,
+        random_seed: identity.random_seed,
+        scope: identity.scope,
+        limit_key: identity.limit_key,
+        idempotency_key: identity.idempotency_key,
+    }
+}
+
+fn copy_identity(identity: &Identity) -> Result<Identity, AllocError>
+    ensures { IfOk result (λ copy. copy ≡ identity.now) }
+{
+    identity.clone()
+}
+
+fn encode_start(alloc: Global, start: Start) -> Result<Bytes, AllocError>
+    ensures bytes { IfOk result (λ b. b ≡ encoding (message.Start start)) }
+    ensures whole { OnOk result (IsWhole (message.Start start)) }
+{
+    let message = Message::Start(start);
+    Encoder::new(alloc).encode(&message)
+}
+
+/// The frame of a round's Start.
+pub fn start_bytes(
+    alloc: Global,
+    setting: &Setting,
+    round: &Round,
+    journal: &[Bytes],
+) -> Result<Bytes, AllocError>
+    requires { length journal.now ≤ most_entries }
+    ensures bytes { IfOk result (λ b. b
+        ≡ encoding (start_message setting.now round.now journal.now)) }
+    ensures whole { OnOk result (IsWhole (start_message setting.now round.now journal.now)) }
+    ensures texts { OnOk result (HaveTextKeys (pairs_for setting.now round.now journal.now)) }
+{
+    let pairs = handed_pairs(alloc, setting, round, journal)?;
+    let identity = copy_identity(&setting.identity)?;
+    let start = start_with(identity, pairs, round, journal.len() as u32);
+    encode_start(alloc, start)
+}
