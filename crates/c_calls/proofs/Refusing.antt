@@ -27,6 +27,21 @@ misfit texts NamesNone status.Refused refuses = absurd refuses.why
 misfit texts NamesNone status.BadTree refuses = absurd refuses.why
 misfit texts NamesNone status.BadNumber refuses = absurd refuses.why
 misfit texts NamesNone status.NoPart refuses = absurd refuses.why
+misfit texts NamesNone status.BadOutput refuses = absurd refuses.why
+misfit texts NamesNone status.NotANotification refuses = absurd refuses.why
+misfit texts NamesNone status.NoSuchId refuses = absurd refuses.why
+misfit texts NamesNone status.SecondCompletion refuses = absurd refuses.why
+misfit texts NamesNone status.WrongKind refuses = absurd refuses.why
+misfit texts NamesNone status.RunIsProposed refuses = absurd refuses.why
+misfit texts NamesNone status.JournalFull refuses = absurd refuses.why
+misfit texts NamesNone status.BadJournal refuses = absurd refuses.why
+misfit texts NamesNone status.NotAFrame refuses = absurd refuses.why
+misfit texts NamesNone status.BadLine refuses = absurd refuses.why
+misfit texts NamesNone status.NoResult refuses = absurd refuses.why
+misfit texts NamesNone status.NotASuspension refuses = absurd refuses.why
+misfit texts NamesNone status.NoJournal refuses = absurd refuses.why
+misfit texts NamesNone status.NoRow refuses = absurd refuses.why
+misfit texts NamesNone status.NotFrames refuses = absurd refuses.why
 
 some_first : (xs ys : List (List ℕ)) → SomeIsNoText xs → SomeIsNoText (xs ++ ys)
 some_first [] ys none = absurd none
@@ -47,6 +62,21 @@ why_of xs ys more status.Refused why = why
 why_of xs ys more status.BadTree why = why
 why_of xs ys more status.BadNumber why = why
 why_of xs ys more status.NoPart why = why
+why_of xs ys more status.BadOutput why = why
+why_of xs ys more status.NotANotification why = why
+why_of xs ys more status.NoSuchId why = why
+why_of xs ys more status.SecondCompletion why = why
+why_of xs ys more status.WrongKind why = why
+why_of xs ys more status.RunIsProposed why = why
+why_of xs ys more status.JournalFull why = why
+why_of xs ys more status.BadJournal why = why
+why_of xs ys more status.NotAFrame why = why
+why_of xs ys more status.BadLine why = why
+why_of xs ys more status.NoResult why = why
+why_of xs ys more status.NotASuspension why = why
+why_of xs ys more status.NoJournal why = why
+why_of xs ys more status.NoRow why = why
+why_of xs ys more status.NotFrames why = why
 
 -- the first texts can't be copied
 pub first_refused : (xs ys : List (List ℕ)) (s : Status) → CannotCopy xs s → CannotCopy (xs ++ ys) s
@@ -83,6 +113,21 @@ misfit_of xs ys A B more names status.NoRoom why = absurd why
 misfit_of xs ys A B more names status.Refused why = absurd why
 misfit_of xs ys A B more names status.BadTree why = absurd why
 misfit_of xs ys A B more names status.NoPart why = absurd why
+misfit_of xs ys A B more names status.BadOutput why = absurd why
+misfit_of xs ys A B more names status.NotANotification why = absurd why
+misfit_of xs ys A B more names status.NoSuchId why = absurd why
+misfit_of xs ys A B more names status.SecondCompletion why = absurd why
+misfit_of xs ys A B more names status.WrongKind why = absurd why
+misfit_of xs ys A B more names status.RunIsProposed why = absurd why
+misfit_of xs ys A B more names status.JournalFull why = absurd why
+misfit_of xs ys A B more names status.BadJournal why = absurd why
+misfit_of xs ys A B more names status.NotAFrame why = absurd why
+misfit_of xs ys A B more names status.BadLine why = absurd why
+misfit_of xs ys A B more names status.NoResult why = absurd why
+misfit_of xs ys A B more names status.NotASuspension why = absurd why
+misfit_of xs ys A B more names status.NoJournal why = absurd why
+misfit_of xs ys A B more names status.NoRow why = absurd why
+misfit_of xs ys A B more names status.NotFrames why = absurd why
 
 pub misfit_first : (xs ys : List (List ℕ)) (A B : Type 0) (s : Status) → Misfits xs A s → Misfits (xs ++ ys) (A ⊎ B) s
 misfit_first xs ys A B s why = misfit_of xs (xs ++ ys) A (A ⊎ B) (some_first xs ys) (λ a. inl a) s why

@@ -47,6 +47,21 @@ line_read status.NotAFrame line shown len before after shows written = absurd wr
 line_read status.BadLine line shown len before after shows written = absurd written
 line_read status.NoResult line shown len before after shows written = absurd written
 line_read status.NotASuspension line shown len before after shows written = absurd written
+line_read status.NoSession line shown len before after shows written = absurd written
+line_read status.NoVm line shown len before after shows written = absurd written
+line_read status.Refused line shown len before after shows written = absurd written
+line_read status.BadTree line shown len before after shows written = absurd written
+line_read status.NoPart line shown len before after shows written = absurd written
+line_read status.BadOutput line shown len before after shows written = absurd written
+line_read status.NotANotification line shown len before after shows written = absurd written
+line_read status.NoSuchId line shown len before after shows written = absurd written
+line_read status.SecondCompletion line shown len before after shows written = absurd written
+line_read status.WrongKind line shown len before after shows written = absurd written
+line_read status.RunIsProposed line shown len before after shows written = absurd written
+line_read status.JournalFull line shown len before after shows written = absurd written
+line_read status.BadJournal line shown len before after shows written = absurd written
+line_read status.NoJournal line shown len before after shows written = absurd written
+line_read status.NoRow line shown len before after shows written = absurd written
 
 refused_for : (why : Status) (line : List ℕ) (len : ℕ) (before after : List ℕ) → IsRefusedLine line why → NoneWritten len before after → LineRead why line len before after
 refused_for status.Done line len before after refused none = absurd refused.why
@@ -59,6 +74,21 @@ refused_for status.NotAFrame line len before after refused none = (refused, none
 refused_for status.BadLine line len before after refused none = (refused, none)
 refused_for status.NoResult line len before after refused none = (refused, none)
 refused_for status.NotASuspension line len before after refused none = (refused, none)
+refused_for status.NoSession line len before after refused none = (refused, none)
+refused_for status.NoVm line len before after refused none = (refused, none)
+refused_for status.Refused line len before after refused none = (refused, none)
+refused_for status.BadTree line len before after refused none = (refused, none)
+refused_for status.NoPart line len before after refused none = (refused, none)
+refused_for status.BadOutput line len before after refused none = (refused, none)
+refused_for status.NotANotification line len before after refused none = (refused, none)
+refused_for status.NoSuchId line len before after refused none = (refused, none)
+refused_for status.SecondCompletion line len before after refused none = (refused, none)
+refused_for status.WrongKind line len before after refused none = (refused, none)
+refused_for status.RunIsProposed line len before after refused none = (refused, none)
+refused_for status.JournalFull line len before after refused none = (refused, none)
+refused_for status.BadJournal line len before after refused none = (refused, none)
+refused_for status.NoJournal line len before after refused none = (refused, none)
+refused_for status.NoRow line len before after refused none = (refused, none)
 
 -- a refused line has nothing written
 pub line_refused : (s why : Status) (line : List ℕ) (len : ℕ) (before after : List ℕ) → s ≡ why → IsRefusedLine line why → len ≡ 0 → after ≡ before → LineRead s line len before after
