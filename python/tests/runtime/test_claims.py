@@ -324,17 +324,17 @@ class Clocks(support.OnADatabase, unittest.TestCase):
 
     async def slept(self):
         async with Runtime(app, self.url, idle=0) as runtime:
-            begun = time.monotonic()
-            sleeps = await runtime.send("Claims/sleeps", 2)
-            later = await runtime.send("Claims/echoes", 1, due=time.time() + 2)
+            begun, seconds = time.monotonic(), 6  # so long that a busy machine looks at the timer before it is due
+            sleeps = await runtime.send("Claims/sleeps", seconds)
+            later = await runtime.send("Claims/echoes", 1, due=time.time() + seconds)
             await runtime.until(sleeps, "suspended")
             [(due, now)] = await runtime.rows(f"SELECT due, {self.clock} FROM timers")
-            self.assertTrue(now < due <= now + 2, (due, now))
+            self.assertTrue(now < due <= now + seconds, (due, now))
             self.assertEqual((await runtime.result(sleeps), await runtime.result(later)), (None, 1))
-            self.assertTrue(1.9 < time.monotonic() - begun < 30)
+            self.assertTrue(seconds - 0.1 < time.monotonic() - begun < 50)
             times = await runtime.rows(f"SELECT created, ended, {self.clock} FROM invocations")
             for created, ended, now in times:
-                self.assertTrue(now - 30 < created < ended <= now + 0.1)
+                self.assertTrue(now - 50 < created < ended <= now + 0.1)
 
     clock = "extract(epoch from clock_timestamp())::float8"
 
