@@ -1,9 +1,19 @@
-/* What a library says of itself. `bindings/build` and `tools/unproved` give both words. */
+/* What a library says of itself. `bindings/build` and `tools/unproved` give the words. */
 #include "palqytun.h"
 
-#if !defined PALQYTUN_BUILD || !defined PALQYTUN_PROVED
-#error "bindings/build compiles this file: -DPALQYTUN_BUILD=\"VERSION commit COMMIT logic SUM proved\" -DPALQYTUN_PROVED=1"
+#if !defined PALQYTUN_LIBRARY_VERSION || !defined PALQYTUN_BUILD || !defined PALQYTUN_PROVED
+#error "bindings/build compiles this file: -DPALQYTUN_LIBRARY_VERSION=\"VERSION\" -DPALQYTUN_BUILD=\"VERSION commit COMMIT logic SUM proved\" -DPALQYTUN_PROVED=1"
 #endif
+
+uint32_t palqytun_abi(void)
+{
+    return PALQYTUN_ABI;
+}
+
+const char *palqytun_version(void)
+{
+    return PALQYTUN_LIBRARY_VERSION;
+}
 
 const char *palqytun_build(void)
 {

@@ -65,8 +65,7 @@ static int feed(palqytun_vm *vm)
 /* Takes the output, once its length is known, and prints it. */
 static int take(palqytun_vm *vm)
 {
-    uint8_t none[1] = {0};
-    palqytun_told told = palqytun_take_output(vm, none, 0);
+    palqytun_told told = palqytun_take_output(vm, NULL, 0);
     size_t room = told.len;
     uint8_t *output = malloc(room + 1);
     if (output == NULL)
@@ -87,9 +86,6 @@ static int run(palqytun_vm *vm)
     static const char *const calls[] = {"close", "ready", "sys_input", "sleep \"\" 1000", "await 17", "take 17",
         "write_output success \"Slept\"", "end"};
     static const char *const more[] = {"output", "state", "index", "sleep \"\" 1", "what", ""};
-    uint32_t status = palqytun_new(vm);
-    if (status != PALQYTUN_DONE)
-        return failed(status);
     int ended = ask(vm, "vm \"application/vnd.restate.invocation.v7\"");
     if (ended == 0)
         ended = feed(vm);
@@ -105,18 +101,16 @@ static int run(palqytun_vm *vm)
 int main(void)
 {
     /* Nothing is done without a session, or without a VM. */
-    palqytun_vm vm = {0};
     uint8_t none[1] = {0};
-    if (palqytun_line(&vm, none, 0).status != PALQYTUN_NO_SESSION || palqytun_answer(&vm, none, 1).status != PALQYTUN_NO_SESSION
-        || palqytun_feed(&vm, none, 0) != PALQYTUN_NO_SESSION || palqytun_take_output(&vm, none, 1).status != PALQYTUN_NO_SESSION)
+    if (palqytun_line(NULL, NULL, 0).status != PALQYTUN_NO_SESSION || palqytun_answer(NULL, none, 1).status != PALQYTUN_NO_SESSION
+        || palqytun_feed(NULL, NULL, 0) != PALQYTUN_NO_SESSION || palqytun_take_output(NULL, none, 1).status != PALQYTUN_NO_SESSION)
         return 3;
-    palqytun_free(&vm);
-    uint32_t status = palqytun_new(&vm);
+    palqytun_vm *vm;
+    uint32_t status = palqytun_open(&vm);
     if (status != PALQYTUN_DONE)
         return failed(status);
-    bool has_none = palqytun_feed(&vm, none, 0) == PALQYTUN_NO_VM && palqytun_take_output(&vm, none, 1).status == PALQYTUN_NO_VM;
-    int ended = has_none ? run(&vm) : 3;
-    palqytun_free(&vm);
-    palqytun_free(&vm);
-    return vm.at == NULL ? ended : 3;
+    bool has_none = palqytun_feed(vm, NULL, 0) == PALQYTUN_NO_VM && palqytun_take_output(vm, none, 1).status == PALQYTUN_NO_VM;
+    int ended = has_none ? run(vm) : 3;
+    bool is_closed = palqytun_close(vm) == PALQYTUN_DONE && palqytun_close(vm) == PALQYTUN_NO_SESSION;
+    return is_closed ? ended : 3;
 }

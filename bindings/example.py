@@ -14,7 +14,7 @@ vm = VM("application/vnd.restate.invocation.v7")
 vm.notify_input(JOURNAL)  # bytes as they come from the runtime, cut anywhere
 vm.notify_input_closed()  # no more come in this attempt
 print(vm.sys_input().value)
-slept = vm.sys_sleep(1000)  # a handle
+slept = vm.sys_sleep(1000)  # until 1,000 ms after the Unix epoch; a handle
 try:
     vm.do_await(slept)  # true: it is awake; false: feed more, or execute a run
 except Suspended as error:

@@ -95,20 +95,20 @@ static int arrive(palqytun_journal *journal)
 
 int main(void)
 {
-    palqytun_journal journal = {0};
-    if (palqytun_journal_keep(&journal) != PALQYTUN_NO_JOURNAL)
+    palqytun_journal *journal;
+    if (palqytun_journal_keep(NULL) != PALQYTUN_NO_JOURNAL)
         return 2;
-    uint32_t status = palqytun_journal_new(&journal);
+    uint32_t status = palqytun_journal_open(&journal);
     if (status != PALQYTUN_DONE)
         return failed(status);
-    int bad = load(&journal);
+    int bad = load(journal);
     if (!bad)
-        bad = store(&journal);
-    if (!bad && (status = palqytun_journal_keep(&journal)) != PALQYTUN_DONE)
+        bad = store(journal);
+    if (!bad && (status = palqytun_journal_keep(journal)) != PALQYTUN_DONE)
         bad = failed(status);
     if (!bad)
-        bad = arrive(&journal);
-    palqytun_journal_free(&journal);
-    palqytun_journal_free(&journal);
+        bad = arrive(journal);
+    if (palqytun_journal_close(journal) != PALQYTUN_DONE || palqytun_journal_close(journal) != PALQYTUN_NO_JOURNAL)
+        return 2;
     return bad;
 }

@@ -8,13 +8,18 @@
    together, and give blocks aligned as C asks. The library keeps nothing that it is passed: lines and bytes are copied, and
    what it writes goes to the caller's buffers alone. Out of memory is answered, and never ends the program.
 
-   Pointers. A palqytun_vm is all zeroes, or what palqytun_new left; it is not written by hand, and not used from two
-   copies. Every pointer is valid for its length, also if that is 0: NULL is never passed. The buffers of one call don't
-   overlap.
+   Handles. A palqytun_vm * is a handle: a number in the form of a pointer, which palqytun_open gives and palqytun_close ends. It may be
+   copied, and nothing is read where it seems to point to. One that is NULL, closed, a journal's, or no handle at all is answered by a
+   status, and nothing is done.
 
-   Threads. There is no global state, so different sessions may be used at once. One session may go from thread to thread, but has
-   one call at a time: a lock, a thread's start or join, or an atomic stands between two of its calls on different threads. No
-   call is made from a signal handler, or in the forked child of a process with threads. No call blocks. */
+   Pointers. A pointer is valid for its length. NULL is allowed where the length is 0, and where a call says what it then means; else it is
+   PALQYTUN_BAD_POINTER. The buffers of one call don't overlap. A flag is false if it is 0.
+
+   Threads. Sessions may be used at once, and each from any thread. A session has one call at a time: a call of one that another call is in
+   returns PALQYTUN_BUSY, and does nothing. So a race is never more than that; a lock lets each call be made. No call is made from a
+   signal handler, or in the forked child of a process with threads. No call blocks.
+
+   Stack. A call takes at most PALQYTUN_STACK bytes of it. */
 #ifndef PALQYTUN_H
 #define PALQYTUN_H
 
@@ -26,17 +31,22 @@
 extern "C" {
 #endif
 
-/* A session: at most one VM, the answer to the last line, and the reply to the last typed call. `palqytun_vm vm = {0};` has none. */
-typedef struct {
-    void *at;
-} palqytun_vm;
+/* The number of this interface. It changes if a function, a struct or a number changes that was there before; one that is added is no
+   change. A caller that loads the library at run time compares it with palqytun_abi(). */
+#define PALQYTUN_ABI 1
+
+/* How much stack a call takes at most, in bytes. */
+#define PALQYTUN_STACK 32768
+
+/* A session: at most one VM, the answer to the last line, and the reply to the last typed call. */
+typedef struct palqytun_vm palqytun_vm;
 
 /* How a call ended. Calls of a journal and calls on frames have further numbers, below; no number says two things. */
 enum {
     PALQYTUN_DONE = 0,
     /* No memory was found. Each call below says what then stands. */
     PALQYTUN_NO_MEMORY = 1,
-    /* The palqytun_vm has no session: palqytun_new didn't make one, or palqytun_free freed it. Nothing was done. */
+    /* There is no session: the handle is NULL, or was closed. Nothing was done. */
     PALQYTUN_NO_SESSION = 2,
     /* The session has no VM: none was made yet, or a later one was refused. Nothing was done. */
     PALQYTUN_NO_VM = 3,
@@ -51,7 +61,13 @@ enum {
     /* A number names no case of what it is to name. Nothing was done. */
     PALQYTUN_BAD_NUMBER = 8,
     /* The reply has no such part. */
-    PALQYTUN_NO_PART = 9
+    PALQYTUN_NO_PART = 9,
+    /* Another call of the same session or journal has not ended yet. Nothing was done. */
+    PALQYTUN_BUSY = 25,
+    /* The handle is none of what the call is of: a journal's for a session, or the other way round, or no handle at all. Nothing was done. */
+    PALQYTUN_BAD_HANDLE = 26,
+    /* A pointer is NULL that may not be, or a length is longer than anything in memory. Nothing was done. */
+    PALQYTUN_BAD_POINTER = 27
 };
 
 /* How a call ended, and a length in bytes. */
@@ -60,9 +76,9 @@ typedef struct {
     size_t len;
 } palqytun_told;
 
-/* Makes a session without a VM. It is the caller's, who frees it by palqytun_free. A session that was there is freed first.
-   PALQYTUN_NO_MEMORY: there is none. */
-uint32_t palqytun_new(palqytun_vm *vm);
+/* Makes a session without a VM, and writes its handle to vm. It is the caller's, who ends it by palqytun_close.
+   PALQYTUN_NO_MEMORY: there is none, and the handle is NULL. */
+uint32_t palqytun_open(palqytun_vm **vm);
 
 /* Performs one line, without its end, and tells how long its answer is. A line that isn't understood is answered too, by
    `bad`. PALQYTUN_NO_MEMORY: the last answer stays, and the line may have been performed: let the session go. (Where the VM
@@ -83,8 +99,9 @@ uint32_t palqytun_feed(palqytun_vm *vm, const uint8_t *bytes, size_t bytes_len);
    PALQYTUN_NO_MEMORY: they still wait. */
 palqytun_told palqytun_take_output(palqytun_vm *vm, uint8_t *out, size_t out_len);
 
-/* Frees the session, with all its memory. Nothing is done if there is none. */
-void palqytun_free(palqytun_vm *vm);
+/* Frees the session, with all its memory, and ends its handle. PALQYTUN_NO_SESSION: it was closed before, or the handle is NULL.
+   PALQYTUN_BUSY: it stays, and has to be closed once its call has ended. */
+uint32_t palqytun_close(palqytun_vm *vm);
 
 /* ---- Typed calls
 
@@ -95,13 +112,13 @@ void palqytun_free(palqytun_vm *vm);
 
    A name may be empty: then the command has none. */
 
-/* Bytes that are lent for a call, or a text in UTF-8. at is not NULL, also if len is 0. */
+/* Bytes that are lent for a call, or a text in UTF-8. at may be NULL if len is 0. */
 typedef struct {
     const uint8_t *at;
     size_t len;
 } palqytun_bytes;
 
-/* Bytes, or none: bytes.at is not NULL then either. */
+/* Bytes, or none: then bytes isn't looked at. */
 typedef struct {
     bool is_given;
     palqytun_bytes bytes;
@@ -113,7 +130,7 @@ typedef struct {
     palqytun_bytes value;
 } palqytun_pair;
 
-/* A result: bytes; or a failure of this code, whose message the bytes are, with metadata. metadata is not NULL. */
+/* A result: bytes; or a failure of this code, whose message the bytes are, with metadata. */
 typedef struct {
     bool is_failure;
     uint16_t code;
@@ -122,7 +139,7 @@ typedef struct {
     size_t metadata_len;
 } palqytun_value;
 
-/* Which handler is called, and how. headers is not NULL. */
+/* Which handler is called, and how. */
 typedef struct {
     palqytun_bytes service;
     palqytun_bytes handler;
@@ -152,28 +169,64 @@ enum {
     PALQYTUN_UNKNOWN = 5
 };
 
-/* What a VM is asked to do in another way: `palqytun_options options = {0};` are the defaults. */
+/* What a VM is asked to do in another way: `palqytun_options options = {0};` are the defaults, and so is NULL. */
 typedef struct {
-    /* A cancelled await cancels 0: its calls too, 1: nothing else, 2: its sends, 3: both. 4: the cancel signal ends no await. */
+    /* A PALQYTUN_CANCEL_. */
     uint32_t cancellation;
-    /* Replay 0: compares payloads, 1: doesn't. */
+    /* A PALQYTUN_CHECKS_. */
     uint32_t checks;
-    /* An await that waits for input says what it waits for 0: unless a run executes, 1: always, 2: never. */
+    /* A PALQYTUN_AWAITING_. */
     uint32_t awaiting;
-    /* An invocation whose journal doesn't fit its handler 0: follows the retry policy, 1: pauses, 2: fails. */
+    /* A PALQYTUN_MISMATCH_. */
     uint32_t mismatch;
-    /* Recorded commands are 0: replayed, 1: skipped. */
+    /* A PALQYTUN_REPLAY_. */
     uint32_t replay;
-    /* Several deliveries of one signal 0: queue up, 1: the newest replaces the others. */
+    /* A PALQYTUN_DELIVERY_. */
     uint32_t delivery;
     /* The handler's random seed, if the version hands none out. */
     uint64_t seed;
 } palqytun_options;
 
+/* What a cancelled await cancels: the calls that the handler waits for, nothing, what it has sent, or both. Or the cancel signal ends no
+   await: it is the handle PALQYTUN_CANCEL_HANDLE, which the handler may await. */
+enum {
+    PALQYTUN_CANCEL_CALLS = 0,
+    PALQYTUN_CANCEL_NOTHING = 1,
+    PALQYTUN_CANCEL_SENDS = 2,
+    PALQYTUN_CANCEL_CALLS_AND_SENDS = 3,
+    PALQYTUN_CANCEL_DISABLED = 4
+};
+
+/* The handle of the cancel signal. */
+enum { PALQYTUN_CANCEL_HANDLE = 1 };
+
+/* Whether replay compares payloads. */
+enum { PALQYTUN_CHECKS_ENABLED = 0, PALQYTUN_CHECKS_PAYLOAD_CHECKS_DISABLED = 1 };
+
+/* When an await that waits for input says what it waits for. */
+enum {
+    PALQYTUN_AWAITING_DONT_SEND_WHEN_EXECUTING_RUN = 0,
+    PALQYTUN_AWAITING_SEND_ALWAYS = 1,
+    PALQYTUN_AWAITING_DONT_SEND = 2
+};
+
+/* What becomes of an invocation whose journal doesn't fit its handler. */
+enum {
+    PALQYTUN_MISMATCH_FOLLOW_RETRY_POLICY = 0,
+    PALQYTUN_MISMATCH_PAUSE = 1,
+    PALQYTUN_MISMATCH_FAIL_TERMINALLY = 2
+};
+
+/* Whether recorded commands are replayed, or skipped. */
+enum { PALQYTUN_REPLAY_ENABLED = 0, PALQYTUN_REPLAY_DISABLED = 1 };
+
+/* Several deliveries of one signal queue up, or the newest replaces the others. */
+enum { PALQYTUN_DELIVERY_QUEUED = 0, PALQYTUN_DELIVERY_OVERWRITE = 1 };
+
 /* An error. */
 typedef struct {
     uint16_t code;
-    /* 0: it is tried again. 1: the invocation pauses. 2: it fails. */
+    /* A PALQYTUN_BEHAVIOR_. */
     uint32_t behavior;
     palqytun_bytes message;
     palqytun_bytes stacktrace;
@@ -182,15 +235,46 @@ typedef struct {
     uint64_t delay_millis;
 } palqytun_error;
 
+/* What is done after an error: the invocation is tried again, pauses, or fails. */
+enum { PALQYTUN_BEHAVIOR_RETRY = 0, PALQYTUN_BEHAVIOR_PAUSE = 1, PALQYTUN_BEHAVIOR_FAIL = 2 };
+
+/* The codes of the VM's own errors. An error's code may be another number: that of the handler's own error. */
+enum {
+    /* The invocation isn't as the version of the VM has it. */
+    PALQYTUN_CODE_BAD_REQUEST = 400,
+    /* The content type names no version that the VM has. */
+    PALQYTUN_CODE_UNSUPPORTED_MEDIA_TYPE = 415,
+    /* An argument or a count is out of its bounds, a run's result was given that nobody waits for, or the VM found no memory. */
+    PALQYTUN_CODE_INTERNAL = 500,
+    /* The handler makes another call than the journal has recorded. */
+    PALQYTUN_CODE_JOURNAL_MISMATCH = 570,
+    /* The bytes that were fed aren't what may come, or a call came when it may not. */
+    PALQYTUN_CODE_PROTOCOL_VIOLATION = 571,
+    /* The version of the VM has no such call or argument. */
+    PALQYTUN_CODE_UNSUPPORTED_FEATURE = 573,
+    /* The handler has ended. */
+    PALQYTUN_CODE_CLOSED = 598,
+    /* The invocation is suspended. */
+    PALQYTUN_CODE_SUSPENDED = 599
+};
+
 /* The command that an error relates to. */
 typedef struct {
-    /* 0: none. 1: the last. 2: the next. 3: the one of this index. */
+    /* A PALQYTUN_RELATED_TO_. */
     uint32_t kind;
     uint32_t index;
     /* What the next one is, or that of the index: a PALQYTUN_COMMAND_. */
     uint32_t type;
     palqytun_optional name;
 } palqytun_command;
+
+/* An error relates to no command, the last, the next, or the one of an index. */
+enum {
+    PALQYTUN_RELATED_TO_NONE = 0,
+    PALQYTUN_RELATED_TO_LAST = 1,
+    PALQYTUN_RELATED_TO_NEXT = 2,
+    PALQYTUN_RELATED_TO_SPECIFIC = 3
+};
 
 /* What a command is. */
 enum {
@@ -215,9 +299,9 @@ enum {
     PALQYTUN_COMMAND_CANCEL_INVOCATION = 18
 };
 
-/* Which invocation is meant. What a kind doesn't name is empty, and not NULL. */
+/* Which invocation is meant. What a kind doesn't name is empty. */
 typedef struct {
-    /* 0: the one of this id. 1: a workflow. 2: the one of this idempotency key. */
+    /* A PALQYTUN_TARGET_. */
     uint32_t kind;
     /* The id, the workflow's name, or the service's. */
     palqytun_bytes name;
@@ -230,9 +314,24 @@ typedef struct {
     palqytun_optional scope;
 } palqytun_invocation;
 
-/* When a run that failed is tried again: `palqytun_policy policy = {0};` is always. */
+/* An invocation is meant by its id, as a workflow, or by its idempotency key. */
+enum {
+    PALQYTUN_TARGET_INVOCATION_ID = 0,
+    PALQYTUN_TARGET_WORKFLOW_ID = 1,
+    PALQYTUN_TARGET_IDEMPOTENCY_ID = 2
+};
+
+/* A run that failed is tried again always, never, after the same delay each time, or after a growing delay. */
+enum {
+    PALQYTUN_POLICY_INFINITE = 0,
+    PALQYTUN_POLICY_NONE = 1,
+    PALQYTUN_POLICY_FIXED_DELAY = 2,
+    PALQYTUN_POLICY_EXPONENTIAL = 3
+};
+
+/* When a run that failed is tried again: `palqytun_policy policy = {0};` is always, and so is NULL. */
 typedef struct {
-    /* 0: always. 1: never. 2: after the same delay each time. 3: after a growing delay. */
+    /* A PALQYTUN_POLICY_. */
     uint32_t kind;
     /* Of a growing delay: the first one, and the factor by which it grows, over a denominator that isn't 0. */
     uint64_t initial_millis;
@@ -265,7 +364,7 @@ enum {
     PALQYTUN_EPHEMERAL = 4,
     /* first: 1 for true. */
     PALQYTUN_FLAG = 5,
-    /* first: 0 before the known entries are there, 1 in replay, 2 in processing, 3 closed. */
+    /* first: a PALQYTUN_STATE_. */
     PALQYTUN_STATE = 6,
     /* number: the index of the last command. */
     PALQYTUN_INDEX = 7,
@@ -298,6 +397,14 @@ enum {
     /* number: the code; first: 1 if it relates to a command; second: its index; third: the type of its message (docs/WIRE.md).
        Parts: 0 the text, 1 the stack trace, 2 the command's name. */
     PALQYTUN_ERROR = 21
+};
+
+/* The state of a VM: before the known entries are there, in replay, in processing, or closed. */
+enum {
+    PALQYTUN_STATE_WAITING_PRE_FLIGHT = 0,
+    PALQYTUN_STATE_REPLAYING = 1,
+    PALQYTUN_STATE_PROCESSING = 2,
+    PALQYTUN_STATE_CLOSED = 3
 };
 
 /* What a call is answered: how it ended, what the reply is, the numbers in it, how many rows of parts it has, and the length of part 0,
@@ -395,14 +502,11 @@ palqytun_replied palqytun_end(palqytun_vm *vm);
    then calls palqytun_journal_keep once it is committed, or palqytun_journal_undo if it isn't. Each call takes time that grows with the
    logarithm of the journal's length, beside the bytes that it is given.
 
-   For pointers, memory and threads a palqytun_journal is as a palqytun_vm. Where a status says a fault, or PALQYTUN_NO_MEMORY, all that
+   For handles, pointers, memory and threads a palqytun_journal is as a palqytun_vm. Where a status says a fault, or PALQYTUN_NO_MEMORY, all that
    came since the last palqytun_journal_keep is taken back, as by palqytun_journal_undo, but where a call says else. */
 
-/* A journal. `palqytun_journal journal = {0};` has none: then each call but palqytun_journal_new and palqytun_journal_free answers
-   PALQYTUN_NO_JOURNAL. */
-typedef struct {
-    void *at;
-} palqytun_journal;
+/* A journal. Its handle is as that of a session. */
+typedef struct palqytun_journal palqytun_journal;
 
 /* How a call of a journal ended, beside PALQYTUN_DONE, PALQYTUN_NO_MEMORY and PALQYTUN_NO_ROOM. */
 enum {
@@ -424,7 +528,7 @@ enum {
     PALQYTUN_JOURNAL_FULL = 16,
     /* What is loaded can't stand there: the first entry is one whole frame of an input, each other one of a command or a notification. */
     PALQYTUN_BAD_JOURNAL = 17,
-    /* The palqytun_journal has none: palqytun_journal_new didn't make one, or it was freed. */
+    /* There is no journal: the handle is NULL or was closed, or palqytun_journal_keep found no memory. */
     PALQYTUN_NO_JOURNAL = 22,
     /* The last store has no such row. */
     PALQYTUN_NO_ROW = 23
@@ -447,12 +551,13 @@ typedef struct {
     size_t feed;
 } palqytun_stored;
 
-/* Makes a journal without entries. It is the caller's, who frees it by palqytun_journal_free. One that was there is freed first.
-   PALQYTUN_NO_MEMORY: there is none. */
-uint32_t palqytun_journal_new(palqytun_journal *journal);
+/* Makes a journal without entries, and writes its handle to journal. It is the caller's, who ends it by palqytun_journal_close.
+   PALQYTUN_NO_MEMORY: there is none, and the handle is NULL. */
+uint32_t palqytun_journal_open(palqytun_journal **journal);
 
-/* Frees the journal, with all its memory. Nothing is done if there is none. */
-void palqytun_journal_free(palqytun_journal *journal);
+/* Frees the journal, with all its memory, and ends its handle. PALQYTUN_NO_JOURNAL: it was closed before, or the handle is NULL.
+   PALQYTUN_BUSY: it stays. */
+uint32_t palqytun_journal_close(palqytun_journal *journal);
 
 /* How many entries it has, as the length that is told. */
 palqytun_told palqytun_journal_entries(palqytun_journal *journal);
@@ -476,7 +581,8 @@ palqytun_told palqytun_journal_frame(palqytun_journal *journal, size_t at, uint8
 /* What is to be fed of the last store, at the front of out: whole frames. PALQYTUN_NO_ROOM: len is the length that they need. */
 palqytun_told palqytun_journal_answer(palqytun_journal *journal, uint8_t *out, size_t out_len);
 
-/* What came since the last of these calls is committed. PALQYTUN_NO_MEMORY: the journal is freed, and has to be loaded again. */
+/* What came since the last of these calls is committed. PALQYTUN_NO_MEMORY: the journal is freed, and has to be loaded
+   again into another; its handle is still to be closed. */
 uint32_t palqytun_journal_keep(palqytun_journal *journal);
 
 /* What came since the last commit isn't committed: the journal is again as it was then. */
@@ -536,6 +642,40 @@ palqytun_judged palqytun_is_awake(
 
    What a frame says, as numbers and as parts, and frames that hold a value as it is given: a payload never becomes text. The calls need no
    session and no journal. PALQYTUN_NOT_A_FRAME: it isn't one whole frame whose message can be read. */
+
+/* The type of a message (docs/WIRE.md). */
+enum {
+    PALQYTUN_MESSAGE_START = 1,
+    PALQYTUN_MESSAGE_SUSPENSION = 2,
+    PALQYTUN_MESSAGE_ERROR = 3,
+    PALQYTUN_MESSAGE_END = 4,
+    PALQYTUN_MESSAGE_PROPOSE_RUN_COMPLETION = 5,
+    PALQYTUN_MESSAGE_PROPOSE_RUN_COMPLETION_ACK = 6,
+    PALQYTUN_MESSAGE_AWAITING_ON = 7,
+    PALQYTUN_MESSAGE_GET_STATE_EPHEMERAL_COMMAND = 8,
+    PALQYTUN_MESSAGE_GET_STATE_EPHEMERAL_NOTIFICATION = 9,
+    PALQYTUN_MESSAGE_INPUT_COMMAND = 10,
+    PALQYTUN_MESSAGE_GET_EAGER_STATE_COMMAND = 11,
+    PALQYTUN_MESSAGE_GET_LAZY_STATE_COMMAND = 12,
+    PALQYTUN_MESSAGE_GET_EAGER_STATE_KEYS_COMMAND = 13,
+    PALQYTUN_MESSAGE_GET_LAZY_STATE_KEYS_COMMAND = 14,
+    PALQYTUN_MESSAGE_SET_STATE_COMMAND = 15,
+    PALQYTUN_MESSAGE_CLEAR_STATE_COMMAND = 16,
+    PALQYTUN_MESSAGE_CLEAR_ALL_STATE_COMMAND = 17,
+    PALQYTUN_MESSAGE_SLEEP_COMMAND = 18,
+    PALQYTUN_MESSAGE_CALL_COMMAND = 19,
+    PALQYTUN_MESSAGE_ONE_WAY_CALL_COMMAND = 20,
+    PALQYTUN_MESSAGE_COMPLETE_AWAKEABLE_COMMAND = 21,
+    PALQYTUN_MESSAGE_SEND_SIGNAL_COMMAND = 22,
+    PALQYTUN_MESSAGE_GET_PROMISE_COMMAND = 23,
+    PALQYTUN_MESSAGE_PEEK_PROMISE_COMMAND = 24,
+    PALQYTUN_MESSAGE_COMPLETE_PROMISE_COMMAND = 25,
+    PALQYTUN_MESSAGE_RUN_COMMAND = 26,
+    PALQYTUN_MESSAGE_ATTACH_INVOCATION_COMMAND = 27,
+    PALQYTUN_MESSAGE_GET_INVOCATION_OUTPUT_COMMAND = 28,
+    PALQYTUN_MESSAGE_OUTPUT_COMMAND = 29,
+    PALQYTUN_MESSAGE_NOTIFICATION = 30
+};
 
 /* What the result of a frame is. */
 enum {
@@ -597,6 +737,12 @@ palqytun_told palqytun_input_frame(
     const uint8_t *frame, size_t frame_len, const uint8_t *value, size_t value_len, uint8_t *out, size_t out_len);
 
 /* ---- Which library this is */
+
+/* The number of the library's interface: PALQYTUN_ABI of the header that it was built with. */
+uint32_t palqytun_abi(void);
+
+/* The version: "0.1.0". The text is the library's own, and ends with a 0. */
+const char *palqytun_version(void);
 
 /* The version, the commit, the sum of the kit's logic, and whether the library was proved: "0.1.0 commit 0123456789ab logic dac8208d650f15bf
    proved". A word that isn't known is "unknown". The text is the library's own, and ends with a 0. */

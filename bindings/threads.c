@@ -21,20 +21,21 @@ static int answers(palqytun_vm *vm, const char *line, const char *wanted)
 static void *alone(void *bad)
 {
     for (int i = 0; i < ROUNDS; i++) {
-        palqytun_vm vm = {0};
-        if (palqytun_new(&vm) != PALQYTUN_DONE || !answers(&vm, "state", "none")
-            || !answers(&vm, "vm \"application/vnd.restate.invocation.v7\"", "ok V7") || !answers(&vm, "state", "ok WaitingPreFlight"))
+        palqytun_vm *vm;
+        if (palqytun_open(&vm) != PALQYTUN_DONE || !answers(vm, "state", "none")
+            || !answers(vm, "vm \"application/vnd.restate.invocation.v7\"", "ok V7") || !answers(vm, "state", "ok WaitingPreFlight"))
             *(int *)bad = 1;
-        palqytun_free(&vm);
+        if (palqytun_close(vm) != PALQYTUN_DONE)
+            *(int *)bad = 1;
     }
     return NULL;
 }
 
-static palqytun_vm shared = {0};
+static palqytun_vm *shared;
 
 static void *next(void *bad)
 {
-    if (!answers(&shared, "state", "ok WaitingPreFlight"))
+    if (!answers(shared, "state", "ok WaitingPreFlight"))
         *(int *)bad = 1;
     return NULL;
 }
@@ -48,14 +49,14 @@ int main(void)
             return 2;
     for (int i = 0; i < THREADS; i++)
         pthread_join(threads[i], NULL);
-    if (palqytun_new(&shared) != PALQYTUN_DONE || !answers(&shared, "vm \"application/vnd.restate.invocation.v7\"", "ok V7"))
+    if (palqytun_open(&shared) != PALQYTUN_DONE || !answers(shared, "vm \"application/vnd.restate.invocation.v7\"", "ok V7"))
         return 1;
     for (int i = 0; i < THREADS; i++) {
         if (pthread_create(&threads[i], NULL, next, &bad[i]) != 0)
             return 2;
         pthread_join(threads[i], NULL);
     }
-    palqytun_free(&shared);
+    palqytun_close(shared);
     for (int i = 0; i < THREADS; i++)
         if (bad[i])
             return 1;

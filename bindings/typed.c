@@ -68,21 +68,18 @@ static int show(palqytun_vm *vm, const char *call, palqytun_replied replied)
     return 0;
 }
 
-/* Makes a session with a VM, and feeds it the journal. */
+/* Makes a VM, and feeds it the journal. */
 static int begin(palqytun_vm *vm)
 {
     palqytun_options options = {.replay = 2};
-    uint32_t status = palqytun_new(vm);
-    if (status != PALQYTUN_DONE)
-        return failed(status);
-    status = palqytun_sleep(vm, bytes(""), 1).status;
+    uint32_t status = palqytun_sleep(vm, bytes(""), 1).status;
     if (status != PALQYTUN_NO_VM)
         return failed(status);
     /* An option that there isn't. */
     status = palqytun_make(vm, given("application/vnd.restate.invocation.v7"), &options).status;
     if (status != PALQYTUN_BAD_NUMBER)
         return failed(status);
-    options.replay = 0;
+    options.replay = PALQYTUN_REPLAY_ENABLED;
     int ended = show(vm, "make", palqytun_make(vm, given("application/vnd.restate.invocation.v7"), &options));
     if (ended != 0)
         return ended;
@@ -247,10 +244,12 @@ static int run(palqytun_vm *vm)
 
 int main(void)
 {
-    palqytun_vm vm = {0};
-    if (palqytun_sleep(&vm, bytes(""), 1).status != PALQYTUN_NO_SESSION)
+    palqytun_vm *vm;
+    if (palqytun_sleep(NULL, bytes(""), 1).status != PALQYTUN_NO_SESSION)
         return 3;
-    int ended = run(&vm);
-    palqytun_free(&vm);
-    return ended;
+    uint32_t status = palqytun_open(&vm);
+    if (status != PALQYTUN_DONE)
+        return failed(status);
+    int ended = run(vm);
+    return palqytun_close(vm) == PALQYTUN_DONE ? ended : 3;
 }

@@ -4,14 +4,15 @@ import java.nio.charset.StandardCharsets;
  * The invocation VM from Java: a session, whose calls are lines of text (docs/VMSCRIPT.md), and its bytes of input and output.
  *
  * <p>A session may go from thread to thread, but has one call at a time. It is let go by {@link #close}. A call that finds no memory throws an
- * {@link OutOfMemoryError}, and one of a session that was let go, or bytes for a session without a VM, an {@link IllegalStateException}.
+ * {@link OutOfMemoryError}; one of a session that was let go, one beside another thread's, or bytes for a session without a VM, an
+ * {@link IllegalStateException}.
  */
 public final class Palqytun implements AutoCloseable {
     static {
         System.loadLibrary("palqytun_jni");
     }
 
-    /** Where the session's {@code palqytun_vm} is, or 0. */
+    /** The session's handle, or 0. */
     private long vm = open();
 
     /** Performs a line, and returns its answer: printable ASCII. */

@@ -2,7 +2,6 @@
 #include "palqytun.h"
 
 #include <jni.h>
-#include <stdlib.h>
 
 /* Throws what a call that wasn't done is in Java. */
 static void raise(JNIEnv *env, uint32_t status)
@@ -10,13 +9,14 @@ static void raise(JNIEnv *env, uint32_t status)
     const char *kind = status == PALQYTUN_NO_MEMORY ? "java/lang/OutOfMemoryError" : "java/lang/IllegalStateException";
     const char *text = status == PALQYTUN_NO_MEMORY ? "the VM found no memory"
         : status == PALQYTUN_NO_SESSION             ? "the session was let go"
+        : status == PALQYTUN_BUSY                   ? "another thread's call of the session has not ended"
                                                     : "there is no VM";
     jclass thrown = (*env)->FindClass(env, kind);
     if (thrown != NULL)
         (*env)->ThrowNew(env, thrown, text);
 }
 
-/* The session that Java holds; NULL, with an exception, if it was freed. */
+/* The handle that Java holds; NULL, with an exception, if it was closed. */
 static palqytun_vm *session_at(JNIEnv *env, jlong vm)
 {
     if (vm == 0)
@@ -46,12 +46,11 @@ static jbyteArray read(JNIEnv *env, palqytun_vm *vm, size_t len, palqytun_told (
 JNIEXPORT jlong JNICALL Java_Palqytun_open(JNIEnv *env, jclass class)
 {
     (void)class;
-    palqytun_vm *vm = calloc(1, sizeof *vm);
-    if (vm != NULL && palqytun_new(vm) == PALQYTUN_DONE)
-        return (jlong)(intptr_t)vm;
-    free(vm);
-    raise(env, PALQYTUN_NO_MEMORY);
-    return 0;
+    palqytun_vm *vm;
+    uint32_t status = palqytun_open(&vm);
+    if (status != PALQYTUN_DONE)
+        raise(env, status);
+    return (jlong)(intptr_t)vm;
 }
 
 JNIEXPORT jbyteArray JNICALL Java_Palqytun_line(JNIEnv *env, jclass class, jlong at, jbyteArray line)
@@ -88,8 +87,7 @@ JNIEXPORT jbyteArray JNICALL Java_Palqytun_takeOutput(JNIEnv *env, jclass class,
     palqytun_vm *vm = session_at(env, at);
     if (vm == NULL)
         return NULL;
-    uint8_t none[1] = {0};
-    palqytun_told told = palqytun_take_output(vm, none, 0);
+    palqytun_told told = palqytun_take_output(vm, NULL, 0);
     if (told.status == PALQYTUN_DONE || told.status == PALQYTUN_NO_ROOM)
         return read(env, vm, told.len, palqytun_take_output);
     raise(env, told.status);
@@ -98,11 +96,8 @@ JNIEXPORT jbyteArray JNICALL Java_Palqytun_takeOutput(JNIEnv *env, jclass class,
 
 JNIEXPORT void JNICALL Java_Palqytun_close(JNIEnv *env, jclass class, jlong at)
 {
-    (void)env;
     (void)class;
-    palqytun_vm *vm = (palqytun_vm *)(intptr_t)at;
-    if (vm == NULL)
-        return;
-    palqytun_free(vm);
-    free(vm);
+    uint32_t status = at == 0 ? PALQYTUN_DONE : palqytun_close((palqytun_vm *)(intptr_t)at);
+    if (status != PALQYTUN_DONE)
+        raise(env, status);
 }

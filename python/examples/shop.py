@@ -14,7 +14,8 @@ import functools
 import pathlib
 from collections.abc import Callable
 
-from palqytun.runtime import App, Context, Durable, Retry, Service, TerminalError, VirtualObject, Workflow, gather
+from palqytun.runtime import App, Durable, ObjectContext, Retry, Service, ServiceContext, SharedObjectContext, SharedWorkflowContext
+from palqytun.runtime import TerminalError, VirtualObject, Workflow, WorkflowContext, gather, step
 
 shop, stock, approval = Service("Shop"), VirtualObject("Stock"), Workflow("Approval")
 FULL = 100  # of each item, at first
@@ -46,6 +47,7 @@ def book(line: str) -> None:
         print(line, file=ledger)
 
 
+@step(retry=Retry(attempts=5), timeout=30)
 async def pay(key: str, card: str) -> str:
     """What the bank does. The key makes a payment that is asked for twice one payment."""
     await asyncio.sleep(0.05)
@@ -66,18 +68,18 @@ def ship(key: str, customer: str) -> str:
     return f"parcel-{key[:8]}"
 
 
-def returned(ctx: Context, item: Item) -> Durable[None]:
+def returned(ctx: ServiceContext, item: Item) -> Durable[None]:
     return ctx.call(put_back, item.count, key=item.name)
 
 
 @shop.handler()
-async def order(ctx: Context, order: Order) -> Receipt:
+async def order(ctx: ServiceContext, order: Order) -> Receipt:
     undo: list[Callable[[], Durable[object]]] = []
     try:
         for item in order.items:
             await ctx.call(take, item.count, key=item.name)
             undo.append(functools.partial(returned, ctx, item))
-        payment = await ctx.run("pay", pay, ctx.uuid(), order.card, retry=Retry(attempts=5))
+        payment = await ctx.run(pay, ctx.uuid(), order.card)
         undo.append(lambda: ctx.run("refund", refund, payment))
         if order.slow:
             await ctx.sleep(order.slow)
@@ -85,13 +87,14 @@ async def order(ctx: Context, order: Order) -> Receipt:
         ctx.log.info("%s is on its way", parcel)
         return Receipt(payment, parcel)
     except TerminalError:
-        for step in reversed(undo):
-            await step()
+        with ctx.shield():
+            for undone in reversed(undo):
+                await undone()
         raise
 
 
 @stock.handler()
-async def take(ctx: Context, count: int) -> int:
+async def take(ctx: ObjectContext, count: int) -> int:
     left = await ctx.get("left", int)
     left = (FULL if left is None else left) - count
     if left < 0:
@@ -101,36 +104,38 @@ async def take(ctx: Context, count: int) -> int:
 
 
 @stock.handler()
-async def put_back(ctx: Context, count: int) -> None:
+async def put_back(ctx: ObjectContext, count: int) -> None:
     ctx.set("left", (await ctx.get("left", int) or 0) + count)
 
 
 @stock.shared()
-async def left(ctx: Context, _: None) -> int:
+async def left(ctx: SharedObjectContext, _: None) -> int:
     found = await ctx.get("left", int)
     return FULL if found is None else found
 
 
 @shop.handler()
-async def inventory(ctx: Context, names: list[str]) -> dict[str, int]:
+async def inventory(ctx: ServiceContext, names: list[str]) -> dict[str, int]:
     return dict(zip(names, await gather(*[ctx.call(left, key=name) for name in names])))
 
 
 @approval.main()
-async def ask(ctx: Context, question: str) -> str:
+async def ask(ctx: WorkflowContext, question: str) -> str:
     """Waits for a person, at most a day."""
     ctx.set("question", question)
-    which, word = await ctx.timeout(ctx.promise("answer", str).value(), 86400)
-    return "nobody answered" if which else str(word)
+    try:
+        return await ctx.timeout(ctx.promise("answer", str).value(), 86400)
+    except TimeoutError:
+        return "nobody answered"
 
 
 @approval.handler()
-async def answer(ctx: Context, word: str) -> None:
+async def answer(ctx: SharedWorkflowContext, word: str) -> None:
     await ctx.promise("answer").resolve(word)
 
 
 @approval.handler()
-async def question(ctx: Context, _: None) -> str | None:
+async def question(ctx: SharedWorkflowContext, _: None) -> str | None:
     return await ctx.get("question", str)
 
 

@@ -16,6 +16,7 @@ import os
 import pathlib
 import pwd
 import re
+import shlex
 import shutil
 import signal
 import socket
@@ -24,7 +25,7 @@ import sys
 import tempfile
 import time
 import urllib.parse
-from collections.abc import Iterator, Mapping
+from collections.abc import Callable, Iterator, Mapping
 from dataclasses import dataclass
 from typing import Any
 
@@ -97,11 +98,71 @@ def _ran(words: list[str | pathlib.Path], user: str | None, folder: pathlib.Path
 
 
 @dataclass(frozen=True)
+class Place:
+    """Where a server listens: at a Unix socket in a folder, or if the socket's path is too long at a free port of the loopback."""
+
+    host: str
+    port: str = "5432"
+
+    @staticmethod
+    def of(folder: pathlib.Path) -> Place:
+        if len(os.fsencode(folder / ".s.PGSQL.5432.lock")) <= _LONGEST_PATH:
+            return Place(str(folder))
+        with socket.create_server(("127.0.0.1", 0)) as free:
+            return Place("127.0.0.1", str(free.getsockname()[1]))
+
+    def settings(self) -> dict[str, str]:
+        is_socket = self.host.startswith("/")
+        return {"listen_addresses": "" if is_socket else self.host, "port": self.port, "unix_socket_directories": self.host if is_socket else ""}
+
+
+def url_of(*places: Place) -> str:
+    """The URL of the database at one of these places; of several it is that of the server that may write."""
+    hosts, ports = (",".join(getattr(it, name) for it in places) for name in ("host", "port"))
+    chosen = "&target_session_attrs=read-write" if len(places) > 1 else ""
+    return f"postgresql://{_OWNER}@/postgres?host={urllib.parse.quote(hosts, safe='')}&port={urllib.parse.quote(ports)}{chosen}"
+
+
+@dataclass(frozen=True)
 class Cluster:
-    """A cluster that runs: its folder, and the URL of its database."""
+    """A cluster that runs: its folder, and where it listens."""
 
     folder: pathlib.Path
-    url: str
+    place: Place
+
+    @property
+    def url(self) -> str:
+        return url_of(self.place)
+
+    def start(self) -> None:
+        """Starts the server, and waits until it can be connected to."""
+        said = shlex.join(it for name, value in self.place.settings().items() for it in ("-c", f"{name}={value}"))
+        words = [programs() / "pg_ctl", "start", "-w", "-t", str(_SECONDS), "-D", self.folder / "data", "-l", self.folder / "log", "-o", said]
+        _ran(words, _user(), self.folder)
+
+    def kill(self) -> None:
+        """Kills each process of the server, as if its machine stopped."""
+        file = self.folder / "data" / "postmaster.pid"
+        server = int(file.read_text().splitlines()[0])
+        os.kill(server, signal.SIGSTOP)  # so it begins no process, and ends none in an orderly way
+        killed = [*_children(server), server]
+        for it in killed:
+            with contextlib.suppress(ProcessLookupError):
+                os.kill(it, signal.SIGKILL)
+        while any(map(_is_running, killed)):
+            time.sleep(0.005)
+        file.unlink(missing_ok=True)
+
+    def promote(self) -> None:
+        """A standby becomes a primary."""
+        words = [programs() / "pg_ctl", "promote", "-w", "-t", str(_SECONDS), "-D", self.folder / "data"]
+        _ran(words, _user(), self.folder)
+
+    def follow(self, primary: Cluster) -> None:
+        """Begins as the standby of another that was its own, without what that one hasn't."""
+        words = [programs() / "pg_rewind", "-D", self.folder / "data", f"--source-server={primary.url}", "-R"]
+        _ran(words, _user(), self.folder)
+        self.start()
 
     def restart(self, mode: str) -> None:
         """Ends the server and starts it again. `mode` is pg_ctl's: `fast` ends the sessions, `immediate` is like a crash."""
@@ -125,29 +186,45 @@ def _room(user: str | None) -> pathlib.Path:
     return folder
 
 
-def _listening(folder: pathlib.Path) -> tuple[dict[str, str], str]:
-    """The settings of where the server listens, and the URL."""
-    if len(os.fsencode(folder / ".s.PGSQL.5432.lock")) <= _LONGEST_PATH:
-        place = {"listen_addresses": "", "port": "5432", "unix_socket_directories": str(folder)}
-        return place, f"postgresql://{_OWNER}@/postgres?host={urllib.parse.quote(str(folder), safe='')}"
-    with socket.create_server(("127.0.0.1", 0)) as free:
-        port = free.getsockname()[1]
-    place = {"listen_addresses": "127.0.0.1", "port": str(port), "unix_socket_directories": ""}
-    return place, f"postgresql://{_OWNER}@127.0.0.1:{port}/postgres"
-
-
 def _made(folder: pathlib.Path, user: str | None, settings: Mapping[str, str]) -> Cluster:
     """Makes a cluster in a folder, and starts its server."""
-    bin = programs()
     data = folder / "data"
-    _ran([bin / "initdb", "-D", data, "-U", _OWNER, "-A", "trust", "-E", "UTF8", "--locale=C", "--no-sync", "--no-instructions"], user, folder)
-    place, url = _listening(folder)
+    words = [programs() / "initdb", "-D", data, "-U", _OWNER, "-A", "trust", "-E", "UTF8", "--locale=C", "--no-sync", "--no-instructions"]
+    _ran(words, user, folder)
     with (data / "postgresql.conf").open("a") as file:
-        for name, value in {**place, **settings}.items():
+        for name, value in settings.items():
             quoted = value.replace("'", "''")
             file.write(f"{name} = '{quoted}'\n")
-    _ran([bin / "pg_ctl", "start", "-w", "-t", str(_SECONDS), "-D", data, "-l", folder / "log"], user, folder)
-    return Cluster(folder, url)
+    found = Cluster(folder, Place.of(folder))
+    found.start()
+    return found
+
+
+def _copied(folder: pathlib.Path, user: str | None, primary: Cluster) -> Cluster:
+    """Makes a standby in a folder, and starts its server."""
+    data = folder / "data"
+    _ran([programs() / "pg_basebackup", "-d", primary.url, "-D", data, "-R", "-c", "fast", "--no-sync"], user, folder)
+    found = Cluster(folder, Place.of(folder))
+    found.start()
+    return found
+
+
+def _children(process: int) -> list[int]:
+    """The processes that a process has begun."""
+    found = []
+    for it in pathlib.Path("/proc").glob("[0-9]*/stat"):
+        with contextlib.suppress(OSError):
+            if int(it.read_text().rpartition(")")[2].split()[1]) == process:
+                found.append(int(it.parent.name))
+    return found
+
+
+def _is_running(process: int) -> bool:
+    """Whether a process is there, and hasn't ended."""
+    try:
+        return pathlib.Path(f"/proc/{process}/stat").read_text().rpartition(")")[2].split()[0] not in "ZX"
+    except OSError:
+        return False
 
 
 def _removed(folder: pathlib.Path) -> None:
@@ -165,19 +242,28 @@ def _removed(folder: pathlib.Path) -> None:
 
 
 @contextlib.contextmanager
-def cluster(settings: Mapping[str, str] | None = None) -> Iterator[Cluster]:
-    """A cluster with these settings beside the server's defaults. A process of its own removes it at the end, or when this one has ended, even by
-    SIGKILL."""
+def _kept(make: Callable[[pathlib.Path, str | None], Cluster]) -> Iterator[Cluster]:
+    """A cluster in a new folder. A process of its own removes it at the end, or when this one has ended, even by SIGKILL."""
     user = _user()
     programs()
     folder = _room(user)
     words = [sys.executable, __file__, "--remove", str(folder)]
     guard = subprocess.Popen(words, stdin=subprocess.PIPE, start_new_session=True)
     try:
-        yield _made(folder, user, settings or {})
+        yield make(folder, user)
     finally:
         with contextlib.suppress(BrokenPipeError):
             guard.communicate(b".", timeout=60)  # a child of this process may have the pipe too, so closing it isn't enough
+
+
+def cluster(settings: Mapping[str, str] | None = None) -> contextlib.AbstractContextManager[Cluster]:
+    """A cluster with these settings beside the server's defaults, which is removed at the end."""
+    return _kept(lambda folder, user: _made(folder, user, settings or {}))
+
+
+def standby(primary: Cluster) -> contextlib.AbstractContextManager[Cluster]:
+    """A standby that follows a cluster, which is removed at the end."""
+    return _kept(lambda folder, user: _copied(folder, user, primary))
 
 
 _open = contextlib.ExitStack()

@@ -1,5 +1,6 @@
-"""Runs the tests of a folder: suite.py [--only KIND] FOLDER. A line for each, with its seconds; then what failed and why, the slowest, and what
-was skipped. The last line is 'N passed, M failed, K skipped'. With --only just the tests on this database are run: sqlite or postgres."""
+"""Runs the tests of a folder: suite.py [--only DATABASE | --but DATABASE] FOLDER. A line for each, with its seconds; then what failed and why, the slowest, and what
+was skipped. The last line is 'N passed, M failed, K skipped'. With --only just the tests on this database are run, sqlite or postgres, and with
+--but all others, also those on none."""
 
 from __future__ import annotations
 
@@ -14,6 +15,7 @@ from types import TracebackType
 
 SLOW = 5.0  # seconds; the tests that take longer are named
 MOST = 10  # of them
+DATABASES = ("sqlite", "postgres")
 
 
 class Result(unittest.TestResult):
@@ -65,19 +67,25 @@ class Result(unittest.TestResult):
         print(f"{self.counts['passed']} passed, {self.counts['failed']} failed, {self.counts['skipped']} skipped", flush=True)
 
 
-def tests_of(suite: unittest.TestSuite, only: str | None) -> Iterator[unittest.TestCase]:
-    """The tests of a suite; with `only` those on one database. One that couldn't be loaded is run, and fails."""
+def tests_of(suite: unittest.TestSuite, only: str | None = None, but: str | None = None) -> Iterator[unittest.TestCase]:
+    """The tests of a suite; with `only` those on one database, and with `but` all others. One that couldn't be loaded is run, and fails."""
     for it in suite:
         if isinstance(it, unittest.TestSuite):
-            yield from tests_of(it, only)
-        elif only is None or getattr(it, "kind", None) == only or type(it).__name__ == "_FailedTest":
+            yield from tests_of(it, only, but)
+        elif type(it).__name__ == "_FailedTest":
             yield it
+        else:
+            kind = getattr(it, "kind", None)
+            if (only is None or kind == only) and (but is None or kind != but):
+                yield it
 
 
 def main() -> int:
     parser = argparse.ArgumentParser("suite.py", description="Runs the tests of a folder.")
     parser.add_argument("folder", type=pathlib.Path)
-    parser.add_argument("--only", choices=["sqlite", "postgres"], help="only the tests on this database")
+    which = parser.add_mutually_exclusive_group()
+    which.add_argument("--only", choices=DATABASES, help="only the tests on this database")
+    which.add_argument("--but", choices=DATABASES, help="all tests but those on this database")
     options = parser.parse_args()
     if not options.folder.is_dir():
         parser.error(f"there is no folder {options.folder}")
@@ -85,7 +93,7 @@ def main() -> int:
     sys.path.insert(0, str(folder.parent))
     found = unittest.TestLoader().discover(str(folder))
     result = Result()
-    unittest.TestSuite(tests_of(found, options.only)).run(result)
+    unittest.TestSuite(tests_of(found, options.only, options.but)).run(result)
     result.say()
     return 1 if result.counts["failed"] else 0
 

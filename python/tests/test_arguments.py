@@ -1,5 +1,6 @@
 """Arguments are checked where they are given: each wrong one is refused by its name, and nothing was done."""
 
+import inspect
 import unittest
 
 import palqytun
@@ -10,7 +11,24 @@ from palqytun._words import text
 
 HALF = "file-\udcff"
 
-# Each call with an argument of the wrong type, and what the error says.
+# An argument for each type that a parameter has.
+SAMPLES = {
+    "str": "x",
+    "str | None": "x",
+    "int": 1,
+    "int | None": 1,
+    "bool": True,
+    "Data": b"",
+    "Data | Failure": b"",
+    "Data | Failure | Retryable": b"",
+    "Behaviour": "retry",
+    "int | Future": 17,
+    "Iterable[tuple[str, str]]": (),
+    "RetryPolicy": retry_fixed(5),
+    "Target": InvocationId("inv_1"),
+}
+
+# Calls with an argument of the wrong type, and what the error says.
 WRONG_TYPES = [
     (lambda vm: vm.sys_sleep("x"), "wake_up_time must be an int, not str"),
     (lambda vm: vm.sys_sleep(1.5), "wake_up_time must be an int, not float"),
@@ -53,9 +71,6 @@ WRONG_TYPES = [
     (lambda vm: vm.propose_run_completion(17, Retryable(500, 5)), "result.message must be a str, not int"),
     (lambda vm: vm.propose_run_completion(17, Retryable(500, "no", "3")), "result.duration must be an int, not str"),
     (lambda vm: vm.sys_cancel_invocation(1), "invocation_id must be a str, not int"),
-    (lambda vm: vm.sys_get_promise(1), "key must be a str, not int"),
-    (lambda vm: vm.sys_peek_promise(1), "key must be a str, not int"),
-    (lambda vm: vm.sys_complete_promise(1, b""), "key must be a str, not int"),
     (lambda vm: vm.sys_attach_invocation("inv_1"), "target must be an InvocationId, a WorkflowId or an IdempotencyId, not str"),
     (lambda vm: vm.sys_attach_invocation(InvocationId(1)), "target.id must be a str, not int"),
     (lambda vm: vm.sys_get_invocation_output(WorkflowId("w", 1)), "target.key must be a str, not int"),
@@ -111,6 +126,19 @@ class Arguments(unittest.TestCase):
                 with self.subTest(says), self.assertRaises(TypeError) as raised:
                     call(vm)
                 self.assertEqual(str(raised.exception), says)
+            self.assert_untouched(vm)
+
+    def test_each_parameter_of_each_method(self) -> None:
+        """One of a type that no parameter has is refused by the parameter's name."""
+        with begun() as vm:
+            for name, method in vars(VM).items():
+                if not inspect.isfunction(method) or name.startswith("_"):
+                    continue
+                _, *parameters = inspect.signature(method).parameters.values()
+                for wrong in parameters:
+                    given = {it.name: object() if it is wrong else SAMPLES[it.annotation] for it in parameters}
+                    with self.subTest(f"{name}: {wrong.name}"), self.assertRaisesRegex(TypeError, f"^{wrong.name} must be .*, not object$"):
+                        getattr(vm, name)(**given)
             self.assert_untouched(vm)
 
     def test_wrong_values(self) -> None:

@@ -13,7 +13,7 @@ from unittest import mock
 
 import palqytun
 from palqytun._library import library
-from palqytun.runtime import command
+from palqytun.runtime import process
 
 PROJECT = pathlib.Path(__file__).resolve().parents[1]
 FORM = r"(\d+\.\d+\.\d+) commit (unknown|[0-9a-f]{12}(?:-modified)?) logic (unknown|[0-9a-f]{16}) (proved|unproved)"
@@ -57,11 +57,11 @@ class Command(unittest.TestCase):
 
     def test_the_log_of_an_unproved_library(self) -> None:
         with mock.patch.object(library(), "is_proved", False), self.assertLogs("palqytun", "WARNING") as logs:
-            command.warn_of_unproved()
+            process.warn_of_unproved()
         (line,) = logs.output
         self.assertIn(f"{UNPROVED} ({palqytun.build})", line)
         with mock.patch.object(library(), "is_proved", True), self.assertNoLogs("palqytun"):
-            command.warn_of_unproved()
+            process.warn_of_unproved()
 
     def test_a_worker_says_it_once(self) -> None:
         with tempfile.TemporaryDirectory() as room:

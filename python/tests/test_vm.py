@@ -9,6 +9,7 @@ import unittest
 
 import palqytun
 from attempt import CONTENT_TYPE, begun, cancel_signal, completion, fed, input_frame, sleep_frame, start
+from palqytun import _abi
 from palqytun import VM, Cancelled, Closed, Code, ExecuteRun, JournalMismatch, Suspended, VMError, Waiting
 from palqytun import all_completed, first_completed
 
@@ -148,7 +149,13 @@ class Loading(unittest.TestCase):
     def test_another_library(self) -> None:
         other = ctypes.util.find_library("c")
         ran = self.run_python("import palqytun; palqytun.VM(None)", str(other))
-        self.assertRegex(ran.stderr.splitlines()[-1], "^ImportError: .*palqytun_new: ./bindings/build makes it")
+        self.assertRegex(ran.stderr.splitlines()[-1], "^ImportError: .*: its interface has no number, and this package wants [0-9]+: ./bindings/build")
+
+    def test_a_library_with_another_interface(self) -> None:
+        raised = f"from palqytun import _abi; _abi.ABI = {_abi.ABI + 1}; import palqytun; palqytun.VM(None)"
+        ran = self.run_python(raised, os.environ.get("PALQYTUN_LIBRARY", ""))
+        wanted = f"^ImportError: .*: its interface has the number {_abi.ABI}, and this package wants {_abi.ABI + 1}: ./bindings/build"
+        self.assertRegex(ran.stderr.splitlines()[-1], wanted)
 
     def test_arguments_are_checked_first(self) -> None:
         ran = self.run_python("import palqytun; palqytun.VM(None, wait='x')", "/nowhere.so")

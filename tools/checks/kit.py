@@ -3,8 +3,8 @@
 
 usage: tools/checks/kit.py [FOLDER]. FOLDER is the repository by default.
 
-Only the logic counts: a kit of another name with the same logic proves the same. README.md, CONTRIBUTING.md, docs/TUTORIAL.md and
-docs/PROGRAMS.md have to name the logic; any other page of PAGES may.
+Only the logic counts: a kit of another name with the same logic proves the same. README.md, CONTRIBUTING.md, docs/PROVED-HANDLERS.md and
+docs/TOOLS.md have to name the logic; any other page of PAGES may.
 
 What is wrong is printed, a line each. The last line is 'N passed, M failed'."""
 
@@ -19,7 +19,7 @@ from dataclasses import dataclass
 from pathlib import Path
 
 PAGES = ["README.md", "CONTRIBUTING.md", "docs/*.md", "python/README.md", "tools/README.md", "bindings/*"]
-NAMING = ["README.md", "CONTRIBUTING.md", "docs/TUTORIAL.md", "docs/PROGRAMS.md"]
+NAMING = ["README.md", "CONTRIBUTING.md", "docs/PROVED-HANDLERS.md", "docs/TOOLS.md"]
 
 # A logic on a page: its sum may stand in backquotes, and on the next line.
 NAMED = re.compile(r"\blogic[\s`>]+([0-9a-f]{16})\b")

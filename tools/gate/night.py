@@ -20,6 +20,7 @@ from .parts import built, job, library_path, programs, script
 from .show import Show, minutes
 
 OUT = "out/prove"
+FAILOVERS = 10
 LONG = 24 * 3600  # seconds that a part may take
 PROVED = "bindings/out/libpalqytun.so"
 
@@ -93,6 +94,11 @@ def kills_postgres(it: Options) -> Job:
     return kills("kills-postgres", "postgres", it)
 
 
+def failovers(it: Options) -> Job:
+    words = ("tools/chaos", "--failovers", str(FAILOVERS), "--seed", str(it.seed), "--db", "postgres")
+    return replace(job("failovers", *words), env={"PALQYTUN_LIBRARY": it.library}, counts=counts.of_status)
+
+
 def hostile(it: Options) -> Job:
     those = [f"{name}={it.program(name)}" for name in programs()]
     return script("hostile", "tools/hostile", *(f"--program={it}" for it in those))
@@ -114,6 +120,10 @@ def kills_of(it: Options) -> str:
     return f"{it.kills} kills, {it.kind}"
 
 
+def failovers_of(it: Options) -> str:
+    return f"{FAILOVERS} failovers to each kind of standby, {it.kind}"
+
+
 PARTS = [
     Part(
         "wrong-bodies",
@@ -125,6 +135,7 @@ PARTS = [
     Part("simulate", "random rounds of random handlers for an hour", simulate, minutes_of, last_line),
     Part("kills-sqlite", "1,000 kills of the durable runtime on SQLite", kills_sqlite, kills_of, last_line),
     Part("kills-postgres", "the same on PostgreSQL", kills_postgres, kills_of, last_line),
+    Part("failovers", "PostgreSQL fails over to a synchronous standby, and to an asynchronous one", failovers, failovers_of, last_line),
     Part("hostile", "time and memory on input that is deep, long or many", hostile, lambda it: it.kind, line_before_counts),
     Part("sanitizers", "the examples in C and Python with sanitizers and under valgrind", sanitizers, lambda it: it.kind, last_line),
 ]

@@ -17,6 +17,7 @@ from pathlib import Path
 
 TABLE = Path(__file__).resolve().parents[1] / "packages"
 SERVERS = "/usr/lib/postgresql/*/bin"
+SYSTEM = "/usr/bin/python3"  # the Python that Debian's packages are for
 SECONDS = 60  # for one tool to say its version
 
 
@@ -38,6 +39,8 @@ class Tool:
         match self.kind:
             case "command":
                 return all(_runs(it) for it in self.names)
+            case "library":
+                return all(_succeeds(["pkg-config", "--exists", it]) for it in self.names)
             case "server":
                 return all(_runs(it) or glob.glob(f"{SERVERS}/{it}") for it in self.names)
             case "module":
@@ -59,7 +62,7 @@ def read(path: Path = TABLE) -> dict[str, Tool]:
             continue
         cells = [it.strip() for it in line.split("|")]
         kind, *names = cells[1].split() if len(cells) == 4 else ("",)
-        if kind not in ("command", "server", "module", "sanitizer") or not names or not all(cells):
+        if kind not in ("command", "library", "server", "module", "sanitizer") or not names or not all(cells):
             raise BadTable(f"{path.name}:{number}: a row is NAME | FOUND BY | PACKAGES | SKIPPED, not: {line}")
         found[cells[0]] = Tool(cells[0], kind, tuple(names), tuple(cells[2].split()), cells[3])
     return found
@@ -102,15 +105,28 @@ def chosen_python(tools: dict[str, Tool]) -> str:
     if named := os.environ.get("PALQYTUN_PYTHON"):
         return named
     modules = [name for it in tools.values() if it.kind == "module" for name in it.names]
-    candidates = [it for it in (shutil.which("python3"), sys.executable, "/usr/bin/python3") if it and os.access(it, os.X_OK)]
+    candidates = [it for it in (shutil.which("python3"), sys.executable, SYSTEM) if it and os.access(it, os.X_OK)]
     return min(candidates, key=lambda it: len(missing_modules(it, modules)))
 
 
 def missing() -> list[Tool]:
     """The tools that aren't found."""
     tools = read()
-    python = chosen_python(tools)
+    return not_found(tools, chosen_python(tools))
+
+
+def not_found(tools: dict[str, Tool], python: str) -> list[Tool]:
+    """The tools that aren't found, with the modules of this Python."""
     return [it for it in tools.values() if not it.is_found(python)]
+
+
+def to_install(tools: dict[str, Tool], python: str) -> list[Tool]:
+    """The tools to install. If a module is missing, all modules have to be those of the system's Python: Debian's packages are for that one,
+    so it is the Python of the tests afterwards, whichever has more of the modules before."""
+    found = not_found(tools, python)
+    if any(it.kind == "module" for it in found) and not os.environ.get("PALQYTUN_PYTHON"):
+        return not_found(tools, SYSTEM)
+    return found
 
 
 def installed(tools: list[Tool]) -> int:
@@ -136,7 +152,8 @@ def main(words: list[str]) -> int:
     found = missing()
     for it in found:
         print(f"{it.name}: {it.how} ({it.skipped})", flush=True)
-    status = installed(found) if words else 0
+    tools = read()
+    status = installed(to_install(tools, chosen_python(tools))) if words else 0
     for it in missing() if words and found else []:
         print(f"{it.name} is still not found", flush=True)
         status = status or 1

@@ -42,4 +42,4 @@ def text(top: Path, kit: Kit, is_proved: bool) -> str:
 
 def flags(top: Path, kit: Kit, is_proved: bool) -> list[str]:
     """The words by which `bindings/about.c` is compiled."""
-    return [f'-DPALQYTUN_BUILD="{text(top, kit, is_proved)}"', f"-DPALQYTUN_PROVED={int(is_proved)}"]
+    return [f'-DPALQYTUN_LIBRARY_VERSION="{version(top)}"', f'-DPALQYTUN_BUILD="{text(top, kit, is_proved)}"', f"-DPALQYTUN_PROVED={int(is_proved)}"]

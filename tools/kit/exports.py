@@ -1,4 +1,4 @@
-"""The functions that the crate `ffi` exports, read from its sources, and their prototypes, read from the header.
+"""The functions that the crate `ffi` exports, read from its sources, and their prototypes, read from `bindings/proved.h`.
 
 For each there is a wrapper in Rattle, whose parameters are numbers, references and slices alone: what C takes or returns by value, the wrapper
 takes and returns by reference. These three are passed to a lowered function as C passes numbers and pointers. A caller in C, with the
@@ -13,8 +13,8 @@ from pathlib import Path
 from .errors import Refused
 
 PREFIX = "lowered_"
-OWN = {"palqytun_build", "palqytun_is_proved"}
-"""The functions of the header that aren't in crates/ffi: `bindings/about.c` has them."""
+ABOUT = {"palqytun_abi", "palqytun_build", "palqytun_is_proved", "palqytun_version"}
+"""What a library says of itself: `bindings/about.c` has these functions."""
 NUMBERS = {"u8": "i8", "u16": "i16", "u32": "i32", "u64": "i64", "usize": "i64", "bool": "i1"}
 """The numbers, with the types that LLVM gives them."""
 
@@ -22,7 +22,7 @@ _HEAD = re.compile(r'pub extern "C" fn (\w+)\s*\(')
 _RESULT = re.compile(r"\s*(?:->\s*(.*?))?\s*(?=\brequires\b|\bensures\b|\{)", re.S)
 _REFERENCE = re.compile(r"&\s*(?:'\w+\s+)?(mut\s+)?(.+)", re.S)
 _NAMED = re.compile(r"\w+(?:<'\w+>)?")
-_PROTOTYPE = re.compile(r"([A-Za-z_][\w\s]*?[\s*])(palqytun_\w+)\(([^()]*)\);")
+_PROTOTYPE = re.compile(r"([A-Za-z_][\w\s]*?[\s*])((?:palqytun|proved)_\w+)\(([^()]*)\);")
 
 
 @dataclass(frozen=True)
@@ -165,7 +165,7 @@ class Prototype:
 
 def read_prototypes(header: Path) -> dict[str, Prototype]:
     """The functions that the header declares."""
-    text = re.sub(r"/\*.*?\*/", "", header.read_text(encoding="utf-8"), flags=re.S)
+    text = re.sub(r"/\*.*?\*/|^#[^\n]*", "", header.read_text(encoding="utf-8"), flags=re.S | re.M)
     found = {}
     for result, name, parameters in _PROTOTYPE.findall(text):
         given = [] if parameters.strip() == "void" else _split(" ".join(parameters.split()))
@@ -173,7 +173,7 @@ def read_prototypes(header: Path) -> dict[str, Prototype]:
         if None in pairs:
             raise Refused(f"{header.name}: the parameters of {name} can't be read: `TYPE NAME` was expected for each")
         found[name] = Prototype(name, " ".join(result.split()), tuple((it[1].strip(), it[2]) for it in pairs if it))
-    declared = set(re.findall(r"\b(palqytun_\w+)\(", text))
+    declared = set(re.findall(r"\b((?:palqytun|proved)_\w+)\(", text))
     if declared != found.keys():
         raise Refused(f"{header.name}: these functions can't be read: {', '.join(sorted(declared - found.keys()))}")
     return found
@@ -188,12 +188,12 @@ def _shape(ty: str) -> str:
 
 
 def compare(exports: list[Export], prototypes: dict[str, Prototype]) -> None:
-    """Refuses functions that the sources and the header don't both have, or whose parameters differ in kind."""
+    """Refuses functions that the sources and `bindings/proved.h` don't both have, or whose parameters differ in kind."""
     by_name = {it.name: it for it in exports}
-    if different := by_name.keys() ^ (prototypes.keys() - OWN):
-        raise Refused(f"crates/ffi and palqytun.h don't both have {', '.join(sorted(different))}")
+    if different := by_name.keys() ^ prototypes.keys():
+        raise Refused(f"crates/ffi and proved.h don't both have {', '.join(sorted(different))}")
     for name, it in by_name.items():
         prototype = prototypes[name]
         wanted = "".join(_SHAPES[one.kind] for one in it.parameters)
         if "".join(_shape(ty) for ty, _ in prototype.parameters) != wanted or (prototype.result == "void") != (it.result is None):
-            raise Refused(f"{name} isn't the same function in crates/ffi and in palqytun.h: its numbers, pointers and structs differ")
+            raise Refused(f"{name} isn't the same function in crates/ffi and in proved.h: its numbers, pointers and structs differ")

@@ -22,8 +22,11 @@ CLANG = (
     " --no-default-config -no-canonical-prefixes -fintegrated-cc1 -fno-crash-diagnostics -c -x ir -O2 -fno-vectorize -fno-slp-vectorize"
 ).split()
 CC = ["cc", "-std=c11", "-O1", "-fPIC", "-fvisibility=default"]
-SHARED = ["-shared", "-Wl,-soname,libpalqytun.so.0", "-Wl,--no-undefined", "-Wl,-z,noexecstack", "-Wl,--gc-sections"]
-SONAME = "libpalqytun.so.0"
+SHARED = ["-shared", "-Wl,--no-undefined", "-Wl,-z,noexecstack", "-Wl,--gc-sections"]
+HEADERS = ("palqytun.h", "palqytun_flat.h")
+"""What is declared to callers, in `bindings`."""
+BETWEEN = ("handles.c", "lending.c", "calls.c", "flat.c")
+"""The C code between the header's functions and the proved calls, in `bindings`."""
 
 
 def need(*tools: str) -> None:
@@ -50,6 +53,14 @@ def link_program(kit: Kit, compiled: Path, made: Path) -> None:
     run([*words, compiled, kit.part("c/libos_c.a"), kit.part("c/liblibc_c.a")], f"linking {made.name}")
 
 
+def soname(top: Path) -> str:
+    """The name by which programs ask for the shared object. Its number is that of the interface."""
+    found = re.search(r"^#define PALQYTUN_ABI (\d+)$", (top / "bindings/palqytun.h").read_text(encoding="utf-8"), re.M)
+    if found is None:
+        raise Refused("bindings/palqytun.h has no PALQYTUN_ABI")
+    return f"libpalqytun.so.{found[1]}"
+
+
 def names_of(file: Path, *flags: str) -> set[str]:
     """The names that a library gives to others."""
     rows = run(["nm", "--defined-only", "--extern-only", *flags, file], f"reading {file.name}").splitlines()
@@ -57,8 +68,9 @@ def names_of(file: Path, *flags: str) -> set[str]:
 
 
 def check_names(top: Path, library: Path, *flags: str) -> None:
-    """Refuses a library that hasn't just the functions of the header."""
-    wanted, found = read_prototypes(top / "bindings/palqytun.h").keys(), names_of(library, *flags)
+    """Refuses a library that hasn't just the functions of the headers."""
+    wanted = {name for it in HEADERS for name in read_prototypes(top / "bindings" / it)}
+    found = names_of(library, *flags)
     if lacking := wanted - found:
         raise Refused(f"{library.name} lacks {', '.join(sorted(lacking))} of palqytun.h")
     if more := found - wanted:
@@ -76,13 +88,16 @@ def is_of_kit(archive: Path) -> bool:
 
 
 def link_archive(top: Path, kit: Kit, objects: Iterable[Path], made: Path, is_proved: bool) -> None:
-    """Makes an archive of objects, or of the objects of an archive: with what it says of itself and the kit's C in it, it shows just the
-    functions of the header."""
+    """Makes an archive of objects, or of the objects of an archive: with the C code between, what it says of itself and the kit's C in it, it
+    shows just the functions of the header."""
     need("cc", "ar", "nm", "objcopy")
     with tempfile.TemporaryDirectory(prefix="palqytun-") as made_in:
         room = Path(made_in)
         compile_c(top / "bindings/about.c", room / "about.o", f"-I{top / 'bindings'}", *about.flags(top, kit, is_proved))
+        for name in BETWEEN:
+            compile_c(top / "bindings" / name, room / Path(name).with_suffix(".o"), "-O2", "-Wall", "-Wextra", "-Werror", f"-I{top / 'bindings'}")
         words: list[Word] = ["cc", "-r", "-nostdlib", "-o", room / "palqytun.o", room / "about.o"]
+        words += [room / Path(name).with_suffix(".o") for name in BETWEEN]
         words += ["-Wl,--whole-archive", *objects, "-Wl,--no-whole-archive", kit.part("c/libos_c.a"), kit.part("c/liblibc_c.a")]
         run(words, f"linking {made.name}")
         run(["objcopy", "--wildcard", "--keep-global-symbol=palqytun_*", room / "palqytun.o"], f"hiding the inner names of {made.name}")
@@ -92,14 +107,14 @@ def link_archive(top: Path, kit: Kit, objects: Iterable[Path], made: Path, is_pr
 
 
 def link_shared(top: Path, archive: Path, made: Path, *more: Word) -> None:
-    """Makes the shared object of an archive that `link_archive` made. Programs ask for it by a name with the number 0, which changes if a
-    function does. It is a second name of the same file, since `rt ci` refuses a repository in which there is a symbolic link."""
+    """Makes the shared object of an archive that `link_archive` made. Programs ask for it by a name with the number of its interface. It is a
+    second name of the same file, since `rt ci` refuses a repository in which there is a symbolic link."""
     need("cc", "nm")
     hidden = ["-fvisibility=hidden", f"-Wl,--version-script={top / 'bindings/palqytun.map'}"]
-    words: list[Word] = ["cc", "-O1", "-fPIC", *hidden, *SHARED, "-o", made, *more]
+    words: list[Word] = ["cc", "-O1", "-fPIC", *hidden, *SHARED, f"-Wl,-soname,{soname(top)}", "-o", made, *more]
     made.unlink(missing_ok=True)
     run([*words, "-Wl,--whole-archive", archive, "-Wl,--no-whole-archive"], f"linking {made.name}")
-    link = made.with_name(f"{made.name}.0")
+    link = made.with_name(f"{made.name}.{soname(top).rpartition('.')[2]}")
     link.unlink(missing_ok=True)
     link.hardlink_to(made)
     check_names(top, made, "--dynamic")

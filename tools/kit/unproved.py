@@ -18,7 +18,8 @@ from .stamps import Stamp
 from .toolchain import Kit, kit
 
 TOP = Path(__file__).resolve().parents[2]
-HEADER = TOP / "bindings/palqytun.h"
+HEADERS = tuple(TOP / "bindings" / it for it in ("palqytun.h", "handles.h", "proved.h"))
+"""The header for callers, and those of the C code between it and the proved calls. The last one declares these."""
 
 
 def _parts(kit: Kit, crates: list[Crate], *more: Path) -> Iterator[str | Path]:
@@ -32,7 +33,7 @@ def _parts(kit: Kit, crates: list[Crate], *more: Path) -> Iterator[str | Path]:
 
 def _compile_library(kit: Kit, crates: Crates, ffi: Crate, made: Path, progress: Progress) -> None:
     """Makes the object with the functions for C, as an archive of two."""
-    exports, prototypes = read_exports(ffi.sources()), read_prototypes(HEADER)
+    exports, prototypes = read_exports(ffi.sources()), read_prototypes(HEADERS[-1])
     compare(exports, prototypes)
     with tempfile.TemporaryDirectory(prefix="unproved-") as made_in:
         room = Path(made_in)
@@ -42,8 +43,8 @@ def _compile_library(kit: Kit, crates: Crates, ffi: Crate, made: Path, progress:
         progress.step("LLVM compiles them: about a minute")
         compile_module(kit, module, room / "lowered.o", "-fPIC")
         between = "".join(prototypes[it.name].between() for it in exports)
-        (room / "between.c").write_text(f'#include "palqytun.h"\n{between}', encoding="utf-8")
-        compile_c(room / "between.c", room / "between.o", f"-I{HEADER.parent}")
+        (room / "between.c").write_text(f'#include "proved.h"\n{between}', encoding="utf-8")
+        compile_c(room / "between.c", room / "between.o", f"-I{HEADERS[-1].parent}")
         made.unlink(missing_ok=True)
         run(["ar", "rcs", made, room / "lowered.o", room / "between.o"], f"making {made.name}")
 
@@ -55,7 +56,7 @@ def build_library(made: Path, progress: Progress) -> bool:
     ffi = crates["ffi"]
     made.parent.mkdir(parents=True, exist_ok=True)
     compiled = made.with_suffix(".lowered.a")
-    stamp = Stamp(TOP, compiled, _parts(its_kit, [*crates.below(ffi.uses), ffi], HEADER))
+    stamp = Stamp(TOP, compiled, _parts(its_kit, [*crates.below(ffi.uses), ffi], *HEADERS))
     is_current = stamp.is_current()
     if not is_current:
         stamp.forget()

@@ -75,7 +75,7 @@ COURSES = (
         "A call from Python or C, and its reply",
         (
             Stop(f"{PACKAGE}/core.py", "sys_sleep"),
-            Stop("ffi", "palqytun_sleep"),
+            Stop("ffi", "proved_sleep"),
             Stop("c_sessions", "call"),
             Stop("c_calls", "make"),
             Stop("invocation_vm", "sys_sleep"),

@@ -55,10 +55,11 @@ FAMILIES = (
     Family(
         "c",
         "C",
-        "What callers of C and Python hold, and the functions that they call.",
-        ("c_sessions", "c_lines", "c_calls", "c_journals", "c_rows", "c_frames", "ffi"),
+        "What callers of C and Python hold, and what their calls do. No text is between.",
+        ("c_sessions", "c_calls", "c_journals", "c_frames"),
         ("c_*",),
     ),
+    Family("ffi", "The library for C", "The functions that callers of C and Python call: by values, and by lines.", ("ffi",)),
     Family("program", "Programs", "The four programs: thin, each over a library.", ("program_vmrun", "vmrun", "vmscript", "vmrounds", "frames"), ("program_*",)),
     Family(
         "test",

@@ -1,4 +1,4 @@
-"""Writes the map of the crates: the tables in docs/ARCHITECTURE.md and the picture docs/pictures/house.svg.
+"""Writes the map of the crates: the tables in docs/internals/ARCHITECTURE.md and the picture docs/pictures/house.svg.
 
 usage: tools/map            writes both anew
        tools/map --check    says whether both are as this command writes them; its last line is 'N passed, M failed'

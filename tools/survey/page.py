@@ -1,4 +1,4 @@
-"""What tools/map writes in docs/ARCHITECTURE.md: the families and their crates, from crates.txt and each crate's first comment; the limits."""
+"""What tools/map writes in docs/internals/ARCHITECTURE.md: the families and their crates, from crates.txt and each crate's first comment; the limits."""
 
 from __future__ import annotations
 
@@ -10,7 +10,7 @@ from .limits import LIMITS, limits_of
 from .phrases import comment
 from .tree import Fault, House
 
-PAGE = Path("docs", "ARCHITECTURE.md")
+PAGE = Path("docs", "internals", "ARCHITECTURE.md")
 MAP = (
     "<!-- From here to the end of the map `tools/map` writes, from crates.txt and the first comment of each crate. -->",
     "<!-- The end of the map. -->",
@@ -37,7 +37,7 @@ def rows(house: House, family: Family, crates: list[str], below: dict[str, list[
     """Yields the part of one family: its sentence, and a table with a row a crate."""
     yield from (f"### {family.title}", "", family.about, "", "| Crate | Is | Depends on |", "|---|---|---|")
     for crate in crates:
-        yield f"| [`{crate}`](../crates/{crate}) | {about(house, crate)} | {quoted(below[crate])} |"
+        yield f"| [`{crate}`](../../crates/{crate}) | {about(house, crate)} | {quoted(below[crate])} |"
     yield ""
 
 

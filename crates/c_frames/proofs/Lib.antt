@@ -1,3 +1,3 @@
-pub mod Texts
+pub mod Names
 pub mod Streams
 pub mod Judging

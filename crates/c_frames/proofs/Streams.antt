@@ -13,11 +13,10 @@ use Rattle.await_trees.specs.Wires.{tree_of_nodes}
 use Rattle.journal_entries.specs.JournalFrames.{notified_by}
 use Rattle.journal_entries.specs.Entries.{note_of}
 use Rattle.c_frames.specs.Waking.{is_awake_by, only_came, outcome_in}
-use Rattle.frame_lines.specs.Printed.{HasNoFrame}
 use Rattle.c_values.specs.declared.status.Status.{Status}
 use Rattle.c_values.specs.declared.status.Status.TheVariants as status
 use Rattle.c_frames.specs.Reading.{if_found, awake_by, came_by, notes_among, notes_at, notes_before}
-use Rattle.c_frames.specs.Noting.{AllRead, NotedUpTo}
+use Rattle.c_frames.specs.Noting.{AllRead, HasNoMore, NotedUpTo}
 
 -- nothing was read yet
 pub none_read : (stream rest : List ℕ) (came : Came) → came ≡ only_came [] → rest ≡ stream → NotedUpTo stream came rest
@@ -47,7 +46,7 @@ one_read stream rest behind came next raw r whole is = record {
 }
 
 -- all was read, and nothing is left
-pub all_read : (stream rest : List ℕ) (came : Came) → NotedUpTo stream came rest → HasNoFrame rest → AllRead stream came rest
+pub all_read : (stream rest : List ℕ) (came : Came) → NotedUpTo stream came rest → HasNoMore rest → AllRead stream came rest
 all_read stream rest came r none = record { read = r; ended = none }
 
 no_frames : (a : List ℕ) → next_of a ≡ Partial → frames_of a ≡ ([], Rest a)

@@ -1,7 +1,10 @@
-pub mod Results
-pub mod Reading
-pub mod Noting
-pub mod Lines
 pub mod Answers
-pub mod Waking
 pub mod Children
+pub mod Making
+pub mod Messages
+pub mod Noting
+pub mod Numbers
+pub mod Parts
+pub mod Reading
+pub mod Results
+pub mod Waking

@@ -16,7 +16,6 @@ use Rattle.journal_entries.specs.JournalFrames.{notified_by}
 use Rattle.journal_entries.specs.Entries.{frame_in, note_of}
 use Rattle.await_arrivals.specs.Came.{Came}
 use Rattle.c_frames.specs.Waking.{is_awake_by, only_came}
-use Rattle.frame_lines.specs.Printed.{frame_text}
 use Rattle.c_values.specs.declared.status.Status.{Status}
 use Rattle.c_values.specs.declared.status.Status.TheVariants as status
 use Rattle.c_frames.specs.Results.{notification_message, result_of_message}
@@ -34,12 +33,6 @@ if_found next (Ok a) = next a
 -- the one whole frame that bytes are
 abbrev pub frame_at : List ℕ → Result RawMessage Status
 frame_at bytes = found_or status.NotAFrame (frame_in bytes)
-
--- ---- lines
-
--- the line of a frame
-abbrev pub line_at : List ℕ → Result (List ℕ) Status
-line_at bytes = if_found (λ raw. Ok (frame_text raw)) (frame_at bytes)
 
 -- ---- results
 

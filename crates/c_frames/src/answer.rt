@@ -15,7 +15,7 @@ pub struct Judged {
 }
 
 /// Why a call that judges has no answer.
-pub(crate) fn unjudged(status: Status) -> Judged
+pub fn unjudged(status: Status) -> Judged
     ensures status { status_by result.status ≡ status }
     ensures known { result.status ≤ 24 }
     ensures flag { result.is_awake ≡ false }
@@ -39,7 +39,7 @@ fn tell_awake(is_awake: bool) -> Judged
 }
 
 /// Says whether a future is awake, or why that can't be said.
-pub(crate) fn judge(found: Result<bool, Status>) -> Judged
+pub fn judge(found: Result<bool, Status>) -> Judged
     ensures answered { IsJudged (status_by result.status) found result.is_awake }
     ensures known { result.status ≤ 24 }
 {

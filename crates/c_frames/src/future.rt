@@ -1,8 +1,7 @@
 //! Whether the future of a suspension is awake.
 ghost use Rattle.std.specs.Prelude.{◌≡◌, ◌++◌, ◌∷◌, [], IfNone, IfOk, IfSome, OnOk};
 ghost use Rattle.journal_protocol.specs.Frames.{Whole, next_of};
-ghost use Rattle.frame_lines.specs.Printed.{HasNoFrame};
-ghost use Rattle.c_frames.specs.Noting.{AllRead};
+ghost use Rattle.c_frames.specs.Noting.{AllRead, HasNoMore};
 ghost use Rattle.c_frames.specs.Reading.{awake_at, awake_by, came_by, message_awake, notes_among, notes_at};
 
 use crate::reading::{frame_at, message_in};
@@ -18,7 +17,7 @@ use std::alloc::{AllocError, Global};
 /// The next frame, if a whole one of a known type waits.
 fn next_whole(decoder: &mut Decoder) -> Result<Option<RawMessage>, AllocError>
     ensures none { IfOk result
-        (λ next. IfNone next ((decoder.new ≡ decoder.old) × HasNoFrame decoder.old)) }
+        (λ next. IfNone next ((decoder.new ≡ decoder.old) × HasNoMore decoder.old)) }
     ensures some { IfOk result
         (λ next. IfSome next (λ raw. next_of decoder.old ≡ Whole raw decoder.new)) }
 {
@@ -107,7 +106,7 @@ fn message_awake(
 }
 
 /// Whether the future of a suspension is awake by the notifications of a stream.
-pub(crate) fn awake_at(
+pub fn awake_at(
     alloc: Global,
     suspension: &[u8],
     stream: &[u8],

@@ -1,25 +1,17 @@
 //! What is read from the bytes that C gives.
-ghost use Rattle.std.specs.Prelude.{◌≡◌, IfOk, IfErr};
+ghost use Rattle.std.specs.Prelude.{◌≡◌, IfOk};
 ghost use Rattle.journal_protocol.specs.Bodies.{message_in};
-ghost use Rattle.frame_lines.specs.FrameLines.{LineShows};
-ghost use Rattle.frame_lines.specs.Printed.{frame_text};
-ghost use Rattle.c_frames.specs.Reading.{frame_at, id_named, line_at, name_id};
-ghost use Rattle.c_frames.specs.Lines.{IsRefusedLine};
+ghost use Rattle.c_frames.specs.Reading.{frame_at, id_named, name_id};
 
 use bytes::Bytes;
 use c_values::Status;
-use frame_lines::entry::{frame_of, print_frame};
 use journal_entries::entry::frame_in;
 use journal_protocol::{Message, NotificationId, RawMessage};
-use lines::line::Line;
 use plain::{Fault, Text};
 use std::alloc::{AllocError, Global};
 
 /// The one whole frame that bytes are.
-pub(crate) fn frame_at(
-    alloc: Global,
-    bytes: &[u8],
-) -> Result<Result<RawMessage, Status>, AllocError>
+pub fn frame_at(alloc: Global, bytes: &[u8]) -> Result<Result<RawMessage, Status>, AllocError>
     ensures { IfOk result (λ found. found ≡ frame_at bytes.now) }
 {
     let bytes = Bytes::copy_from_slice(alloc, bytes)?;
@@ -41,47 +33,8 @@ pub(crate) fn message_in(alloc: Global, raw: &RawMessage) -> Result<Option<Messa
     }
 }
 
-/// The line of a frame.
-fn line_of(alloc: Global, raw: &RawMessage) -> Result<Bytes, AllocError>
-    ensures { IfOk result (λ line. line ≡ frame_text raw.now) }
-{
-    let mut line = Line::new(alloc);
-    print_frame(alloc, raw, &mut line)?;
-    Bytes::copy_from_slice(alloc, line.as_str().as_bytes())
-}
-
-/// The line of the frame that bytes are.
-pub(crate) fn line_at(alloc: Global, bytes: &[u8]) -> Result<Result<Bytes, Status>, AllocError>
-    ensures { IfOk result (λ found. found ≡ line_at bytes.now) }
-{
-    match frame_at(alloc, bytes) {
-        Ok(Ok(raw)) => match line_of(alloc, &raw) {
-            Ok(line) => Ok(Ok(line)),
-            Err(error) => Err(error),
-        },
-        Ok(Err(why)) => Ok(Err(why)),
-        Err(error) => Err(error),
-    }
-}
-
-/// The bytes that a line shows.
-#[tactic(auto, using(crate::proofs::Texts::no_text, crate::proofs::Texts::no_meaning, crate::proofs::Texts::no_memory))]
-pub(crate) fn shown_at(alloc: Global, line: &[u8]) -> Result<Bytes, Status>
-    ensures shown { IfOk result (LineShows line.now) }
-    ensures refused { IfErr result (IsRefusedLine line.now) }
-{
-    let Ok(_text) = std::str::from_utf8(line) else {
-        return Err(Status::BadText);
-    };
-    match frame_of(alloc, line) {
-        Ok(frame) => Ok(frame),
-        Err(Fault::Malformed) => Err(Status::BadLine),
-        Err(Fault::Memory) => Err(Status::NoMemory),
-    }
-}
-
 /// The id that a name is.
-#[tactic(auto, using(crate::proofs::Texts::name_is, crate::proofs::Texts::no_name))]
+#[tactic(auto, using(crate::proofs::Names::name_is, crate::proofs::Names::no_name))]
 fn name_id(alloc: Global, name: &[u8]) -> Result<Result<NotificationId, Status>, AllocError>
     ensures { IfOk result (λ found. found ≡ name_id name.now) }
 {

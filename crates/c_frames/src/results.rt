@@ -140,7 +140,7 @@ fn notification_of(
 }
 
 /// The notification of the id that a kind, a number and a name are, with the result that a frame has.
-pub(crate) fn notification_at(
+pub fn notification_at(
     alloc: Global,
     kind: u32,
     number: u32,

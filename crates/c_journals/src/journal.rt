@@ -11,7 +11,7 @@ ghost use Rattle.c_values.specs.declared.status.Status.TheVariants.{Done};
 
 use crate::fault::fault_status;
 use crate::rest::ends_whole;
-use crate::row::{Row, Stored, answer_store, no_row, row_in};
+use crate::row::{Row, Stored, answer_store, entry_row, no_row, row_in};
 use bytes::{Bytes, BytesMut};
 use c_values::{Status, write};
 use journal_entries::JournalFault;
@@ -38,11 +38,8 @@ fn load(alloc: Global, journal: &mut StoredJournal, entry: &[u8]) -> Result<Row,
     let Ok(bytes) = Bytes::copy_from_slice(alloc, entry) else {
         return Err(JournalFault::Memory);
     };
-    let Ok(row) = row_in(alloc, &bytes) else {
-        return Err(JournalFault::Memory);
-    };
     match journal.entry(alloc, &bytes) {
-        Ok(()) => Ok(row),
+        Ok(entered) => Ok(entry_row(&entered, entry.len())),
         Err(fault) => Err(fault),
     }
 }
@@ -58,11 +55,8 @@ fn arrive(alloc: Global, journal: &mut StoredJournal, entry: &[u8]) -> Result<Ro
     let Ok(bytes) = Bytes::copy_from_slice(alloc, entry) else {
         return Err(JournalFault::Memory);
     };
-    let Ok(row) = row_in(alloc, &bytes) else {
-        return Err(JournalFault::Memory);
-    };
     match journal.arrive(alloc, &bytes) {
-        Ok(()) => Ok(row),
+        Ok(entered) => Ok(entry_row(&entered, entry.len())),
         Err(fault) => Err(fault),
     }
 }

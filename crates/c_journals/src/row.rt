@@ -1,14 +1,12 @@
 //! A row: an entry of a journal as a runtime stores it, with the completion id that it completes.
-ghost use Rattle.std.specs.Prelude.{◌≡◌, ◌≤◌, IfOk};
-ghost use Rattle.journal_entries.specs.Entries.{frame_in, note_in};
-ghost use Rattle.c_journals.specs.Rows.{id_completed, frame_type, row_in, no_row};
+ghost use Rattle.std.specs.Prelude.{◌≡◌, ◌≤◌, None, Some, IfOk};
+ghost use Rattle.c_journals.specs.Rows.{no_row, row_in, entry_row};
 ghost use Rattle.c_values.specs.Statuses.{status_by};
 ghost use Rattle.c_values.specs.declared.status.Status.TheVariants.{Done};
 
 use bytes::Bytes;
 use c_values::Status;
-use journal_entries::entry::{frame_in, note_in};
-use journal_protocol::{Notification, NotificationId};
+use journal_store::{Entered, entered_in};
 use std::alloc::{AllocError, Global};
 
 /// An entry as it is stored, or why there is none.
@@ -63,28 +61,31 @@ pub(crate) fn no_row(status: Status) -> Row
     }
 }
 
-/// The completion id that a notification completes, if it is a completion.
-fn id_completed(note: &Option<Notification>) -> Option<u32>
-    ensures { result ≡ id_completed note.now }
+/// The row of an entry of this length.
+pub(crate) fn entry_row(entered: &Entered, len: usize) -> Row
+    ensures row { result ≡ entry_row (Some entered.now) len }
+    ensures done { status_by result.status ≡ Done }
 {
-    match note {
-        None => None,
-        Some(note) => match &note.id {
-            NotificationId::CompletionId(id) => Some(*id),
-            NotificationId::SignalId(_) => None,
-            NotificationId::SignalName(_) => None,
-        },
+    Row {
+        status: 0,
+        ty: u32::from(entered.ty.number()),
+        is_completion: entered.completes.is_some(),
+        completes: entered.completes.unwrap_or(0),
+        len,
     }
 }
 
-/// The type of the message that an entry is, 0 if it is none.
-fn frame_type(alloc: Global, entry: &Bytes) -> Result<u32, AllocError>
-    ensures { IfOk result (λ ty. ty ≡ frame_type (frame_in entry.now)) }
+/// The row of what is no frame.
+fn unread_row(len: usize) -> Row
+    ensures row { result ≡ entry_row None len }
+    ensures done { status_by result.status ≡ Done }
 {
-    match frame_in(alloc, entry) {
-        Err(error) => Err(error),
-        Ok(None) => Ok(0),
-        Ok(Some(raw)) => Ok(u32::from(raw.ty.number())),
+    Row {
+        status: 0,
+        ty: 0,
+        is_completion: false,
+        completes: 0,
+        len,
     }
 }
 
@@ -93,14 +94,9 @@ pub(crate) fn row_in(alloc: Global, entry: &Bytes) -> Result<Row, AllocError>
     ensures row { IfOk result (λ row. row ≡ row_in entry.now) }
     ensures done { IfOk result (λ row. status_by row.status ≡ Done) }
 {
-    let ty = frame_type(alloc, entry)?;
-    let note = note_in(alloc, entry)?;
-    let completes = id_completed(&note);
-    Ok(Row {
-        status: 0,
-        ty,
-        is_completion: completes.is_some(),
-        completes: completes.unwrap_or(0),
-        len: entry.len(),
-    })
+    match entered_in(alloc, entry) {
+        Err(error) => Err(error),
+        Ok(None) => Ok(unread_row(entry.len())),
+        Ok(Some(entered)) => Ok(entry_row(&entered, entry.len())),
+    }
 }

@@ -34,7 +34,7 @@ use Rattle.engine_inboxes.specs.declared.types.Brought.{Brought}
 use Rattle.engine_inboxes.specs.declared.types.Brought.TheVariants as brought
 use Rattle.engine_inboxes.specs.Notes.{completion, note_by, signal_id}
 use Rattle.engine_inboxes.specs.Ids.{carried_pair, past_new}
-use Rattle.engine_inboxes.specs.Deliverable.{WaitForOthers, CanAllCome, CanCome, Commanded, Deliverable, Entered, IsPendingId, IsCarriedId, IsCarriedNote, IsUnknownFrom, IsUnwaited, Known, MayBeStored, WaitOnce, effect_said, id_is_waited, waits_for_id, is_waited, kind_of, known_in, past_said, waited_by}
+use Rattle.engine_inboxes.specs.Deliverable.{WaitForOthers, CanAllCome, CanCome, Commanded, Deliverable, Entered, IsPendingId, IsCarriedId, IsCarriedNote, IsUnknownFrom, IsProposedApart, IsUnwaited, Known, MayBeStored, WaitOnce, effect_said, id_is_waited, waits_for_id, is_waited, kind_of, kinds_in, known_in, past_said, waited_by}
 
 -- ---- one entry more
 
@@ -135,7 +135,7 @@ others_removed [] i w lt is o = absurd (omega (arith, lt))
 others_removed (x ∷ xs) zero w lt is o = subst (λ v. WaitForOthers v xs) (sym is) o.0
 others_removed (x ∷ xs) (suc i) w lt is o = (other_back x w (all_at (IsOther x) xs i w (omega (arith, lt)) is o.0), others_removed xs i w (omega (arith, lt)) is o.1)
 
-none_some : {A : Type 0} (b : A) → None ≡ Some b → ⊥
+pub none_some : {A : Type 0} (b : A) → None ≡ Some b → ⊥
 none_some b e = cc
 
 -- ---- ids
@@ -146,7 +146,7 @@ is_less id q lt = grind (arith, nat_tests)
 is_more : (id q : ℕ) → q < id → (id == q) ≡ false
 is_more id q lt = grind (arith, nat_tests)
 
-same_id : (id q : ℕ) → (id == q) ≡ true → id ≡ q
+pub same_id : (id q : ℕ) → (id == q) ≡ true → id ≡ q
 same_id id q e = grind (arith, nat_tests)
 
 -- ---- an id is completed
@@ -284,14 +284,14 @@ FitsId w (SignalName s) r = Unit {0}
 itself : (n : ℕ) → (n == n) ≡ true
 itself n = grind (arith, nat_tests)
 
-some_same : {A : Type 0} (a b : A) → Some a ≡ Some b → a ≡ b
+pub some_same : {A : Type 0} (a b : A) → Some a ≡ Some b → a ≡ b
 some_same a b e = cc
 
 signal_fits : (w : Waiting) (s : Signal) (r : NotificationResult) → FitsId w (signal_id s) r
 signal_fits w (signal.Index i) r = tt
 signal_fits w (signal.Name n) r = tt
 
-fits : (w : Waiting) (b : Brought) (n : Notification) → note_by w b ≡ Some n → FitsId w n.id n.result
+pub fits : (w : Waiting) (b : Brought) (n : Notification) → note_by w b ≡ Some n → FitsId w n.id n.result
 fits (waiting.Id id) (brought.Id text) n e = subst (λ (x : Notification). FitsId (waiting.Id id) x.id x.result) (some_same _ n e) (itself id, refl)
 fits (waiting.Id id) (brought.Outcome r) n e = absurd (none_some n e)
 fits (waiting.Id id) (brought.Time t) n e = absurd (none_some n e)
@@ -549,6 +549,30 @@ command_entered entry m ws next new next' e h = record { past = ap (past_said ne
 
 pub other_entered : (entry : List ℕ) (ws : List Waiting) (next : ℕ) → said_at entry ≡ None → Entered entry ws next ws next
 other_entered entry ws next e = record { past = ap (past_said next) e; waits = sym (append-nil ws) ∙ ap (λ o. ws ++ waited_by (effect_said o)) (sym e) }
+
+-- a command is no proposal
+pub command_apart : {A E : Type 0} (r : Result A E) (entry : List ℕ) (m : Message) (ws : List Waiting) → said_at entry ≡ Some m → OnOk r (IsProposedApart entry ws)
+command_apart (Ok a) entry m ws e = λ h. absurd (none_some m (sym h ∙ e))
+command_apart (Err f) entry m ws e = tt
+
+-- ---- all that was ever waited for
+
+-- a command's ids are new ones, so what it waits for is of other ids than all that was waited for
+pub command_adds : (journal : List (List ℕ)) (entry : List ℕ) (m : Message) (ws : List Waiting) (next next' : ℕ) → said_at entry ≡ Some m → past_said next (said_at entry) ≡ Some next' → CanAllCome (kinds_in journal) ws next → CanAllCome (kinds_in (journal ++ entry ∷ [])) (ws ++ waited_by (effect_of m)) next' × AllByRecursion (λ v. (q : ℕ) → waits_for_id q v ≡ true → next ≤ q) (waited_by (effect_of m))
+command_adds journal entry m ws next next' said past c =
+    let k = kinds_in journal in
+    let k' = kinds_in (journal ++ entry ∷ []) in
+    let kinds : (q : ℕ) → k'.kind q ≡ completes_by q m (k.kind q) = λ q. kind_after journal entry q ∙ ap (λ o. kind_with o q (k.kind q)) said in
+    let dones : (q : ℕ) → k'.done q ≡ k.done q = λ q. refl in
+    let o : InOrder next next' (carried_pair m) = in_order next next' (carried_pair m) (sym (ap (past_said next) said) ∙ past) in
+    let n = waited_new k k' m ws next next' kinds dones o c in (
+      with_new k k' m ws next next' kinds dones o c (waited_by (effect_of m)) n,
+      n.ids,
+    )
+
+pub other_adds : (journal : List (List ℕ)) (entry : List ℕ) (ws : List Waiting) (next : ℕ) → said_at entry ≡ None → CanAllCome (kinds_in journal) ws next → CanAllCome (kinds_in (journal ++ entry ∷ [])) ws next
+other_adds journal entry ws next said c =
+    same_come (kinds_in journal) (kinds_in (journal ++ entry ∷ [])) ws next (λ q. kind_after journal entry q ∙ ap (λ o. kind_with o q ((kinds_in journal).kind q)) said) (λ q. refl) c
 
 pub on_ok_then : {A E : Type 0} (r : Result A E) (P Q : Type 0) → (P → Q) → OnOk r P → OnOk r Q
 on_ok_then (Ok a) P Q f h = f h

@@ -91,6 +91,13 @@ pub record CanAllCome (k : Known) (ws : List Waiting) (next : ℕ) : Type 0 wher
   pub come : AllByRecursion (CanCome k) ws
   pub once : WaitOnce ws
 
+-- what a journal's commands say of ids, whether they are completed or not
+abbrev pub kinds_in : List (List ℕ) → Known
+kinds_in journal = record {
+  kind = λ id. completes_among id (said_in journal) None;
+  done = λ id. false;
+}
+
 -- the same by a journal
 abbrev pub Deliverable : List (List ℕ) → List Waiting → ℕ → Type 0
 Deliverable journal ws next = CanAllCome (known_in journal) ws next
@@ -137,6 +144,10 @@ completes_waited (Some n) ws = id_is_waited n.id ws
 -- it completes none that waits
 abbrev pub IsUnwaited : Option Notification → List Waiting → Type 0
 IsUnwaited note ws = completes_waited note ws ≡ false
+
+-- an entry that is no command completes none that waits
+abbrev pub IsProposedApart : List ℕ → List Waiting → Type 0
+IsProposedApart entry ws = said_at entry ≡ None → IsUnwaited (note_in entry) ws
 
 -- a notification that an attempt's proposal became is of an id that a stored command carries
 abbrev pub IsCarriedId : NotificationId → Known → Type 0

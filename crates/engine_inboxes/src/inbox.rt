@@ -5,7 +5,7 @@ ghost use Rattle.engine_inboxes.specs.Ids.{past_new_ids};
 ghost use Rattle.engine_inboxes.specs.Notes.{note_by};
 ghost use Rattle.engine_inboxes.specs.declared.types.Waiting as W;
 ghost use Rattle.engine_inboxes.specs.declared.types.Waiting.TheVariants as waiting;
-ghost use Rattle.engine_inboxes.specs.Deliverable.{Arrives, Commanded, Deliverable, Entered, IsUnwaited, MayBeStored, TakesOut, completes_waited, effect_at, waits_for_id, is_waited, waited_by};
+ghost use Rattle.engine_inboxes.specs.Deliverable.{Arrives, Commanded, Deliverable, Entered, IsProposedApart, IsUnwaited, MayBeStored, TakesOut, completes_waited, effect_at, waits_for_id, is_waited, waited_by};
 
 use crate::ids::past_all;
 use crate::notes::note_by;
@@ -144,6 +144,8 @@ impl Inbox {
             → Deliverable journal self.old.waiting.items self.old.next
             → Deliverable (journal ++ entry.now ∷ []) self.new.waiting.items self.new.next) }
         ensures effect { IfOk result (λ e. e ≡ effect_at entry.now) }
+        // A proposal is of nothing that waits.
+        ensures apart { OnOk result (IsProposedApart entry.now self.old.waiting.items) }
         // What a command waits for is there after all that waited, and nothing else changes.
         ensures entered { OnOk result (Entered entry.now self.old.waiting.items self.old.next
             self.new.waiting.items self.new.next) }

@@ -1,2 +1,6 @@
 pub mod Storing
 pub mod Changing
+pub mod Among
+pub mod Books
+pub mod Growing
+pub mod Keeping

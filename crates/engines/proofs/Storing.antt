@@ -1,11 +1,14 @@
 -- What a store adds to a journal, and what an event of the attempt's own leaves of it.
-use Rattle.std.proofs.Common.{◌≡◌, inl, inr, ℕ, zero, suc, Bool, true, false, cond, List, [], ◌∷◌, ◌++◌, take, map, Option, Some, None, Result, Ok, Err, refl, sym, ap, ◌∙◌, subst, append-nil, slice_index_or}
+use Rattle.std.proofs.Common.{◌≡◌, inl, inr, ℕ, zero, suc, Bool, true, false, cond, List, [], ◌∷◌, ◌++◌, take, map, Option, Some, None, Result, Ok, Err, refl, sym, ap, ◌∙◌, subst, append-nil, slice_index_or, ◌+◌, length, arith}
 use Rattle.std.specs.Prelude.{IfOk, OnOk, is_some}
 use Rattle.std.specs.List.{AllByRecursion, concat}
 use Rattle.std.specs.Option.{option_map}
+use Rattle.std.proofs.lemmas.List.{length_push, same_from_push}
 use Rattle.journal_protocol.specs.Version.{Version}
 use Rattle.journal_protocol.specs.Message.TheVariants as message
 use Rattle.journal_protocol.specs.Notification.{Notification}
+use Rattle.journal_protocol.specs.NotificationId.{NotificationId}
+use Rattle.journal_protocol.specs.NotificationId.TheVariants.{CompletionId, SignalId, SignalName}
 use Rattle.journal_protocol.specs.RawMessage.{RawMessage}
 use Rattle.journal_protocol.specs.Frames.{IsWhole, encoding}
 use Rattle.journal_protocol.specs.Bodies.{message_in, notification_in}
@@ -20,7 +23,7 @@ use Rattle.world_rounds.specs.declared.types.Event.{Event}
 use Rattle.world_rounds.specs.declared.types.Event.TheVariants as event
 use Rattle.journal_entries.specs.declared.fault.JournalFault.{JournalFault}
 use Rattle.journal_entries.specs.Arrivals.{completes_among, completes_id, proposed_fault, room_fault}
-use Rattle.journal_entries.specs.Entries.{frame_in, note_in, note_of, read_from, said_by}
+use Rattle.journal_entries.specs.Entries.{frame_in, note_in, note_of, notes_in, read_from, said_at, said_by}
 use Rattle.journal_protocol.specs.ProposeRunCompletion.{ProposeRunCompletion}
 use Rattle.journal_entries.specs.Proposals.{acknowledged_completion}
 use Rattle.journal_entries.specs.Storing.{NoneFaults, StoredCanBeRead, proposal_of, stored_as, storing_fault, written_among, written_as, written_before, written_from}
@@ -30,8 +33,9 @@ use Rattle.world_rounds.specs.Rounds.{Happens, Now, Pieces, StepsHappen}
 use Rattle.engine_inboxes.specs.declared.types.Brought.{Brought}
 use Rattle.engine_inboxes.specs.declared.types.Waiting.{Waiting}
 use Rattle.engine_inboxes.specs.Notes.{note_by}
-use Rattle.engine_inboxes.specs.Deliverable.{Arrives, Deliverable, IsCarriedNote, IsUnknownFrom, MayBeStored, TakesOut, known_in}
+use Rattle.engine_inboxes.specs.Deliverable.{Arrives, Deliverable, IsCarriedNote, IsUnknownFrom, MayBeStored, TakesOut, effect_at, effect_said, known_in}
 use Rattle.engines.specs.Members.{Delivers, IsOwn, MayStoreOne, MemberView}
+use Rattle.engines.specs.Engines.{entry_of_input}
 
 -- ---- frames
 
@@ -95,6 +99,40 @@ item_may version (Proposal p) journal is fits e =
     subst (λ o. IsCarriedNote o (known_in journal)) (sym (note_read (acknowledged_completion p.id p) fits.0))
     (faultless_carried ((known_in journal).kind p.id) ((known_in journal).done p.id) (room_fault journal) e)
 
+-- a notification that an attempt proposed is of an id that wasn't completed
+abbrev pub IsUndoneId : NotificationId → List (List ℕ) → Type 0
+IsUndoneId (CompletionId id) journal = completes_id id (notes_in journal) ≡ false
+IsUndoneId (SignalId id) journal = Unit {0}
+IsUndoneId (SignalName name) journal = Unit {0}
+
+abbrev pub IsUndone : Option Notification → List (List ℕ) → Type 0
+IsUndone None journal = Unit {0}
+IsUndone (Some n) journal = IsUndoneId n.id journal
+
+faultless_undone : (o : Option Completes) (done : Bool) (room : Option JournalFault) → proposed_fault o done room ≡ None → done ≡ false
+faultless_undone None done room e = absurd (cc)
+faultless_undone (Some kind) true room e = absurd (cc)
+faultless_undone (Some kind) false room e = refl
+
+item_undone : (version : Version) (w : Written) (journal : List (List ℕ)) → IsProper w → StoredCanBeRead version w → storing_fault w journal ≡ None → IsUndone (note_in (stored_as w)) journal
+item_undone version (Command raw) journal is fits e =
+    subst (λ o. IsUndone o journal) (sym (ap (read_from note_of) (frame_back raw fits) ∙ ap (λ b. cond b (notification_in raw.body) None) (command_no_note raw is))) tt
+item_undone version (Proposal p) journal is fits e =
+    subst (λ o. IsUndone o journal) (sym (note_read (acknowledged_completion p.id p) fits.0))
+    (faultless_undone ((known_in journal).kind p.id) ((known_in journal).done p.id) (room_fault journal) e)
+
+not_longer : {A : Type 0} (xs : List A) (x : A) → xs ≡ xs ++ x ∷ [] → ⊥
+not_longer xs x e = let h : length xs ≡ length xs + 1 = ap length e ∙ length_push xs x in omega (arith, h)
+
+-- of the entry that is stored
+facts_few : (version : Version) (ws all : List Written) (old new : List (List ℕ)) (x : List ℕ) → ws ≡ take 1 all → new ≡ old ++ map stored_as ws → NoneFaults ws old → AllByRecursion (StoredCanBeRead version) ws → AllByRecursion IsProper ws → new ≡ old ++ x ∷ [] → MayBeStored x old × IsUndone (note_in x) old
+facts_few version [] all old new x e stored none read is more = absurd (not_longer old x (sym (stored ∙ append-nil old) ∙ more))
+facts_few version (w ∷ []) all old new x e stored none read is more =
+    let same : stored_as w ≡ x = (same_from_push old old (stored_as w) x (sym stored ∙ more)).1 in
+    subst (λ y. MayBeStored y old × IsUndone (note_in y) old) same (item_may version w old is.0 read.0 none.0, item_undone version w old is.0 read.0 none.0)
+facts_few version (w ∷ v ∷ ws) [] old new x e stored none read is more = absurd (cc)
+facts_few version (w ∷ v ∷ ws) (a ∷ all) old new x e stored none read is more = absurd (cc)
+
 few : (version : Version) (ws all : List Written) (old new : List (List ℕ)) → ws ≡ take 1 all → new ≡ old ++ map stored_as ws → NoneFaults ws old → AllByRecursion (StoredCanBeRead version) ws → AllByRecursion IsProper ws → MayStoreOne old new
 few version [] all old new e stored none read is = inl (stored ∙ append-nil old)
 few version (w ∷ []) all old new e stored none read is = inr (stored_as w, stored, item_may version w old is.0 read.0 none.0)
@@ -108,6 +146,14 @@ one_stored m (Some now) old new (is, (next, (journal, waiting, unstored, stores,
     let s : new.journal ≡ journal = ap (λ (v : CourseView _). v.journal) seen ∙ ap (λ (n : Now). n.journal) becomes in
     subst (λ j. MayStoreOne j new.journal) (sym is) (subst (MayStoreOne now.journal) (sym s)
     (few now.version (written_among stores.seen) (written_from (now.unstored ++ concat now.attempt.vm.machine.output)) now.journal journal stores.next stores.stored stores.faultless stores.readable (proper stores.seen)))
+
+-- what is known of the entry that a store adds
+pub stored_facts : {H : Type 0} (m : Meaning) (live : Option Now) (old new : CourseView H) (x : List ℕ) → HappensTo m (event.Store 1) live old new → new.journal ≡ old.journal ++ x ∷ [] → MayBeStored x old.journal × IsUndone (note_in x) old.journal
+stored_facts m None old new x same more = absurd (not_longer old.journal x (sym (ap (λ (v : CourseView _). v.journal) same) ∙ more))
+stored_facts m (Some now) old new x (is, (next, (journal, waiting, unstored, stores, becomes, whole, proposed), seen)) more =
+    let s : new.journal ≡ journal = ap (λ (v : CourseView _). v.journal) seen ∙ ap (λ (n : Now). n.journal) becomes in
+    subst (λ j. MayBeStored x j × IsUndone (note_in x) j) (sym is)
+    (facts_few now.version (written_among stores.seen) (written_from (now.unstored ++ concat now.attempt.vm.machine.output)) now.journal journal x stores.next stores.stored stores.faultless stores.readable (proper stores.seen) (sym s ∙ more ∙ ap (λ j. j ++ x ∷ []) is))
 
 -- ---- an event of the attempt's own
 
@@ -145,15 +191,28 @@ come_lasts o n old new next next' entry journal after is comes noted d e =
 
 -- ---- the journal of a new world
 
+input_frame : (input : List ℕ) → IsWhole (message.Input (record { headers = []; value = input })) → frame_in (entry_of_input input) ≡ Some (stored_form (message.Input (record { headers = []; value = input })))
+input_frame input whole = frame_back (stored_form (message.Input (record { headers = []; value = input }))) whole.1
+
+-- an input is no notification, and asks for nothing
+pub input_note : (input : List ℕ) → IsWhole (message.Input (record { headers = []; value = input })) → note_in (entry_of_input input) ≡ None
+input_note input whole = ap (read_from note_of) (input_frame input whole)
+
+pub input_said : (input : List ℕ) → IsWhole (message.Input (record { headers = []; value = input })) → said_at (entry_of_input input) ≡ Some (message.Input (record { headers = []; value = input }))
+input_said input whole = ap (read_from said_by) (input_frame input whole) ∙ read_back (message.Input (record { headers = []; value = input })) whole
+
+pub input_quiet : (input : List ℕ) → IsWhole (message.Input (record { headers = []; value = input })) → effect_at (entry_of_input input) ≡ None
+input_quiet input whole = ap effect_said (input_said input whole)
+
 -- a journal of one input carries no id, and completes none
-pub first_unknown : (input : List ℕ) (journal : List (List ℕ)) → journal ≡ encoding (message.Input (record { headers = []; value = input })) ∷ [] → IsWhole (message.Input (record { headers = []; value = input })) → IsUnknownFrom (known_in journal) 0
-first_unknown input journal is whole = subst (λ j. IsUnknownFrom (known_in j) 0) (sym is) (of (frame_back (stored_form (message.Input (record { headers = []; value = input }))) whole.1))
-  where
-    of : frame_in (encoding (message.Input (record { headers = []; value = input }))) ≡ Some (stored_form (message.Input (record { headers = []; value = input }))) → IsUnknownFrom (known_in (encoding (message.Input (record { headers = []; value = input })) ∷ [])) 0
-    of e id le = (
-      ap (λ o. completes_among id (read_before (read_from said_by o) []) None) e ∙ ap (λ o. completes_among id (read_before o []) None) (read_back (message.Input (record { headers = []; value = input })) whole),
-      ap (λ o. completes_id id (notified_by (read_from note_of o) [])) e,
-    )
+pub input_unknown : (input : List ℕ) → IsWhole (message.Input (record { headers = []; value = input })) → IsUnknownFrom (known_in (entry_of_input input ∷ [])) 0
+input_unknown input whole id le = (
+  ap (λ o. completes_among id (read_before o []) None) (input_said input whole),
+  ap (λ o. completes_id id (notified_by o [])) (input_note input whole),
+)
+
+pub first_unknown : (input : List ℕ) (journal : List (List ℕ)) → journal ≡ entry_of_input input ∷ [] → IsWhole (message.Input (record { headers = []; value = input })) → IsUnknownFrom (known_in journal) 0
+first_unknown input journal is whole = subst (λ j. IsUnknownFrom (known_in j) 0) (sym is) (input_unknown input whole)
 
 -- what was delivered, as callers see it
 module _ {H : Type 0} (f : H → Meaning) (v : MemberView H) (course : CourseView H) (ws : List Waiting) (next : ℕ) (at : ℕ) (b : Brought) (o : Option Notification) (new : MemberView H) (is : record { course = course; waiting = ws; next = next } ≡ v) (taken : (w : Waiting) → w ≡ slice_index_or ws at w → o ≡ note_by w b) (rest : TakesOut o at ws next new.waiting new.next) where

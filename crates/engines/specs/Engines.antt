@@ -1,20 +1,28 @@
 -- What each event does to the invocations of an engine.
-use Rattle.std.specs.Prelude.{◌≡◌, ◌⊎◌, ℕ, ◌<◌, ◌≤◌, Bool, true, false, List, [], ◌∷◌, length, slice_index_or, slice_set, Option, Some, None, is_some}
+use Rattle.std.specs.Prelude.{◌≡◌, ◌⊎◌, ℕ, ◌<◌, ◌≤◌, max, Bool, true, false, List, [], ◌∷◌, ◌++◌, length, map, slice_get, slice_index_or, slice_set, Option, Some, None, is_some}
+use Rattle.std.specs.Option.{option_and_then, option_map}
+use Rattle.journal_protocol.specs.Message.TheVariants as message
+use Rattle.journal_protocol.specs.Frames.{IsWhole, encoding}
 use Rattle.engines.specs.declared.engine.Engine.{Engine}
 use Rattle.engines.specs.declared.engine.Invocation.{Invocation}
+use Rattle.engines.specs.declared.types.Begun.{Begun}
+use Rattle.engines.specs.declared.types.Callee.{Callee}
+use Rattle.engines.specs.declared.types.Order.{Order}
+use Rattle.engines.specs.declared.types.Target.{Target}
 use Rattle.vm_model.specs.Calls.{Meaning}
+use Rattle.world_rounds.specs.declared.types.Identity.{Identity}
 use Rattle.world_rounds.specs.declared.types.Round.{Round}
+use Rattle.world_rounds.specs.declared.types.Setting.{Setting}
 use Rattle.world_rounds.specs.Course.{BeginsRound}
+use Rattle.engine_effects.specs.declared.effect.Beginning.{Beginning}
 use Rattle.engine_effects.specs.declared.effect.Effect.{Effect}
 use Rattle.engine_effects.specs.declared.effect.Effect.TheVariants as effect
 use Rattle.engine_effects.specs.declared.effect.Sent.{Sent}
 use Rattle.journal_protocol.specs.ValueOrFailure.{ValueOrFailure}
 use Rattle.engine_inboxes.specs.declared.types.Brought.{Brought}
-use Rattle.engine_inboxes.specs.declared.types.Brought.TheVariants as brought
-use Rattle.engine_inboxes.specs.declared.types.Waiting.{Waiting}
-use Rattle.engine_inboxes.specs.declared.types.Waiting.TheVariants as waiting
 use Rattle.engines.specs.declared.types.Happening.{Happening}
 use Rattle.engines.specs.declared.types.Happening.TheVariants as happening
+use Rattle.engines.specs.Lookups.{brought_for, id_of_place, may_begin, place_of, same_as, handler_named}
 use Rattle.engines.specs.Members.{Acts, Delivers, GoesBy, MemberView, StoresNextEntry, with_signal, stopped}
 
 -- the rounds of an invocation go on so, if they are there, and nothing else of it changes
@@ -49,19 +57,105 @@ ChangesAt place R old new = (new ≡ record old { invocations = new.invocations 
     × (NoneAt place old.invocations.items new.invocations.items
     ⊎ ChangesOne place R old.invocations.items new.invocations.items)
 
+-- ---- an invocation is asked for
+
+-- whose invocation a new one is
+abbrev pub new_identity : List ℕ → Order → Identity
+new_identity id order = record {
+  id = id;
+  debug_id = id;
+  key = order.key;
+  random_seed = 0;
+  scope = None;
+  limit_key = None;
+  idempotency_key = order.idempotency_key;
+}
+
+abbrev pub new_setting : {H : Type 0} → Engine H → List ℕ → Order → Setting
+new_setting e id order = record {
+  identity = new_identity id order;
+  options = e.options;
+  version = e.version;
+  base = [];
+}
+
+-- the first entry of a journal: its input
+abbrev pub entry_of_input : List ℕ → List ℕ
+entry_of_input parameter = encoding (message.Input (record { headers = []; value = parameter }))
+
+-- that entry can be read back
+abbrev pub IsWholeInput : List ℕ → Type 0
+IsWholeInput parameter = IsWhole (message.Input (record { headers = []; value = parameter }))
+
+-- a new invocation by itself: its journal is its input, no round has begun, and nothing waits
+abbrev pub new_member : {H : Type 0} → Engine H → H → List ℕ → Order → MemberView H
+new_member e code id order = record {
+  course = record {
+    handler = code;
+    setting = new_setting e id order;
+    given = 1;
+    journal = entry_of_input order.parameter ∷ [];
+    live = None;
+  };
+  waiting = [];
+  next = 0;
+}
+
+-- One is made, as the last: it is what was asked for, it has called nobody, and its input can be
+-- read back.
+pub record MakesInvocation {H : Type 0} (target : ℕ) (order : Order) (begun : Option Begun)
+    (old new : Engine H)
+    : Type 0 where
+  pub of : Target H
+  pub called : slice_get old.targets.now target ≡ Some of
+  pub made : Invocation H
+  pub as_asked : made
+      ≡ record {
+        id = id_of_place (length old.invocations.items);
+        target = target;
+        key = order.key;
+        idempotency_key = order.idempotency_key;
+        begins = order.begins;
+        begun = begun;
+        callees = made.callees;
+        ended = None;
+        member = Some (new_member old of.code (id_of_place (length old.invocations.items)) order);
+      }
+  pub calls_none : made.callees.items ≡ []
+  pub whole : IsWholeInput order.parameter
+  pub engine : new ≡ record old { invocations = new.invocations }
+  pub last : new.invocations.items ≡ old.invocations.items ++ made ∷ []
+
+-- the place is that of the one with the same idempotency key; if there is none, one is made
+abbrev pub FindsOrMakes : {H : Type 0} → Option ℕ → ℕ → Order → Option Begun → Option ℕ → Engine H
+    → Engine H → Type 0
+FindsOrMakes (Some same) target order begun place old new = (place ≡ Some same) × (new ≡ old)
+FindsOrMakes None target order begun place old new =
+    (place ≡ Some (length old.invocations.items)) × MakesInvocation target order begun old new
+
+-- the place is none, if no handler has these names
+abbrev pub OrdersOf : {H : Type 0} → Option ℕ → Order → Option Begun → Option ℕ → Engine H
+    → Engine H → Type 0
+OrdersOf None order begun place old new = (place ≡ None) × (new ≡ old)
+OrdersOf (Some target) order begun place old new =
+    FindsOrMakes (same_as old.invocations.items target order) target order begun place old new
+
+-- An invocation is asked for; the place is that of the one that is meant.
+abbrev pub Orders : {H : Type 0} → Order → Option Begun → Option ℕ → Engine H → Engine H → Type 0
+Orders order begun place old new =
+    OrdersOf (handler_named old.targets.now order.service order.handler) order begun place old new
+
 -- ---- a round begins
 
--- it hasn't ended, and its time has come
-abbrev pub CanBegin : {H : Type 0} → ℕ → Invocation H → Type 0
-CanBegin clock it = (is_some it.ended ≡ false) × (it.begins ≤ clock)
+-- a round to which all of the state is handed out, before its events
+abbrev pub whole_round : Round
+whole_round = record { partial = false; keys = []; retry_count = 0; duration = 0; events = [] }
 
--- a round begins that is given all that there is
-abbrev pub BeginsWhole : {H : Type 0} → MemberView H → MemberView H → Type 0
-BeginsWhole old new = (round : Round) × (round.partial ≡ false) × GoesBy (BeginsRound round) old new
-
--- a round of it begins, which may
-abbrev pub BeginsIn : {H : Type 0} → ℕ → Invocation H → Invocation H → Type 0
-BeginsIn clock old new = CanBegin clock old × MemberGoes BeginsWhole old new
+-- it begins, if it may
+abbrev pub BeginsIf : {H : Type 0} → Bool → ℕ → Engine H → Engine H → Type 0
+BeginsIf false place old new = new ≡ old
+BeginsIf true place old new = ChangesAt place (MemberGoes (GoesBy (BeginsRound whole_round))) old
+    new
 
 -- ---- an entry is stored
 
@@ -88,17 +182,44 @@ StoresIn meaning asks old new = StoresUnless (is_some old.ended) meaning asks ol
 abbrev pub EndsWith : {H : Type 0} → ValueOrFailure → Invocation H → Invocation H → Type 0
 EndsWith ends old new = new ≡ record old { ended = Some ends }
 
--- a signal waits for an invocation, or there is none to whom it was sent
-abbrev pub Sends : {H : Type 0} → Sent → Engine H → Engine H → Type 0
-Sends sent old new = (new ≡ old) ⊎ ((place : ℕ)
-    × ChangesAt place (MemberGoes (λ a b. b ≡ with_signal sent.signal sent.brings a)) old new)
+-- what is sent waits for the invocation of this id, if there is one
+abbrev pub SendsToPlace : {H : Type 0} → Option ℕ → Sent → Engine H → Engine H → Type 0
+SendsToPlace None sent old new = new ≡ old
+SendsToPlace (Some place) sent old new = ChangesAt place
+    (MemberGoes (λ a b. b ≡ with_signal sent.signal sent.brings a)) old new
 
--- What it asks for is done. (What a call begins is not said here.)
+abbrev pub Sends : {H : Type 0} → Sent → Engine H → Engine H → Type 0
+Sends sent old new = SendsToPlace (place_of old.invocations.items sent.to) sent old new
+
+-- the invocation that a call asks for
+abbrev pub order_of : Beginning → Order
+order_of b = record {
+  service = b.service;
+  handler = b.handler;
+  key = b.key;
+  idempotency_key = b.idempotency_key;
+  parameter = b.parameter;
+  begins = b.begins;
+}
+
+-- one row more of what its calls have begun
+abbrev pub AddsCallee : {H : Type 0} → Callee → Invocation H → Invocation H → Type 0
+AddsCallee row old new = (new ≡ record old { callees = new.callees })
+    × (new.callees.items ≡ old.callees.items ++ row ∷ [])
+
+-- The invocation that a call asks for begins, or is found; the caller has a row of it.
+pub record BeginsFor {H : Type 0} (by : ℕ) (b : Beginning) (old new : Engine H) : Type 0 where
+  pub mid : Engine H
+  pub place : Option ℕ
+  pub orders : Orders (order_of b) (Some (record { by = by; call = b.id_completes })) place old mid
+  pub row : ChangesAt by (AddsCallee (record { call = b.id_completes; place = place })) mid new
+
+-- what it asks for is done
 abbrev pub DoesEffect : {H : Type 0} → ℕ → Effect → Engine H → Engine H → Type 0
 DoesEffect by (effect.Wait timer) old new = new ≡ old
 DoesEffect by (effect.Result ends) old new = ChangesAt by (EndsWith ends) old new
 DoesEffect by (effect.Send sent) old new = Sends sent old new
-DoesEffect by (effect.Begin begun) old new = Unit {0}
+DoesEffect by (effect.Begin begun) old new = BeginsFor by begun old new
 
 abbrev pub PerformsIf : {H : Type 0} → ℕ → Option Effect → Engine H → Engine H → Type 0
 PerformsIf by None old new = new ≡ old
@@ -109,24 +230,23 @@ pub record StoresAndPerforms {H : Type 0} (meaning : H → Meaning) (place : ℕ
     : Type 0 where
   pub mid : Engine H
   pub asks : Option Effect
+  pub nobody : length old.invocations.items ≤ place → asks ≡ None
   pub stores : ChangesAt place (StoresIn meaning asks) old mid
   pub performs : PerformsIf place asks mid new
 
 -- ---- a delivery
 
--- what is there for what waits: for a sleep and a signal it is the clock
-abbrev pub IsThereFor : ℕ → Waiting → Option Brought → Type 0
-IsThereFor clock (waiting.Clock timer) o = o ≡ Some (brought.Time clock)
-IsThereFor clock (waiting.Signal s brings) o = o ≡ Some (brought.Time clock)
-IsThereFor clock (waiting.Id call) o = Unit {0}
-IsThereFor clock (waiting.Outcome id call) o = Unit {0}
-
 -- what is there for what waits at a place of the inbox of an invocation
-abbrev pub IsThereAt : {H : Type 0} → ℕ → ℕ → Engine H → Option Brought → Type 0
-IsThereAt {H} place at e o = (it : Invocation H) (m : MemberView H) (w : Waiting)
-    → place < length e.invocations.items
-    → it ≡ slice_index_or e.invocations.items place it → it.member ≡ Some m
-    → at < length m.waiting → w ≡ slice_index_or m.waiting at w → IsThereFor e.clock w o
+abbrev pub brought_in : {H : Type 0} → Engine H → ℕ → ℕ → Option (MemberView H) → Option Brought
+brought_in e place at None = None
+brought_in e place at (Some m) = option_and_then (brought_for e place) (slice_get m.waiting at)
+
+abbrev pub brought_of : {H : Type 0} → Engine H → ℕ → ℕ → Option (Invocation H) → Option Brought
+brought_of e place at None = None
+brought_of e place at (Some it) = brought_in e place at it.member
+
+abbrev pub brought_at : {H : Type 0} → Engine H → ℕ → ℕ → Option Brought
+brought_at e place at = brought_of e place at (slice_get e.invocations.items place)
 
 -- it comes, unless the invocation has ended
 abbrev pub DeliversUnless : {H : Type 0} → Bool → (H → Meaning) → ℕ → Brought → Invocation H
@@ -140,18 +260,28 @@ abbrev pub DeliversTo : {H : Type 0} → (H → Meaning) → ℕ → Brought →
 DeliversTo meaning at b old new = DeliversUnless (is_some old.ended) meaning at b old new
 
 -- what is there comes; if nothing is, nothing changes
+abbrev pub DeliversIf : {H : Type 0} → (H → Meaning) → ℕ → ℕ → Option Brought → Engine H → Engine H
+    → Type 0
+DeliversIf meaning place at None old new = new ≡ old
+DeliversIf meaning place at (Some b) old new =
+    ChangesAt place (DeliversTo meaning at b) old new
+
 abbrev pub DeliversAt : {H : Type 0} → (H → Meaning) → ℕ → ℕ → Engine H → Engine H → Type 0
-DeliversAt meaning place at old new = (IsThereAt place at old None × (new ≡ old))
-    ⊎ ((b : Brought) × IsThereAt place at old (Some b)
-    × ChangesAt place (DeliversTo meaning at b) old new)
+DeliversAt meaning place at old new =
+    DeliversIf meaning place at (brought_at old place at) old new
 
 -- ---- an event
 
--- What an event does. (What a submit makes, and that all attempts are lost, is not said here.)
+-- no attempt of it lives then
+abbrev pub stopped_in : {H : Type 0} → Invocation H → Invocation H
+stopped_in it = record it { member = option_map stopped it.member }
+
+-- What an event does.
 abbrev pub HappeningDoes : {H : Type 0} → (H → Meaning) → Happening → Engine H → Engine H → Type 0
-HappeningDoes meaning (happening.Submit order) old new = Unit {0}
-HappeningDoes meaning (happening.Begin place) old new = (new ≡ old)
-    ⊎ ChangesAt place (BeginsIn old.clock) old new
+HappeningDoes meaning (happening.Submit order) old new =
+    (place : Option ℕ) × Orders order None place old new
+HappeningDoes meaning (happening.Begin place) old new =
+    BeginsIf (may_begin old place) place old new
 HappeningDoes meaning (happening.Act place e) old new = ChangesAt place
     (MemberGoes (λ m. Acts (meaning m.course.handler) e m)) old new
 HappeningDoes meaning (happening.Deliver place at) old new = DeliversAt meaning place at old new
@@ -159,9 +289,10 @@ HappeningDoes meaning (happening.Store place) old new = StoresAndPerforms meanin
 HappeningDoes meaning (happening.Stop place) old new = ChangesAt place
     (MemberGoes (λ a b. b ≡ stopped a))
     old new
-HappeningDoes meaning happening.StopAll old new = Unit {0}
-HappeningDoes meaning (happening.Clock t) old new = (new ≡ record old { clock = new.clock })
-    × (old.clock ≤ new.clock) × (t ≤ new.clock) × ((new.clock ≡ old.clock) ⊎ (new.clock ≡ t))
+HappeningDoes meaning happening.StopAll old new =
+    (new ≡ record old { invocations = new.invocations })
+    × (new.invocations.items ≡ map stopped_in old.invocations.items)
+HappeningDoes meaning (happening.Clock t) old new = new ≡ record old { clock = max old.clock t }
 
 -- what events do, one after another
 abbrev pub AllHappen : {H : Type 0} → (H → Meaning) → List Happening → Engine H → Engine H → Type 0

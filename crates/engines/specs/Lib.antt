@@ -1,3 +1,5 @@
 pub mod Faults
 pub mod Members
+pub mod Lookups
 pub mod Engines
+pub mod Between

@@ -12,7 +12,7 @@ use Rattle.engine_inboxes.specs.Notes.{note_by}
 use Rattle.world_rounds.specs.Course.{CourseView, HappensTo}
 use Rattle.world_rounds.specs.declared.types.Event.{Event}
 use Rattle.world_rounds.specs.declared.types.Event.TheVariants as event
-use Rattle.engine_inboxes.specs.Deliverable.{Entered, MayBeStored, effect_at}
+use Rattle.engine_inboxes.specs.Deliverable.{Entered, IsProposedApart, MayBeStored, effect_at}
 use Rattle.engine_inboxes.specs.declared.types.Waiting.{Waiting}
 use Rattle.engine_inboxes.specs.declared.types.Waiting.TheVariants as waiting
 
@@ -59,12 +59,13 @@ abbrev pub with_signal : {H : Type 0} → Signal → NotificationResult → Memb
 with_signal s brings old = record old { waiting = old.waiting ++ waiting.Signal s brings ∷ [] }
 
 -- One entry more is stored; what it waits for is there after all that waited, and this is what it
--- asks for.
+-- asks for. If it is no command, it completes nothing that waits.
 pub record StoresEntry {H : Type 0} (old new : MemberView H) (asks : Option Effect) : Type 0 where
   pub entry : List ℕ
   pub stored : new.course.journal ≡ old.course.journal ++ entry ∷ []
   pub entered : Entered entry old.waiting old.next new.waiting new.next
   pub effect : asks ≡ effect_at entry
+  pub apart : IsProposedApart entry old.waiting
 
 -- nothing is stored, so nothing waits or is asked for
 pub record NoEntry {H : Type 0} (old new : MemberView H) (asks : Option Effect) : Type 0 where

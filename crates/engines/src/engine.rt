@@ -1,7 +1,8 @@
 //! An engine's state: its invocations, and the clock.
-ghost use Rattle.std.specs.Prelude.{◌≡◌, ◌<◌, true, false, length, slice_index_or, IfOk, IfErr};
-ghost use Rattle.engines.specs.declared.engine.Invocation.{Invocation};
-ghost use Rattle.engines.specs.Engines.{CanBegin};
+ghost use Rattle.std.specs.Prelude.{◌≡◌, ◌<◌, ◌≤◌, ◌∷◌, [], length, position, None, Some, IfOk, IfErr, IfSome, OnOk};
+ghost use Rattle.engines.specs.Engines.{FindsOrMakes, IsWholeInput, MakesInvocation, Orders, entry_of_input, new_identity, whole_round};
+ghost use Rattle.std.specs.List.{list_any};
+ghost use Rattle.engines.specs.Lookups.{has_turn, id_of_place, is_before, is_kept, is_same, is_text, may_begin, place_of, same_as, share, handler_named};
 ghost use Rattle.engine_inboxes.specs.Deliverable.{IsUnknownFrom, known_in};
 ghost use Rattle.engines.specs.Faults.{IsNoArrival};
 
@@ -56,6 +57,31 @@ impl<'a, H: Handler> Drop for Invocation<'a, H> {
     }
 }
 
+/// Whether an invocation has this idempotency key.
+fn is_kept(own: &Option<Text>, asked: &Text) -> bool
+    ensures { result ≡ is_kept own.now asked.now }
+{
+    match own {
+        None => false,
+        Some(own) => *own == *asked,
+    }
+}
+
+impl<'a, H: Handler> Invocation<'a, H> {
+    /// Whether it is of this handler, this key and this idempotency key.
+    fn is_same(&self, target: usize, key: &Text, asked: &Text) -> bool
+        ensures { result ≡ is_same target key.now asked.now self.now }
+    {
+        self.target == target && self.key == *key && is_kept(&self.idempotency_key, asked)
+    }
+
+    fn has_id(&self, id: &[u8]) -> bool
+        ensures { result ≡ is_text self.now.id id.now }
+    {
+        self.id.as_str().as_bytes() == id
+    }
+}
+
 /// Invocations of these handlers, beside each other.
 pub struct Engine<'a, H: Handler + Drop> {
     pub alloc: Global,
@@ -83,7 +109,7 @@ impl<'a, H: Handler + Drop> Drop for Engine<'a, H> {
 
 /// A whole round, before any of its events.
 pub fn whole_round(alloc: Global) -> Round
-    ensures { result.partial ≡ false }
+    ensures { result ≡ whole_round }
 {
     Round {
         partial: false,
@@ -94,7 +120,9 @@ pub fn whole_round(alloc: Global) -> Round
     }
 }
 
-fn identity(alloc: Global, id: &Text, order: &Order) -> Result<Identity, AllocError> {
+fn identity(alloc: Global, id: &Text, order: &Order) -> Result<Identity, AllocError>
+    ensures { IfOk result (λ identity. identity ≡ new_identity id.now order.now) }
+{
     Ok(Identity {
         id: Bytes::copy_from_slice(alloc, id.as_str().as_bytes())?,
         debug_id: id.clone()?,
@@ -106,7 +134,10 @@ fn identity(alloc: Global, id: &Text, order: &Order) -> Result<Identity, AllocEr
     })
 }
 
-fn id_at(alloc: Global, place: usize) -> Result<Text, AllocError> {
+/// The id of the invocation that is made as the one at this place.
+fn new_id(alloc: Global, place: usize) -> Result<Text, AllocError>
+    ensures { IfOk result (λ id. id ≡ id_of_place place) }
+{
     Ok(Text::from_string(format!(in alloc; "inv_{place}")?))
 }
 
@@ -127,7 +158,16 @@ fn world_of(
     id: &Text,
     order: &Order,
 ) -> Result<World, EngineFault>
+    ensures setting { IfOk result (λ w. w.setting
+        ≡ record {
+          identity = new_identity id.now order.now;
+          options = options;
+          version = version;
+          base = [];
+        }) }
+    ensures journal { IfOk result (λ w. w.journal ≡ entry_of_input order.now.parameter ∷ []) }
     ensures new { IfOk result (λ w. IsUnknownFrom (known_in w.journal) 0) }
+    ensures whole { OnOk result (IsWholeInput order.now.parameter) }
     ensures err { IfErr result IsNoArrival }
 {
     let Ok(identity) = identity(alloc, id, order) else {
@@ -142,6 +182,60 @@ fn world_of(
     }
 }
 
+/// A new invocation of a handler: it is what was asked for, and it has called nobody.
+fn new_invocation<'a, H: Handler>(
+    alloc: Global,
+    code: &'a H,
+    target: usize,
+    id: Text,
+    order: Order,
+    begun: Option<Begun>,
+    world: World,
+) -> Invocation<'a, H>
+    requires { IsUnknownFrom (known_in world.journal) 0 }
+    ensures made { result
+        ≡ record {
+          id = id;
+          target = target;
+          key = order.key;
+          idempotency_key = order.idempotency_key;
+          begins = order.begins;
+          begun = begun;
+          callees = result.callees;
+          ended = None;
+          member = Some (record {
+            course = record {
+              handler = code.now;
+              setting = world.setting;
+              given = length world.journal;
+              journal = world.journal;
+              live = None;
+            };
+            waiting = [];
+            next = 0;
+          });
+        } }
+    ensures calls_none { result.callees.items ≡ [] }
+{
+    let Order {
+        key,
+        idempotency_key,
+        begins,
+        ..
+    } = order;
+    Invocation {
+        id,
+        target,
+        key,
+        idempotency_key,
+        begins,
+        begun,
+        callees: Vec::new(alloc),
+        ended: None,
+        member: Some(Member::new(alloc, Course::new(world, code))),
+    }
+}
+
 impl<'a, H: Handler + Drop> Engine<'a, H> {
     /// An engine without an invocation, at the epoch.
     pub fn new(
@@ -149,7 +243,9 @@ impl<'a, H: Handler + Drop> Engine<'a, H> {
         targets: &'a [Target<H>],
         options: VMOptions,
         version: Version,
-    ) -> Self {
+    ) -> Self
+        ensures { result.invocations.items ≡ [] }
+    {
         Engine {
             alloc,
             targets,
@@ -161,80 +257,93 @@ impl<'a, H: Handler + Drop> Engine<'a, H> {
     }
 
     /// Which handler is called by these names.
-    fn target_of(&self, service: &Text, handler: &Text) -> Option<usize> {
-        for (place, target) in self.targets.iter().enumerate() {
-            if target.service == *service && target.handler == *handler {
-                return Some(place);
-            }
-        }
-        None
+    fn handler_named(&self, service: &Text, handler: &Text) -> Option<usize>
+        ensures place { result ≡ handler_named self.now.targets.now service.now handler.now }
+        ensures within { IfSome result (λ place. place < length self.now.targets.now) }
+    {
+        self.targets
+            .iter()
+            .position(|target| target.has_names(service, handler))
+    }
+
+    /// The first invocation of this handler, this key and this idempotency key.
+    fn first_same(&self, target: usize, key: &Text, asked: &Text) -> Option<usize>
+        ensures { result ≡ position (is_same target key.now asked.now)
+            self.now.invocations.items }
+    {
+        self.invocations
+            .iter()
+            .position(|it| it.is_same(target, key, asked))
     }
 
     /// The invocation that was asked for with this idempotency key, if one was.
-    fn same_as(&self, target: usize, order: &Order) -> Option<usize> {
-        let Some(asked) = &order.idempotency_key else {
-            return None;
-        };
-        for (place, it) in self.invocations.iter().enumerate() {
-            if let Some(key) = &it.idempotency_key {
-                if it.target == target && it.key == order.key && *key == *asked {
-                    return Some(place);
-                }
-            }
+    fn same_as(&self, target: usize, order: &Order) -> Option<usize>
+        ensures { result ≡ same_as self.now.invocations.items target order.now }
+    {
+        match &order.idempotency_key {
+            None => None,
+            Some(asked) => self.first_same(target, &order.key, asked),
         }
-        None
     }
 
     /// The place of the invocation of this id.
-    pub fn place_of(&self, id: &[u8]) -> Option<usize> {
-        for (place, it) in self.invocations.iter().enumerate() {
-            if it.id.as_str().as_bytes() == id {
-                return Some(place);
-            }
-        }
-        None
+    pub fn place_of(&self, id: &[u8]) -> Option<usize>
+        ensures { result ≡ place_of self.now.invocations.items id.now }
+    {
+        self.invocations.iter().position(|it| it.has_id(id))
     }
 
-    /// Makes an invocation; answers its place.
+    /// MakesInvocation an invocation of this handler, as the last.
     fn make(
         &mut self,
         target: usize,
         order: Order,
         begun: Option<Begun>,
-    ) -> Result<Option<usize>, EngineFault>
+    ) -> Result<usize, EngineFault>
+        requires { target < length self.old.targets.now }
+        ensures made { OnOk result (MakesInvocation target order begun self.old self.new) }
+        ensures place { IfOk result (λ place. place ≡ length self.old.invocations.items) }
         ensures err { IfErr result IsNoArrival }
     {
         let place = self.invocations.len();
-        let Some(found) = self.targets.get(target) else {
-            return Ok(None);
-        };
-        let Ok(id) = id_at(self.alloc, place) else {
+        let Ok(id) = new_id(self.alloc, place) else {
             return Err(EngineFault::Memory);
         };
         let world = match world_of(self.alloc, self.options, self.version, &id, &order) {
             Ok(world) => world,
             Err(fault) => return Err(fault),
         };
-        let Order {
-            key,
-            idempotency_key,
-            begins,
-            ..
-        } = order;
-        let made = Invocation {
-            id,
+        let made = new_invocation(
+            self.alloc,
+            &self.targets[target].code,
             target,
-            key,
-            idempotency_key,
-            begins,
+            id,
+            order,
             begun,
-            callees: Vec::new(self.alloc),
-            ended: None,
-            member: Some(Member::new(self.alloc, Course::new(world, &found.code))),
-        };
+            world,
+        );
         match self.invocations.push(made) {
-            Ok(()) => Ok(Some(place)),
+            Ok(()) => Ok(place),
             Err(_) => Err(EngineFault::Memory),
+        }
+    }
+
+    /// The place of the invocation of an order's idempotency key: if there is none, one is made.
+    fn found_or_made(
+        &mut self,
+        target: usize,
+        order: Order,
+        begun: Option<Begun>,
+    ) -> Result<usize, EngineFault>
+        requires { target < length self.old.targets.now }
+        ensures does { IfOk result
+            (λ place. FindsOrMakes (same_as self.old.invocations.items target order) target order
+            begun (Some place) self.old self.new) }
+        ensures err { IfErr result IsNoArrival }
+    {
+        match self.same_as(target, &order) {
+            Some(place) => Ok(place),
+            None => self.make(target, order, begun),
         }
     }
 
@@ -245,44 +354,58 @@ impl<'a, H: Handler + Drop> Engine<'a, H> {
         order: Order,
         begun: Option<Begun>,
     ) -> Result<Option<usize>, EngineFault>
+        ensures does { IfOk result (λ place. Orders order begun place self.old self.new) }
         ensures err { IfErr result IsNoArrival }
     {
-        let Some(target) = self.target_of(&order.service, &order.handler) else {
-            return Ok(None);
-        };
-        match self.same_as(target, &order) {
-            Some(place) => Ok(Some(place)),
-            None => self.make(target, order, begun),
+        match self.handler_named(&order.service, &order.handler) {
+            None => Ok(None),
+            Some(target) => match self.found_or_made(target, order, begun) {
+                Ok(place) => Ok(Some(place)),
+                Err(fault) => Err(fault),
+            },
         }
     }
 
-    /// Whether two handlers are exclusive ones of one service.
-    fn shares(&self, one: usize, other: usize) -> bool {
+    /// Whether the handlers at these places are exclusive ones of one service.
+    fn share(&self, one: usize, other: usize) -> bool
+        ensures { result ≡ share self.now.targets.now one other }
+    {
         match (self.targets.get(one), self.targets.get(other)) {
-            (Some(one), Some(other)) => one.exclusive
-                && other.exclusive
-                && one.service == other.service,
+            (Some(one), Some(other)) => one.shares(other),
             _ => false,
         }
     }
 
-    /// Whether each earlier invocation of an exclusive handler of its key has ended.
-    fn has_turn(&self, place: usize, own: &Invocation<'a, H>) -> bool {
-        for (other, it) in self.invocations.iter().enumerate() {
-            if other >= place {
+    /// Whether an invocation goes on and is of an exclusive handler of the same key.
+    fn is_before(&self, own: &Invocation<'a, H>, it: &Invocation<'a, H>) -> bool
+        ensures { result ≡ is_before self.now.targets.now own.now it.now }
+    {
+        it.ended.is_none() && it.key == own.key && self.share(it.target, own.target)
+    }
+
+    /// Whether one of these goes on and is of an exclusive handler of the same key.
+    fn any_before(&self, its: &[Invocation<'a, H>], own: &Invocation<'a, H>) -> bool
+        ensures { result ≡ list_any (is_before self.now.targets.now own.now) its.now }
+    {
+        for it in its {
+            if self.is_before(own, it) {
                 return true;
             }
-            if it.ended.is_none() && it.key == own.key && self.shares(it.target, own.target) {
-                return false;
-            }
         }
-        true
+        false
+    }
+
+    /// Whether each earlier invocation of an exclusive handler of its key has ended.
+    fn has_turn(&self, place: usize, own: &Invocation<'a, H>) -> bool
+        requires { place ≤ length self.now.invocations.items }
+        ensures { result ≡ has_turn self.now place own.now }
+    {
+        !self.any_before(&self.invocations[..place], own)
     }
 
     /// Whether an attempt of this invocation may begin: it hasn't ended, its time has come, and so has its turn.
     pub fn may_begin(&self, place: usize) -> bool
-        ensures { result ≡ true → (it : Invocation _) → place < length self.now.invocations.items
-            → it ≡ slice_index_or self.now.invocations.items place it → CanBegin self.now.clock it }
+        ensures { result ≡ may_begin self.now place }
     {
         match self.invocations.get(place) {
             Some(it) => it.ended.is_none() && it.begins <= self.clock && self.has_turn(place, it),

@@ -1,18 +1,23 @@
 //! The events of an engine, one by one.
-ghost use Rattle.std.specs.Prelude.{◌≡◌, ◌⊎◌, ◌≤◌, length, None, IfErr, IfOk, OnOk};
+ghost use Rattle.std.specs.Prelude.{◌≡◌, ◌≤◌, ℕ, length, map, None, Option, IfErr, IfOk, OnOk};
+ghost use Rattle.engines.specs.Between.{AllKept};
+ghost use Rattle.engines.specs.Lookups.{may_begin};
 ghost use Rattle.engines.specs.Members.{Acts, MemberView, stopped};
-ghost use Rattle.engines.specs.Engines.{AllHappen, BeginsIn, ChangesAt, DeliversAt, MemberGoes, HappeningDoes, IsThereAt, StoresIn, StoresAndPerforms};
+ghost use Rattle.engines.specs.Engines.{AllHappen, BeginsIf, ChangesAt, DeliversAt, HappeningDoes, MemberGoes, Orders, StoresAndPerforms, StoresIn, brought_at, stopped_in};
 ghost use Rattle.engines.specs.Faults.{IsNoArrival};
 
 use crate::engine::{Engine, whole_round};
-use crate::types::{EngineFault, Happening, Order};
+use crate::types::{EngineFault, Happening, Order, Target};
 use engine_effects::Effect;
 use engine_inboxes::Brought;
-use std::alloc::AllocError;
-use vm_types::Handler;
+use journal_protocol::Version;
+use std::alloc::{AllocError, Global};
+use vm_types::{Handler, VMOptions};
 use world_rounds::Event;
 
-fn copy_order(order: &Order) -> Result<Order, AllocError> {
+fn copy_order(order: &Order) -> Result<Order, AllocError>
+    ensures { IfOk result (λ copy. copy ≡ order.now) }
+{
     Ok(Order {
         service: order.service.clone()?,
         handler: order.handler.clone()?,
@@ -25,6 +30,8 @@ fn copy_order(order: &Order) -> Result<Order, AllocError> {
 
 impl<'a, H: Handler + Drop> Engine<'a, H> {
     fn submit(&mut self, order: &Order) -> Result<(), EngineFault>
+        ensures does { OnOk result
+            ((place : Option ℕ) × Orders order.now None place self.old self.new) }
         ensures err { IfErr result IsNoArrival }
     {
         let Ok(order) = copy_order(order) else {
@@ -37,8 +44,7 @@ impl<'a, H: Handler + Drop> Engine<'a, H> {
     }
 
     fn begin(&mut self, place: usize) -> Result<(), EngineFault>
-        ensures does { OnOk result ((self.new ≡ self.old)
-            ⊎ ChangesAt place (BeginsIn self.old.clock) self.old self.new) }
+        ensures does { OnOk result (BeginsIf (may_begin self.old place) place self.old self.new) }
         ensures err { IfErr result IsNoArrival }
     {
         if !self.may_begin(place) {
@@ -83,7 +89,7 @@ impl<'a, H: Handler + Drop> Engine<'a, H> {
 
     /// What is there for what waits at this place.
     fn brought_at(&self, place: usize, at: usize) -> Result<Option<Brought>, AllocError>
-        ensures { IfOk result (IsThereAt place at self.now) }
+        ensures { IfOk result (λ o. o ≡ brought_at self.now place at) }
     {
         let Some(it) = self.invocations.get(place) else {
             return Ok(None);
@@ -172,7 +178,10 @@ impl<'a, H: Handler + Drop> Engine<'a, H> {
         }
     }
 
-    fn stop_all(&mut self) {
+    fn stop_all(&mut self)
+        ensures engine { self.new ≡ record self.old { invocations = self.new.invocations } }
+        ensures all { self.new.invocations.items ≡ map stopped_in self.old.invocations.items }
+    {
         for place in 0..self.invocations.len() {
             self.stop(place);
         }
@@ -225,4 +234,21 @@ pub fn run_engine<'a, H: Handler + Drop>(
         }
     }
     Ok(engine)
+}
+
+/// Events over an engine that has no invocation yet.
+pub fn play_engine<'a, H: Handler + Drop>(
+    alloc: Global,
+    targets: &'a [Target<H>],
+    options: VMOptions,
+    version: Version,
+    events: &[Happening],
+) -> Result<Engine<'a, H>, EngineFault>
+    // Each stored call has one callee, whose id and result it gets; no sleep ends before its time; an invocation's result is that of its
+    // first stored output.
+    ensures kept { IfOk result AllKept }
+    // No arrival has a fault.
+    ensures err { IfErr result IsNoArrival }
+{
+    run_engine(Engine::new(alloc, targets, options, version), events)
 }

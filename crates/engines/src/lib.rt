@@ -9,6 +9,6 @@ mod perform;
 mod types;
 
 pub use engine::{Engine, Invocation};
-pub use happen::run_engine;
+pub use happen::{play_engine, run_engine};
 pub use member::Member;
 pub use types::{Begun, Callee, EngineFault, Happening, Order, Target};

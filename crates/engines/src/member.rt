@@ -5,7 +5,7 @@ ghost use Rattle.journal_entries.specs.Arrivals.{arrival_fault, room_fault};
 ghost use Rattle.journal_entries.specs.Entries.{note_in};
 ghost use Rattle.engines.specs.Faults.{IsMemoryOrFull, IsNoArrival};
 ghost use Rattle.engines.specs.Members.{Acts, CantCome, Delivers, GoesBy, IsOwn, MayStoreOne, StoresNextEntry, with_signal, stopped};
-ghost use Rattle.engine_inboxes.specs.Deliverable.{Entered, effect_at};
+ghost use Rattle.engine_inboxes.specs.Deliverable.{Entered, IsProposedApart, effect_at};
 ghost use Rattle.world_rounds.specs.Course.{BeginsRound, HappensTo};
 ghost use Rattle.world_rounds.specs.declared.types.Event.TheVariants as event;
 
@@ -109,6 +109,8 @@ fn stored_at(
     ensures entered { OnOk result ((old : List (List ℕ)) (x : List ℕ) → length old ≡ before
         → journal.now ≡ old ++ x ∷ []
         → Entered x inbox.old.waiting.items inbox.old.next inbox.new.waiting.items inbox.new.next) }
+    ensures apart { OnOk result ((old : List (List ℕ)) (x : List ℕ) → length old ≡ before
+        → journal.now ≡ old ++ x ∷ [] → IsProposedApart x inbox.old.waiting.items) }
     ensures effect { IfOk result (λ e. (old : List (List ℕ)) (x : List ℕ) → length old ≡ before
         → journal.now ≡ old ++ x ∷ [] → e ≡ effect_at x) }
 {
@@ -151,6 +153,7 @@ impl<'a, H: Handler> Member<'a, H> {
     /// An invocation before its first round.
     pub fn new(alloc: Global, course: Course<'a, H>) -> Self
         requires { IsUnknownFrom (known_in course.journal) 0 }
+        ensures { result ≡ record { course = course.entry; waiting = []; next = 0 } }
     {
         Member {
             alloc,

@@ -1,9 +1,12 @@
 //! What a stored command does to other invocations, and what is there for what waits.
-ghost use Rattle.std.specs.Prelude.{IfErr, IfOk, OnOk};
-ghost use Rattle.engines.specs.Engines.{IsThereFor, DoesEffect, Sends};
+ghost use Rattle.std.specs.Prelude.{◌≡◌, IfErr, IfOk, OnOk};
+ghost use Rattle.std.specs.Option.{option_map};
+ghost use Rattle.engine_inboxes.specs.declared.types.Brought.TheVariants as brought;
+ghost use Rattle.engines.specs.Engines.{AddsCallee, BeginsFor, ChangesAt, DoesEffect, Sends};
+ghost use Rattle.engines.specs.Lookups.{brought_for, callee_in, callee_of, callee_id, no_handler, callee_result};
 ghost use Rattle.engines.specs.Faults.{IsNoArrival};
 
-use crate::engine::Engine;
+use crate::engine::{Engine, Invocation};
 use crate::types::{Begun, Callee, EngineFault, Order};
 use engine_effects::{Beginning, Effect, Sent};
 use engine_inboxes::{Brought, Waiting};
@@ -13,7 +16,9 @@ use std::alloc::{AllocError, Global};
 use vm_types::Handler;
 
 /// The result of a call of a handler that isn't there.
-fn no_handler(alloc: Global) -> Result<ValueOrFailure, AllocError> {
+fn no_handler(alloc: Global) -> Result<ValueOrFailure, AllocError>
+    ensures { IfOk result (λ ends. ends ≡ no_handler) }
+{
     Ok(ValueOrFailure::Failure(Failure {
         code: 404,
         message: Text::from_str(alloc, "there is no such handler")?,
@@ -21,9 +26,32 @@ fn no_handler(alloc: Global) -> Result<ValueOrFailure, AllocError> {
     }))
 }
 
+/// The row of this call.
+fn callee_in(rows: &[Callee], call: u32) -> Option<Callee>
+    ensures { result ≡ callee_in call rows.now }
+{
+    for row in rows {
+        if row.call == call {
+            return Some(*row);
+        }
+    }
+    None
+}
+
+/// The result of an invocation, once it has ended.
+fn result_of<H: Handler>(it: &Invocation<H>) -> Result<Option<Brought>, AllocError>
+    ensures { IfOk result (λ o. o ≡ option_map brought.Outcome it.now.ended) }
+{
+    match &it.ended {
+        None => Ok(None),
+        Some(ends) => Ok(Some(Brought::Outcome(ends.clone()?))),
+    }
+}
+
 impl<'a, H: Handler + Drop> Engine<'a, H> {
     /// A call has begun the invocation at this place, or none.
     fn calls(&mut self, by: usize, callee: Callee) -> Result<(), EngineFault>
+        ensures row { OnOk result (ChangesAt by (AddsCallee callee) self.old self.new) }
         ensures err { IfErr result IsNoArrival }
     {
         match self.invocations.get_mut(by) {
@@ -37,6 +65,7 @@ impl<'a, H: Handler + Drop> Engine<'a, H> {
 
     /// A call begins an invocation, or is attached to one.
     fn begin_for(&mut self, by: usize, begun: Beginning) -> Result<(), EngineFault>
+        ensures does { OnOk result (BeginsFor by begun self.old self.new) }
         ensures err { IfErr result IsNoArrival }
     {
         let Beginning {
@@ -106,54 +135,56 @@ impl<'a, H: Handler + Drop> Engine<'a, H> {
     }
 
     /// What the call of this completion id has begun, if it has been performed.
-    fn callee_of(&self, by: usize, call: u32) -> Option<Callee> {
-        let it = self.invocations.get(by)?;
-        for callee in it.callees.iter() {
-            if callee.call == call {
-                return Some(*callee);
-            }
-        }
-        None
-    }
-
-    /// The id of a call's callee; no text, if there is none.
-    fn callee_id(&self, callee: Callee) -> Result<Option<Brought>, AllocError> {
-        let Some(place) = callee.place else {
-            return Ok(Some(Brought::Id(Text::empty(self.alloc))));
-        };
-        match self.invocations.get(place) {
-            None => Ok(None),
-            Some(it) => Ok(Some(Brought::Id(it.id.clone()?))),
+    fn callee_of(&self, by: usize, call: u32) -> Option<Callee>
+        ensures { result ≡ callee_of self.now.invocations.items by call }
+    {
+        match self.invocations.get(by) {
+            None => None,
+            Some(it) => callee_in(it.callees.as_slice(), call),
         }
     }
 
-    /// The result of a call's callee, once it has ended.
-    fn callee_result(&self, callee: Callee) -> Result<Option<Brought>, AllocError> {
-        let Some(place) = callee.place else {
-            return Ok(Some(Brought::Outcome(no_handler(self.alloc)?)));
-        };
-        match self.invocations.get(place) {
-            None => Ok(None),
-            Some(it) => match &it.ended {
+    /// The id of the invocation at a place; no text, if no handler was found.
+    fn callee_id(&self, place: Option<usize>) -> Result<Option<Brought>, AllocError>
+        ensures { IfOk result
+            (λ o. o ≡ option_map brought.Id (callee_id self.now.invocations.items place)) }
+    {
+        match place {
+            None => Ok(Some(Brought::Id(Text::empty(self.alloc)))),
+            Some(place) => match self.invocations.get(place) {
                 None => Ok(None),
-                Some(ends) => Ok(Some(Brought::Outcome(ends.clone()?))),
+                Some(it) => Ok(Some(Brought::Id(it.id.clone()?))),
             },
         }
     }
 
-    /// What is there for what waits at this place of an invocation's inbox.
+    /// Its result, once it has ended.
+    fn callee_result(&self, place: Option<usize>) -> Result<Option<Brought>, AllocError>
+        ensures { IfOk result
+            (λ o. o ≡ option_map brought.Outcome (callee_result self.now.invocations.items place)) }
+    {
+        match place {
+            None => Ok(Some(Brought::Outcome(no_handler(self.alloc)?))),
+            Some(place) => match self.invocations.get(place) {
+                None => Ok(None),
+                Some(it) => result_of(it),
+            },
+        }
+    }
+
+    /// What is there for what waits in an invocation's inbox.
     pub fn brought(&self, place: usize, waiting: &Waiting) -> Result<Option<Brought>, AllocError>
-        ensures { IfOk result (IsThereFor self.now.clock waiting.now) }
+        ensures { IfOk result (λ o. o ≡ brought_for self.now place waiting.now) }
     {
         match waiting {
             Waiting::Clock(_) | Waiting::Signal(_, _) => Ok(Some(Brought::Time(self.clock))),
             Waiting::Id(call) => match self.callee_of(place, *call) {
                 None => Ok(None),
-                Some(callee) => self.callee_id(callee),
+                Some(row) => self.callee_id(row.place),
             },
             Waiting::Outcome { call, .. } => match self.callee_of(place, *call) {
                 None => Ok(None),
-                Some(callee) => self.callee_result(callee),
+                Some(row) => self.callee_result(row.place),
             },
         }
     }

@@ -1,6 +1,7 @@
 //! What an engine is made of, and what happens to it.
 ghost use Rattle.std.specs.Prelude.{◌≡◌};
 ghost use Rattle.engines.specs.Faults.{IsNoArrival, fault_of_arrival};
+ghost use Rattle.engines.specs.Lookups.{are_exclusive, has_names};
 
 use bytes::Bytes;
 use engine_inboxes::InboxFault;
@@ -17,6 +18,22 @@ pub struct Target<H: Drop> {
     /// Of the invocations of one key at most one goes on at a time.
     pub exclusive: bool,
     pub code: H,
+}
+
+impl<H: Drop> Target<H> {
+    /// Whether it is called by these names.
+    pub fn has_names(&self, service: &Text, handler: &Text) -> bool
+        ensures { result ≡ has_names service.now handler.now self.now }
+    {
+        self.service == *service && self.handler == *handler
+    }
+
+    /// Whether both are exclusive handlers of one service.
+    pub fn shares(&self, other: &Self) -> bool
+        ensures { result ≡ are_exclusive self.now other.now }
+    {
+        self.exclusive && other.exclusive && self.service == other.service
+    }
 }
 
 /// An invocation that is asked for, by a command or from outside.

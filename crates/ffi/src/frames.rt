@@ -1,37 +1,79 @@
-//! The calls on frames.
-ghost use Rattle.std.specs.Prelude.{◌≤◌};
-ghost use Rattle.c_frames.specs.Answers.{IsJudged, LineRead};
-ghost use Rattle.c_frames.specs.Reading.{awake_at, line_at, notification_at};
+//! The calls on frames: what one says, one with a value, the notification of a result, and whether a suspension is awake.
+ghost use Rattle.std.specs.Prelude.{◌≤◌, Ok};
+ghost use Rattle.c_frames.specs.Answers.{IsJudged};
+ghost use Rattle.c_frames.specs.Making.{input_with, value_frame};
+ghost use Rattle.c_frames.specs.Messages.{RowRead, message_at, part_behind};
+ghost use Rattle.c_frames.specs.Reading.{awake_at, notification_at};
 ghost use Rattle.c_values.specs.Statuses.{status_by};
 ghost use Rattle.c_values.specs.Written.{WrittenOrWhy};
 
-use c_frames::{Judged, calls};
-use c_values::Told;
+use c_frames::{
+    FrameRow, Judged, awake_at, input_with, judge, message_at, message_row, notification_at,
+    unjudged, unread_row, value_frame, write_part,
+};
+use c_values::{Status, Told, answer, tell, written};
 use std::alloc::Global;
 
-/// Writes the line of a frame to the front of `out`, if there is room for it, and says how long it is.
+/// The row of a frame: the type of its message, and its numbers.
 #[unsafe(no_mangle)]
-pub extern "C" fn palqytun_frame_line(alloc: Global, frame: &[u8], out: &mut [u8]) -> Told
-    ensures written { WrittenOrWhy (status_by result.status) (line_at frame.now) result.len
+pub extern "C" fn proved_frame_read(alloc: Global, frame: &[u8]) -> FrameRow
+    ensures { RowRead frame.now result }
+{
+    match message_at(alloc, frame) {
+        Ok(message) => message_row(&message),
+        Err(_) => unread_row(Status::NoMemory),
+    }
+}
+
+/// Writes the part of a frame's message at this place to the front of `out`, if there is room for it, and says how long it is.
+#[unsafe(no_mangle)]
+pub extern "C" fn proved_frame_part(alloc: Global, frame: &[u8], at: usize, out: &mut [u8]) -> Told
+    ensures written { WrittenOrWhy (status_by result.status) (part_behind (message_at frame.now) at)
+        result.len out.old out.new }
+    ensures known { result.status ≤ 24 }
+{
+    match message_at(alloc, frame) {
+        Ok(message) => write_part(&message, at, out),
+        Err(_) => tell(Status::NoMemory, 0),
+    }
+}
+
+/// Writes a frame that has a value as its result to the front of `out`, if there is room for it, and says how long it is.
+#[unsafe(no_mangle)]
+pub extern "C" fn proved_value_frame(alloc: Global, value: &[u8], out: &mut [u8]) -> Told
+    ensures written { WrittenOrWhy (status_by result.status) (Ok (value_frame value.now)) result.len
         out.old out.new }
     ensures known { result.status ≤ 24 }
 {
-    calls::line(alloc, frame, out)
+    match value_frame(alloc, value) {
+        Ok(frame) => written(frame.as_slice(), out),
+        Err(_) => tell(Status::NoMemory, 0),
+    }
 }
 
-/// Writes the frame that a line shows to the front of `out`, if there is room for it, and says how long it is.
+/// Writes the frame of an input, with this value in the place of its own, to the front of `out`, if there is room for it, and says how
+/// long it is.
 #[unsafe(no_mangle)]
-pub extern "C" fn palqytun_line_frame(alloc: Global, line: &[u8], out: &mut [u8]) -> Told
-    ensures read { LineRead (status_by result.status) line.now result.len out.old out.new }
+pub extern "C" fn proved_input_frame(
+    alloc: Global,
+    frame: &[u8],
+    value: &[u8],
+    out: &mut [u8],
+) -> Told
+    ensures written { WrittenOrWhy (status_by result.status) (input_with frame.now value.now)
+        result.len out.old out.new }
     ensures known { result.status ≤ 24 }
 {
-    calls::frame(alloc, line, out)
+    match input_with(alloc, frame, value) {
+        Ok(found) => answer(found, out),
+        Err(_) => tell(Status::NoMemory, 0),
+    }
 }
 
 /// Writes the notification of an id, with the result that a frame has, to the front of `out`, if there is room for it, and says how long
 /// it is.
 #[unsafe(no_mangle)]
-pub extern "C" fn palqytun_notification(
+pub extern "C" fn proved_notification(
     alloc: Global,
     kind: u32,
     id: u32,
@@ -43,19 +85,21 @@ pub extern "C" fn palqytun_notification(
         (notification_at kind id name.now frame.now) result.len out.old out.new }
     ensures known { result.status ≤ 24 }
 {
-    calls::notification(alloc, kind, id, name, frame, out)
+    match notification_at(alloc, kind, id, name, frame) {
+        Ok(found) => answer(found, out),
+        Err(_) => tell(Status::NoMemory, 0),
+    }
 }
 
 /// Whether the future of a suspension is awake by the notifications of a stream.
 #[unsafe(no_mangle)]
-pub extern "C" fn palqytun_is_awake(
-    alloc: Global,
-    suspension: &[u8],
-    notifications: &[u8],
-) -> Judged
+pub extern "C" fn proved_is_awake(alloc: Global, suspension: &[u8], notifications: &[u8]) -> Judged
     ensures answered { IsJudged (status_by result.status)
         (awake_at suspension.now notifications.now) result.is_awake }
     ensures known { result.status ≤ 24 }
 {
-    calls::is_awake(alloc, suspension, notifications)
+    match awake_at(alloc, suspension, notifications) {
+        Ok(found) => judge(found),
+        Err(_) => unjudged(Status::NoMemory),
+    }
 }

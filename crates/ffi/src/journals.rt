@@ -12,7 +12,7 @@ use std::alloc::Global;
 
 /// Makes a journal without entries, if memory is found. One that was there is dropped.
 #[unsafe(no_mangle)]
-pub extern "C" fn palqytun_journal_new(alloc: Global, journal: &mut Journal) -> u32
+pub extern "C" fn proved_journal_new(alloc: Global, journal: &mut Journal) -> u32
     ensures made { IsNewJournal (status_by result) journal.new.value }
     ensures known { result ≤ 24 }
 {
@@ -21,7 +21,7 @@ pub extern "C" fn palqytun_journal_new(alloc: Global, journal: &mut Journal) -> 
 
 /// Drops the journal, if there is one.
 #[unsafe(no_mangle)]
-pub extern "C" fn palqytun_journal_free(alloc: Global, journal: &mut Journal)
+pub extern "C" fn proved_journal_free(alloc: Global, journal: &mut Journal)
     ensures { journal.new.value ≡ None }
 {
     calls::close(alloc, journal)
@@ -29,7 +29,7 @@ pub extern "C" fn palqytun_journal_free(alloc: Global, journal: &mut Journal)
 
 /// How many entries the journal has.
 #[unsafe(no_mangle)]
-pub extern "C" fn palqytun_journal_entries(alloc: Global, journal: &mut Journal) -> Told
+pub extern "C" fn proved_journal_entries(alloc: Global, journal: &mut Journal) -> Told
     ensures kept { journal.new.value ≡ journal.old.value }
     ensures known { result.status ≤ 24 }
     ensures counted { HasEntries (status_by result.status) result.len journal.old.value }
@@ -39,7 +39,7 @@ pub extern "C" fn palqytun_journal_entries(alloc: Global, journal: &mut Journal)
 
 /// The next entry of a journal that is loaded.
 #[unsafe(no_mangle)]
-pub extern "C" fn palqytun_journal_entry(alloc: Global, journal: &mut Journal, entry: &[u8]) -> Row
+pub extern "C" fn proved_journal_entry(alloc: Global, journal: &mut Journal, entry: &[u8]) -> Row
     ensures { EntryAnswered (given_fault entry.now) entry.now (status_by result.status) result
         journal.old.value journal.new.value }
 {
@@ -48,7 +48,7 @@ pub extern "C" fn palqytun_journal_entry(alloc: Global, journal: &mut Journal, e
 
 /// A notification arrives.
 #[unsafe(no_mangle)]
-pub extern "C" fn palqytun_journal_arrive(alloc: Global, journal: &mut Journal, entry: &[u8]) -> Row
+pub extern "C" fn proved_journal_arrive(alloc: Global, journal: &mut Journal, entry: &[u8]) -> Row
     ensures { EntryAnswered (arrival_fault entry.now) entry.now (status_by result.status) result
         journal.old.value journal.new.value }
 {
@@ -57,7 +57,7 @@ pub extern "C" fn palqytun_journal_arrive(alloc: Global, journal: &mut Journal, 
 
 /// What an attempt wrote is stored, in the form of a version.
 #[unsafe(no_mangle)]
-pub extern "C" fn palqytun_journal_store(
+pub extern "C" fn proved_journal_store(
     alloc: Global,
     journal: &mut Journal,
     version: u32,
@@ -72,7 +72,7 @@ pub extern "C" fn palqytun_journal_store(
 
 /// A row of the last store.
 #[unsafe(no_mangle)]
-pub extern "C" fn palqytun_journal_row(alloc: Global, journal: &mut Journal, at: usize) -> Row
+pub extern "C" fn proved_journal_row(alloc: Global, journal: &mut Journal, at: usize) -> Row
     ensures kept { journal.new.value ≡ journal.old.value }
     ensures read { RowAnswered at (status_by result.status) result journal.old.value }
 {
@@ -81,7 +81,7 @@ pub extern "C" fn palqytun_journal_row(alloc: Global, journal: &mut Journal, at:
 
 /// Writes a row of the last store to the front of `out`, if there is room for it, and says how long it is.
 #[unsafe(no_mangle)]
-pub extern "C" fn palqytun_journal_frame(
+pub extern "C" fn proved_journal_frame(
     alloc: Global,
     journal: &mut Journal,
     at: usize,
@@ -97,7 +97,7 @@ pub extern "C" fn palqytun_journal_frame(
 
 /// Writes what answers the last store to the front of `out`, if there is room for it, and says how long it is.
 #[unsafe(no_mangle)]
-pub extern "C" fn palqytun_journal_answer(
+pub extern "C" fn proved_journal_answer(
     alloc: Global,
     journal: &mut Journal,
     out: &mut [u8],
@@ -112,7 +112,7 @@ pub extern "C" fn palqytun_journal_answer(
 
 /// What came since the last commit is committed. Without memory the journal is dropped.
 #[unsafe(no_mangle)]
-pub extern "C" fn palqytun_journal_keep(alloc: Global, journal: &mut Journal) -> u32
+pub extern "C" fn proved_journal_keep(alloc: Global, journal: &mut Journal) -> u32
     ensures committed { CommitAnswered (status_by result) journal.old.value journal.new.value }
     ensures known { result ≤ 24 }
 {
@@ -121,7 +121,7 @@ pub extern "C" fn palqytun_journal_keep(alloc: Global, journal: &mut Journal) ->
 
 /// What came since the last commit is taken back.
 #[unsafe(no_mangle)]
-pub extern "C" fn palqytun_journal_undo(alloc: Global, journal: &mut Journal) -> u32
+pub extern "C" fn proved_journal_undo(alloc: Global, journal: &mut Journal) -> u32
     ensures undone { UndoAnswered (status_by result) journal.old.value journal.new.value }
     ensures known { result ≤ 24 }
 {

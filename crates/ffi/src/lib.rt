@@ -1,44 +1,33 @@
-//! A VM, and a stored journal, for callers of C: the functions that C calls. What each does stands in `c_sessions`, `c_lines`,
-//! `c_calls`, `c_journals`, `c_frames` and `c_rows`.
+//! A VM, and a stored journal, for callers of C: the functions that C calls. What each does stands in `c_sessions`, `c_calls`,
+//! `c_journals` and `c_frames`, which know no text; the calls by lines stand here.
 #![tactic(auto)]
 
 mod frames;
 mod journals;
-mod rows;
+mod script;
+mod texts;
 mod typed;
 
 ghost use Rattle.std.specs.Prelude.{◌≡◌, ◌≤◌, None};
-ghost use Rattle.c_lines.specs.Lines.{LineSent};
 ghost use Rattle.c_sessions.specs.Sessions.{AnswerRead, InputFed, IsNewSession, OutputTaken};
 ghost use Rattle.c_values.specs.Statuses.{status_by};
 
-use c_lines::perform_line;
 use c_sessions::{Vm, calls};
 use c_values::Told;
 use std::alloc::Global;
 
 /// Makes an empty session, if memory is found. One that was there is dropped.
 #[unsafe(no_mangle)]
-pub extern "C" fn palqytun_new(alloc: Global, vm: &mut Vm) -> u32
+pub extern "C" fn proved_new(alloc: Global, vm: &mut Vm) -> u32
     ensures made { IsNewSession (status_by result) vm.new.value }
     ensures known { result ≤ 24 }
 {
     calls::open(alloc, vm)
 }
 
-/// Performs a line. Returns the length of its answer, which `palqytun_answer` reads.
-#[unsafe(no_mangle)]
-pub extern "C" fn palqytun_line(alloc: Global, vm: &mut Vm, line: &[u8]) -> Told
-    ensures sent { LineSent alloc line.now (status_by result.status) result.len vm.old.value
-        vm.new.value }
-    ensures known { result.status ≤ 24 }
-{
-    perform_line(alloc, vm, line)
-}
-
 /// Writes the last answer to the front of `out`, if it has room for it. Returns the answer's length either way.
 #[unsafe(no_mangle)]
-pub extern "C" fn palqytun_answer(alloc: Global, vm: &mut Vm, out: &mut [u8]) -> Told
+pub extern "C" fn proved_answer(alloc: Global, vm: &mut Vm, out: &mut [u8]) -> Told
     ensures kept { vm.new.value ≡ vm.old.value }
     ensures known { result.status ≤ 24 }
     ensures read { AnswerRead (status_by result.status) result.len out.old out.new vm.old.value }
@@ -48,7 +37,7 @@ pub extern "C" fn palqytun_answer(alloc: Global, vm: &mut Vm, out: &mut [u8]) ->
 
 /// Feeds the VM bytes of its input.
 #[unsafe(no_mangle)]
-pub extern "C" fn palqytun_feed(alloc: Global, vm: &mut Vm, bytes: &[u8]) -> u32
+pub extern "C" fn proved_feed(alloc: Global, vm: &mut Vm, bytes: &[u8]) -> u32
     ensures fed { InputFed bytes.now (status_by result) vm.old.value vm.new.value }
     ensures known { result ≤ 24 }
 {
@@ -57,7 +46,7 @@ pub extern "C" fn palqytun_feed(alloc: Global, vm: &mut Vm, bytes: &[u8]) -> u32
 
 /// Moves all of the VM's output to the front of `out`, if it has room for it. Returns the output's length either way.
 #[unsafe(no_mangle)]
-pub extern "C" fn palqytun_take_output(alloc: Global, vm: &mut Vm, out: &mut [u8]) -> Told
+pub extern "C" fn proved_take_output(alloc: Global, vm: &mut Vm, out: &mut [u8]) -> Told
     ensures taken { OutputTaken (status_by result.status) result.len out.old out.new vm.old.value
         vm.new.value }
     ensures known { result.status ≤ 24 }
@@ -67,7 +56,7 @@ pub extern "C" fn palqytun_take_output(alloc: Global, vm: &mut Vm, out: &mut [u8
 
 /// Drops the session, if there is one.
 #[unsafe(no_mangle)]
-pub extern "C" fn palqytun_free(alloc: Global, vm: &mut Vm)
+pub extern "C" fn proved_free(alloc: Global, vm: &mut Vm)
     ensures { vm.new.value ≡ None }
 {
     calls::close(alloc, vm)

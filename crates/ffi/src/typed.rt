@@ -32,7 +32,7 @@ use std::alloc::Global;
 
 /// Writes a part of the last reply to the front of `out`, if it has room for it. Returns the part's length either way.
 #[unsafe(no_mangle)]
-pub extern "C" fn palqytun_part(alloc: Global, vm: &mut Vm, at: usize, out: &mut [u8]) -> Told
+pub extern "C" fn proved_part(alloc: Global, vm: &mut Vm, at: usize, out: &mut [u8]) -> Told
     ensures kept { vm.new.value ≡ vm.old.value }
     ensures known { result.status ≤ 24 }
     ensures read { PartRead at (status_by result.status) result.len out.old out.new
@@ -43,7 +43,7 @@ pub extern "C" fn palqytun_part(alloc: Global, vm: &mut Vm, at: usize, out: &mut
 
 /// Makes a VM in the place of the last.
 #[unsafe(no_mangle)]
-pub extern "C" fn palqytun_make(
+pub extern "C" fn proved_make(
     alloc: Global,
     vm: &mut Vm,
     content_type: MayLend,
@@ -56,7 +56,7 @@ pub extern "C" fn palqytun_make(
 
 /// Fails the VM by an error of the handler's own.
 #[unsafe(no_mangle)]
-pub extern "C" fn palqytun_report_error(
+pub extern "C" fn proved_report_error(
     alloc: Global,
     vm: &mut Vm,
     error: &GivenError,
@@ -76,11 +76,7 @@ pub extern "C" fn palqytun_report_error(
 
 /// Attaches to another invocation.
 #[unsafe(no_mangle)]
-pub extern "C" fn palqytun_attach(
-    alloc: Global,
-    vm: &mut Vm,
-    invocation: &GivenInvocation,
-) -> Replied
+pub extern "C" fn proved_attach(alloc: Global, vm: &mut Vm, invocation: &GivenInvocation) -> Replied
     ensures { CalledFromC (AttachesTo invocation.now) result vm.old.value vm.new.value }
 {
     call(
@@ -94,7 +90,7 @@ pub extern "C" fn palqytun_attach(
 
 /// Looks whether another invocation has an output.
 #[unsafe(no_mangle)]
-pub extern "C" fn palqytun_get_output(
+pub extern "C" fn proved_get_output(
     alloc: Global,
     vm: &mut Vm,
     invocation: &GivenInvocation,
@@ -112,7 +108,7 @@ pub extern "C" fn palqytun_get_output(
 
 /// A sleep until a time, in milliseconds since the Unix epoch.
 #[unsafe(no_mangle)]
-pub extern "C" fn palqytun_sleep(
+pub extern "C" fn proved_sleep(
     alloc: Global,
     vm: &mut Vm,
     name: Lent,
@@ -133,7 +129,7 @@ pub extern "C" fn palqytun_sleep(
 
 /// Makes an awakeable.
 #[unsafe(no_mangle)]
-pub extern "C" fn palqytun_awakeable(alloc: Global, vm: &mut Vm) -> Replied
+pub extern "C" fn proved_awakeable(alloc: Global, vm: &mut Vm) -> Replied
     ensures { CalledFromC MakesAwakeable result vm.old.value vm.new.value }
 {
     call(alloc, vm, AwakeableCall)
@@ -141,7 +137,7 @@ pub extern "C" fn palqytun_awakeable(alloc: Global, vm: &mut Vm) -> Replied
 
 /// A handle for the signal of this name.
 #[unsafe(no_mangle)]
-pub extern "C" fn palqytun_signal(alloc: Global, vm: &mut Vm, name: Lent) -> Replied
+pub extern "C" fn proved_signal(alloc: Global, vm: &mut Vm, name: Lent) -> Replied
     ensures { CalledFromC (MakesSignal name.entry.bytes.now) result vm.old.value vm.new.value }
 {
     call(alloc, vm, SignalCall { name })
@@ -149,7 +145,7 @@ pub extern "C" fn palqytun_signal(alloc: Global, vm: &mut Vm, name: Lent) -> Rep
 
 /// Awaits a promise of the workflow.
 #[unsafe(no_mangle)]
-pub extern "C" fn palqytun_get_promise(alloc: Global, vm: &mut Vm, key: Lent) -> Replied
+pub extern "C" fn proved_get_promise(alloc: Global, vm: &mut Vm, key: Lent) -> Replied
     ensures { CalledFromC (GetsPromise key.entry.bytes.now) result vm.old.value vm.new.value }
 {
     call(alloc, vm, GetPromiseCall { key })
@@ -157,7 +153,7 @@ pub extern "C" fn palqytun_get_promise(alloc: Global, vm: &mut Vm, key: Lent) ->
 
 /// Looks whether a promise of the workflow is completed.
 #[unsafe(no_mangle)]
-pub extern "C" fn palqytun_peek_promise(alloc: Global, vm: &mut Vm, key: Lent) -> Replied
+pub extern "C" fn proved_peek_promise(alloc: Global, vm: &mut Vm, key: Lent) -> Replied
     ensures { CalledFromC (PeeksPromise key.entry.bytes.now) result vm.old.value vm.new.value }
 {
     call(alloc, vm, PeekPromiseCall { key })
@@ -165,7 +161,7 @@ pub extern "C" fn palqytun_peek_promise(alloc: Global, vm: &mut Vm, key: Lent) -
 
 /// Completes a promise of the workflow.
 #[unsafe(no_mangle)]
-pub extern "C" fn palqytun_complete_promise(
+pub extern "C" fn proved_complete_promise(
     alloc: Global,
     vm: &mut Vm,
     key: Lent,
@@ -188,7 +184,7 @@ pub extern "C" fn palqytun_complete_promise(
 
 /// Completes the awakeable of this id.
 #[unsafe(no_mangle)]
-pub extern "C" fn palqytun_complete_awakeable(
+pub extern "C" fn proved_complete_awakeable(
     alloc: Global,
     vm: &mut Vm,
     id: Lent,
@@ -211,7 +207,7 @@ pub extern "C" fn palqytun_complete_awakeable(
 
 /// Sends a named signal to another invocation.
 #[unsafe(no_mangle)]
-pub extern "C" fn palqytun_complete_signal(
+pub extern "C" fn proved_complete_signal(
     alloc: Global,
     vm: &mut Vm,
     target: Lent,
@@ -234,7 +230,7 @@ pub extern "C" fn palqytun_complete_signal(
 
 /// Sends the cancel signal to another invocation.
 #[unsafe(no_mangle)]
-pub extern "C" fn palqytun_cancel_invocation(alloc: Global, vm: &mut Vm, target: Lent) -> Replied
+pub extern "C" fn proved_cancel_invocation(alloc: Global, vm: &mut Vm, target: Lent) -> Replied
     ensures { CalledFromC (CancelsInvocation target.entry.bytes.now)
         result vm.old.value vm.new.value }
 {
@@ -243,7 +239,7 @@ pub extern "C" fn palqytun_cancel_invocation(alloc: Global, vm: &mut Vm, target:
 
 /// The handler's result.
 #[unsafe(no_mangle)]
-pub extern "C" fn palqytun_write_output(
+pub extern "C" fn proved_write_output(
     alloc: Global,
     vm: &mut Vm,
     value: &GivenValue,
@@ -263,7 +259,7 @@ pub extern "C" fn palqytun_write_output(
 
 /// The handler ends.
 #[unsafe(no_mangle)]
-pub extern "C" fn palqytun_end(alloc: Global, vm: &mut Vm) -> Replied
+pub extern "C" fn proved_end(alloc: Global, vm: &mut Vm) -> Replied
     ensures { CalledFromC EndsHandler result vm.old.value vm.new.value }
 {
     call(alloc, vm, EndCall)
@@ -271,7 +267,7 @@ pub extern "C" fn palqytun_end(alloc: Global, vm: &mut Vm) -> Replied
 
 /// Gives a key of the state a value.
 #[unsafe(no_mangle)]
-pub extern "C" fn palqytun_state_set(
+pub extern "C" fn proved_state_set(
     alloc: Global,
     vm: &mut Vm,
     key: Lent,
@@ -297,7 +293,7 @@ pub extern "C" fn palqytun_state_set(
 
 /// Takes a key's value away.
 #[unsafe(no_mangle)]
-pub extern "C" fn palqytun_state_clear(alloc: Global, vm: &mut Vm, key: Lent, name: Lent) -> Replied
+pub extern "C" fn proved_state_clear(alloc: Global, vm: &mut Vm, key: Lent, name: Lent) -> Replied
     ensures { CalledFromC (ClearsState key.entry.bytes.now name.entry.bytes.now)
         result vm.old.value vm.new.value }
 {
@@ -306,7 +302,7 @@ pub extern "C" fn palqytun_state_clear(alloc: Global, vm: &mut Vm, key: Lent, na
 
 /// Takes each key's value away.
 #[unsafe(no_mangle)]
-pub extern "C" fn palqytun_state_clear_all(alloc: Global, vm: &mut Vm, name: Lent) -> Replied
+pub extern "C" fn proved_state_clear_all(alloc: Global, vm: &mut Vm, name: Lent) -> Replied
     ensures { CalledFromC (ClearsAllState name.entry.bytes.now) result vm.old.value vm.new.value }
 {
     call(alloc, vm, ClearAllCall { name })
@@ -314,7 +310,7 @@ pub extern "C" fn palqytun_state_clear_all(alloc: Global, vm: &mut Vm, name: Len
 
 /// Reads a key's value.
 #[unsafe(no_mangle)]
-pub extern "C" fn palqytun_state_get(alloc: Global, vm: &mut Vm, key: Lent, name: Lent) -> Replied
+pub extern "C" fn proved_state_get(alloc: Global, vm: &mut Vm, key: Lent, name: Lent) -> Replied
     ensures { CalledFromC (ReadsState key.entry.bytes.now name.entry.bytes.now)
         result vm.old.value vm.new.value }
 {
@@ -323,7 +319,7 @@ pub extern "C" fn palqytun_state_get(alloc: Global, vm: &mut Vm, key: Lent, name
 
 /// Reads the keys that have a value.
 #[unsafe(no_mangle)]
-pub extern "C" fn palqytun_state_get_keys(alloc: Global, vm: &mut Vm, name: Lent) -> Replied
+pub extern "C" fn proved_state_get_keys(alloc: Global, vm: &mut Vm, name: Lent) -> Replied
     ensures { CalledFromC (ReadsKeys name.entry.bytes.now) result vm.old.value vm.new.value }
 {
     call(alloc, vm, GetKeysCall { name })
@@ -331,7 +327,7 @@ pub extern "C" fn palqytun_state_get_keys(alloc: Global, vm: &mut Vm, name: Lent
 
 /// Reads a key's value, and leaves nothing of it in the journal.
 #[unsafe(no_mangle)]
-pub extern "C" fn palqytun_ephemeral_state_get(alloc: Global, vm: &mut Vm, key: Lent) -> Replied
+pub extern "C" fn proved_ephemeral_state_get(alloc: Global, vm: &mut Vm, key: Lent) -> Replied
     ensures { CalledFromC (ReadsEphemerally key.entry.bytes.now) result vm.old.value vm.new.value }
 {
     call(alloc, vm, EphemeralGetCall { key })
@@ -339,7 +335,7 @@ pub extern "C" fn palqytun_ephemeral_state_get(alloc: Global, vm: &mut Vm, key: 
 
 /// Takes the value of an ephemeral read.
 #[unsafe(no_mangle)]
-pub extern "C" fn palqytun_take_ephemeral(alloc: Global, vm: &mut Vm, id: u32) -> Replied
+pub extern "C" fn proved_take_ephemeral(alloc: Global, vm: &mut Vm, id: u32) -> Replied
     ensures { CalledFromC (TakesEphemeral id) result vm.old.value vm.new.value }
 {
     call(alloc, vm, TakeEphemeralCall { id })
@@ -347,7 +343,7 @@ pub extern "C" fn palqytun_take_ephemeral(alloc: Global, vm: &mut Vm, id: u32) -
 
 /// Awaits a handle.
 #[unsafe(no_mangle)]
-pub extern "C" fn palqytun_await(alloc: Global, vm: &mut Vm, handle: u32) -> Replied
+pub extern "C" fn proved_await(alloc: Global, vm: &mut Vm, handle: u32) -> Replied
     ensures { CalledFromC (AwaitsHandle handle) result vm.old.value vm.new.value }
 {
     call(alloc, vm, AwaitCall { handle })
@@ -355,7 +351,7 @@ pub extern "C" fn palqytun_await(alloc: Global, vm: &mut Vm, handle: u32) -> Rep
 
 /// Awaits the tree that nodes are: each node over the last of the trees in front of it.
 #[unsafe(no_mangle)]
-pub extern "C" fn palqytun_await_tree(alloc: Global, vm: &mut Vm, nodes: &[Node]) -> Replied
+pub extern "C" fn proved_await_tree(alloc: Global, vm: &mut Vm, nodes: &[Node]) -> Replied
     ensures { CalledFromC (AwaitsNodes nodes.now) result vm.old.value vm.new.value }
 {
     call(alloc, vm, AwaitTreeCall { nodes })
@@ -363,7 +359,7 @@ pub extern "C" fn palqytun_await_tree(alloc: Global, vm: &mut Vm, nodes: &[Node]
 
 /// Takes the result of a handle.
 #[unsafe(no_mangle)]
-pub extern "C" fn palqytun_take(alloc: Global, vm: &mut Vm, handle: u32) -> Replied
+pub extern "C" fn proved_take(alloc: Global, vm: &mut Vm, handle: u32) -> Replied
     ensures { CalledFromC (TakesResult handle) result vm.old.value vm.new.value }
 {
     call(alloc, vm, TakeCall { handle })
@@ -371,7 +367,7 @@ pub extern "C" fn palqytun_take(alloc: Global, vm: &mut Vm, handle: u32) -> Repl
 
 /// The head of the response.
 #[unsafe(no_mangle)]
-pub extern "C" fn palqytun_head(alloc: Global, vm: &mut Vm) -> Replied
+pub extern "C" fn proved_head(alloc: Global, vm: &mut Vm) -> Replied
     ensures { CalledFromC ReadsHead result vm.old.value vm.new.value }
 {
     call(alloc, vm, HeadCall)
@@ -379,7 +375,7 @@ pub extern "C" fn palqytun_head(alloc: Global, vm: &mut Vm) -> Replied
 
 /// No more input comes.
 #[unsafe(no_mangle)]
-pub extern "C" fn palqytun_close_input(alloc: Global, vm: &mut Vm) -> Replied
+pub extern "C" fn proved_close_input(alloc: Global, vm: &mut Vm) -> Replied
     ensures { CalledFromC ClosesInput result vm.old.value vm.new.value }
 {
     call(alloc, vm, CloseCall)
@@ -387,7 +383,7 @@ pub extern "C" fn palqytun_close_input(alloc: Global, vm: &mut Vm) -> Replied
 
 /// Takes the bytes that wait to be sent.
 #[unsafe(no_mangle)]
-pub extern "C" fn palqytun_output(alloc: Global, vm: &mut Vm) -> Replied
+pub extern "C" fn proved_output(alloc: Global, vm: &mut Vm) -> Replied
     ensures { CalledFromC TakesOutputOf result vm.old.value vm.new.value }
 {
     call(alloc, vm, OutputCall)
@@ -395,7 +391,7 @@ pub extern "C" fn palqytun_output(alloc: Global, vm: &mut Vm) -> Replied
 
 /// Whether the handler may be run.
 #[unsafe(no_mangle)]
-pub extern "C" fn palqytun_is_ready(alloc: Global, vm: &mut Vm) -> Replied
+pub extern "C" fn proved_is_ready(alloc: Global, vm: &mut Vm) -> Replied
     ensures { CalledFromC AsksReady result vm.old.value vm.new.value }
 {
     call(alloc, vm, ReadyCall)
@@ -403,7 +399,7 @@ pub extern "C" fn palqytun_is_ready(alloc: Global, vm: &mut Vm) -> Replied
 
 /// Whether a handle has a result.
 #[unsafe(no_mangle)]
-pub extern "C" fn palqytun_is_completed(alloc: Global, vm: &mut Vm, handle: u32) -> Replied
+pub extern "C" fn proved_is_completed(alloc: Global, vm: &mut Vm, handle: u32) -> Replied
     ensures { CalledFromC (AsksCompleted handle) result vm.old.value vm.new.value }
 {
     call(alloc, vm, CompletedCall { handle })
@@ -411,7 +407,7 @@ pub extern "C" fn palqytun_is_completed(alloc: Global, vm: &mut Vm, handle: u32)
 
 /// How far the VM is.
 #[unsafe(no_mangle)]
-pub extern "C" fn palqytun_state(alloc: Global, vm: &mut Vm) -> Replied
+pub extern "C" fn proved_state(alloc: Global, vm: &mut Vm) -> Replied
     ensures { CalledFromC AsksState result vm.old.value vm.new.value }
 {
     call(alloc, vm, StateCall)
@@ -419,7 +415,7 @@ pub extern "C" fn palqytun_state(alloc: Global, vm: &mut Vm) -> Replied
 
 /// The index of the last command.
 #[unsafe(no_mangle)]
-pub extern "C" fn palqytun_last_command_index(alloc: Global, vm: &mut Vm) -> Replied
+pub extern "C" fn proved_last_command_index(alloc: Global, vm: &mut Vm) -> Replied
     ensures { CalledFromC AsksIndex result vm.old.value vm.new.value }
 {
     call(alloc, vm, IndexCall)
@@ -427,7 +423,7 @@ pub extern "C" fn palqytun_last_command_index(alloc: Global, vm: &mut Vm) -> Rep
 
 /// What the handler was called with.
 #[unsafe(no_mangle)]
-pub extern "C" fn palqytun_input(alloc: Global, vm: &mut Vm) -> Replied
+pub extern "C" fn proved_input(alloc: Global, vm: &mut Vm) -> Replied
     ensures { CalledFromC ReadsInput result vm.old.value vm.new.value }
 {
     call(alloc, vm, InputCall)
@@ -435,7 +431,7 @@ pub extern "C" fn palqytun_input(alloc: Global, vm: &mut Vm) -> Replied
 
 /// Calls a run.
 #[unsafe(no_mangle)]
-pub extern "C" fn palqytun_run(alloc: Global, vm: &mut Vm, name: Lent) -> Replied
+pub extern "C" fn proved_run(alloc: Global, vm: &mut Vm, name: Lent) -> Replied
     ensures { CalledFromC (CallsARun name.entry.bytes.now) result vm.old.value vm.new.value }
 {
     call(alloc, vm, RunCall { name })
@@ -443,7 +439,7 @@ pub extern "C" fn palqytun_run(alloc: Global, vm: &mut Vm, name: Lent) -> Replie
 
 /// Gives the result of a run that was executed, under a policy.
 #[unsafe(no_mangle)]
-pub extern "C" fn palqytun_propose(
+pub extern "C" fn proved_propose(
     alloc: Global,
     vm: &mut Vm,
     handle: u32,
@@ -466,7 +462,7 @@ pub extern "C" fn palqytun_propose(
 
 /// Proposes the error of a run that was executed for this number of milliseconds; its policy says whether it is tried again.
 #[unsafe(no_mangle)]
-pub extern "C" fn palqytun_propose_retryable(
+pub extern "C" fn proved_propose_retryable(
     alloc: Global,
     vm: &mut Vm,
     handle: u32,
@@ -491,7 +487,7 @@ pub extern "C" fn palqytun_propose_retryable(
 
 /// Calls another handler.
 #[unsafe(no_mangle)]
-pub extern "C" fn palqytun_call(
+pub extern "C" fn proved_call(
     alloc: Global,
     vm: &mut Vm,
     target: &GivenTarget,
@@ -517,7 +513,7 @@ pub extern "C" fn palqytun_call(
 
 /// Calls another handler, with a deadline in milliseconds since the Unix epoch.
 #[unsafe(no_mangle)]
-pub extern "C" fn palqytun_call_with_deadline(
+pub extern "C" fn proved_call_with_deadline(
     alloc: Global,
     vm: &mut Vm,
     target: &GivenTarget,
@@ -545,7 +541,7 @@ pub extern "C" fn palqytun_call_with_deadline(
 
 /// Calls another handler, at once or at a time, and waits for no result.
 #[unsafe(no_mangle)]
-pub extern "C" fn palqytun_send(
+pub extern "C" fn proved_send(
     alloc: Global,
     vm: &mut Vm,
     target: &GivenTarget,

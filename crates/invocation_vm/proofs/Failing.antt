@@ -3,7 +3,7 @@ use Rattle.vm_machine.specs.Proposals.{Proposes}
 use Rattle.vm_types.specs.declared.runs.RunExitResult.{RunExitResult}
 use Rattle.vm_retries.specs.declared.policy.RetryPolicy.{RetryPolicy}
 use Rattle.std.proofs.Common.{◌≡◌, inl, inr, Option, Some, None, List, refl, sym, ap, ◌∙◌, subst}
-use Rattle.std.specs.Prelude.{Bool, true, false, not, ◌&&◌, is_some, Result, Ok, Err}
+use Rattle.std.specs.Prelude.{false, not, ◌&&◌, is_some, Result, Ok, Err}
 use Rattle.std.specs.declared.alloc.AllocError.{AllocError}
 use Rattle.journal_protocol.specs.Error.{Error}
 use Rattle.journal_protocol.specs.RawMessage.{RawMessage}

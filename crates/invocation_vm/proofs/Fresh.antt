@@ -1,5 +1,5 @@
 -- The completion ids after an input that was read, if recorded commands are skipped.
-use Rattle.std.proofs.Common.{◌≡◌, true, Option, Some, None, Result, Ok, Err, refl, sym, ap, ◌∙◌}
+use Rattle.std.proofs.Common.{◌≡◌, true, Option, Some, None, Result, Ok, Err}
 use Rattle.std.specs.Prelude.{OnOk}
 use Rattle.journal_protocol.specs.Error.{Error}
 use Rattle.vm_types.specs.declared.values.Input.{Input}

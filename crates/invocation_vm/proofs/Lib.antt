@@ -5,3 +5,4 @@ pub mod Failing
 pub mod Feeds
 pub mod Fresh
 pub mod Several
+pub mod Stepping

@@ -1,4 +1,5 @@
 pub mod Calls
 pub mod Making
 pub mod Seen
+pub mod Steps
 pub mod Views

@@ -23,6 +23,10 @@ supported V6 = Ok V6
 supported V7 = Ok V7
 supported V8 = Ok V8
 
+-- The version is one that the VM supports.
+abbrev pub IsSupported : Version → Type 0
+IsSupported version = supported version ≡ Ok version
+
 -- a version that is read has to be supported
 abbrev pub supported_version : Option Version → Result Version Error
 supported_version None = Err (named_error fault.BadContentType None)

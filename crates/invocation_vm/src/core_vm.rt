@@ -8,6 +8,7 @@ ghost use Rattle.vm_awaits.specs.Cancels.{Cancels};
 ghost use Rattle.vm_machine.specs.Outcomes.{Lives};
 ghost use Rattle.vm_parts.specs.Tracked.{invocation_ids};
 ghost use Rattle.invocation_vm.specs.Calls.{CallsAll, CallsAllFor, CallsAwait, CallsBefore, CallsCommand, CallsFor, CallsRead, CallsTry, CallsUnit, run_handle};
+ghost use Rattle.invocation_vm.specs.Making.{IsSupported, made};
 ghost use Rattle.invocation_vm.specs.Seen.{seen};
 ghost use Rattle.invocation_vm.specs.Views.{Calls};
 
@@ -19,7 +20,7 @@ use crate::versions::{response_head, version_in};
 use crate::vm::VM;
 use await_trees::{NotificationHandle, UnresolvedFuture};
 use bytes::Bytes;
-use journal_protocol::{Decoder, Error, HeaderMap, InvocationTarget, NamedFault, Version};
+use journal_protocol::{Decoder, Error, HeaderMap, InvocationTarget, Version};
 use plain::Text;
 use std::alloc::{AllocError, Global};
 use std::fmt;
@@ -74,6 +75,22 @@ impl fmt::Debug for CoreVM {
 
 #[tactic(auto, using(crate::proofs::Calls::does_called, crate::proofs::Calls::does_failed, crate::proofs::Calls::does_one, crate::proofs::Calls::does_none, crate::proofs::Calls::settles_fits, crate::proofs::Calls::settles_sent, crate::proofs::Calls::called_by, crate::proofs::Calls::sent_by, crate::proofs::Calls::fits_both, crate::proofs::Several::settles_all, crate::proofs::Several::makes_both, crate::proofs::Several::makes_none, crate::proofs::Several::fits_three))]
 impl CoreVM {
+    /// A VM for a version that `supported` or `version_named` returned. Its one error is out of memory.
+    pub fn for_version(
+        alloc: Global,
+        version: Version,
+        options: VMOptions,
+    ) -> Result<CoreVM, AllocError>
+        requires { IsSupported version }
+        ensures { IfOk result (λ vm. seen vm ≡ made alloc options version) }
+    {
+        let machine = Machine::new(alloc, version, options)?;
+        Ok(CoreVM {
+            decoder: Decoder::new(alloc),
+            machine,
+        })
+    }
+
     /// The version of the journal protocol that the VM was made for.
     pub fn version(&self) -> Version
         ensures { result ≡ (seen self.now).machine.version }
@@ -97,12 +114,7 @@ impl CoreVM {
     fn call(&mut self, command: &mut Command) -> VMResult<NotificationHandle>
         ensures { CallsCommand command.old result (seen self.old) (seen self.new) }
     {
-        if let Err(error) = self.machine.live() {
-            return Err(error);
-        }
-        let before = self.machine.counters;
-        let given = self.machine.command(command);
-        self.machine.settle(before, given)
+        event!(self.machine, self.machine.command(command))
     }
 
     /// What a step asks for.
@@ -124,12 +136,7 @@ impl CoreVM {
     fn call_before(&mut self, first: &mut Command, second: &Command) -> VMResult<NotificationHandle>
         ensures { CallsBefore first.old (second.now ∷ []) result (seen self.old) (seen self.new) }
     {
-        if let Err(error) = self.machine.live() {
-            return Err(error);
-        }
-        let before = self.machine.counters;
-        let given = self.machine.command_before(first, second);
-        self.machine.settle(before, given)
+        event!(self.machine, self.machine.command_before(first, second))
     }
 
     fn call_both(
@@ -160,12 +167,7 @@ impl CoreVM {
     pub fn read(&mut self, read: StateRead) -> VMResult<NotificationHandle>
         ensures { CallsRead read result (seen self.old) (seen self.new) }
     {
-        if let Err(error) = self.machine.live() {
-            return Err(error);
-        }
-        let before = self.machine.counters;
-        let given = self.machine.read(&read);
-        self.machine.settle(before, given)
+        event!(self.machine, self.machine.read(&read))
     }
 
     /// A call that has a command and answers nothing.
@@ -210,12 +212,7 @@ impl CoreVM {
     fn await_tree(&mut self, future: UnresolvedFuture) -> VMResult<Awaited>
         ensures { CallsTry future result (seen self.old) (seen self.new) }
     {
-        if let Err(error) = self.machine.live() {
-            return Err(error);
-        }
-        let before = self.machine.counters;
-        let given = await_tree(&mut self.machine, future);
-        self.machine.settle(before, given)
+        event!(self.machine, await_tree(&mut self.machine, future))
     }
 
     /// The second part of a cancelled await: each of these invocations is sent the cancel signal.
@@ -290,12 +287,9 @@ impl VM for CoreVM {
             Ok(version) => version,
             Err(error) => return Err(error),
         };
-        match Machine::new(alloc, version, options) {
-            Ok(machine) => Ok(CoreVM {
-                decoder: Decoder::new(alloc),
-                machine,
-            }),
-            Err(_) => Err(Error::named(NamedFault::Memory, None)),
+        match CoreVM::for_version(alloc, version, options) {
+            Ok(vm) => Ok(vm),
+            Err(error) => Err(Error::from(error)),
         }
     }
 
@@ -310,8 +304,7 @@ impl VM for CoreVM {
         match self.decoder.push(bytes) {
             Ok(()) => {}
             Err(error) => {
-                let before = self.machine.counters;
-                let _ = self.machine.starve(before);
+                starve!(self.machine);
                 return Err(error);
             }
         }
@@ -322,9 +315,7 @@ impl VM for CoreVM {
         if self.machine.has_failed() {
             return Ok(());
         }
-        let before = self.machine.counters;
-        let given = close_input(&mut self.machine);
-        self.machine.settle_quietly(before, given)
+        quiet_event!(self.machine, close_input(&mut self.machine))
     }
 
     fn notify_error(
@@ -335,9 +326,10 @@ impl VM for CoreVM {
         if self.machine.has_failed() {
             return Ok(());
         }
-        let before = self.machine.counters;
-        let given = self.machine.report(error, command_relationship);
-        self.machine.settle_quietly(before, given)
+        quiet_event!(
+            self.machine,
+            self.machine.report(error, command_relationship)
+        )
     }
 
     fn take_output(&mut self) -> Result<Bytes, AllocError> {
@@ -365,21 +357,11 @@ impl VM for CoreVM {
     }
 
     fn take_notification(&mut self, handle: NotificationHandle) -> VMResult<Option<Value>> {
-        if let Err(error) = self.machine.live() {
-            return Err(error);
-        }
-        let before = self.machine.counters;
-        let given = self.machine.take(handle);
-        self.machine.settle(before, given)
+        event!(self.machine, self.machine.take(handle))
     }
 
     fn sys_input(&mut self) -> VMResult<Input> {
-        if let Err(error) = self.machine.live() {
-            return Err(error);
-        }
-        let before = self.machine.counters;
-        let given = self.machine.input();
-        self.machine.settle(before, given)
+        event!(self.machine, self.machine.input())
     }
 
     fn sys_sleep(
@@ -392,24 +374,17 @@ impl VM for CoreVM {
     }
 
     fn ephemeral_state_get(&mut self, key: String) -> VMResult<EphemeralCompletionId> {
-        if let Err(error) = self.machine.live() {
-            return Err(error);
-        }
-        let before = self.machine.counters;
-        let given = self.machine.read_ephemeral(Text::from_string(key));
-        self.machine.settle(before, given)
+        event!(
+            self.machine,
+            self.machine.read_ephemeral(Text::from_string(key))
+        )
     }
 
     fn take_ephemeral_notification(
         &mut self,
         id: EphemeralCompletionId,
     ) -> VMResult<Option<Value>> {
-        if let Err(error) = self.machine.live() {
-            return Err(error);
-        }
-        let before = self.machine.counters;
-        let given = self.machine.take_ephemeral(id);
-        self.machine.settle(before, given)
+        event!(self.machine, self.machine.take_ephemeral(id))
     }
 
     fn sys_state_set(
@@ -494,21 +469,14 @@ impl VM for CoreVM {
     }
 
     fn sys_awakeable(&mut self) -> VMResult<AwakeableHandle> {
-        if let Err(error) = self.machine.live() {
-            return Err(error);
-        }
-        let before = self.machine.counters;
-        let given = make_awakeable(&mut self.machine);
-        self.machine.settle(before, given)
+        event!(self.machine, make_awakeable(&mut self.machine))
     }
 
     fn create_signal_handle(&mut self, signal_name: String) -> VMResult<NotificationHandle> {
-        if let Err(error) = self.machine.live() {
-            return Err(error);
-        }
-        let before = self.machine.counters;
-        let given = self.machine.signal(Text::from_string(signal_name));
-        self.machine.settle(before, given)
+        event!(
+            self.machine,
+            self.machine.signal(Text::from_string(signal_name))
+        )
     }
 
     fn sys_complete_awakeable(
@@ -578,14 +546,11 @@ impl VM for CoreVM {
         run_exit_result: RunExitResult,
         retry_policy: RetryPolicy,
     ) -> VMResult<()> {
-        if let Err(error) = self.machine.live() {
-            return Err(error);
-        }
-        let before = self.machine.counters;
-        let given = self
-            .machine
-            .finish_run(notification_handle, run_exit_result, &retry_policy);
-        self.machine.settle(before, given)
+        event!(
+            self.machine,
+            self.machine
+                .finish_run(notification_handle, run_exit_result, &retry_policy)
+        )
     }
 
     fn sys_write_output(&mut self, value: NonEmptyValue, options: PayloadOptions) -> VMResult<()> {
@@ -594,12 +559,7 @@ impl VM for CoreVM {
     }
 
     fn sys_end(&mut self) -> VMResult<()> {
-        if let Err(error) = self.machine.live() {
-            return Err(error);
-        }
-        let before = self.machine.counters;
-        let given = self.machine.end();
-        self.machine.settle(before, given)
+        event!(self.machine, self.machine.end())
     }
 
     fn state(&self) -> State {

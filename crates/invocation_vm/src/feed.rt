@@ -22,8 +22,7 @@ impl CoreVM {
         let next = match self.decoder.next_frame() {
             Ok(next) => next,
             Err(Fault::Memory) => {
-                let before = self.machine.counters;
-                let _ = self.machine.starve(before);
+                starve!(self.machine);
                 return Err(AllocError);
             }
             Err(Fault::Malformed) => return self.take_garbage(),
@@ -31,9 +30,7 @@ impl CoreVM {
         let Some(raw) = next else {
             return Ok(false);
         };
-        let before = self.machine.counters;
-        let given = receive(&mut self.machine, raw);
-        match self.machine.settle_quietly(before, given) {
+        match quiet_event!(self.machine, receive(&mut self.machine, raw)) {
             Ok(()) => {}
             Err(error) => return Err(error),
         }
@@ -51,9 +48,7 @@ impl CoreVM {
         ensures ok { IfOk result (λ more. Goes more (seen self.old) (seen self.new)) }
         ensures err { OnErr result (IsStarved self.old.machine no_memory self.new.machine) }
     {
-        let before = self.machine.counters;
-        let given = receive_malformed(&mut self.machine);
-        match self.machine.settle_quietly(before, given) {
+        match quiet_event!(self.machine, receive_malformed(&mut self.machine)) {
             Ok(()) => {}
             Err(error) => return Err(error),
         }

@@ -3,13 +3,49 @@
 //! piece of bytes is as many as it has whole frames. What an event does stands in `vm_machine`, `vm_inputs` and `vm_awaits`.
 #![tactic(auto)]
 
+/// One event of the machine, ended by the error rule: out of memory gives back the numbers that it took.
+macro_rules! settled_event {
+    ($machine:expr, $event:expr, $settle:ident) => {{
+        let before = $machine.counters;
+        let given = $event;
+        $machine.$settle(before, given)
+    }};
+}
+
+/// One event of a call: a machine that failed answers its first error.
+macro_rules! event {
+    ($machine:expr, $event:expr) => {{
+        if let Err(error) = $machine.live() {
+            return Err(error);
+        }
+        settled_event!($machine, $event, settle)
+    }};
+}
+
+/// One event of a machine that hasn't failed, in a call whose one error is out of memory.
+macro_rules! quiet_event {
+    ($machine:expr, $event:expr) => {
+        settled_event!($machine, $event, settle_quietly)
+    };
+}
+
+/// Fails a machine by out of memory, apart from an event.
+macro_rules! starve {
+    ($machine:expr) => {{
+        let before = $machine.counters;
+        let _ = $machine.starve(before);
+    }};
+}
+
 mod core_vm;
 mod feed;
 mod shared;
+mod step;
 mod versions;
 mod vm;
 
 pub use core_vm::CoreVM;
 pub use feed::any_cut;
-pub use versions::version_in;
+pub use step::Stepped;
+pub use versions::{supported, version_in, version_named};
 pub use vm::VM;

@@ -1,6 +1,6 @@
 //! The version that a request asks for by its content type, and the head of the response.
-ghost use Rattle.std.specs.Prelude.{◌≡◌, codes, IfOk};
-ghost use Rattle.invocation_vm.specs.Making.{supported, version_in, response_head};
+ghost use Rattle.std.specs.Prelude.{◌≡◌, Some, codes, IfOk};
+ghost use Rattle.invocation_vm.specs.Making.{IsSupported, supported, version_in, response_head};
 
 use journal_protocol::{Error, Header, HeaderMap, NamedFault, Version};
 use plain::{Items, Text};
@@ -8,8 +8,10 @@ use std::alloc::{AllocError, Global};
 use vm_types::ResponseHead;
 
 /// Refuses a version that is not supported.
-fn supported(version: Version) -> Result<Version, Error>
-    ensures { result ≡ supported version }
+pub fn supported(version: Version) -> Result<Version, Error>
+    ensures does { result ≡ supported version }
+    ensures same { IfOk result (λ it. it ≡ version) }
+    ensures supported { IfOk result IsSupported }
 {
     match version {
         Version::V1 | Version::V2 | Version::V3 | Version::V4 => Err(Error::named(
@@ -20,9 +22,21 @@ fn supported(version: Version) -> Result<Version, Error>
     }
 }
 
+/// The version that a content type names.
+pub fn version_named(content_type: &str) -> Result<Version, Error>
+    ensures does { result ≡ version_in (Some (Some content_type.now)) }
+    ensures supported { IfOk result IsSupported }
+{
+    let Some(version) = Version::of_content_type(content_type) else {
+        return Err(Error::named(NamedFault::BadContentType, None));
+    };
+    supported(version)
+}
+
 /// The version that a request asks for.
 pub fn version_in<H: HeaderMap>(headers: &H) -> Result<Version, Error>
-    ensures { result ≡ version_in (H.found headers.now (codes "content-type")) }
+    ensures does { result ≡ version_in (H.found headers.now (codes "content-type")) }
+    ensures supported { IfOk result IsSupported }
 {
     let found = match headers.extract("content-type") {
         Ok(found) => found,
@@ -31,10 +45,7 @@ pub fn version_in<H: HeaderMap>(headers: &H) -> Result<Version, Error>
     let Some(text) = found else {
         return Err(Error::named(NamedFault::MissingContentType, None));
     };
-    let Some(version) = Version::of_content_type(text) else {
-        return Err(Error::named(NamedFault::BadContentType, None));
-    };
-    supported(version)
+    version_named(text)
 }
 
 /// The head of the response in this version.

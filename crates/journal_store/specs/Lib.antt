@@ -1,4 +1,5 @@
 pub mod Known
 pub mod Ids
+pub mod Entered
 pub mod Journals
 pub mod Stored

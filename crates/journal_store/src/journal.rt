@@ -3,14 +3,16 @@ ghost use Rattle.std.specs.Prelude.{◌≡◌, ◌⊎◌, ◌<◌, ◌≤◌, �
 ghost use Rattle.journal_entries.specs.Arrivals.{arrival_fault, most_entries};
 ghost use Rattle.journal_entries.specs.Given.{frame_fault, given_fault as fault_given};
 ghost use Rattle.journal_entries.specs.declared.fault.JournalFault.TheVariants as journal_fault;
+ghost use Rattle.journal_store.specs.Entered.{entered_as, entered_in};
 ghost use Rattle.journal_store.specs.Journals.{Appends, Enters, Holds, IsFault, IsSameKept, Kept, Loads, arriving_fault, loaded_fault, loaded_note_fault, may_be_loaded, note_of_part, optional_note_fault, proposing_fault, room_at, command_of_part};
 
 use crate::carried::{Carried, ids_in};
+use crate::entered::{Entered, arrival_in, entered_as};
 use crate::frames::{Part, part_of};
 use crate::ids::Ids;
 use bytes::Bytes;
 use journal_entries::JournalFault;
-use journal_entries::entry::{frame_in, is_input, note_in};
+use journal_entries::entry::{frame_in, is_input};
 use journal_protocol::{Message, Notification, NotificationId, RawMessage};
 use std::alloc::{AllocError, Global};
 use std::marker::Model;
@@ -211,15 +213,19 @@ impl StoredJournal {
     }
 
     /// A notification arrives, as one frame: it is the next entry, if it has no fault. After an error `undo` leads back to the last commit.
-    pub fn arrive(&mut self, alloc: Global, entry: &Bytes) -> Result<(), JournalFault>
+    pub fn arrive(&mut self, alloc: Global, entry: &Bytes) -> Result<Entered, JournalFault>
         ensures ok { OnOk result (Enters (arrival_fault entry.now) entry.now self.old self.new) }
+        ensures entered { IfOk result (λ it. entered_in entry.now ≡ Some it) }
         ensures err { IfErr result (λ f. IsFault (arrival_fault entry.now) self.old f) }
         ensures kept { IsSameKept self.old self.new }
     {
-        match note_in(alloc, entry) {
+        match arrival_in(alloc, entry) {
             Err(_) => Err(JournalFault::Memory),
             Ok(None) => Err(JournalFault::NotANotification),
-            Ok(Some(note)) => self.arrive_read(&note),
+            Ok(Some((entered, note))) => match self.arrive_read(&note) {
+                Ok(()) => Ok(entered),
+                Err(fault) => Err(fault),
+            },
         }
     }
 
@@ -242,20 +248,25 @@ impl StoredJournal {
     }
 
     /// A frame is read, and is the next entry, if it has no fault.
-    fn load_raw(&mut self, alloc: Global, raw: &RawMessage) -> Result<(), JournalFault>
+    fn load_raw(&mut self, alloc: Global, raw: &RawMessage) -> Result<Entered, JournalFault>
         ensures ok { OnOk result (Loads raw.now self.old self.new) }
+        ensures entered { IfOk result (λ it. it ≡ entered_as raw.now) }
         ensures err { IfErr result (λ f. IsFault (frame_fault raw.now) self.old f) }
         ensures kept { IsSameKept self.old self.new }
     {
         match part_of(alloc, raw) {
             Err(_) => Err(JournalFault::Memory),
-            Ok(read) => self.load(alloc, raw, &read),
+            Ok(read) => match self.load(alloc, raw, &read) {
+                Ok(()) => Ok(entered_as(raw, &read)),
+                Err(fault) => Err(fault),
+            },
         }
     }
 
     /// The next entry of a journal that is loaded, as one frame, if it has no fault.
-    pub fn entry(&mut self, alloc: Global, entry: &Bytes) -> Result<(), JournalFault>
+    pub fn entry(&mut self, alloc: Global, entry: &Bytes) -> Result<Entered, JournalFault>
         ensures ok { OnOk result (Enters (fault_given entry.now) entry.now self.old self.new) }
+        ensures entered { IfOk result (λ it. entered_in entry.now ≡ Some it) }
         ensures err { IfErr result (λ f. IsFault (fault_given entry.now) self.old f) }
         ensures kept { IsSameKept self.old self.new }
     {

@@ -4,6 +4,7 @@
 #![tactic(auto)]
 
 mod carried;
+mod entered;
 mod frames;
 mod ids;
 mod journal;
@@ -11,6 +12,7 @@ mod known;
 mod storing;
 mod whole;
 
+pub use entered::{Entered, entered_in};
 pub use journal::StoredJournal;
 pub use known::Known;
 pub use storing::store_from;

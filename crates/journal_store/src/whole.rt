@@ -53,7 +53,7 @@ fn arrive_in(
     };
     match known.arrive(alloc, entry) {
         Err(fault) => return Err(fault),
-        Ok(()) => {}
+        Ok(_) => {}
     }
     if entries.push(kept).is_err() {
         return Err(JournalFault::Memory);
@@ -75,7 +75,7 @@ fn known_of(alloc: Global, entries: &[Bytes]) -> Result<StoredJournal, JournalFa
     for i in 0..entries.len() {
         match known.entry(alloc, &entries[i]) {
             Err(fault) => return Err(fault),
-            Ok(()) => {}
+            Ok(_) => {}
         }
     }
     Ok(known)

@@ -22,7 +22,7 @@ as_long : (m n : ℕ) → (m < n → ⊥) → (n < m → ⊥) → m ≡ n
 as_long m n f g = omega (arith, f, g)
 
 -- so it is the same piece, and the same text follows
-same_first : (separator : ℕ) (p q r s : List ℕ) → IsPiece separator p → IsPiece separator q → p ++ separator ∷ r ≡ q ++ separator ∷ s → (p ≡ q) × (r ≡ s)
+pub same_first : (separator : ℕ) (p q r s : List ℕ) → IsPiece separator p → IsPiece separator q → p ++ separator ∷ r ≡ q ++ separator ∷ s → (p ≡ q) × (r ≡ s)
 same_first separator p q r s hp hq e =
     let long : length p ≡ length q = as_long (length p) (length q) (no_longer separator p q r s hp hq e) (no_longer separator q p s r hq hp (sym e)) in
     let first : p ≡ q = sym (take-append_seam p (separator ∷ r)) ∙ ap (take (length p)) e ∙ ap (λ n. take n (q ++ separator ∷ s)) long ∙ take-append_seam q (separator ∷ s) in

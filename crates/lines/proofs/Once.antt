@@ -1,41 +1,22 @@
 -- A text is cut in one way.
-use Rattle.std.proofs.Common.{◌≡◌, ◌≢◌, ◌<◌, ◌++◌, ℕ, suc, Bool, true, false, List, [], ◌∷◌, length, take, drop, filter, get_or, ap, sym, refl, subst, ◌∙◌, arith, length-append, append_assoc, not, ◌==◌}
+use Rattle.std.proofs.Common.{◌≡◌, ◌≢◌, ◌++◌, ℕ, suc, Bool, true, false, List, [], ◌∷◌, length, drop, filter, ap, sym, refl, subst, ◌∙◌, arith, length-append, append_assoc, not, ◌==◌}
 use Rattle.std.specs.Borrow.{Bor}
 use Rattle.std.specs.List.{All, AllZip}
-use Rattle.std.proofs.Math.Seq.{get_or-append_seam, take-append_seam, drop-append_seam}
-use Rattle.std.proofs.lemmas.List.{get_or_append_left, take-append-le, append_cancel_right}
+use Rattle.std.proofs.lemmas.List.{append_cancel_right}
 use Rattle.plain.specs.declared.fault.Fault.{Fault}
 use Rattle.plain.specs.declared.fault.Fault.TheVariants.{Malformed}
 use Rattle.lines.specs.Readings.{Blames}
 use Rattle.lines.specs.Pieces.{AreWords, AreWordsWithin, IsPiece, IsWithin, is_word, outside, place}
 use Rattle.lines.proofs.Closing.{words_close}
 use Rattle.lines.proofs.Cutting.{ended}
+use Rattle.lines.proofs.Determined.{same_first}
 
 -- pieces of the same text
 abbrev pub Same : List (Bor (List ℕ)) → List (Bor (List ℕ)) → Type 0
 Same ps qs = AllZip (λ p q. p.now ≡ q.now) ps qs
 
--- the first piece isn't shorter than another first piece of the text
-not_shorter : (separator : ℕ) (xs ys behind others : List ℕ) → place xs ≡ outside → IsPiece separator ys → xs ++ separator ∷ behind ≡ ys ++ separator ∷ others → length xs < length ys → ⊥
-not_shorter separator xs ys behind others closed piece e less =
-    let at : get_or ys (length xs) 0 ≡ separator =
-    sym (get_or_append_left ys (separator ∷ others) 0 (length xs) less) ∙ ap (λ l. get_or l (length xs) 0) (sym e) ∙ get_or-append_seam xs separator behind 0 in
-    let front : take (length xs) ys ≡ xs =
-    sym (take-append-le (length xs) ys (separator ∷ others) (omega arith)) ∙ ap (take (length xs)) (sym e) ∙ take-append_seam xs (separator ∷ behind) in
-    piece.1 (length xs) less at (ap place front ∙ closed)
-
--- nor longer, so it is that piece
-same_first : (separator : ℕ) (xs ys behind others : List ℕ) → IsPiece separator xs → IsPiece separator ys → xs ++ separator ∷ behind ≡ ys ++ separator ∷ others → (xs ≡ ys) × (behind ≡ others)
-same_first separator xs ys behind others p q e =
-    let long : length xs ≡ length ys =
-    let first = not_shorter separator xs ys behind others p.0 q e in
-    let second = not_shorter separator ys xs others behind q.0 p (sym e) in grind (arith, first, second) in
-    let same : xs ≡ ys = sym (take-append_seam xs (separator ∷ behind)) ∙ ap (take (length xs)) e ∙ ap (λ n. take n (ys ++ separator ∷ others)) long ∙ take-append_seam ys (separator ∷ others) in
-    let rest : separator ∷ behind ≡ separator ∷ others =
-    sym (drop-append_seam xs (separator ∷ behind)) ∙ ap (drop (length xs)) e ∙ ap (λ n. drop n (ys ++ separator ∷ others)) long ∙ drop-append_seam ys (separator ∷ others) in
-    (same, ap (drop 1) rest)
-
-ended_once : (separator : ℕ) (ps qs : List (Bor (List ℕ))) → All (λ p. IsPiece separator p.now) ps → All (λ q. IsPiece separator q.now) qs → ended separator ps ≡ ended separator qs → Same ps qs
+-- texts that end in a separator are cut in one way
+pub ended_once : (separator : ℕ) (ps qs : List (Bor (List ℕ))) → All (λ p. IsPiece separator p.now) ps → All (λ q. IsPiece separator q.now) qs → ended separator ps ≡ ended separator qs → Same ps qs
 ended_once separator [] [] a b e = tt
 ended_once separator [] (q ∷ qs) a b e =
     let long = ap length e in

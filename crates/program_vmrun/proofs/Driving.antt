@@ -62,10 +62,9 @@ run_keeps fixed input first fed now ending k (between, a, b) d =
     drive_keeps fixed fed now ending (close_under fixed between b.0 fed (feed_under fixed input first a.0 between k a.1) b.1) d
 
 -- a run of the attempt that was made
-pub run_served : {H : Type 0} (mean : H → StepFunction) (alloc : Global) (options : VMOptions) (handler : H) (version : Result Version Error) (a : AttemptView H) (input output : List ℕ) (ending : AttemptEnd) → options ≡ default_options → MakesAttempt alloc options handler version (Ok a) → IsDriven SendsWhole (mean a.handler) a.record_of input ending output
-    → ServesAnew alloc version (mean handler) (Some input) (λ written. written ≡ output) ending
-run_served mean alloc options handler (Err x) a input output ending o m s = absurd m
-run_served {H} mean alloc options handler (Ok v) a input output ending o m s =
+pub run_served : {H : Type 0} (mean : H → StepFunction) (alloc : Global) (options : VMOptions) (handler : H) (v : Version) (a : AttemptView H) (input output : List ℕ) (ending : AttemptEnd) → options ≡ default_options → MakesAttempt alloc options handler (Ok v) (Ok a) → IsDriven SendsWhole (mean a.handler) a.record_of input ending output
+    → ServesAnew alloc (Ok v) (mean handler) (Some input) (λ written. written ≡ output) ending
+run_served {H} mean alloc options handler v a input output ending o m s =
     let meaning = mean handler in
     let fresh = fresh_record (made alloc default_options v) in
     let t = subst (λ h. IsDriven SendsWhole (mean h) a.record_of input ending output) (ap (λ (x : AttemptView H). x.handler) m) s in
@@ -75,15 +74,14 @@ run_served {H} mean alloc options handler (Ok v) a input output ending o m s =
     (input, output, refl, (u.0, u.1, u.2, u.3, u.4, told), refl)
 
 -- the same of what a call answers
-pub served_anew : {H : Type 0} (mean : H → StepFunction) (alloc : Global) (options : VMOptions) (handler : H) (version : Result Version Error) (a : AttemptView H) (items input : List ℕ) (r : Result (AttemptEnd × List ℕ) AllocError) → input ≡ items → options ≡ default_options → MakesAttempt alloc options handler version (Ok a) → IfOk r (λ served. IsDriven SendsWhole (mean a.handler) a.record_of input served.0 served.1)
-    → IfOk r (λ served. ServesAnew alloc version (mean handler) (Some items) (λ written. written ≡ served.1) served.0)
+pub served_anew : {H : Type 0} (mean : H → StepFunction) (alloc : Global) (options : VMOptions) (handler : H) (version : Version) (a : AttemptView H) (items input : List ℕ) (r : Result (AttemptEnd × List ℕ) AllocError) → input ≡ items → options ≡ default_options → MakesAttempt alloc options handler (Ok version) (Ok a) → IfOk r (λ served. IsDriven SendsWhole (mean a.handler) a.record_of input served.0 served.1)
+    → IfOk r (λ served. ServesAnew alloc (Ok version) (mean handler) (Some items) (λ written. written ≡ served.1) served.0)
 served_anew mean alloc options handler version a items input (Err e) is o m s = tt
 served_anew mean alloc options handler version a items input (Ok served) is o m s =
-    subst (λ bytes. ServesAnew alloc version (mean handler) (Some bytes) (λ written. written ≡ served.1) served.0) is (run_served mean alloc options handler version a input served.1 served.0 o m s)
+    subst (λ bytes. ServesAnew alloc (Ok version) (mean handler) (Some bytes) (λ written. written ≡ served.1) served.0) is (run_served mean alloc options handler version a input served.1 served.0 o m s)
 
 -- the same of all that a reader had left, and of what was written of the output
-pub served_of : (alloc : Global) (version : Result Version Error) (meaning : StepFunction) (left : Option (List ℕ)) (written : List ℕ → Type 0) (input output : List ℕ) (ending : AttemptEnd) → IfSome left (λ bytes. input ≡ bytes) → written output → ServesAnew alloc version meaning (Some input) (λ bytes. bytes ≡ output) ending
-    → ServesAnew alloc version meaning left written ending
-served_of alloc (Err x) meaning left written input output ending l w s = absurd s
-served_of alloc (Ok v) meaning left written input output ending l w (i, o, same, runs, is) =
-    (i, o, subst (λ bytes. IfSome left (λ xs. bytes ≡ xs)) (sym same) l, runs, subst written (sym is) w)
+pub served_of : (alloc : Global) (asked : Result Version Error) (version : Version) (meaning : StepFunction) (left : Option (List ℕ)) (written : List ℕ → Type 0) (input output : List ℕ) (ending : AttemptEnd) → Ok version ≡ asked → IfSome left (λ bytes. input ≡ bytes) → written output → ServesAnew alloc (Ok version) meaning (Some input) (λ bytes. bytes ≡ output) ending
+    → ServesAnew alloc asked meaning left written ending
+served_of alloc asked version meaning left written input output ending named l w (i, o, same, runs, is) =
+    subst (λ v. ServesAnew alloc v meaning left written ending) named (i, o, subst (λ bytes. IfSome left (λ xs. bytes ≡ xs)) (sym same) l, runs, subst written (sym is) w)

@@ -1,8 +1,8 @@
 //! One run of the program: what a reader gives is fed to an attempt, and what the attempt sends goes to a writer.
-ghost use Rattle.std.specs.Prelude.{◌≡◌, ◌↔◌, ◌≢◌, IfErr, IfOk, IfSome, None, Result, Some};
+ghost use Rattle.std.specs.Prelude.{◌≡◌, ◌↔◌, ◌≢◌, IfErr, IfOk, IfSome, None, Ok, Result, Some};
 ghost use Rattle.std.specs.Io.KnownBytes.{IsAtEnd};
 ghost use Rattle.journal_protocol.specs.Error.{Error};
-ghost use Rattle.invocation_vm.specs.Making.{version_in};
+ghost use Rattle.invocation_vm.specs.Making.{IsSupported, version_in};
 ghost use Rattle.vm_steps.specs.Stepping.{StepDoes};
 ghost use Rattle.vm_steps.specs.declared.progress.Progress.{Progress};
 ghost use Rattle.program_vmrun.specs.Runs.{SendsWhole, end_after, IsFed, Drives, IsDriven, ServesAnew, AttemptSays};
@@ -13,9 +13,11 @@ ghost use Rattle.program_vmrun.specs.declared.run_end.Refusal.TheVariants as ref
 use crate::run_end::{AttemptEnd, Refusal, RunEnd};
 use bytes::Bytes;
 use handlers::named::Named;
+use invocation_vm::version_named;
+use journal_protocol::Version;
 use program_runs::streams::{Sink, Source};
 use std::alloc::{AllocError, Global};
-use vm_attempt::{Attempt, ContentType};
+use vm_attempt::Attempt;
 use vm_steps::Progress;
 use vm_types::{Handler, VMOptions};
 
@@ -75,18 +77,16 @@ fn serve<H: Handler>(
 /// Serves a new attempt of this handler.
 fn serve_anew<H: Handler + Drop>(
     alloc: Global,
-    content_type: &str,
+    version: Version,
     handler: H,
     input: Vec<u8>,
 ) -> Result<(AttemptEnd, Bytes), AllocError>
-    ensures { IfOk result (λ served. ServesAnew alloc (version_in (Some (Some content_type.now)))
-        (H.meaning handler) (Some input.items) (λ output. output ≡ served.1) served.0) }
+    requires { IsSupported version }
+    ensures { IfOk result (λ served. ServesAnew alloc (Ok version) (H.meaning handler)
+        (Some input.items) (λ output. output ≡ served.1) served.0) }
 {
     let input = Bytes::from_vec(input)?;
-    let content_type = ContentType(content_type);
-    let Ok(mut attempt) = Attempt::new(alloc, content_type, VMOptions::default(), handler) else {
-        return Err(AllocError);
-    };
+    let mut attempt = Attempt::for_version(alloc, version, VMOptions::default(), handler)?;
     serve(&mut attempt, input)
 }
 
@@ -109,14 +109,15 @@ fn run_handler<H: Handler + Drop, R: Source, W: Sink>(
         (R.fails reader.old) (W.fails writer.old) (IsAtEnd (R.remaining reader.new)) (writer.new
         ≡ writer.old) result }
 {
-    if let Err(refusal) = ContentType(content_type).version() {
-        return RunEnd::Refused(Refusal::ContentType(refusal));
-    }
+    let version = match version_named(content_type) {
+        Ok(version) => version,
+        Err(refusal) => return RunEnd::Refused(Refusal::ContentType(refusal)),
+    };
     let mut input = Vec::new(alloc);
     if let Err(error) = reader.read_whole(&mut input) {
         return RunEnd::ReadFailed(error);
     }
-    let Ok((ending, output)) = serve_anew(alloc, content_type, handler, input) else {
+    let Ok((ending, output)) = serve_anew(alloc, version, handler, input) else {
         return RunEnd::NoMemory;
     };
     match writer.write_whole(output.as_slice()) {

@@ -52,7 +52,7 @@ fn arrives(
     frame: &'static [u8],
 ) -> Option<JournalFault> {
     match journal.arrive(alloc, &Bytes::from_static(frame)) {
-        Ok(()) => None,
+        Ok(_) => None,
         Err(fault) => Some(fault),
     }
 }

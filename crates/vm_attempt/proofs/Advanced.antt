@@ -37,7 +37,7 @@ use Rattle.vm_machine.specs.Making.{fresh}
 use Rattle.vm_machine.specs.Outcomes.{IsStarved, Outcome, Done, Failed, ◌>>>◌, about_last, called, called_at, settled, ruled, failed}
 use Rattle.vm_machine.specs.Phases.{is_closed, is_running}
 use Rattle.journal_entries.specs.Frames.{Rest, frames_of}
-use Rattle.invocation_vm.specs.Making.{Makes, made}
+use Rattle.invocation_vm.specs.Making.{made}
 use Rattle.invocation_vm.specs.Views.{View, left_by}
 use Rattle.vm_model.specs.Calls.{Meaning, Setup, identity_of}
 use Rattle.journal_entries.specs.Journal.{input_read_from}
@@ -409,14 +409,12 @@ pub made_kept : (fixed : Fixed) (alloc : Global) → IsKept fixed (fresh_record 
 made_kept fixed alloc = inl (made_new alloc fixed)
 
 -- the attempt that is made
-pub new_is_new : {S : Type 0} (m : Meaning) (alloc : Global) (options : VMOptions) (wanted : Result Version Error) (view : S → View) (vm : S) → Makes alloc options wanted view (Ok vm) → IsNew (fixed_by m (view vm).machine.version options) (fresh_record (view vm))
-new_is_new m alloc options (Ok version) view vm is = subst (λ (x : View). IsNew (fixed_by m x.machine.version options) (fresh_record x)) (sym is) (made_new alloc (fixed_by m version options))
-new_is_new m alloc options (Err refusal) view vm is = absurd is
+pub new_is_new : (m : Meaning) (alloc : Global) (options : VMOptions) (version : Version) (v : View) → v ≡ made alloc options version → IsNew (fixed_by m version options) (fresh_record v)
+new_is_new m alloc options version v is = subst (λ x. IsNew (fixed_by m version options) (fresh_record x)) (sym is) (made_new alloc (fixed_by m version options))
 
 -- it has written nothing
-pub new_whole : {S : Type 0} (alloc : Global) (options : VMOptions) (wanted : Result Version Error) (view : S → View) (vm : S) → Makes alloc options wanted view (Ok vm) → WholeFrames (view vm).machine.output
-new_whole alloc options (Ok version) view vm is = subst (λ (x : View). WholeFrames x.machine.output) (sym is) (record { messages = []; are = refl; each = tt })
-new_whole alloc options (Err refusal) view vm is = absurd is
+pub new_whole : (alloc : Global) (options : VMOptions) (version : Version) (v : View) → v ≡ made alloc options version → WholeFrames v.machine.output
+new_whole alloc options version v is = subst (λ (x : View). WholeFrames x.machine.output) (sym is) (record { messages = []; are = refl; each = tt })
 
 -- the answers of an attempt follow from what is read of its output
 pub kept_told : (fixed : Fixed) (r : Record) → WholeFrames r.vm.machine.output → IsKept fixed r → (r.answers ≡ []) ⊎ AnswersAreTold fixed r

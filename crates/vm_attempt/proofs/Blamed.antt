@@ -17,7 +17,7 @@ use Rattle.vm_machine.specs.Inputs.{close_step, closed_at, malformed_step}
 use Rattle.vm_machine.specs.Outcomes.{IsStarved, called, called_at, ruled, ruled_by, settled}
 use Rattle.vm_machine.specs.Making.{fresh}
 use Rattle.journal_entries.specs.Frames.{Tail, Rest, Garbage, frames_of}
-use Rattle.invocation_vm.specs.Making.{Makes, made}
+use Rattle.invocation_vm.specs.Making.{made}
 use Rattle.invocation_vm.specs.Views.{StarvesAmong, View, after_closing, after_input, all_received, messages_in_bytes, consumed, left_by, left_over, spoiled}
 use Rattle.vm_model.specs.Calls.{Meaning}
 use Rattle.vm_steps.specs.Heard.{Heard, and_piece}
@@ -223,6 +223,5 @@ pub take_blames : (fixed : Fixed) (old : Record) (result : Result (List ℕ) All
 take_blames fixed old (Ok bytes) new b does = subst (IsBlamed fixed) (sym does.1) (record { open_yet = b.open_yet; blame = b.blame })
 take_blames fixed old (Err e) new b does = subst (IsBlamed fixed) (sym does) b
 
-pub new_blamed : {S : Type 0} (m : Meaning) (alloc : Global) (options : VMOptions) (wanted : Result Version Error) (view : S → View) (vm : S) → Makes alloc options wanted view (Ok vm) → IsBlamed (fixed_by m (view vm).machine.version options) (fresh_record (view vm))
-new_blamed m alloc options (Ok version) view vm is = subst (λ (x : View). IsBlamed (fixed_by m x.machine.version options) (fresh_record x)) (sym is) (made_blamed (fixed_by m version options) alloc)
-new_blamed m alloc options (Err refusal) view vm is = absurd is
+pub new_blamed : (m : Meaning) (alloc : Global) (options : VMOptions) (version : Version) (v : View) → v ≡ made alloc options version → IsBlamed (fixed_by m version options) (fresh_record v)
+new_blamed m alloc options version v is = subst (λ x. IsBlamed (fixed_by m version options) (fresh_record x)) (sym is) (made_blamed (fixed_by m version options) alloc)

@@ -20,7 +20,7 @@ use Rattle.vm_machine.specs.declared.phase.Phase.TheVariants.{WaitingStart, Wait
 use Rattle.vm_machine.specs.Inputs.{input_step}
 use Rattle.vm_machine.specs.Outcomes.{Done, Failed, IsStarved, called}
 use Rattle.vm_machine.specs.Phases.{is_running}
-use Rattle.invocation_vm.specs.Making.{Makes}
+use Rattle.invocation_vm.specs.Making.{made}
 use Rattle.invocation_vm.specs.Views.{StarvesAmong, View, after_closing, after_input, messages_in_bytes}
 use Rattle.invocation_vm.proofs.Feeds.{among_output}
 use Rattle.vm_model.specs.Calls.{Meaning}
@@ -276,18 +276,16 @@ step_told fixed old result new came f g does =
 
 -- ---- making
 
-new_proposes : {S : Type 0} (alloc : Global) (options : VMOptions) (wanted : Result Version Error) (view : S → View) (vm : S) → Makes alloc options wanted view (Ok vm) → all_proposed (fresh_record (view vm)) ≡ []
-new_proposes alloc options (Ok version) view vm is = subst (λ (x : View). all_proposed (fresh_record x) ≡ []) (sym is) (frames_propose [] tt)
-new_proposes alloc options (Err refusal) view vm is = absurd is
+new_proposes : (alloc : Global) (options : VMOptions) (version : Version) (v : View) → v ≡ made alloc options version → all_proposed (fresh_record v) ≡ []
+new_proposes alloc options version v is = subst (λ x. all_proposed (fresh_record x) ≡ []) (sym is) (frames_propose [] tt)
 
 -- the record of an attempt that is made
-pub new_told : {S : Type 0} (alloc : Global) (options : VMOptions) (wanted : Result Version Error) (view : S → View) (vm : S) (fields : Record) → Makes alloc options wanted view (Ok vm) → fields ≡ fresh_record (view vm) → with_proposed (all_proposed fields) fields ≡ fresh_record (view vm)
-new_told alloc options wanted view vm fields makes is = ap (λ (r : Record). with_proposed (all_proposed r) r) is ∙ ap (λ ps. with_proposed ps (fresh_record (view vm))) (new_proposes alloc options wanted view vm makes)
+pub new_told : (alloc : Global) (options : VMOptions) (version : Version) (v : View) (fields : Record) → v ≡ made alloc options version → fields ≡ fresh_record v → with_proposed (all_proposed fields) fields ≡ fresh_record v
+new_told alloc options version v fields makes is = ap (λ (r : Record). with_proposed (all_proposed r) r) is ∙ ap (λ ps. with_proposed ps (fresh_record v)) (new_proposes alloc options version v makes)
 
 -- and the attempt
-pub made_told : {H S : Type 0} (alloc : Global) (options : VMOptions) (handler kept : H) (wanted : Result Version Error) (view : S → View) (vm : S) (fields : Record) (version : Version) → Makes alloc options wanted view (Ok vm) → fields ≡ fresh_record (view vm) → kept ≡ handler → version ≡ (view vm).machine.version
-    → MakesAttempt alloc options handler wanted (Ok (record { handler = kept; version = version; options = options; record_of = with_proposed (all_proposed fields) fields }))
-made_told alloc options handler kept (Ok wanted) view vm fields version is fresh same at =
-    let told = new_told alloc options (Ok wanted) view vm fields is fresh ∙ ap fresh_record is in
-    λ i. record { handler = same i; version = (at ∙ ap (λ (x : View). x.machine.version) is) i; options = options; record_of = told i }
-made_told alloc options handler kept (Err refusal) view vm fields version is fresh same at = absurd is
+pub made_told : {H : Type 0} (alloc : Global) (options : VMOptions) (handler kept : H) (version : Version) (v : View) (fields : Record) → v ≡ made alloc options version → fields ≡ fresh_record v → kept ≡ handler
+    → MakesAttempt alloc options handler (Ok version) (Ok (record { handler = kept; version = version; options = options; record_of = with_proposed (all_proposed fields) fields }))
+made_told alloc options handler kept version v fields is fresh same =
+    let told = new_told alloc options version v fields is fresh ∙ ap fresh_record is in
+    λ i. record { handler = same i; version = version; options = options; record_of = told i }

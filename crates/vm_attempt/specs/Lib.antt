@@ -1,4 +1,3 @@
-pub mod ContentTypes
 pub mod Fixed
 pub mod Agreement
 pub mod Arrivals

@@ -3,8 +3,8 @@ ghost use Rattle.std.specs.Prelude.{codes};
 
 use await_trees::NotificationHandle;
 use bytes::Bytes;
-use invocation_vm::{CoreVM, VM};
-use journal_protocol::{HeaderMap, Version};
+use invocation_vm::{CoreVM, VM, version_in};
+use journal_protocol::{Error, HeaderMap, Version};
 use std::alloc::{AllocError, Global};
 use std::marker::Model;
 use vm_retries::RetryPolicy;
@@ -50,8 +50,8 @@ impl<H: Handler> Model for Attempt<H> {
 }
 
 impl<H: Handler> Attempt<H> {
-    ghost use Rattle.std.specs.Prelude.{◌≡◌, ◌⊎◌, [], IfErr, None};
-    ghost use Rattle.invocation_vm.specs.Making.{version_in};
+    ghost use Rattle.std.specs.Prelude.{◌≡◌, ◌⊎◌, [], IfErr, IfOk, None, Ok};
+    ghost use Rattle.invocation_vm.specs.Making.{IsSupported, version_in};
     ghost use Rattle.vm_parts.specs.Outboxes.{WholeStream};
     ghost use Rattle.vm_steps.specs.Stepping.{MakesAttempt, StepDoes, FeedDoes, FinishDoes, CloseDoes, IfWaits, IsReplaying, Takes, output_len};
     ghost use Rattle.vm_attempt.specs.Attempts.{AnswersAsTold, CarriesNewIds, HasCause, IsHonestlyFed, IsItsOwn, IsWellFed, IsWellFedInReplay, ProvesItsJournal, StepReplays, WaitsRightly};
@@ -75,9 +75,31 @@ impl<H: Handler> Attempt<H> {
         ensures { MakesAttempt alloc options handler
             (version_in (M.found headers (codes "content-type"))) result }
     {
-        match CoreVM::new(alloc, headers, options) {
+        let version = match version_in(&headers) {
+            Ok(version) => version,
+            Err(error) => return Err(error),
+        };
+        match Attempt::for_version(alloc, version, options, handler) {
+            Ok(attempt) => Ok(attempt),
+            Err(error) => Err(Error::from(error)),
+        }
+    }
+
+    /// An attempt for a version that `supported` or `version_named` returned. Its one error is out of memory.
+    pub fn for_version(
+        alloc: Global,
+        version: Version,
+        options: VMOptions,
+        handler: H,
+    ) -> Result<Self, AllocError>
+    where
+        H: Drop,
+        requires { IsSupported version }
+        ensures { IfOk result (λ a. MakesAttempt alloc options handler (Ok version) (Ok a)) }
+    {
+        match CoreVM::for_version(alloc, version, options) {
             Ok(vm) => Ok(Attempt {
-                version: vm.version(),
+                version,
                 options,
                 inner: Inner::new(alloc, vm, handler),
             }),

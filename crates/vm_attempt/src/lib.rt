@@ -2,11 +2,9 @@
 #![tactic(auto)]
 
 mod attempt;
-mod content_type;
 mod laws;
 
 pub use attempt::Attempt;
-pub use content_type::ContentType;
 pub use laws::{
     answers_are_told, attempts_are_told_on, attempts_begin, attempts_keep, attempts_write,
     calls_follow, finished_attempts_end, frames_arrive, histories_are_replayed,

@@ -12,10 +12,7 @@ use Rattle.vm_types.specs.declared.runs.RunExitResult.{RunExitResult}
 use Rattle.vm_types.specs.declared.runs.RunHandle.{RunHandle}
 use Rattle.vm_machine.specs.declared.machine.Machine.{Machine}
 use Rattle.vm_machine.specs.Outcomes.{Does, Outcome, called}
-use Rattle.vm_asks.specs.declared.asks.AnswerKind.{AnswerKind}
-use Rattle.vm_asks.specs.declared.command.Command.{Command}
-use Rattle.vm_asks.specs.Asks.{answer_by}
-use Rattle.invocation_vm.specs.Calls.{CallsAll, CallsFlatAwait, CallsProposal, CallsRun}
+use Rattle.invocation_vm.specs.Calls.{CallsFlatAwait, CallsProposal, CallsRun}
 use Rattle.invocation_vm.specs.Views.{View, Leaves, TakesOutput}
 use Rattle.vm_types.specs.declared.reply.Reply.{Reply}
 use Rattle.vm_types.specs.declared.reply.Reply.TheVariants as reply
@@ -26,9 +23,6 @@ answers f step given answer old new does undecoded told = record { given = given
 
 pub awaits : (future : UnresolvedFuture) (given : Result AwaitResponse Error) (answer : Reply) (old new : View) → CallsFlatAwait future given old new → answer ≡ reply_of reply.Awaited given → RepliesWith reply.Awaited (CallsFlatAwait future) answer old new
 awaits future given answer old new calls told = record { given = given; calls = calls; told = told }
-
-pub tells_all : (kind : AnswerKind) (c : Command) (cs : List Command) (given : Result NotificationHandle Error) (said : Reply) (old new : View) → CallsAll c cs given old new → said ≡ reply_of (λ handle. reply.Answer (answer_by kind handle)) given → RepliesWith (λ handle. reply.Answer (answer_by kind handle)) (CallsAll c cs) said old new
-tells_all kind c cs given said old new calls told = record { given = given; calls = calls; told = told }
 
 pub runs : (name : List ℕ) (given : Result RunHandle Error) (answer : Reply) (old new : View) → CallsRun name given old new → answer ≡ reply_of reply.Run given → RepliesWith reply.Run (CallsRun name) answer old new
 runs name given answer old new calls told = record { given = given; calls = calls; told = told }

@@ -4,7 +4,6 @@ ghost use Rattle.vm_types.specs.declared.steps.Answer.TheVariants as answer;
 ghost use Rattle.vm_calls.specs.Called.{reply_of, reply_or_memory};
 ghost use Rattle.vm_types.specs.declared.reply.Reply.TheVariants as reply;
 
-use await_trees::NotificationHandle;
 use bytes::Bytes;
 use journal_protocol::Error;
 use std::alloc::AllocError;
@@ -73,15 +72,6 @@ pub fn awakeable(given: VMResult<AwakeableHandle>) -> Reply
 {
     match given {
         Ok(awakeable) => Reply::Answer(Answer::Awakeable(awakeable)),
-        Err(error) => Reply::Refused(error),
-    }
-}
-
-pub fn handle(given: VMResult<NotificationHandle>) -> Reply
-    ensures { result ≡ reply_of (λ handle. reply.Answer (answer.Handle handle)) given }
-{
-    match given {
-        Ok(handle) => Reply::Answer(Answer::Handle(handle)),
         Err(error) => Reply::Refused(error),
     }
 }

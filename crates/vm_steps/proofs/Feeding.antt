@@ -1,5 +1,5 @@
 -- What is kept and then handed to the VM, and what is noted once it has answered.
-use Rattle.std.proofs.Common.{◌≡◌, ◌⊎◌, inl, inr, ℕ, Bool, true, false, List, Option, Some, None, is_some, Result, Ok, Err, refl, sym, ap, ◌∙◌}
+use Rattle.std.proofs.Common.{◌≡◌, ◌⊎◌, inl, inr, ℕ, true, false, List, Option, Some, None, is_some, Result, Ok, Err, refl, ap, ◌∙◌}
 use Rattle.std.specs.Result.{is_err}
 use Rattle.std.specs.declared.alloc.AllocError.{AllocError}
 use Rattle.await_trees.specs.declared.handle.NotificationHandle.{NotificationHandle}

@@ -34,11 +34,6 @@ abbrev pub mapped : {A B : Type 0} → (A → B) → Outcome A → Outcome B
 mapped f (Done a v) = Done (f a) v
 mapped f (Failed e v) = Failed e v
 
--- a result with another answer
-abbrev pub result_mapped : {A B : Type 0} → (A → B) → Result A Error → Result B Error
-result_mapped f (Ok a) = Ok (f a)
-result_mapped f (Err e) = Err e
-
 -- a call that has a command: the answer is by its first handle
 abbrev pub commanded_reply : Command → Machine → Outcome Reply
 commanded_reply c v =

@@ -1,5 +1,5 @@
 //! `vmbench`: plays one case of a given number of entries through the VM's calls and prints nothing, so that their cost can be counted. The
-//! typed calls of C play the same cases in `bindings/bench.c`.
+//! typed calls of C play the same cases in `tools/benchmarks/c/direct.c`.
 #![tactic(auto)]
 
 mod cases;

@@ -1,4 +1,5 @@
-//! The bytes of plain values: each type of the wire has one exact spelling. The values are passed on.
+//! The bytes of plain values. Each type of the wire has one exact spelling (`Wire`): what is written is read back, and nothing else is read as it.
+//! Messages are made of these. The values are passed on.
 #![tactic(auto)]
 
 mod frames;

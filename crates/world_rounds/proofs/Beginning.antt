@@ -4,7 +4,7 @@ use Rattle.std.specs.Prelude.{IfErr}
 use Rattle.std.specs.List.{concat}
 use Rattle.journal_protocol.specs.Version.{Version}
 use Rattle.journal_protocol.specs.Frames.{encoding, IsWhole}
-use Rattle.invocation_vm.specs.Making.{made}
+use Rattle.invocation_vm.specs.Making.{IsSupported, made}
 use Rattle.vm_types.specs.declared.options.VMOptions.{VMOptions}
 use Rattle.vm_model.specs.Calls.{Meaning}
 use Rattle.vm_steps.specs.Record.{Record}
@@ -12,7 +12,7 @@ use Rattle.vm_steps.specs.Stepping.{fresh_record}
 use Rattle.world_rounds.specs.declared.types.Round.{Round}
 use Rattle.journal_entries.specs.declared.fault.JournalFault.{JournalFault}
 use Rattle.world_rounds.specs.declared.types.Setting.{Setting}
-use Rattle.world_rounds.specs.Rounds.{StaysShort, IsSupported, Ran, ReportView, RoundDoes, begin, new_now}
+use Rattle.world_rounds.specs.Rounds.{StaysShort, Ran, ReportView, RoundDoes, begin, new_now}
 use Rattle.world_rounds.specs.Places.{FaultsAt, IsMemoryAside, RoundStops}
 use Rattle.world_rounds.specs.States.{HaveTextKeys, pairs_for}
 use Rattle.world_rounds.specs.Worlds.{IsJournal, fixed_in, start_message}

@@ -4,7 +4,7 @@ use Rattle.std.proofs.lemmas.List.{length-take-le, length-append}
 use Rattle.std.proofs.Math.Seq.{take-append_seam, take-length}
 use Rattle.std.specs.List.{concat}
 use Rattle.journal_protocol.specs.Frames.{encoding, IsWhole}
-use Rattle.invocation_vm.specs.Making.{made}
+use Rattle.invocation_vm.specs.Making.{IsSupported, made}
 use Rattle.vm_model.specs.Calls.{Meaning}
 use Rattle.vm_model.specs.HonestRounds.{IsOneRun}
 use Rattle.vm_model.specs.Histories.{Honest}
@@ -17,7 +17,7 @@ use Rattle.world_rounds.specs.declared.types.Setting.{Setting}
 use Rattle.journal_entries.specs.Entries.{journal_entries}
 use Rattle.world_rounds.specs.States.{HaveTextKeys, base_of, pairs_for}
 use Rattle.world_rounds.specs.Worlds.{IsJournal, WorldView, fixed_in, setup_of, start_message}
-use Rattle.world_rounds.specs.Rounds.{EndsTold, Happens, IsSupported, Now, ReplaysAndQueues, begin, new_now, report_of}
+use Rattle.world_rounds.specs.Rounds.{EndsTold, Happens, Now, ReplaysAndQueues, begin, new_now, report_of}
 use Rattle.world_rounds.specs.declared.desk.Desk.{Desk}
 use Rattle.world_rounds.specs.Course.{AreRun, AreRunning, BeginsRound, CourseLasts, CourseView, EndsToldBy, RoundGoesOn, live_now}
 use Rattle.world_rounds.specs.Guarantees.{HasOneResultEach, HasRightKinds}

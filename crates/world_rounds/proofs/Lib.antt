@@ -14,7 +14,6 @@ pub mod Agreeing
 pub mod Freshness
 pub mod Completing
 pub mod Beginning
-pub mod Versions
 pub mod First
 pub mod Given
 pub mod Lists

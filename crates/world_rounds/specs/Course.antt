@@ -5,7 +5,7 @@ use Rattle.journal_protocol.specs.Error.{Error}
 use Rattle.journal_protocol.specs.Frames.{IsWhole}
 use Rattle.vm_model.specs.Calls.{Meaning}
 use Rattle.vm_steps.specs.Record.{AttemptView}
-use Rattle.invocation_vm.specs.Making.{supported}
+use Rattle.invocation_vm.specs.Making.{IsSupported, supported}
 use Rattle.vm_attempt.specs.Fixed.{fixed_of}
 use Rattle.world_rounds.specs.declared.types.Event.{Event}
 use Rattle.world_rounds.specs.declared.types.Round.{Round}
@@ -15,7 +15,7 @@ use Rattle.world_rounds.specs.States.{HaveTextKeys, pairs_for}
 use Rattle.world_rounds.specs.Worlds.{IsJournal, start_message}
 use Rattle.world_rounds.specs.declared.desk.Desk.{Desk}
 use Rattle.world_rounds.specs.Inside.{the_now}
-use Rattle.world_rounds.specs.Rounds.{EndsTold, Faults, Happen, Happens, IsRefusal, IsSupported, Now, ReportView, RoundsDo, begin}
+use Rattle.world_rounds.specs.Rounds.{EndsTold, Faults, Happen, Happens, IsRefusal, Now, ReportView, RoundsDo, begin}
 
 -- what all its attempts are made with, how many entries there were before the first round, the
 -- journal, and the round that goes on

@@ -3,7 +3,7 @@ use Rattle.std.specs.Prelude.{◌≡◌, ◌⊎◌, ℕ, List, [], ◌∷◌, �
 use Rattle.std.proofs.Common.{Global, inl, inr}
 use Rattle.journal_protocol.specs.Error.{Error}
 use Rattle.journal_protocol.specs.Frames.{IsWhole}
-use Rattle.invocation_vm.specs.Making.{supported}
+use Rattle.invocation_vm.specs.Making.{IsSupported, supported}
 use Rattle.vm_model.specs.Calls.{Meaning}
 use Rattle.world_rounds.specs.declared.types.Event.{Event}
 use Rattle.world_rounds.specs.declared.types.Round.{Round}
@@ -12,7 +12,7 @@ use Rattle.journal_entries.specs.declared.fault.JournalFault.TheVariants as jour
 use Rattle.world_rounds.specs.declared.types.Setting.{Setting}
 use Rattle.world_rounds.specs.Worlds.{start_message}
 use Rattle.world_rounds.specs.declared.placed.PlacedFault.{PlacedFault}
-use Rattle.world_rounds.specs.Rounds.{ArrivalsDo, ArrivalsFault, Faults, Happen, IsRefusal, IsSupported, Now, OutsideFault, ReportView, RoundsDo, begin}
+use Rattle.world_rounds.specs.Rounds.{ArrivalsDo, ArrivalsFault, Faults, Happen, IsRefusal, Now, OutsideFault, ReportView, RoundsDo, begin}
 
 -- The events before this place, counted from 0, have happened, and the event there has this fault.
 pub record FaultsAt (m : Meaning) (events : List Event) (begun : Now)

@@ -12,7 +12,7 @@ use Rattle.journal_protocol.specs.SignalDelivery.TheVariants.{Queued}
 use Rattle.vm_types.specs.declared.options.VMOptions.{VMOptions}
 use Rattle.vm_parts.specs.Outboxes.{WholeFrames}
 use Rattle.vm_types.specs.declared.steps.Answer.{Answer}
-use Rattle.invocation_vm.specs.Making.{made, supported}
+use Rattle.invocation_vm.specs.Making.{IsSupported, made, supported}
 use Rattle.vm_model.specs.Calls.{Meaning, Setup}
 use Rattle.vm_model.specs.Histories.{OneBegins, Told}
 use Rattle.journal_entries.specs.Journal.{Entry, commands_in, input_read_from, notifications_in}
@@ -254,10 +254,6 @@ pub record Ran (fixed : Fixed) (events : List Event) (begun : Now) (report : Rep
   pub ends : EndsTold fixed now.attempt
   pub told : report ≡ report_of now
   pub left : new ≡ now.journal
-
--- The version is one that the VM supports.
-abbrev pub IsSupported : Version → Type 0
-IsSupported version = supported version ≡ Ok version
 
 -- A round with its attempt, in a version that the VM supports, leaves this journal and tells this
 -- report. The keys of the state that its Start hands out are texts.

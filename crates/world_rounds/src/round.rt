@@ -2,13 +2,13 @@
 ghost use Rattle.std.specs.Prelude.{◌≡◌, ◌⊎◌, ◌≤◌, ◌∷◌, [], ◌++◌, length, IfOk, IfErr, OnOk};
 ghost use Rattle.std.specs.List.{concat};
 ghost use Rattle.journal_protocol.specs.Frames.{encoding, IsWhole};
-ghost use Rattle.invocation_vm.specs.Making.{made, supported};
+ghost use Rattle.invocation_vm.specs.Making.{IsSupported, made, supported};
 ghost use Rattle.vm_steps.specs.Stepping.{fresh_record};
 ghost use Rattle.journal_entries.specs.Arrivals.{most_entries};
 ghost use Rattle.world_rounds.specs.Inside.{the_now, report_view};
 ghost use Rattle.vm_attempt.specs.Fixed.{fixed_of};
 ghost use Rattle.world_rounds.specs.Places.{ArrivalFaultsAt, FaultsAt, IsMemoryAside, RefusedStops, RoundStops};
-ghost use Rattle.world_rounds.specs.Rounds.{new_now, report_of, ArrivalsDo, ArrivalsFault, EndsTold, Happen, IsRefusal, StaysShort, IsSupported, Ran, RefusedDoes, RoundDoes};
+ghost use Rattle.world_rounds.specs.Rounds.{new_now, report_of, ArrivalsDo, ArrivalsFault, EndsTold, Happen, IsRefusal, StaysShort, Ran, RefusedDoes, RoundDoes};
 ghost use Rattle.world_rounds.specs.States.{HaveTextKeys, pairs_for};
 ghost use Rattle.world_rounds.specs.Worlds.{IsJournal, start_message};
 
@@ -17,11 +17,12 @@ use crate::desk::{Desk, happen};
 use crate::handed::start_bytes;
 use crate::types::{Event, Report, Round, Setting};
 use bytes::{Bytes, BytesMut};
+use invocation_vm::supported;
 use journal_entries::JournalFault;
 use journal_protocol::{Decoder, Error, Version};
 use journal_store::WholeJournal;
 use std::alloc::{AllocError, Global};
-use vm_attempt::{Attempt, ContentType};
+use vm_attempt::Attempt;
 use vm_types::{Handler, VMResult};
 
 /// A fault in a round, at the event of this place, counted from 0; without one it is out of memory, before the first event or after
@@ -177,8 +178,13 @@ pub fn new_attempt<'a, H: Handler>(
     ensures supported { OnOk result (IsSupported setting.now.version) }
     ensures refused { IfErr result (λ e. IsRefusal (supported setting.now.version) e) }
 {
-    let headers = ContentType(setting.version.content_type());
-    Attempt::new(alloc, headers, setting.options, handler)
+    if let Err(error) = supported(setting.version) {
+        return Err(error);
+    }
+    match Attempt::for_version(alloc, setting.version, setting.options, handler) {
+        Ok(attempt) => Ok(attempt),
+        Err(error) => Err(Error::from(error)),
+    }
 }
 
 /// A round whose attempt was refused.

@@ -12,7 +12,7 @@ from collections.abc import Iterable
 from functools import lru_cache
 from typing import cast, get_args
 
-from palqytun._library import Bytes, Command, Error, Invocation, Node, Optional, Options, Pair, Policy, Target, Value
+from palqytun._abi import Bytes, Command, Error, Invocation, Node, Optional, Options, Pair, Policy, Target, Value
 from palqytun._words import CODE, HANDLE, SEED, both, encoded, integer, octets, one_of, spoken, utf8
 from palqytun.errors import BadLine
 from palqytun.futures import Future

@@ -5,16 +5,17 @@ from __future__ import annotations
 import ctypes
 from collections.abc import Callable
 
-from palqytun import _library
+from palqytun import _abi, _library
 from palqytun._answers import pairs
-from palqytun._library import Library, Replied, Session
+from palqytun._abi import Replied
+from palqytun._library import Handle, Library
 from palqytun.values import VOID, EphemeralReady, ExecuteRun, Failure, Input, InvocationId, Result, Waiting
 
 
 class Parts:
     """The parts of a session's last reply."""
 
-    def __init__(self, library: Library, session: Session) -> None:
+    def __init__(self, library: Library, session: Handle) -> None:
         self._part = library.part
         self._session = session
         self._room = ctypes.create_string_buffer(256)
@@ -22,14 +23,21 @@ class Parts:
     def data(self, at: int) -> bytes | None:
         """A part, if there is one."""
         told = self._part(self._session, at, self._room, len(self._room))
-        if told.status == _library.NO_ROOM:
+        if told.status == _abi.NO_ROOM:
             self._room = ctypes.create_string_buffer(2 * told.len)
             told = self._part(self._session, at, self._room, len(self._room))
-        return None if told.status else _library.front(self._room, told.len)
+        if told.status == _abi.NO_PART:
+            return None
+        if told.status:
+            raise RuntimeError(_library.why(told.status))
+        return _library.front(self._room, told.len)
 
     def bytes(self, at: int) -> bytes:
-        """A part that is there."""
-        return self.data(at) or b""
+        """A part that is there. Only another thread's call takes it away."""
+        found = self.data(at)
+        if found is None:
+            raise RuntimeError("another thread's call of this VM came between; let a lock guard it")
+        return found
 
     def text(self, at: int) -> str:
         """A text that is there."""
@@ -50,9 +58,9 @@ _WAITS = [[Waiting(input=bool(first), run=bool(second)) for second in (0, 1)] fo
 
 def awaited_of(replied: Replied) -> ExecuteRun | EphemeralReady | Waiting:
     """What an await is answered that isn't done."""
-    if replied.kind == _library.WAITING:
+    if replied.kind == _abi.WAITING:
         return _WAITS[replied.first][replied.second]
-    return ExecuteRun(replied.first) if replied.kind == _library.EXECUTE_RUN else EphemeralReady(replied.first)
+    return ExecuteRun(replied.first) if replied.kind == _abi.EXECUTE_RUN else EphemeralReady(replied.first)
 
 
 def _failure(replied: Replied, parts: Parts) -> Failure:
@@ -64,12 +72,12 @@ def _keys(replied: Replied, parts: Parts) -> list[str]:
 
 
 _RESULTS: dict[int, Callable[[Replied, Parts], Result | None]] = {
-    _library.NOTHING: lambda replied, parts: None,
-    _library.VOID: lambda replied, parts: VOID,
-    _library.VALUE: lambda replied, parts: parts.bytes(0),
-    _library.FAILURE: _failure,
-    _library.KEYS: _keys,
-    _library.INVOCATION_ID: lambda replied, parts: InvocationId(parts.text(0)),
+    _abi.NOTHING: lambda replied, parts: None,
+    _abi.VOID: lambda replied, parts: VOID,
+    _abi.VALUE: lambda replied, parts: parts.bytes(0),
+    _abi.FAILURE: _failure,
+    _abi.KEYS: _keys,
+    _abi.INVOCATION_ID: lambda replied, parts: InvocationId(parts.text(0)),
 }
 
 

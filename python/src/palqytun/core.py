@@ -39,7 +39,7 @@ from collections.abc import Iterable
 from types import TracebackType
 from typing import Literal, Never, Self, cast
 
-from palqytun import _library
+from palqytun import _abi, _library
 from palqytun._answers import shown
 from palqytun._arguments import (
     NO_TEXT,
@@ -57,11 +57,12 @@ from palqytun._arguments import (
     lent_text,
     lent_value,
 )
-from palqytun._library import Replied
+from palqytun._abi import Replied
 from palqytun._replies import Parts, awaited_of, input_of, result_of
-from palqytun._words import HANDLE, encoded, integer, octets, truth
+from palqytun._words import HANDLE, integer, octets, truth, utf8
 from palqytun.errors import BadLine, Cancelled, Closed, Code, Fault, JournalFault, JournalMismatch, Suspended, VMError, error_of
 from palqytun.futures import (
+    AnyOf,
     Future,
     all_completed,
     all_succeeded_or_first_failed,
@@ -96,6 +97,7 @@ from palqytun.values import (
 __all__ = [
     "VM",
     "VOID",
+    "AnyOf",
     "Awakeable",
     "BadLine",
     "Behaviour",
@@ -201,12 +203,12 @@ class VM:
         words = lent_options({name: (word, _OPTIONS[name]) for name, word in options.items()}, seed)
         asked = lent_content_type(content_type)
         self._library = _library.library()
-        self._session = _library.Session()
+        self._session = _library.Handle()
         self._calls = self._library.calls
         self._parts = Parts(self._library, self._session)
         self._room = ctypes.create_string_buffer(256)
         self._is_begun = False
-        if self._library.new(self._session) != _library.DONE:
+        if self._library.open(ctypes.byref(self._session)) != _abi.DONE:
             raise MemoryError("no memory for a VM")
         self.version = f"V{self._made(self._calls['make'](self._session, asked, words)).first}"
 
@@ -218,34 +220,37 @@ class VM:
 
     def __del__(self) -> None:
         session = getattr(self, "_session", None)
-        if session is not None and session.at:
-            self._library.free(session)
+        if session is not None and session.value:
+            self._library.close(session)
 
     def free(self) -> None:
-        """Lets the VM go, with its memory; each later call is a `RuntimeError`. It is done by itself if the VM is garbage."""
-        self._library.free(self._session)
+        """Lets the VM go, with its memory; each later call is a `RuntimeError`. It is done by itself if the VM is garbage. A `RuntimeError`
+        says that a call of another thread has not ended: then it stays."""
+        status = self._library.close(self._session)
+        if status not in (_abi.DONE, _abi.NO_SESSION):
+            self._check(status)
 
     def _check(self, status: int) -> None:
-        if status == _library.NO_MEMORY:
+        if status == _abi.NO_MEMORY:
             raise MemoryError("the VM found no memory")
-        if status == _library.NO_SESSION:
-            raise RuntimeError("the VM was let go")
-        if status == _library.NO_VM:
-            raise RuntimeError("there is no VM")
+        if status in (_abi.NO_SESSION, _abi.NO_VM, _abi.BUSY, _abi.BAD_HANDLE):
+            raise RuntimeError(_library.why(status))
 
     def line(self, line: str) -> str:
-        """Performs a line of docs/VMSCRIPT.md, and answers its answer as it is.
+        """Performs a line of docs/VMSCRIPT.md, and returns its reply as it is.
 
         >>> vm.line("await 17")
         'ok wait true false'
         """
-        words = encoded("line", line)
+        words = utf8("line", line)
         told = self._library.line(self._session, words, len(words))
         if told.status:
             self._check(told.status)
         if told.len > len(self._room):
             self._room = ctypes.create_string_buffer(2 * told.len)
-        self._library.answer(self._session, self._room, len(self._room))
+        told = self._library.answer(self._session, self._room, len(self._room))
+        if told.status:
+            self._check(told.status)
         return _library.front(self._room, told.len).decode("ascii")
 
     def call(self, line: str) -> str:
@@ -273,10 +278,10 @@ class VM:
 
     def _check_made(self, replied: Replied, is_first: bool = False) -> None:
         """Raises an error that a typed call is answered."""
-        if replied.status == _library.REFUSED:
+        if replied.status == _abi.REFUSED:
             raise self._refusal(replied.number, self._parts.text(0), is_first)
         self._check(replied.status)
-        if replied.status == _library.BAD_TEXT:
+        if replied.status == _abi.BAD_TEXT:
             raise BadLine("a text is no UTF-8")
         if replied.status:
             raise RuntimeError(f"the call was not made: status {replied.status}")
@@ -345,7 +350,7 @@ class VM:
         b''
         """
         told = self._library.take_output(self._session, self._room, len(self._room))
-        while told.status == _library.NO_ROOM:
+        while told.status == _abi.NO_ROOM:
             self._room = ctypes.create_string_buffer(2 * told.len)
             told = self._library.take_output(self._session, self._room, len(self._room))
         self._check(told.status)
@@ -363,8 +368,8 @@ class VM:
         """Whether a take of the handle would answer a value."""
         return self._made(self._calls["is_completed"](self._session, integer("handle", handle, HANDLE))).first == 1
 
-    def do_await(self, future: int | Future) -> Literal[True] | ExecuteRun | EphemeralReady | Waiting:
-        """Whether the future, a handle or a `Future`, is awake.
+    def do_await(self, future: int | Future | AnyOf) -> Literal[True] | ExecuteRun | EphemeralReady | Waiting:
+        """Whether the future, a handle, a `Future` or an `AnyOf`, is awake.
 
         If it isn't, `Waiting` says what may wake it: more input, or the result of a run that executes, which is to be proposed. If neither can
         come the invocation is suspended, and `Suspended` is raised. An `ExecuteRun` names a run to execute first: propose its result and await
@@ -383,11 +388,13 @@ class VM:
         """
         if isinstance(future, Future):
             replied = self._made(self._calls["await_tree"](self._session, lent_nodes(future), len(future.nodes)))
+        elif isinstance(future, AnyOf):
+            replied = self._made(self._calls["await_tree"](self._session, *future.lent()))
         else:
             replied = self._made(self._calls["await"](self._session, handle_of("future", future)))
-        if replied.kind == _library.AWAKE:
+        if replied.kind == _abi.AWAKE:
             return True
-        if replied.kind == _library.CANCELLED:
+        if replied.kind == _abi.CANCELLED:
             raise Cancelled("the invocation was cancelled")
         return awaited_of(replied)
 
@@ -410,7 +417,7 @@ class VM:
         return found
 
     def sys_sleep(self, wake_up_time: int, *, name: str = "", now: int | None = None) -> int:
-        """A sleep until a time; answers its handle, whose result is `VOID`. The present time has no effect.
+        """A sleep until a time; returns its handle, whose result is `VOID`. The present time has no effect.
 
         >>> vm.sys_sleep(1000, name="nap")
         17
@@ -424,7 +431,7 @@ class VM:
         return self._made(self._calls["sleep"](self._session, called, integer("wake_up_time", wake_up_time))).first
 
     def sys_state_get(self, key: str, *, name: str | None = None, unstable: bool = False) -> int:
-        """Reads the value of a state key; answers a handle, whose result is `bytes` or `VOID`.
+        """Reads the value of a state key; returns a handle, whose result is `bytes` or `VOID`.
 
         >>> vm.sys_state_set("visits", b"7")
         >>> vm.take_notification(vm.sys_state_get("visits"))
@@ -434,7 +441,7 @@ class VM:
         return self._made(self._calls["state_get"](self._session, lent_text("key", key), lent_name(name))).first
 
     def sys_state_get_keys(self, *, name: str | None = None) -> int:
-        """Reads the keys that have a value; answers a handle, whose result is a list.
+        """Reads the keys that have a value; returns a handle, whose result is a list.
 
         >>> vm.sys_state_set("visits", b"7")
         >>> vm.take_notification(vm.sys_state_get_keys())
@@ -443,9 +450,9 @@ class VM:
         return self._made(self._calls["state_get_keys"](self._session, lent_name(name))).first
 
     def ephemeral_state_get(self, key: str) -> int:
-        """Reads the value of a state key and leaves nothing of it in the journal, for what doesn't steer the handler; answers the read's id.
+        """Reads the value of a state key and leaves nothing of it in the journal, for what doesn't steer the handler; returns the read's id.
 
-        It needs version 8, and is refused in replay. `do_await` answers an `EphemeralReady` once the value is there.
+        It needs version 8, and is refused in replay. `do_await` gives an `EphemeralReady` once the value is there.
 
         >>> vm.ephemeral_state_get("visits")
         Traceback (most recent call last):
@@ -490,7 +497,7 @@ class VM:
         name: str | None = None,
         unstable: bool = False,
     ) -> tuple[int, int]:
-        """Calls another handler; answers the handles of the invocation's id, an `InvocationId`, and of its result.
+        """Calls another handler; returns the handles of the invocation's id, an `InvocationId`, and of its result.
 
         >>> vm.sys_call("Greeter", "greet", b"Ada", headers=[("lang", "en")])
         (17, 18)
@@ -515,7 +522,7 @@ class VM:
         name: str | None = None,
         unstable: bool = False,
     ) -> tuple[int, int, int]:
-        """Calls another handler and sleeps until a time, in one call; answers the handles of the invocation's id, of its result and of the
+        """Calls another handler and sleeps until a time, in one call; returns the handles of the invocation's id, of its result and of the
         deadline. Await the first that comes of the last two.
 
         >>> _, answer, deadline = vm.sys_call_with_deadline("Greeter", "greet", b"Ada", 1000)
@@ -542,7 +549,7 @@ class VM:
         name: str | None = None,
         unstable: bool = False,
     ) -> int:
-        """Calls another handler at once or at a time, and nobody waits for the result; answers the handle of the invocation's id.
+        """Calls another handler at once or at a time, and nobody waits for the result; returns the handle of the invocation's id.
 
         >>> vm.sys_send("Greeter", "greet", b"Ada", at=1000)
         17
@@ -610,20 +617,20 @@ class VM:
         self._made(self._calls["cancel_invocation"](self._session, lent_text("invocation_id", invocation_id)))
 
     def sys_get_promise(self, key: str) -> int:
-        """Awaits a promise of the workflow; answers the handle of its value."""
+        """Awaits a promise of the workflow; returns the handle of its value."""
         return self._made(self._calls["get_promise"](self._session, lent_text("key", key))).first
 
     def sys_peek_promise(self, key: str) -> int:
-        """Looks whether a promise of the workflow is completed; answers the handle of its value, or of `VOID`."""
+        """Looks whether a promise of the workflow is completed; returns the handle of its value, or of `VOID`."""
         return self._made(self._calls["peek_promise"](self._session, lent_text("key", key))).first
 
     def sys_complete_promise(self, key: str, value: Data | Failure, *, unstable: bool = False) -> int:
-        """Completes a promise of the workflow; answers the handle of `VOID`, or of a `Failure` if it had been completed before."""
+        """Completes a promise of the workflow; returns the handle of `VOID`, or of a `Failure` if it had been completed before."""
         given = lent_text("key", key), lent_value("value", value), truth("unstable", unstable)
         return self._made(self._calls["complete_promise"](self._session, *given)).first
 
     def sys_attach_invocation(self, target: Target) -> int:
-        """Attaches to another invocation, an `InvocationId`, `WorkflowId` or `IdempotencyId`; answers the handle of its result.
+        """Attaches to another invocation, an `InvocationId`, `WorkflowId` or `IdempotencyId`; returns the handle of its result.
 
         >>> vm.sys_attach_invocation(WorkflowId("signup", "ada"))
         17
@@ -631,7 +638,7 @@ class VM:
         return self._made(self._calls["attach"](self._session, lent_invocation(target))).first
 
     def sys_get_invocation_output(self, target: Target) -> int:
-        """Looks whether another invocation has an output; answers the handle of it, or of `VOID`."""
+        """Looks whether another invocation has an output; returns the handle of it, or of `VOID`."""
         return self._made(self._calls["get_output"](self._session, lent_invocation(target))).first
 
     def sys_write_output(self, value: Data | Failure, *, unstable: bool = False) -> None:
@@ -664,4 +671,4 @@ class VM:
         0
         """
         replied = self._made(self._calls["last_command_index"](self._session))
-        return replied.number if replied.kind == _library.INDEX else -1
+        return replied.number if replied.kind == _abi.INDEX else -1

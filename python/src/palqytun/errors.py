@@ -37,7 +37,7 @@ class Code(enum.IntEnum):
 
 
 class VMError(Exception):
-    """An error that the VM answered: its `code` and its `text`. The VM has failed, and answers the same to each later call.
+    """An error that the VM answered: its `code` and its `text`. The VM has failed, and returns the same from each later call.
 
     `hint` says what to do in its place, if the call came out of order; else it is `None`.
     """

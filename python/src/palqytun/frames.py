@@ -17,7 +17,7 @@ from __future__ import annotations
 import threading
 from collections.abc import Callable, Iterable
 
-from palqytun import _library
+from palqytun import _abi, _library
 from palqytun._words import COUNT, encoded, integer, octets, utf8
 from palqytun.errors import BadFrame, BadLine
 from palqytun.values import Data
@@ -28,10 +28,10 @@ _COMPLETION, _SIGNAL, _NAMED = range(3)
 _KEPT = 65536  # the largest buffer that is kept between calls
 
 _WHY = {
-    _library.NOT_FRAMES: "the notifications aren't whole frames",
-    _library.NOT_A_FRAME: "it isn't one whole frame",
-    _library.NO_RESULT: "the frame has no result",
-    _library.NOT_A_SUSPENSION: "the frame isn't one of a suspension",
+    _abi.NOT_FRAMES: "the notifications aren't whole frames",
+    _abi.NOT_A_FRAME: "it isn't one whole frame",
+    _abi.NO_RESULT: "the frame has no result",
+    _abi.NOT_A_SUSPENSION: "the frame isn't one of a suspension",
 }
 
 
@@ -50,20 +50,20 @@ class _NoPart(Exception):
 
 
 def _refuse(status: int) -> None:
-    if status == _library.NO_PART:
+    if status == _abi.NO_PART:
         raise _NoPart
-    if status == _library.NO_MEMORY:
+    if status == _abi.NO_MEMORY:
         raise MemoryError("the core found no memory")
-    if status == _library.BAD_LINE:
+    if status == _abi.BAD_LINE:
         raise BadLine("the line has no meaning")
     raise BadFrame(_WHY[status])
 
 
-def _written(call: Callable[[_library.Buffer, int], _library.Told]) -> bytes:
+def _written(call: Callable[[_library.Buffer, int], _abi.Told]) -> bytes:
     """What a call writes."""
     room = _room.buffer
     told = call(room, len(room))
-    if told.status == _library.NO_ROOM:
+    if told.status == _abi.NO_ROOM:
         room = _library.buffer(told.len if told.len > _KEPT else 2 * told.len)
         told = call(room, len(room))
         if len(room) <= _KEPT:

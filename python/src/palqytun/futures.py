@@ -2,11 +2,14 @@
 
 from __future__ import annotations
 
+import ctypes
+from collections.abc import Iterator, Sequence
 from typing import Self
 
+from palqytun._abi import Node
 from palqytun._words import HANDLE, integer
 
-__all__ = ["Future", "all_completed", "all_succeeded_or_first_failed", "first_completed", "first_succeeded_or_all_failed", "unknown"]
+__all__ = ["AnyOf", "Future", "all_completed", "all_succeeded_or_first_failed", "first_completed", "first_succeeded_or_all_failed", "unknown"]
 
 
 Nodes = tuple[tuple[int, int], ...]
@@ -74,3 +77,73 @@ def all_succeeded_or_first_failed(*children: int | Future) -> Future:
 def unknown(*children: int | Future) -> Future:
     """Some way of the caller's own: asked again at each outcome of a child."""
     return _over("un", 5, children)
+
+
+class AnyOf:
+    """`first_completed` over many handles that come and go: each is added and taken away in the same time, however many there are. It is awaited
+    as a `Future` is, with at least one handle or tree in it.
+
+    >>> awaited = AnyOf()
+    >>> for handle in (17, 18, 19):
+    ...     awaited.add(handle)
+    >>> awaited.discard(17)
+    >>> sorted(awaited), len(awaited)
+    ([18, 19], 2)
+    """
+
+    def __init__(self) -> None:
+        self._order: list[int] = []
+        self._places: dict[int, int] = {}
+        self._room: ctypes.Array[Node] | None = None  # the handles' nodes, in their order, once they were awaited
+        self._trees: Sequence[int | Future] = ()
+
+    def __len__(self) -> int:
+        return len(self._order)
+
+    def __iter__(self) -> Iterator[int]:
+        return iter(self._order)
+
+    def add(self, handle: int) -> None:
+        """One handle more; nothing if it is there."""
+        if handle not in self._places:
+            self._places[handle] = at = len(self._order)
+            self._order.append(handle_of("handle", handle))
+            if self._room is not None:
+                self._fit(at + 1)[at] = Node(0, handle)
+
+    def discard(self, handle: int) -> None:
+        """One handle less; nothing if it isn't there."""
+        at = self._places.pop(handle, None)
+        if at is None:
+            return
+        moved = self._order.pop()
+        if moved != handle:
+            self._order[at], self._places[moved] = moved, at
+            if self._room is not None:
+                self._room[at] = Node(0, moved)
+
+    def beside(self, trees: Sequence[int | Future]) -> None:
+        """These trees, in place of those before, are awaited beside the handles."""
+        self._trees = trees
+
+    def lent(self) -> tuple[ctypes.Array[Node], int]:
+        """The nodes, and how many they are."""
+        below = [node for it in self._trees for node in (it.nodes if isinstance(it, Future) else ((0, it),))]
+        count = len(self._order)
+        room = self._fit(count + len(below) + 1)
+        for at, node in enumerate([*below, (1, count + len(self._trees))], count):
+            room[at] = Node(*node)
+        return room, count + len(below) + 1
+
+    def _fit(self, count: int) -> ctypes.Array[Node]:
+        """The room, with places for as many nodes."""
+        room = self._room
+        if room is None:
+            self._room = room = (Node * (2 * count))()
+            for at, handle in enumerate(self._order):
+                room[at] = Node(0, handle)
+        elif count > len(room):
+            before, self._room = room, (Node * (2 * count))()
+            room = self._room
+            ctypes.memmove(room, before, ctypes.sizeof(before))
+        return room

@@ -7,7 +7,7 @@ from collections.abc import Iterable
 from types import TracebackType
 from typing import NamedTuple, Self
 
-from palqytun import _library
+from palqytun import _abi, _library
 from palqytun._words import integer, octets
 from palqytun.errors import BadLine, Fault, JournalFault
 from palqytun.values import Data
@@ -68,7 +68,7 @@ class Journal:
         self._handle = _library.Handle()
         self._calls = _library.library().journals
         self._room = ctypes.create_string_buffer(256)
-        if self._calls.new(self._handle):
+        if self._calls.open(ctypes.byref(self._handle)):
             raise MemoryError("no memory for a journal")
         loaded = False
         for entry in entries:
@@ -85,19 +85,21 @@ class Journal:
 
     def __del__(self) -> None:
         handle = getattr(self, "_handle", None)
-        if handle is not None and handle.at:
-            self._calls.free(handle)
+        if handle is not None and handle.value:
+            self._calls.close(handle)
 
     def free(self) -> None:
         """Lets the journal go, with its memory; each later call is a `RuntimeError`. It is done by itself if the journal is garbage."""
-        self._calls.free(self._handle)
+        status = self._calls.close(self._handle)
+        if status not in (_abi.DONE, _abi.NO_JOURNAL):
+            self._check(status)
 
     def _check(self, status: int) -> None:
-        if status == _library.NO_MEMORY:
+        if status == _abi.NO_MEMORY:
             raise MemoryError("the journal found no memory")
-        if status == _library.NO_JOURNAL:
-            raise RuntimeError("the journal was let go")
-        if status == _library.BAD_VERSION:
+        if status in (_abi.NO_JOURNAL, _abi.BUSY, _abi.BAD_HANDLE):
+            raise RuntimeError(_library.why(status))
+        if status == _abi.BAD_VERSION:
             raise BadLine(f"version must be from {_VERSIONS[0]} to {_VERSIONS[1]}")
         if status:
             raise JournalFault(Fault(status))
@@ -110,7 +112,7 @@ class Journal:
             self._check(told.status)
         return told.len
 
-    def _entered(self, row: _library.Row, frame: bytes) -> Row:
+    def _entered(self, row: _abi.Row, frame: bytes) -> Row:
         if row.status:
             self._check(row.status)
         return Row(row.type, row.completes if row.is_completion else None, frame)
@@ -162,7 +164,7 @@ class Journal:
         return _library.front(room, size)
 
     def keep(self) -> None:
-        """What came since the last `keep` is committed. After a `MemoryError` the journal is let go, and has to be loaded again."""
+        """What came since the last `keep` is committed. After a `MemoryError` the journal is dropped, and has to be loaded again."""
         status = self._calls.keep(self._handle)
         if status:
             self._check(status)

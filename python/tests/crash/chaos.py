@@ -1,11 +1,12 @@
-"""The crash tests for as long as one likes: chaos.py [MINUTES] [--db sqlite|postgres|postgresql://..] [--seed N] [--kills N]
+"""The crash tests for as long as one likes: chaos.py [MINUTES] [--db sqlite|postgres|postgresql://..] [--seed N] [--kills N] [--failovers N]
 
 Round after round, each with another seed, until the time is over or something is wrong: workers are killed while workflows are submitted;
 on SQLite they also die at commits, meet torn writes, clocks that jump, and a full disk; on PostgreSQL three of them run, are stopped for
 longer than their lease, and lose their connections. After each part all that is left is compared with a run without faults. Each round
 prints a line of figures, and the last line is that of all. A round takes about a minute, and the one that has begun is ended.
 
-With --kills there is one long round instead, of so many kills and no other fault.
+With --kills there is one long round instead, of so many kills and no other fault. With --failovers there are two, on PostgreSQL servers of their
+own: the primary's machine stops so often, first with a synchronous standby, and then with an asynchronous one, which lacks the last commits.
 """
 
 from __future__ import annotations
@@ -24,6 +25,7 @@ from collections.abc import Callable, Iterator
 
 HERE = pathlib.Path(__file__).parent
 sys.path[:0] = [str(HERE), str(HERE.parent)]
+import failover  # noqa: E402
 import postgres  # noqa: E402
 import scenarios  # noqa: E402
 from checked import Found, Wrong  # noqa: E402
@@ -80,11 +82,24 @@ def one_of_kills(url: str, folder: pathlib.Path, seed: int, count: int) -> Itera
     yield scenarios.kills(url if is_shared else str(room / "db"), room, faults=count, **how)
 
 
-def played(url: str, seed: int, kills: int, minutes: float) -> int:
+def of_failovers(folder: pathlib.Path, seed: int, count: int) -> Iterator[Report]:
+    """A round with each kind of standby."""
+    for is_synchronous in (True, False):
+        begun, room = time.monotonic(), folder / f"synchronous-{is_synchronous}"
+        with failover.pair(is_synchronous) as servers:
+            submitted = failover.EACH * count * (1 if is_synchronous else 2)
+            reference = scenarios.undisturbed(servers.url, room / "reference", submitted, seconds=3600)
+            found = failover.failovers(servers, room, count=count, seed=seed, reference=reference, seconds=3600)
+        kind = "a synchronous" if is_synchronous else "an asynchronous"
+        print(f"{kind} standby, {time.monotonic() - begun:.0f} s: {found}", flush=True)
+        yield found.report
+
+
+def played(folder: pathlib.Path, reports: Iterator[Report]) -> int:
     """Plays rounds, and says what they found."""
-    total, count, folder = Report(), 0, pathlib.Path(tempfile.mkdtemp(prefix="palqytun-chaos-"))
+    total, count = Report(), 0
     try:
-        for report in one_of_kills(url, folder, seed, kills) if kills else rounds(url, folder, seed, 60 * minutes):
+        for report in reports:
             total, count = total + report, count + 1
     except Wrong as error:
         print(f"WRONG: {error}\nwhat it left is in {folder}", file=sys.stderr)
@@ -100,13 +115,22 @@ def main() -> int:
     parser.add_argument("--db", default="sqlite", help="sqlite, postgres for a temporary cluster, or the URL of a PostgreSQL database, which is emptied")
     parser.add_argument("--seed", type=int, default=1, help="of the first round")
     parser.add_argument("--kills", type=int, default=0, help="in place of rounds one run with so many kills")
+    parser.add_argument("--failovers", type=int, default=0, help="in place of rounds so many failovers of PostgreSQL with each kind of standby")
     options = parser.parse_args()
+    if options.failovers and options.db != "postgres":
+        parser.error("--failovers makes servers of its own: it goes with --db postgres")
     if options.db not in ("sqlite", "postgres") and not options.db.startswith(("postgres://", "postgresql://")):
         parser.error(f"--db is sqlite, postgres or postgresql://.., and not {options.db}")
     signal.signal(signal.SIGTERM, lambda *_: sys.exit(1))  # so the workers end with it
+    folder = pathlib.Path(tempfile.mkdtemp(prefix="palqytun-chaos-"))
     try:
+        if options.failovers:
+            return played(folder, of_failovers(folder, options.seed, options.failovers))
         with postgres.cluster() if options.db == "postgres" else contextlib.nullcontext() as made:
-            return played(options.db if made is None else made.url, options.seed, options.kills, options.minutes)
+            url = options.db if made is None else made.url
+            if options.kills:
+                return played(folder, one_of_kills(url, folder, options.seed, options.kills))
+            return played(folder, rounds(url, folder, options.seed, 60 * options.minutes))
     except postgres.NoServer as error:
         print(f"chaos: {error}", file=sys.stderr)
         return 2

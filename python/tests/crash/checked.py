@@ -12,14 +12,16 @@ import time
 from dataclasses import dataclass
 
 import crash_app
-from palqytun.runtime import invocations, journal, operate
+from palqytun.runtime import acts, invocations, journal
 from palqytun.runtime.database import Database
 from palqytun.runtime.database.plain import Plain
 from palqytun.runtime.invocations import New
 from palqytun.runtime.journal import frames
 from palqytun.runtime.outcome import Outcome
 
+EARLY = 0.02  # seconds by which the clocks of a worker and of the database may be apart here
 KINDS = list(crash_app.KINDS)
+NO_TICK = "service<>'Ticks'"  # how many calls the clock has made isn't known, and the last one may not have ended
 LEFTOVERS = ("inbox", "timers", "waiters", "locks", "promise_waiters")
 
 
@@ -28,6 +30,9 @@ class Wrong(Exception):
 
 
 async def _submitted(db: Database, first: int, count: int) -> None:
+    if not first:
+        await db.change("CREATE TABLE IF NOT EXISTS booked(id TEXT NOT NULL)")
+        await db.change("DELETE FROM booked")
     for n in range(first, first + count):
         new = New("Load", KINDS[n % len(KINDS)], argument=json.dumps(n).encode(), id=f"inv_{n:06d}")
         await invocations.create(db, crash_app.app, Outcome(), new)
@@ -42,13 +47,13 @@ def rows(db: Plain, sql: str) -> list:
 
 
 def left(db: Plain) -> int:
-    return rows(db, "SELECT COUNT(*) FROM invocations WHERE status<>'done'")[0][0]
+    return rows(db, f"SELECT COUNT(*) FROM invocations WHERE status<>'done' AND {NO_TICK}")[0][0]
 
 
 async def _resumed(db: Database) -> int:
     """Resumes what was paused because its attempts were lost so often in a row, as an operator does."""
     found = await db.rows("SELECT id FROM invocations WHERE status='paused' AND how='lost'")
-    return sum([await operate.resume(db, Outcome(), id) for (id,) in found])
+    return len([await acts.resume(db, None, Outcome(), id, "the tests") for (id,) in found])
 
 
 def wait(db: Plain, seconds: float) -> int:
@@ -95,12 +100,13 @@ class Found:
 async def _commands(db: Database) -> dict[str, list[str]]:
     """The commands of each invocation. Loading a journal checks the rules of storing."""
     commands = {}
-    for id, service, handler, entries in await db.rows("SELECT id, service, handler, entries FROM invocations"):
+    for id, service, handler, entries in await db.rows(f"SELECT id, service, handler, entries FROM invocations WHERE {NO_TICK}"):
         await invocations.load(db, id, entries)
         stream = b"".join(bytes(row[0]) for row in await db.rows("SELECT frame FROM journal WHERE invocation=? ORDER BY at", (id,)))
         kept = [_compared(frame, handler) for _, frame in journal.commands_in(stream)]
-        # What these read depends on the order of their calls.
-        commands[id] = [] if service in ("Counter", "Line") else sorted(kept) if handler == "tasks" else kept
+        # What these read depends on the order of their calls; and those that are cancelled may not have begun.
+        is_any = service in ("Counter", "Line") or handler == "sleeps"
+        commands[id] = [] if is_any else sorted(kept) if handler == "tasks" else kept
     return commands
 
 
@@ -118,7 +124,10 @@ def check(db: Plain, count: int, effects: pathlib.Path, reference: Found | None,
             raise Wrong(f"workflow {n} ended with {kind} {value!r}, and not {expected!r}")
     _check_states(db, count)
     _check_lines(db, count, is_ordered)
-    leftover = {table: rows(db, f"SELECT COUNT(*) FROM {table}")[0][0] for table in LEFTOVERS}
+    _check_ticks(db)
+    if is_ordered:
+        _check_sleeps(db)
+    leftover = {table: rows(db, f"SELECT COUNT(*) FROM {table}{f' WHERE {NO_TICK}' if table == 'locks' else ''}")[0][0] for table in LEFTOVERS}
     if any(leftover.values()):
         raise Wrong(f"something is left over: {leftover}")
     it = found(db, effects)
@@ -145,6 +154,9 @@ def _check_states(db: Plain, count: int) -> None:
     counters = {key: json.loads(bytes(value)) for key, value in rows(db, "SELECT key, value FROM state WHERE service='Counter'")}
     if counters != dict(expected):
         raise Wrong(f"the counters are {counters}, and not {dict(expected)}")
+    booked, orders = sorted(id for (id,) in rows(db, "SELECT id FROM booked")), [f"inv_{n:06d}" for n in range(0, count, len(KINDS))]
+    if booked != orders:
+        raise Wrong(f"the transactions of {booked} were made, and not each of {orders} once")
     for id, key, entries in rows(db, "SELECT id, key, entries FROM invocations WHERE service='Gate' AND handler='main'"):
         by_commands = db.done(lambda to: invocations.load(to, id, entries)).state({})
         stored = db.done(lambda to: invocations.state_of(to, "Gate", key))
@@ -160,6 +172,29 @@ def _check_lines(db: Plain, count: int, is_ordered: bool) -> None:
         came = [i for sender, i in lines.get(str(n % 2), []) if sender == n]
         if (came if is_ordered else sorted(came)) != list(range(crash_app.PUSHED)):
             raise Wrong(f"what {n} has sent to a key came as {came}")
+
+
+def _check_ticks(db: Plain) -> None:
+    """Each time of the schedule made one call at most, and each call was made once."""
+    results = [journal.answer(journal.Result(bytes(it[0]))) for it in rows(db, "SELECT result FROM invocations WHERE service='Ticks' AND status='done'")]
+    ended = sorted(json.loads(value) for _, value in results)
+    found = rows(db, "SELECT value FROM state WHERE service='Ticks'")
+    times = sorted(json.loads(bytes(found[0][0]))) if found else []
+    if times != ended or len(set(times)) != len(times):
+        raise Wrong(f"the clock's calls ended as {ended}, and left {times}")
+
+
+def _check_sleeps(db: Plain) -> None:
+    """No sleep ends before its time, by the database's clock."""
+    sleeps: dict[tuple[str, int], float] = {}
+    for id, frame in rows(db, "SELECT invocation, frame FROM journal WHERE completes IS NULL"):
+        kind = int.from_bytes(bytes(frame)[:2], "big")
+        it = frames.read(kind, bytes(frame)) if kind == frames.TIMED else None
+        if isinstance(it, frames.Sleep):
+            sleeps[id, it.id] = it.due / 1000
+    for id, completes, stored in rows(db, "SELECT invocation, completes, stored FROM journal WHERE completes IS NOT NULL"):
+        if (id, completes) in sleeps and stored < sleeps[id, completes] - EARLY:
+            raise Wrong(f"a sleep of {id} has ended {sleeps[id, completes] - stored:.3f} s too early")
 
 
 def _compare(it: Found, reference: Found) -> None:

@@ -6,9 +6,10 @@ import pathlib
 import random
 import time
 
-from palqytun.runtime import App, Cancelled, Context, Retry, Service, TerminalError, VirtualObject, Workflow, gather, select, wait_any
+from palqytun.runtime import App, Cancelled, Context, Retry, Schedule, Service, TerminalError, Transaction, VirtualObject, Workflow
+from palqytun.runtime import gather, select, wait_any
 
-load, counter, gate, line = Service("Load"), VirtualObject("Counter"), Workflow("Gate"), VirtualObject("Line")
+load, counter, gate, line, ticks = Service("Load"), VirtualObject("Counter"), Workflow("Gate"), VirtualObject("Line"), VirtualObject("Ticks")
 BIG = "x" * 100_000
 WIDE, PUSHED = 40, 5
 
@@ -53,13 +54,19 @@ async def leaf(ctx: Context, n: int) -> int:
     return n + 1
 
 
+async def booked(to: Transaction, id: str) -> int:
+    """A row of the database's own, once an order."""
+    return await to.execute("INSERT INTO booked(id) VALUES (?)", id)
+
+
 @load.handler()
 async def order(ctx: Context, n: int) -> str:
-    """Calls of objects, runs, a sleep, and a send for later."""
+    """Calls of objects, runs, a transaction, a sleep, and a send for later."""
     await gather(*[ctx.call(add, 1, key=str((n + i) % 7)) for i in range(3)])
     await ctx.run("reserve", effect, ctx.uuid())
     await ctx.run("charge", lambda: plainly(ctx.run_key))
     await ctx.run("ship", plainly, ctx.uuid())
+    await ctx.transaction("book", booked, ctx.invocation_id)
     await ctx.sleep(0.2)
     await ctx.send(add, 10, key=str(n % 7), delay=0.1)
     return "ordered"
@@ -80,7 +87,8 @@ async def tasks(ctx: Context, n: int) -> int:
 
 @load.handler()
 async def retried(ctx: Context, n: int) -> str:
-    await ctx.run("flaky", flaky, ctx.uuid(), retry=Retry(initial=0.02, longest=0.1))
+    if ctx.patched("flaky"):
+        await ctx.run("flaky", flaky, ctx.uuid(), retry=Retry(initial=0.02, longest=0.1))
     try:
         await ctx.call("Load/fails", n)
     except TerminalError as error:
@@ -113,7 +121,8 @@ async def completes(ctx: Context, ids: list) -> None:
 
 @load.handler()
 async def cancels(ctx: Context, n: int) -> str:
-    id = await ctx.send(patient, n)
+    id = await ctx.send(patient, ctx.invocation_id)
+    await ctx.signal("begun")  # one that hasn't begun ends at once, and undoes nothing
     await ctx.sleep(0.1)
     ctx.cancel(id)
     try:
@@ -124,7 +133,8 @@ async def cancels(ctx: Context, n: int) -> str:
 
 
 @load.handler()
-async def patient(ctx: Context, n: int) -> None:
+async def patient(ctx: Context, caller: str) -> None:
+    ctx.send_signal(caller, "begun")
     try:
         await wait_any(ctx.call(sleeps, 1), ctx.call(sleeps, 2))
     except Cancelled:
@@ -191,6 +201,14 @@ async def add(ctx: Context, n: int) -> None:
     ctx.set("count", (await ctx.get("count") or 0) + n)
 
 
+@ticks.handler()
+async def tick(ctx: Context, _: None) -> str:
+    """It is called by the clock: each time makes one call."""
+    time = ctx.headers["scheduled-for"]
+    ctx.set("times", (await ctx.get("times") or []) + [time])
+    return time
+
+
 # The workflows, each with what it ends with.
 KINDS = {
     "order": lambda n: "ordered",
@@ -201,4 +219,4 @@ KINDS = {
     "opens": lambda n: ["open", "opened"],
     "fans": lambda n: [True, [0, 1, 2]],
 }
-app = App(load, counter, gate, line)
+app = App(load, counter, gate, line, ticks, schedules=[Schedule("tick", tick, key="clock", every=0.25)])

@@ -3,14 +3,18 @@
 from __future__ import annotations
 
 import asyncio
+import itertools
 import os
 import random
 import time
 from collections.abc import Callable
+from typing import Any
 
 import crash_app
+from palqytun import frames
 from palqytun.runtime import App, appending, claiming, committer, effects, inbox, invocations, journal, lease, storing
 from palqytun.runtime.database import Database
+from palqytun.runtime.database.postgres import Postgres
 from palqytun.runtime.database.sqlite import SQLite
 from palqytun.runtime.engine import Engine, Unavailable
 from palqytun.runtime.outcome import Outcome
@@ -34,6 +38,32 @@ class Dying(SQLite):
         await super().commit()
 
 
+async def dying_on_a_server(url: str, dies: int) -> Database:
+    """The same on PostgreSQL, by one connection. A group of steps, which is one statement, is a commit too."""
+    db, commits = await Postgres.connected(url, worker=True), itertools.count(1)
+
+    def before(call: Callable[..., Any]) -> Callable[..., Any]:
+        async def counted(*arguments: object) -> Any:
+            if next(commits) == dies:
+                os._exit(DIED)
+            return await call(*arguments)
+
+        return counted
+
+    async def another() -> None:
+        return None
+
+    together = before(appending.append)
+
+    async def append(to: Database, appends: list[appending.Append]) -> list[bool]:
+        return await (together if not db._queue else appending.append)(to, appends)  # within a transaction its commit counts
+
+    db.commit, db.another = before(db.commit), another  # type: ignore[method-assign, assignment]
+    if committer.append is appending.append:
+        committer.append = append  # type: ignore[assignment]
+    return db
+
+
 def until_all_ended(
     path: str,
     file: str,
@@ -46,6 +76,7 @@ def until_all_ended(
     jumps: bool = False,
     is_checkpointed: bool = False,
     wrong: str = "",
+    version: str = "",
     app: App = crash_app.app,
 ) -> None:
     """Runs a worker until each invocation has ended, or it dies at commit number `dies`; or when a wrong runtime has committed a first part,
@@ -59,7 +90,9 @@ def until_all_ended(
     if wrong:
         WRONG[wrong]()
 
-    async def connect(url: str) -> Dying:
+    async def connect(url: str) -> Database:
+        if "://" in url:
+            return await dying_on_a_server(url, dies)
         db = Dying(url, synchronous="FULL" if is_checkpointed else "OFF", worker=True)
         db.dies = dies
         if not is_checkpointed:
@@ -67,12 +100,13 @@ def until_all_ended(
         return db
 
     async def run() -> None:
-        engine = Engine(app, path, grouped=is_grouped, idle=idle, poll=0.1, connect=connect)
+        lease = 1.5 if "://" in path else 10.0  # who died on a server is thought alive for so long
+        engine = Engine(app, path, grouped=is_grouped, idle=idle, poll=0.1, lease=lease, connect=connect, version=version)
         task = asyncio.create_task(engine.run())
         await engine.is_open()
         last = time.monotonic()
         while not task.done() and await _count(engine, _UNFINISHED):
-            if engine.live or await _count(engine, _TO_DO, time.time() + _SOON):
+            if any(it.claim.service != "Ticks" for it in engine.live.values()) or await _count(engine, _TO_DO, time.time() + _SOON):
                 last = time.monotonic()
             elif time.monotonic() - last > _PATIENCE:
                 os._exit(STUCK)
@@ -83,11 +117,11 @@ def until_all_ended(
     asyncio.run(run())
 
 
-_UNFINISHED = "SELECT COUNT(*) FROM invocations WHERE status NOT IN ('done','paused')"
+_UNFINISHED = "SELECT COUNT(*) FROM invocations WHERE status NOT IN ('done','paused') AND service<>'Ticks'"
 _TO_DO = (
     "SELECT (SELECT COUNT(*) FROM timers WHERE due<?) + (SELECT COUNT(*) FROM inbox JOIN invocations ON id=invocation WHERE fresh=1 AND status<>'paused')"
-    " + (SELECT COUNT(*) FROM invocations WHERE status='running' OR (status='ready' AND exclusive=0)"
-    " OR (status='ready' AND NOT EXISTS (SELECT 1 FROM locks WHERE locks.service=invocations.service AND locks.key=invocations.key)))"
+    " + (SELECT COUNT(*) FROM invocations WHERE service<>'Ticks' AND (status='running' OR (status='ready' AND exclusive=0)"
+    " OR (status='ready' AND NOT EXISTS (SELECT 1 FROM locks WHERE locks.service=invocations.service AND locks.key=invocations.key))))"
 )
 
 
@@ -152,8 +186,7 @@ def completions_first() -> None:
 def timers_first() -> None:
     """A timer is deleted in an earlier transaction than that of its delivery."""
 
-    async def wrong(self: claiming.Claimer, db: Database, out: Outcome, now: float) -> None:
-        due = await db.rows("SELECT seq, invocation, completes FROM timers WHERE due<=?", (now,))
+    async def wrong(self: claiming.Claimer, db: Database, out: Outcome, due: list[tuple[int, str, int]]) -> None:
         if due:
             db.many("DELETE FROM timers WHERE seq=?", [(seq,) for seq, _, _ in due])
             await _between(db)
@@ -205,10 +238,57 @@ def unfenced() -> None:
             await write(it.growth, db, **progress)
         return [True] * len(appends)
 
+    lease.Growth.fenced = lambda self, found: None  # type: ignore[method-assign]
     lease.Growth.fence = fence  # type: ignore[method-assign]
     lease.Growth.write = write  # type: ignore[method-assign]
     committer.append = append  # type: ignore[assignment]
 
 
-WRONG = {it.__name__: it for it in (completions_first, timers_first, ends_first, states_first, unfenced)}
+def calls_first() -> None:
+    """What a call makes is committed before the command that has made it."""
+    create = invocations.create
+
+    async def wrong(db: Database, app: App, out: Outcome, new: invocations.New) -> tuple[str, bool]:
+        made = await create(db, app, out, new)
+        await _between(db)
+        return made
+
+    invocations.create = wrong
+
+
+def early_timers() -> None:
+    """Timers fire before they are due."""
+    due = claiming.Claimer._due
+    claiming.Claimer._due = staticmethod(lambda db, now: due(db, now + 5.0))  # type: ignore[method-assign, assignment]
+
+
+def keys_twice() -> None:
+    """A key has several holders at once."""
+
+    async def wrong(db: Database, rows: list[invocations.Claimable]) -> list[invocations.Claimable]:
+        return rows
+
+    ready = claiming.Claimer._ready
+
+    def asked(db: Database, *words: Any) -> Any:
+        sql, values = ready(db, *words)
+        return sql.replace("(exclusive=0 OR", "(1=1 OR"), values
+
+    invocations._with_keys = wrong
+    claiming.Claimer._ready = staticmethod(asked)  # type: ignore[method-assign, assignment]
+
+
+def lost_wake_ups() -> None:
+    """Now and then what wakes an invocation is looked at, and forgotten."""
+    wakes = inbox.wakes
+
+    def wrong(db: Database, rows: list[tuple[int, bytes]], suspension: bytes) -> bool:
+        return wakes(db, rows, suspension if random.random() < 0.8 else NEVER)
+
+    inbox.wakes = wrong  # type: ignore[assignment]
+
+
+NEVER = frames.frame_of("Suspension future=(kind=FirstCompleted completions=[4294967295])")
+_KINDS = (completions_first, timers_first, ends_first, states_first, unfenced, calls_first, early_timers, keys_twice, lost_wake_ups)
+WRONG = {it.__name__: it for it in _KINDS}
 assert storing.invocations is invocations  # `ends_first` reaches it by this name

@@ -6,12 +6,12 @@ import asyncio
 import os
 from typing import Any
 
-from palqytun.runtime import App, Cancelled, Context, Retry, Service, TerminalError, VirtualObject, gather, select
+from palqytun.runtime import App, Cancelled, Context, Retry, Service, TerminalError, VirtualObject, Workflow, gather, select
 
 Step = list[Any]  # its name, and what it takes
 Program = list[Step]
 
-programs, cells = Service("Programs"), VirtualObject("Cells")
+programs, cells, rooms = Service("Programs"), VirtualObject("Cells"), Workflow("Rooms")
 
 
 class Outside:
@@ -70,15 +70,27 @@ async def _send(ctx: Context, n: int) -> list:
 
 async def _timeout(ctx: Context, n: int) -> list:
     """A signal that nobody sends is given up, and a sleep that is shorter isn't."""
-    late = await ctx.timeout(ctx.signal("never"), n / 1000)
     soon = await ctx.timeout(ctx.run("soon", lambda: _written(ctx.run_key, n)), 3600)
-    return [late[0], list(soon)]
+    try:
+        await ctx.timeout(ctx.signal("never"), n / 1000)
+    except TimeoutError:
+        return ["late", soon]
+    return ["came", soon]
 
 
 async def _awakeable(ctx: Context, n: int) -> int:
     id, awaited = ctx.awakeable(int)
     await ctx.send(complete, [id, n])
     return await awaited
+
+
+async def _promise(ctx: Context, n: int) -> list:
+    """A workflow waits for a promise, which is completed once: before it waits, or after it."""
+    key = ctx.uuid()
+    main = ctx.call(wait, n, key=key) if n % 2 else None
+    first = await ctx.call(give, n, key=key)
+    second = await ctx.call(give, n + 1, key=key)
+    return [first, second, await (main or ctx.call(wait, n, key=key))]
 
 
 async def _cancel(ctx: Context, n: int) -> list:
@@ -101,7 +113,7 @@ async def _first(ctx: Context, n: int) -> list:
     return list(await select(ctx.sleep(3600), ctx.run("first", lambda: _written(ctx.run_key, n))))
 
 
-_STEPS = {it.__name__[1:]: it for it in (_run, _async_run, _failing, _sleep, _call, _send, _timeout, _awakeable, _cancel, _beside, _first)}
+_STEPS = {it.__name__[1:]: it for it in (_run, _async_run, _failing, _sleep, _call, _send, _timeout, _awakeable, _promise, _cancel, _beside, _first)}
 
 
 async def _performed(ctx: Context, step: Step) -> Any:
@@ -134,7 +146,21 @@ async def push(ctx: Context, n: int) -> list:
     return pushed
 
 
-app = App(programs, cells)
+@rooms.main()
+async def wait(ctx: Context, n: int) -> list:
+    return [n, await ctx.promise("word", int).value()]
+
+
+@rooms.handler()
+async def give(ctx: Context, n: int) -> str:
+    try:
+        await ctx.promise("word", int).resolve(n)
+    except TerminalError as error:
+        return str(error.code)
+    return "given"
+
+
+app = App(programs, cells, rooms)
 
 
 def expected(program: Program) -> list:
@@ -148,7 +174,8 @@ def _expected(name: str, given: Any) -> Any:
     return {
         "failing": lambda n: f"OSError: {n} fails",
         "send": lambda n: list(range(n + 1)),
-        "timeout": lambda n: [1, [0, n]],
+        "timeout": lambda n: ["late", n],
+        "promise": lambda n: ["given", "409", [n, n]],
         "cancel": lambda n: [409, "cancelled"],
         "first": lambda n: [1, n],
     }.get(name, lambda n: n)(given)

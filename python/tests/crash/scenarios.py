@@ -130,6 +130,9 @@ class Report:
     stops: int = 0
     pauses: int = 0
     disconnects: int = 0
+    failovers: int = 0
+    splits: int = 0
+    missing: int = 0
     torn_writes: int = 0
     jumping_clocks: int = 0
     full_disks: int = 0
@@ -185,7 +188,7 @@ class Room:
         with Plain(str(path)) as db:
             unended = left(db)
             if unended:
-                errors = rows(db, "SELECT id, status, error FROM invocations WHERE status<>'done' LIMIT 3")
+                errors = rows(db, "SELECT id, status, error FROM invocations WHERE status<>'done' AND service<>'Ticks' LIMIT 3")
                 raise Wrong(f"{unended} invocations haven't ended: {errors} {_log(path)}")
             return check(db, self.count, effects, reference, **how)
 
@@ -209,15 +212,15 @@ def _rest(room: Room, path: pathlib.Path, effects: pathlib.Path, **options: Any)
 
 
 def death_at_commit(room: Room, number: int, *, again: int = 0, idle: float = 0.0) -> Report:
-    """The worker dies in place of commit `number`, and if `again` is given the next one at that commit. If the first one didn't die, there is
-    no such commit."""
+    """The worker dies in place of commit `number`, and if `again` is given the next one at that commit; then each worker is of another version, whose
+    code is the same. If the first one didn't die, there is no such commit."""
     path, effects = room.copy(f"death-{number}-{again}-{idle}")
     first = _worker(path, effects, dies=number, idle=idle)
     if first not in (0, faulty.DIED):
         raise Wrong(f"the worker that was to die at commit {number} ended with {first}: {_log(path)}")
-    second = _worker(path, effects, dies=again, idle=idle) if again else 0
+    second = _worker(path, effects, dies=again, idle=idle, version="second") if again else 0
     deaths = [first, second].count(faulty.DIED) if first else 0
-    return Report.of(_rest(room, path, effects, idle=idle), deaths=deaths)
+    return Report.of(_rest(room, path, effects, idle=idle, **({"version": "third"} if again else {})), deaths=deaths)
 
 
 def deaths_at_commits(room: Room, numbers: Iterable[int], **options: Any) -> Report:
@@ -228,6 +231,41 @@ def deaths_at_commits(room: Room, numbers: Iterable[int], **options: Any) -> Rep
             break
         report += one
     return report
+
+
+def deaths_on_a_server(url: str, folder: pathlib.Path, numbers: Iterable[int], reference: Found) -> Report:
+    """The same on PostgreSQL, one after the other, as long as there are such commits."""
+    report = Report()
+    for number in numbers:
+        place = folder / f"death-{number}"
+        place.mkdir(parents=True)
+        (place / "effects").touch()
+        emptied(url)
+        with Plain(url) as db:
+            submit(db, 0, COUNT)
+        first = _served(url, place, dies=number)
+        if first not in (0, faulty.DIED):
+            raise Wrong(f"the worker that was to die at commit {number} ended with {first}: {_log(place / 'worker')}")
+        if not first:
+            break
+        if second := _served(url, place):
+            raise Wrong(f"the worker after a death at commit {number} ended with {second}: {_log(place / 'worker')}")
+        with Plain(url) as db:
+            report += Report.of(check(db, COUNT, place / "effects", reference), deaths=1)
+    return report
+
+
+def _served(url: str, place: pathlib.Path, **options: Any) -> int:
+    """The exit status of a worker on a server, in a process of its own. -1: it was killed after some time."""
+    arguments = (str(place / "worker.log"), url, str(place / "effects"))
+    process = _FORK.Process(target=_logged, args=arguments, kwargs=options)
+    process.start()
+    process.join(_LONG)
+    if process.exitcode is None:
+        process.kill()
+        process.join()
+        return -1
+    return process.exitcode
 
 
 def is_found(room: Room, wrong: str) -> bool:
@@ -349,7 +387,8 @@ def full_disk(room: Room, seed: int, is_mounted: bool) -> Report:
         if status:
             raise Wrong(f"the worker on a full disk ended with {status}: {log[-2000:]}")
         found = room.checked(path, effects, room.reference)
-        return Report.of(found, full_disks=1, lost=log.count("the database is lost"))
+        found_full = log.count("the database's disk is full") + log.count("the database is lost")  # beyond a limit, a write is an error of the file
+        return Report.of(found, full_disks=1, lost=found_full)
 
 
 # ---- workers in processes of their own, killed at random
@@ -409,14 +448,14 @@ def _disconnect(db: Plain) -> None:
     rows(db, "SELECT pg_terminate_backend(pid) FROM pg_stat_activity WHERE datname=current_database() AND pid<>pg_backend_pid()")
 
 
-def _until_work(db: Plain, since: float, seconds: float = 30) -> None:
+def until_work(db: Plain, since: float, seconds: float = 30) -> None:
     """Until an attempt has begun since this time, so that the next fault meets a worker at work; or until all have ended."""
     until = time.monotonic() + seconds
-    while time.monotonic() < until and left(db) and (rows(db, "SELECT MAX(begun) FROM invocations")[0][0] or 0) < since:
+    while time.monotonic() < until and left(db) and (rows(db, "SELECT MAX(begun) FROM invocations WHERE service<>'Ticks'")[0][0] or 0) < since:
         time.sleep(0.02)
 
 
-def _logged_without_errors(folder: pathlib.Path) -> str:
+def logged_without_errors(folder: pathlib.Path) -> str:
     """The log of the workers; `Wrong` if one has raised an error."""
     log = (folder / "log").read_text()
     if "Traceback" in log:
@@ -453,7 +492,7 @@ def kills(
                 begun = time.time()
                 submit(db, fault * each, each)
                 time.sleep(chance.uniform(0.15, 0.9) / (1 if workers == 1 else 2))
-                _until_work(db, begun)
+                until_work(db, begun)
                 report.open_at_faults += left(db)
                 at, kind = chance.randrange(workers), fault % 10
                 if stops:
@@ -468,12 +507,12 @@ def kills(
                 else:
                     running.kill(at)
                     report.kills += 1
-                _logged_without_errors(folder)
+                logged_without_errors(folder)
             report.resumed = wait(db, seconds)
             time.sleep(LEASE / 3 + 0.5)  # after the last beats
         finally:
             running.end()
-        log = _logged_without_errors(folder)
+        log = logged_without_errors(folder)
         report.lost_attempts = rows(db, "SELECT COUNT(*) FROM attempts WHERE how='lost'")[0][0]
         report.fenced, report.lost = log.count("fenced:"), log.count("the database is lost")
         return report + Report.of(check(db, faults * each, folder / "effects", reference, is_exact=stops))

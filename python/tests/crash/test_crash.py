@@ -11,6 +11,7 @@ import unittest
 
 HERE = pathlib.Path(__file__).parent
 sys.path[:0] = [str(HERE), str(HERE.parent)]
+import failover  # noqa: E402
 import needs  # noqa: E402
 import postgres  # noqa: E402
 import scenarios  # noqa: E402
@@ -51,7 +52,7 @@ class Deaths(InAFolder):
         self.assertEqual(sum(it.deaths for it in scenarios.side_by_side(again)), 2 * len(numbers))
 
     def test_wrong_runtimes_are_found(self) -> None:
-        kinds = ("completions_first", "timers_first", "ends_first", "states_first")
+        kinds = ("completions_first", "timers_first", "ends_first", "states_first", "calls_first", "early_timers", "keys_twice", "lost_wake_ups")
         tries = [functools.partial(scenarios.is_found, self.room, it) for it in kinds]
         self.assertEqual(dict(zip(kinds, scenarios.side_by_side(tries))), dict.fromkeys(kinds, True))
 
@@ -105,6 +106,12 @@ class KillsOfMany(InAFolder):
         with tempfile.TemporaryDirectory(prefix="palqytun-crash-") as folder:
             cls.reference = scenarios.undisturbed(cls.url, pathlib.Path(folder), 90)
 
+    def test_deaths_at_commits(self) -> None:
+        numbers = range(1, 200) if IS_THOROUGH else (3, 15)
+        reference = scenarios.undisturbed(self.url, self.folder / "reference", scenarios.COUNT)
+        report = scenarios.deaths_on_a_server(self.url, self.folder / "deaths", numbers, reference)
+        self.assertGreater(report.deaths, 20 if IS_THOROUGH else 1)
+
     def test_kills_pauses_and_lost_connections(self) -> None:
         options = {"workers": 3, "pauses": True, "disconnects": True, "reference": self.reference}
         report = scenarios.kills(self.url, self.folder / "kills", faults=30, **options)
@@ -121,6 +128,31 @@ class KillsOfMany(InAFolder):
         with self.assertRaises(Wrong):
             for seed in range(5):
                 scenarios.kills(self.url, self.folder / f"kills{seed}", faults=30, seed=seed, **options)
+
+
+class FailsOver(InAFolder):
+    """Two workers on a PostgreSQL server with a standby. The server's machine stops while they work."""
+
+    kind = "servers of its own"  # whose settings no pass of tools/runtime changes
+
+    def fails_over(self, is_synchronous: bool) -> failover.Failovers:
+        if lacks := needs.lacks_postgres():
+            self.skipTest(lacks)
+        count = 3 if IS_THOROUGH else 1
+        with failover.pair(is_synchronous) as servers:
+            submitted = failover.EACH * count * (1 if is_synchronous else 2)
+            reference = scenarios.undisturbed(servers.url, self.folder / "reference", submitted)
+            found = failover.failovers(servers, self.folder / "failovers", count=count, reference=reference)
+        print(found, file=sys.stderr)
+        self.assertEqual((found.report.failovers, len(found.seconds)), (count, count))
+        self.assertGreater(found.report.lost, 0)  # the workers had begun sessions on the server that stopped
+        return found
+
+    def test_to_a_synchronous_standby(self) -> None:
+        self.assertGreater(self.fails_over(is_synchronous=True).report.open_at_faults, 0)
+
+    def test_to_an_asynchronous_standby(self) -> None:
+        self.assertGreater(self.fails_over(is_synchronous=False).report.missing, 0)
 
 
 if __name__ == "__main__":

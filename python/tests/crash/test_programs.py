@@ -6,6 +6,7 @@ import json
 import multiprocessing
 import os
 import pathlib
+import signal
 import sys
 import tempfile
 import unittest
@@ -29,7 +30,7 @@ from palqytun.runtime.outcome import Outcome  # noqa: E402
 
 _FORK = multiprocessing.get_context("fork")
 IS_THOROUGH = os.environ.get("PALQYTUN_TEST_THOROUGH") == "1"
-LEAVES = ["run", "async_run", "failing", "sleep", "send", "timeout", "awakeable", "cancel", "first"]
+LEAVES = ["run", "async_run", "failing", "sleep", "send", "timeout", "awakeable", "promise", "cancel", "first"]
 NUMBERS = st.integers(0, 5)
 STEPS = st.recursive(
     st.tuples(st.sampled_from(LEAVES), NUMBERS).map(list),
@@ -37,7 +38,7 @@ STEPS = st.recursive(
     max_leaves=6,
 )
 PROGRAMS = st.lists(st.lists(STEPS, min_size=2, max_size=6), min_size=2, max_size=5)
-DEATHS = st.lists(st.integers(1, 40), min_size=1, max_size=3)
+DEATHS = st.lists(st.integers(1, 40) | st.floats(0.05, 0.6), min_size=1, max_size=3)  # at a commit, or after so many seconds by SIGKILL
 
 
 def _worked(path, effects, dies):
@@ -73,7 +74,7 @@ class Programs(unittest.TestCase):
                 db.done(lambda to: _submitted(to, them))
             for dies in [*deaths, 0]:
                 status = self.worked(path, str(effects), dies)
-                self.assertIn(status, (0, faulty.DIED) if dies else (0,), pathlib.Path(f"{path}.log").read_text()[-3000:])
+                self.assertIn(status, (0, faulty.DIED, -signal.SIGKILL) if dies else (0,), pathlib.Path(f"{path}.log").read_text()[-3000:])
             with Plain(path) as db:
                 ended = db.done(lambda to: to.rows("SELECT id, result FROM invocations WHERE id LIKE 'inv_0000__' ORDER BY id"))
                 left = {table: db.done(lambda to: to.rows(f"SELECT COUNT(*) FROM {table}"))[0][0] for table in LEFTOVERS}
@@ -81,14 +82,15 @@ class Programs(unittest.TestCase):
             self.assertEqual([(kind, json.loads(value)) for kind, value in results], [("value", programs.expected(it)) for it in them])
             self.assertEqual(left, dict.fromkeys(LEFTOVERS, 0))
 
-    def worked(self, *arguments):
-        process = _FORK.Process(target=_worked, args=arguments)
+    def worked(self, path, effects, dies):
+        is_killed = isinstance(dies, float)
+        process = _FORK.Process(target=_worked, args=(path, effects, 0 if is_killed else dies))
         process.start()
-        process.join(120)
+        process.join(dies if is_killed else 120)
         if process.exitcode is None:
             process.kill()
             process.join()
-            return "it hasn't ended"
+            return process.exitcode if is_killed else "it hasn't ended"
         return process.exitcode
 
 

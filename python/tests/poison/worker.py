@@ -85,7 +85,7 @@ class Worker:
     def until_ended(self, id: str, seconds: float = 20.0) -> str:
         """Until an invocation has ended or is paused: which of both."""
         until = time.monotonic() + seconds
-        while (found := self.status(id))["status"] not in ("done", "paused"):
+        while (found := self.status(id))["status"] not in ("done", "failed", "paused"):
             if time.monotonic() > until:
                 raise AssertionError(f"after {seconds} s: {found}\n{self.log[-3000:]}")
             time.sleep(0.02)

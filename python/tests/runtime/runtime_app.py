@@ -272,7 +272,10 @@ async def few(ctx: Context, it):
 
 @service.handler()
 async def slow(ctx: Context, it):
-    return await ctx.timeout(ctx.signal("never"), 0.05)
+    try:
+        return await ctx.timeout(ctx.signal("never"), 0.05)
+    except TimeoutError as error:
+        return [error.code, error.message]
 
 
 @thing.handler()

@@ -9,10 +9,11 @@ from unittest import mock
 
 import support  # isort: skip
 import runtime_app
-from palqytun.runtime import App, Context, Retry, Service, TerminalError, VirtualObject, Workflow, gather, inbox, invocations, journal, operate
+from palqytun.runtime import App, Context, Retry, Service, TerminalError, VirtualObject, Workflow, acts, gather, inbox, invocations, journal, operate
 from palqytun.runtime.claiming import Claimer
 from palqytun.runtime.database import connect
 from palqytun.runtime.database.plain import Plain
+from palqytun.runtime.filters import Filter
 from palqytun.runtime.invocations import New
 from palqytun.runtime.outcome import Outcome
 from support import Runtime
@@ -85,7 +86,12 @@ class OnOne(support.OnADatabase):
         self.addCleanup(self.db.close)
 
     def create(self, *words, **options):
-        return self.db.done(lambda db: invocations.create(db, app, Outcome(), New(*words, **options)))[0]
+        """Makes an invocation, and waits until this worker's clock, which is behind the database's by what a reply takes, is past that moment."""
+        id, _ = self.db.done(lambda db: invocations.create(db, app, Outcome(), New(*words, **options)))
+        [(made,)] = self.db.done(lambda db: db.rows(f"SELECT {db.clock}"))
+        while self.db.db.now() < made:
+            time.sleep(0.001)
+        return id
 
     def claim(self, worker="one", most=500):
         return self.db.done(lambda db: Claimer(worker, app, 60).claim(db, (), most)).claims
@@ -160,7 +166,7 @@ class Lost(OnOne):
         status, deaths, error = self.row(id)
         self.assertEqual((status, deaths), ("paused", 5))
         self.assertRegex(error, "5 attempts in a row were lost .*, with the workers worker-0, worker-1, worker-2, worker-3, worker-4:")
-        self.assertTrue(self.db.done(lambda db: operate.resume(db, Outcome(), id)))
+        self.assertEqual(self.db.done(lambda db: acts.resume(db, None, Outcome(), id, "ann")), "resumed")
         self.assertEqual(len(self.lost("worker-6")), 1)
 
     def test_those_that_a_worker_had_beside_it(self):
@@ -413,7 +419,10 @@ class Plans(OnOne):
             lambda db: worker.claim(db, (), 500),
             lambda db: worker.claim(db, (), 500),
             operate.by_status,
-            lambda db: operate.invocations(db, "paused"),
+            lambda db: operate.invocations(db, Filter(status="paused")),
+            lambda db: operate.invocations(db, Filter(status="failed", error="x")),
+            lambda db: operate.invocations(db, Filter(service="Claims")),
+            lambda db: operate.invocations(db, Filter(status="done", service="Claims")),
             lambda db: operate.purge(db, 1e10),
             lambda db: invocations.create(db, app, Outcome(), New("Thing", "adds", "k", b"1", idempotency_key="k")),
         ]

@@ -21,6 +21,7 @@ from support import PYTHON
 if lacks := needs.lacks_server():
     raise unittest.SkipTest(lacks)
 from palqytun.runtime import command
+from palqytun.runtime.replay import PROVES
 
 SHOP = PYTHON / "examples" / "shop.py"
 ORDER = {"customer": "ann", "items": [{"name": "pen", "count": 2}], "card": "4242"}
@@ -117,9 +118,9 @@ class Serving(support.OnADatabase):
             status, lines = it.ask(f"/-/invocations/{made['invocation']}/journal")
             assert lines[0] == "Input headers=() value=b'\"red?\"'" and any(line.startswith("GetPromise") for line in lines) and lines[-1].startswith("Output")
             _, made = it.ask("/Approval/b/ask/send", "green?")
-            assert it.ask(f"/-/invocations/{made['invocation']}/cancel", method="POST") == (200, {"done": True})
+            assert it.ask(f"/-/invocations/{made['invocation']}/cancel", method="POST") == (200, {"done": True, "said": "cancelled"})
             assert it.ask(f"/-/invocations/{made['invocation']}/result?wait=10") == (409, {"code": 409, "message": "cancelled"})
-            assert it.ask(f"/-/invocations/{made['invocation']}/resume", method="POST")[0] == 404
+            assert it.ask(f"/-/invocations/{made['invocation']}/resume", method="POST")[0] == 409
 
     def test_the_command(self):
         with server(self.url, self.folder) as it:
@@ -130,7 +131,9 @@ class Serving(support.OnADatabase):
             assert status == 0 and "done" in listed and "suspended  Approval/a/ask" in listed
             status, shown, _ = palqytun("invocations", "inspect", waits["invocation"], "--db", self.url)
             assert status == 0 and "# status: suspended" in shown and "\nGetPromise" in shown
-            assert palqytun("replay", str(SHOP), "--db", self.url) == (0, "3 journals are replayed, 0 differ\n", "")
+            assert palqytun("replay", str(SHOP), "--db", self.url) == (0, f"Approval/ask: 1 of 1 open invocations go on\n1 journals are replayed, 0 differ\n{PROVES}\n", "")
+            status, said, _ = palqytun("replay", str(SHOP), "--db", self.url, "--all")
+            assert status == 0 and "Shop/order: 1 of 1 ended journals are those of this code\n" in said and "\n3 journals are replayed, 0 differ\n" in said
             assert palqytun("invocations", "resume", waits["invocation"], "--db", self.url)[0] == 2
             assert palqytun("invocations", "cancel", waits["invocation"], "--db", self.url)[0] == 0
             assert it.ask(f"/-/invocations/{waits['invocation']}/result?wait=20")[0] == 409
@@ -175,8 +178,9 @@ class Commands(support.InAFolder, unittest.TestCase):
             time.sleep(1)
         changed = self.written("changed.py", SHOP.read_text().replace('    ctx.set("question", question)\n', '    await ctx.sleep(1)\n    ctx.set("question", question)\n'))
         status, said, _ = palqytun("replay", changed, "--db", self.url)
-        assert status == 1 and said.splitlines()[-1] == "2 journals are replayed, 1 differ"
-        assert said.startswith(f"{made['invocation']}  Approval/ask  command 1: 570 ")
+        assert status == 1 and said.splitlines()[3:] == ["1 journals are replayed, 1 differ", PROVES]
+        assert said.splitlines()[:2] == ["Approval/ask: 0 of 1 open invocations go on", "  command 1 is recorded as SetState 'question', and the code makes Sleep"]
+        assert said.splitlines()[2].strip() == made["invocation"]
 
     def named(self, name):
         """The app that a name stands for, in the test's folder."""

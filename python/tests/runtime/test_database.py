@@ -23,6 +23,9 @@ def rows(db, sql):
     return db.done(lambda to: to.rows(sql))
 
 
+NEWEST = len(schema.MIGRATIONS)
+
+
 def worker(url):
     return Plain(url, opened=lambda url: connect(url, worker=True))
 
@@ -34,12 +37,13 @@ class Files(support.InAFolder, unittest.TestCase):
         patch = mock.patch.object(schema, "MIGRATIONS", [*schema.MIGRATIONS, "CREATE TABLE more(at {float});\nCREATE INDEX more_at ON more(at)"])
         patch.start()
         self.addCleanup(mock.patch.stopall)
-        db = Plain(url)
-        assert rows(db, "SELECT version FROM schema_versions ORDER BY version") == [(it,) for it in range(1, 6)] and rows(db, "SELECT * FROM more") == []
+        db, newest = worker(url), len(schema.MIGRATIONS)
+        assert rows(db, "SELECT version FROM schema_versions ORDER BY version") == [(it,) for it in range(1, newest + 1)]
+        assert rows(db, "SELECT * FROM more") == []
         db.close()
         Plain(url).close()
         patch.stop()
-        with self.assertRaisesRegex(schema.NewerSchema, "has schema version 5"):
+        with self.assertRaisesRegex(schema.NewerSchema, f"has schema version {newest}"):
             Plain(url)
 
     def test_a_database_of_an_older_package_is_refused(self):
@@ -49,6 +53,28 @@ class Files(support.InAFolder, unittest.TestCase):
         with self.assertRaisesRegex(schema.OlderSchema, "has schema version 2, and this package reads 3 and later"):
             Plain(url)
 
+    def test_a_full_disk(self):
+        """What is to be stored waits for room, and is stored then. Meanwhile the worker reads, and its session goes on."""
+
+        async def go():
+            async with Runtime(runtime_app.app, str(self.folder / "db")) as runtime:
+                committer = runtime.engine._committer
+                allowed = committer.db._connection.execute
+                [[pages]] = allowed("PRAGMA page_count")
+                allowed(f"PRAGMA max_page_count={pages}")  # a file of this size has no room for more
+                with self.assertLogs("palqytun", "WARNING") as logged:
+                    sent = [asyncio.create_task(runtime.call("S/echo", "x" * 100_000)) for _ in range(5)]
+                    while committer.counts["conflicts"] < 10:
+                        await asyncio.sleep(0.01)
+                self.assertIn("the database's disk is full", logged.output[0])
+                self.assertEqual(len(logged.output), 1)
+                self.assertEqual(await runtime.rows("SELECT COUNT(*) FROM invocations WHERE status='paused'"), [(0,)])
+                allowed("PRAGMA max_page_count=1000000")
+                self.assertEqual(await asyncio.gather(*sent), ["x" * 100_000] * 5)
+                self.assertEqual(runtime.engine.counts["sessions"], 1)
+
+        asyncio.run(asyncio.wait_for(go(), 60))
+
     def test_a_migration_that_fails_changes_nothing(self):
         url = str(self.folder / "db")
         Plain(url).close()
@@ -56,7 +82,7 @@ class Files(support.InAFolder, unittest.TestCase):
         patch.start()
         self.addCleanup(mock.patch.stopall)
         with self.assertRaisesRegex(StatementFailed, "SQLITE_ERROR: near"):
-            Plain(url)
+            worker(url)
         patch.stop()
         db = Plain(url)
         assert rows(db, "SELECT COUNT(*) FROM sqlite_master WHERE name='more'") == [(0,)]
@@ -69,7 +95,7 @@ class Files(support.InAFolder, unittest.TestCase):
                 sql = "INSERT INTO invocations(id, service, handler, key, exclusive, version, seed, status, due, entries, created)"
                 db.change(f"{sql} VALUES ('inv_1', 'S', 'echo', '', 0, 7, 1, 'ready', 1, 1, 1), ('inv_2', 'W', 'main', 'k', 1, 7, 1, 'done', 1, 1, 1)")
                 db.change("INSERT INTO promise_waiters VALUES ('W', 'k', 'p', 'inv_1', 1), ('W', 'k', 'p', 'inv_2', 1)")
-        with Plain(url) as db:
+        with worker(url) as db:
             self.assertEqual(db.rows("SELECT id, deaths, failures, failed_since FROM invocations WHERE status<>'done'"), [("inv_1", 0, 0, None)])
             self.assertEqual(db.rows("SELECT waiter FROM promise_waiters"), [("inv_1",)])
 

@@ -8,7 +8,7 @@ from unittest import mock
 
 import support  # isort: skip
 import runtime_app
-from palqytun.runtime import TerminalError, committer, engine
+from palqytun.runtime import TerminalError, committer, desk
 from palqytun.runtime.committer import Committer
 from palqytun.runtime.database import Conflict, StatementFailed, connect
 from palqytun.runtime.database.plain import Plain
@@ -172,7 +172,7 @@ class AFileThatIsLocked(support.OnADatabase, unittest.TestCase):
             async with support.Runtime(runtime_app.app, self.url) as runtime:
                 other = sqlite3.connect(self.url, isolation_level=None)
                 other.execute("BEGIN IMMEDIATE")
-                with mock.patch.object(engine, "_ANSWERED", 0.3), self.assertRaisesRegex(TerminalError, "something has been in the way") as caught:
+                with mock.patch.object(desk, "_ANSWERED", 0.3), self.assertRaisesRegex(TerminalError, "something has been in the way") as caught:
                     await runtime.send("S/echo", 1)
                 self.assertEqual(caught.exception.code, 503)
                 other.close()

@@ -3,6 +3,7 @@
 import asyncio
 import base64
 import resource
+import socket
 import struct
 import time
 import unittest
@@ -75,11 +76,17 @@ REFUSED = [
     ("/-/invocations/ID/signals/", b"1", {}, 400, "the signal has no name"),
     ("/-/invocations/ID/signals/go", b"{", {}, 400, "the body is no value"),
     ("/-/invocations/ID/signals/go", b"x" * 1001, {}, 413, "may have 1000"),
-    ("/-/invocations/ID/resume", b"", {}, 404, "there is no invocation"),
+    ("/-/invocations/ID/resume", b"", {}, 409, "is ready, and not paused"),
+    ("/-/invocations/ID/restart", b"", {}, 409, "hasn't ended: kill it before"),
+    ("/-/invocations/inv_none/restart?step=1", b"", {}, 404, "there is no invocation"),
+    ("/-/invocations/ID/kill?step=x", b"", {}, 400, "step=x is no whole number"),
+    ("/-/acts/cancel", b"", {}, 400, "say which invocations"),
+    ("/-/acts/cancel?status=lost", b"", {}, 400, "status=lost is none"),
+    ("/-/acts/shoot?all=1", b"", {}, 404, "there is no act shoot"),
     ("/-/awakeables/none/resolve", b"1", {}, 400, "none is no awakeable"),
     ("/-/awakeables/sign_1YWJjAAAAEQ/resolve", b"1", {}, 404, "there is no such awakeable"),
 ]
-TABLES = ("invocations", "journal", "inbox", "timers", "waiters", "state", "promises")
+TABLES = ("invocations", "journal", "inbox", "timers", "waiters", "state", "promises", "audit")
 
 
 @support.on_each_database
@@ -128,6 +135,15 @@ class Refusals(support.OnADatabase):
 
 class Understood(support.OnADatabase, unittest.TestCase):
     """Requests as bytes."""
+
+    @with_ingress()
+    async def test_no_part_of_a_response_waits_for_the_client(self, served):
+        """Else each response takes 40 ms, since it has two parts."""
+        reader, writer = await served.client()
+        await served.until(lambda: served.connections)
+        [connection] = served.http._server.server_state.connections
+        self.assertTrue(connection.transport.get_extra_info("socket").getsockopt(socket.IPPROTO_TCP, socket.TCP_NODELAY))
+        writer.close()
 
     @with_ingress(limit=0)
     async def test_what_is_not_understood(self, served):
@@ -308,6 +324,15 @@ async def changes(ctx: Context, _: None) -> bool:
     return await ctx.awakeable(bool)[1]
 
 
+@approvals.handler()
+async def slowly(ctx: Context, seconds: float) -> bool:
+    """Its own code takes some time, in each attempt and in each replay."""
+    id, is_good = ctx.awakeable(bool)
+    await ctx.run("tell", lambda: begun.append(id))
+    time.sleep(seconds)
+    return await is_good
+
+
 @support.on_each_database
 class Awakeables(support.OnADatabase):
     def with_ids(self, test, **options):
@@ -351,6 +376,25 @@ class Awakeables(support.OnADatabase):
 
         self.with_ids(test)
 
+    def test_a_check_does_not_hold_the_loop(self):
+        """Of a suspended invocation the stored journal is replayed beside the loop."""
+        begun.clear()
+
+        async def go():
+            async with Served(App(approvals), self.url) as served:
+                await served.ask("/A/slowly/send", 1.5)
+                while await served.rows("SELECT status FROM invocations") != [("suspended",)]:
+                    await asyncio.sleep(0.02)
+                asked, held, last = asyncio.create_task(self.resolved(served, begun[0], "yes")), 0.0, time.monotonic()
+                while not asked.done():
+                    await asyncio.sleep(0.005)
+                    now = time.monotonic()
+                    held, last = max(held, now - last), now
+                self.assertEqual((await asked)[0], 400)
+                self.assertLess(held, 1.2)
+
+        asyncio.run(go())
+
     def test_two_at_once(self):
         async def test(served, invocation, first, second):
             answers = await asyncio.gather(*[self.resolved(served, first, True) for _ in range(8)])
@@ -374,7 +418,8 @@ class Awakeables(support.OnADatabase):
         async def go():
             async with Served(App(approvals), self.url) as served:
                 await served.ask("/A/changes/send")
-                await served.until(lambda: len(begun) > 1)
+                while await served.rows("SELECT status FROM invocations") != [("paused",)]:
+                    await asyncio.sleep(0.02)
                 self.assertEqual((await self.resolved(served, begun[0], "yes"))[0], 200)
 
         asyncio.run(go())

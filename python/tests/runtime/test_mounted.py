@@ -1,7 +1,18 @@
 """The ingress as a part of another ASGI application, whose lifespan runs the worker."""
 
 import asyncio
+import contextlib
+import logging
+import pathlib
+import signal
+import socket
+import subprocess
+import sys
+import threading
+import time
+import types
 import unittest
+from unittest import mock
 
 import support  # isort: skip
 import needs
@@ -10,6 +21,7 @@ if lacks := needs.lacks_server() or needs.lacks_module("httpx"):
     raise unittest.SkipTest(lacks)
 import httpx
 import runtime_app
+from palqytun.runtime import process
 from palqytun.runtime.database import Lost
 from starlette.applications import Starlette
 from starlette.responses import PlainTextResponse
@@ -39,7 +51,7 @@ class Mounted(support.OnADatabase):
             ("GET", "/S/echo"),
         )
         self.assertEqual((own.text, called.json(), keyed.json(), none.status_code), ("its own", [1, "é"], [1, ["n"]], 404))
-        self.assertIn("O/a/b/add", listed.text)
+        self.assertIn("/durable/-/page/state?service=O&amp;key=a%2Fb", listed.text)
 
     def test_who_may_ask(self):
         known = {"authorization": "Bearer secret"}
@@ -82,6 +94,68 @@ class Served(support.OnADatabase, unittest.TestCase):
             await serving
 
         asyncio.run(asyncio.wait_for(go(), 60))
+
+
+PROGRAM = """
+import sys
+sys.path[:0] = {path!r}
+import runtime_app, uvicorn
+from starlette.applications import Starlette
+from starlette.routing import Mount
+durable = runtime_app.app.asgi(sys.argv[1], poll=0.2)
+site = Starlette(routes=[Mount("/durable", durable)], lifespan=durable.lifespan)
+uvicorn.run(site, port=int(sys.argv[2]), log_level="error")
+"""
+
+
+class Stopped(support.OnADatabase, unittest.TestCase):
+    def test_a_server_that_begins_to_stop(self):
+        """A user's own uvicorn is told to stop while a request waits: it is answered at once, and the process ends."""
+        with socket.create_server(("127.0.0.1", 0)) as free:
+            port = free.getsockname()[1]
+        path = [str(support.PYTHON / "src"), str(pathlib.Path(runtime_app.__file__).parent)]
+        for number in (signal.SIGTERM, signal.SIGINT):
+            server = subprocess.Popen([sys.executable, "-c", PROGRAM.format(path=path), self.url, str(port)], stderr=subprocess.DEVNULL)
+            self.addCleanup(server.kill)
+            at = f"http://127.0.0.1:{port}/durable"
+            self.until(lambda: httpx.get(f"{at}/-/health").status_code == 200)
+            answers = []
+            waits = threading.Thread(target=lambda: answers.append(httpx.post(f"{at}/S/waits", timeout=60)))
+            waits.start()
+            self.until(lambda: '"running"' in httpx.get(f"{at}/-/invocations").text)
+            server.send_signal(number)
+            waits.join(10)
+            self.assertEqual([it.status_code for it in answers], [202])
+            self.assertEqual(server.wait(20), 0)
+
+    def until(self, holds, seconds=60):
+        until = time.monotonic() + seconds
+        while time.monotonic() < until:
+            with contextlib.suppress(httpx.HTTPError):
+                if holds():
+                    return
+            time.sleep(0.05)
+        self.fail("it doesn't come")
+
+
+class Unproved(support.OnADatabase, unittest.TestCase):
+    def test_a_library_without_a_proof_is_said_once_by_a_worker_that_starts(self):
+        """And by no worker of a test or of a program that has its own log."""
+
+        async def mounted():
+            async with runtime_app.app.asgi(self.url, poll=0.2).lifespan():
+                pass
+
+        async def by_itself():
+            async with support.Runtime(runtime_app.app, self.url) as runtime:
+                self.assertEqual(await runtime.call("S/echo", 1), 1)
+
+        for is_proved, main, lines in ((False, mounted, 1), (False, by_itself, 0), (True, mounted, 0)):
+            library = types.SimpleNamespace(is_proved=is_proved, build="some build")
+            with mock.patch.object(process, "library", return_value=library), self.assertLogs("palqytun", "WARNING") as logged:
+                logging.getLogger("palqytun").warning("the first")
+                asyncio.run(asyncio.wait_for(main(), 60))
+            self.assertEqual(len(logged.output), 1 + lines, logged.output)
 
 
 class Broken(support.InAFolder, unittest.TestCase):

@@ -2,7 +2,6 @@
 
 import asyncio
 import html.parser
-import subprocess
 import unittest
 
 import support  # isort: skip
@@ -13,10 +12,11 @@ if lacks := needs.lacks_server():
 import runtime_app
 from palqytun.runtime import inbox, invocations, journal, storing, timeline
 from palqytun.runtime.database.plain import Plain
+from palqytun.runtime.filters import Filter
 from palqytun.runtime.invocations import CLAIMED, New
 from palqytun.runtime.lease import Growth
 from palqytun.runtime.outcome import Outcome
-from palqytun.runtime.page import drawn, listed
+from palqytun.runtime.page import confirmed, drawn, listed, state
 from palqytun.runtime.serving import Settings
 from served import Served
 
@@ -104,20 +104,22 @@ class Timelines(support.OnADatabase):
     def test_the_picture(self):
         it = self.found()
         page = Elements(drawn(it, it.invocation["created"] + 10))
-        bars = [attributes["class"] for attributes in page.of("rect")]
-        self.assertEqual(bars, ["suspended", "lost", "runs", "done", "done", "waits"])
-        left, right = (float(page.of("rect")[-1][name]) for name in ("x", "width"))
+        bars = [attributes for attributes in page.of("rect") if "bar" in attributes.get("class", "")]
+        self.assertEqual([it["class"].removeprefix("bar ") for it in bars], ["suspended", "lost", "runs", "done", "done", "waits"])
+        left, right = (float(bars[-1][name]) for name in ("x", "width"))
         self.assertAlmostEqual(left + right, 1000, delta=1)  # what is open reaches to the present
-        self.assertEqual([it["action"] for it in page.of("form")], ["?do=cancel"])
+        self.assertEqual([it["action"] for it in page.of("form")], ["?do=cancel", "?do=kill", "?do=pause"])
+        for word in ("runs", "done 0 ms", "waits"):
+            self.assertIn(word, page.text)
         self.assertNotIn("script", [name for name, _ in page.found])
 
     def test_what_others_wrote_is_text(self):
         it = self.found()
         it.invocation.update(error="<script>alert(1)</script>\n", service="<i>", key='"><b>', status="paused")
         row = {**it.invocation, "id": "a/<b>?"}
-        for page in (drawn(it, 0), listed([row], None, "<u>", 0)):
+        for page in (drawn(it, 0), listed([row], Filter(service="<u>", text="<u>"), 0), confirmed("kill", Filter(error="<u>"), ["<u>"], 1), state("<u>", "<i>", {"<u>": b"<script>"}, None)):
             self.assertFalse({"script", "i", "u"} & {name for name, _ in Elements(page).found})
-        self.assertIn("page/a%2F%3Cb%3E%3F", [link["href"] for link in Elements(listed([row], None, None, 0)).of("a")])
+        self.assertIn("/-/page/a%2F%3Cb%3E%3F", [link["href"] for link in Elements(listed([row], Filter(), 0)).of("a")])
 
 
 class Requests(support.OnADatabase, unittest.TestCase):
@@ -133,7 +135,7 @@ class Requests(support.OnADatabase, unittest.TestCase):
                     own = {"origin": served.address} if headers is OWN else headers
                     cookie = {"cookie": answers[0][2]["set-cookie"].partition(";")[0]} if headers is None else own
                     answers.append(await served.ask(f"/-/page{path}".replace("ID", self.id), body, method, **cookie))
-                self.inbox = await served.rows("SELECT invocation FROM inbox")
+                self.ended = await served.rows("SELECT id FROM invocations WHERE failed=409")
             return answers
 
         return asyncio.run(go())
@@ -149,12 +151,12 @@ class Requests(support.OnADatabase, unittest.TestCase):
     def test_a_button(self):
         [answer] = self.answers(("POST", "/ID?do=cancel", OWN, b""))
         self.assertEqual((answer[0], answer[2]["location"]), (303, f"/-/page/{self.id}"))
-        self.assertEqual(self.inbox, [(self.id,)])
+        self.assertEqual([tuple(it) for it in self.ended], [(self.id,)])
 
     def test_a_button_of_another_site(self):
         for headers in ({"origin": "http://evil.example"}, {"origin": "null"}, {"origin": ""}, {}):
             [answer] = self.answers(("POST", "/ID?do=cancel", headers, b""))
-            self.assertEqual((answer[0], self.inbox), (403, []))
+            self.assertEqual((answer[0], self.ended), (403, []))
 
     def test_the_token(self):
         asked = [("POST", "/token", OWN, b"token=a%26b"), ("GET", "", None, b""), ("GET", "", {}, b""), ("GET", "", {"cookie": "palqytun=a&b"}, b"")]
@@ -162,25 +164,10 @@ class Requests(support.OnADatabase, unittest.TestCase):
         asked += [("POST", "/token", {}, b"token=a%26b"), ("POST", "/token", OWN, b"token=" + b"x" * 5000)]
         answers = self.answers(*asked, token="a&b")
         self.assertEqual([it[0] for it in answers], [303, 200, 401, 401, 401, 200, 401, 403, 413])
-        self.assertEqual(self.inbox, [])
+        self.assertEqual(self.ended, [])
         cookie = answers[0][2]["set-cookie"]
         self.assertNotIn("a&b", cookie)
         self.assertTrue({"HttpOnly", "Path=/-/page", "SameSite=strict"} <= set(cookie.split("; ")), cookie)
-
-
-@unittest.skipIf(needs.lacks_browser(), needs.lacks_browser())
-class InABrowser(support.OnADatabase, unittest.TestCase):
-    def test_the_picture_is_drawn(self):
-        """The browser lays the picture out: its bars have places, and none of them is outside of it."""
-        with Plain(self.url) as db:
-            id = db.done(three_attempts)
-            it = db.done(lambda to: timeline.timeline(to, id))
-        file = self.folder / "page.html"
-        measured = "<script>document.title=[...document.querySelectorAll('rect')].map(e=>{const a=e.getBoundingClientRect();const b=e.ownerSVGElement.getBoundingClientRect();return a.width>0&&a.left>=b.left&&a.right<=b.right+1&&a.bottom<=b.bottom}).join()</script>"
-        file.write_text(drawn(it, it.invocation["created"] + 10) + measured)
-        words = [needs.browser(), "--headless", "--no-sandbox", "--disable-gpu", f"--user-data-dir={self.folder}/profile", "--dump-dom", file.as_uri()]
-        said = subprocess.run(words, capture_output=True, text=True, timeout=120)
-        self.assertIn("<title>true,true,true,true,true,true</title>", said.stdout, said.stderr)
 
 
 if __name__ == "__main__":

@@ -47,6 +47,17 @@ async def collects(ctx: Context, count: int) -> list[int]:
     return [await ctx.signal("go", int) for _ in range(count)]
 
 
+@service.handler()
+async def ends(ctx: Context, n: int) -> int:
+    await ctx.run("a moment", asyncio.sleep, random.random() * 0.03)
+    return n
+
+
+@service.handler()
+async def attaches(ctx: Context, id: str) -> int:
+    return await ctx.attach(id, int)
+
+
 @account.handler()
 async def add(ctx: Context, amount: int) -> int:
     ctx.set("money", (await ctx.get("money", int) or 0) + amount)
@@ -77,14 +88,14 @@ class OnAServer(support.OnADatabase, unittest.TestCase):
 
     def test_the_event_loop_goes_on(self):
         async def test(db):
+            threads, ticks = threading.active_count(), 0
             waits = asyncio.create_task(db.rows("SELECT pg_sleep(0.5), 7"))
-            ticks = 0
             while not waits.done():
                 await asyncio.sleep(0.01)
                 ticks += 1
             self.assertEqual(waits.result()[0][1], 7)
             self.assertGreater(ticks, 10)
-            self.assertEqual(threading.active_count(), 1)
+            self.assertEqual(threading.active_count(), threads)
 
         self.run_with(test)
 
@@ -109,6 +120,23 @@ class OnAServer(support.OnADatabase, unittest.TestCase):
             db.put("DELETE FROM workers WHERE id='0100'")
             await db.commit()
             self.assertEqual(await db.rows("SELECT COUNT(*), MIN(id) FROM workers"), [(count - 101, "0101")])
+
+        self.run_with(test)
+
+    def test_a_late_reply_does_not_set_the_clock(self):
+        async def test(db):
+            before = db.now()
+            asked = time.monotonic()
+            [(told,)] = await db.rows(f"SELECT {db.clock}")
+            time.sleep(0.5)  # the loop was held before it could handle the reply
+            db.told(told, asked)
+            [(now,)] = await db.rows(f"SELECT {db.clock}")
+            self.assertAlmostEqual(db.now(), now, delta=0.2)
+            self.assertAlmostEqual(db.now() - before, time.monotonic() - asked, delta=0.2)
+            for jump in (3600.0, -3600.0):  # the server's clock was set
+                asked = time.monotonic()
+                db.told(now + jump, asked)
+                self.assertAlmostEqual(db.now(), now + jump, delta=0.2)
 
         self.run_with(test)
 
@@ -206,6 +234,19 @@ class TwoWorkers(support.OnADatabase, unittest.TestCase):
 
         self.collected(100, 20, between)
         self.assertEqual(set(looks), {looks[0]})
+
+    def test_who_waits_while_it_ends(self):
+        """What an end reads of those who wait comes before all else in its group. Those who begin to wait at the same time get the result too."""
+
+        async def go():
+            options = {"poll": 200, "idle": 60, "lease": 300}
+            async with Runtime(App(service), self.url, **options) as one, Runtime(App(service), self.url, **options) as two:
+                for n in range(8):
+                    ids = [await one.send("Postgres/ends", n) for _ in range(5)]
+                    waiting = [asyncio.create_task(it.call("Postgres/attaches", id)) for id in ids for it in (one, two, one, two)]
+                    self.assertEqual(await asyncio.wait_for(asyncio.gather(*waiting), 60), [n] * 20)
+
+        asyncio.run(go())
 
     def test_signals_in_a_row(self):
         """They come while the attempt is fed, waits, is suspended and is claimed again, by one worker or the other."""

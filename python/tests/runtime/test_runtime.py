@@ -6,9 +6,8 @@ import unittest
 
 import support  # isort: skip
 import runtime_app
-from palqytun.runtime import App, Context, Schedule, Service, TerminalError, VirtualObject, effects, invocations, journal, operate, storing
+from palqytun.runtime import App, Context, Schedule, Service, TerminalError, VirtualObject, effects, invocations, journal, storing
 from palqytun.runtime.lease import Fenced
-from palqytun.runtime.outcome import Outcome
 from palqytun.runtime.replay import replay_all
 from runtime_app import seen
 from support import Runtime, suspends, with_runtime
@@ -33,7 +32,7 @@ class Handlers(support.OnADatabase):
 
     @with_runtime
     async def test_timeout(self, runtime):
-        assert await runtime.call("S/slow") == [1, None]
+        assert await runtime.call("S/slow") == [408, "it took longer than 0.05 s"]
 
     @with_runtime
     async def test_runs_are_retried(self, runtime):
@@ -45,9 +44,7 @@ class Handlers(support.OnADatabase):
         _, error = await runtime.until(id, "paused")
         assert "a bug" in error and seen == ["once", "broke", "broke"]
         seen.append("mended")
-        out = Outcome()
-        await runtime.engine.transact(lambda db: operate.resume(db, out, id))
-        runtime.engine.tell(out)
+        assert await runtime.engine.act("resume", id, "ann") == "resumed"
         assert await runtime.result(id) == "mended"
 
     @with_runtime
@@ -248,8 +245,8 @@ class Handlers(support.OnADatabase):
         id = await runtime.send("S/waits")
         while not any(isinstance(it, tuple) and it[0] == id for it in seen):
             await asyncio.sleep(0.01)
-        count, different = await runtime.engine.transact(lambda db: replay_all(runtime.engine.app, db, None))
-        assert count > 10 and not different
+        found = await runtime.engine.transact(lambda db: replay_all(runtime.engine.app, db, None, True))
+        assert len(found) > 10 and not [it for it in found if it.difference]
         changed = App(Service("S"), VirtualObject("O"), runtime_app.flow)
         changed.services["S"].handlers = runtime_app.service.handlers
 
@@ -257,8 +254,9 @@ class Handlers(support.OnADatabase):
         async def add(ctx: Context, n):
             ctx.set("n", 1)
 
-        _, different = await runtime.engine.transact(lambda db: replay_all(changed, db, None))
-        assert [(it.handler, it.command, it.error.split(":")[0]) for it in different] == [("O/add", 1, "570 CommandTypeMismatchError")]
+        different = [it for it in await runtime.engine.transact(lambda db: replay_all(changed, db, None, True)) if it.difference]
+        text = "command 1 is recorded as GetEagerState, and the code makes SetState 'n'"
+        assert [(it.handler, it.command, it.difference) for it in different] == [("O/add", 1, text)], different
 
 
 if __name__ == "__main__":

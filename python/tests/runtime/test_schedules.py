@@ -1,6 +1,7 @@
 """Calls by the clock, limits of handlers, and what is purged: transactions of a worker whose handlers don't run."""
 
 import calendar
+import contextlib
 import datetime
 import secrets
 import time
@@ -180,7 +181,7 @@ class Schedules(OnAConnection):
 
 
     def test_the_clock_is_the_databases(self):
-        with mock.patch("time.time", return_value=0.0):
+        with mock.patch("time.time", return_value=0.0) if self.kind == "postgres" else contextlib.nullcontext():  # a file's clock is this machine's
             self.entered(Schedule("often", send, every=60))
         [(due, now)] = self.rows(f"SELECT due, {self.db.clock} FROM schedules")
         self.assertTrue(0 < due - now <= 60)
@@ -214,6 +215,7 @@ class Schedules(OnAConnection):
     def test_a_handler_that_cannot_be_called_any_more(self):
         app = self.entered(Schedule("often", clean, key="k", every=60))
         app.services["Box"] = Service("Box")
+        self.done(lambda db: db.change("DELETE FROM serving"))  # nor does another worker serve it
         with self.assertLogs("palqytun", "WARNING") as logged:
             self.assertEqual(self.fired(app, time.time() + 100), 0)
         self.assertIn("the schedule often can't call Box/clean: there is no handler Box/clean", logged.output[0])

@@ -14,7 +14,7 @@ import postgres
 import runtime_app
 from palqytun.runtime import App, Context, Service
 from palqytun.runtime.committer import Committer
-from palqytun.runtime.database import Conflict, Lost, StatementFailed, connect
+from palqytun.runtime.database import Conflict, Full, Lost, StatementFailed, connect
 from palqytun.runtime.database.plain import Plain
 from palqytun.runtime.invocations import New
 from postgres import with_settings
@@ -31,6 +31,16 @@ async def nothing() -> int:
 @service.handler()
 async def steps(ctx: Context, count: int) -> int:
     return sum([await ctx.run("step", nothing) for _ in range(count)])
+
+
+async def slow() -> int:
+    await asyncio.sleep(0.1)
+    return 1
+
+
+@service.handler()
+async def slowly(ctx: Context, count: int) -> int:
+    return sum([await ctx.run("step", slow) for _ in range(count)])
 
 
 @contextlib.asynccontextmanager
@@ -54,7 +64,8 @@ class Errors(unittest.TestCase):
 
         kinds = {
             Lost: ("08006", "08P01", "57P01", "57P02", "57P03", "", None),
-            Conflict: ("40001", "40P01", "55P03", "57014", "25006", "53100", "53300"),
+            Conflict: ("40001", "40P01", "55P03", "57014", "25006", "53300"),
+            Full: ("53100",),
             StatementFailed: ("54000", "53200", "22021", "23505", "42601", "42P01", "XX000", "P0001"),
         }
         for kind, states in kinds.items():
@@ -268,6 +279,81 @@ class OwnCluster(unittest.TestCase):
                 self.assertEqual(runtime.engine.counts["sessions"], 1)
 
         asyncio.run(go())
+
+
+class Wire:
+    """A connection between a worker and its server that may stop: what either of them says is kept, as by a network that is away."""
+
+    def __init__(self, url):
+        import psycopg
+
+        parts = psycopg.conninfo.conninfo_to_dict(url)
+        host, port = parts["host"], parts.get("port", 5432)
+        self._there = (lambda: asyncio.open_unix_connection(f"{host}/.s.PGSQL.{port}")) if host.startswith("/") else (lambda: asyncio.open_connection(host, port))
+        self._parts, self._goes, self._tasks = parts, asyncio.Event(), set()
+        self._goes.set()
+
+    async def url(self):
+        """The server's address by this wire."""
+        self._server = await asyncio.start_server(self._begun, "127.0.0.1", 0)
+        return f"postgresql://{self._parts['user']}@127.0.0.1:{self._server.sockets[0].getsockname()[1]}/{self._parts['dbname']}"
+
+    def stop(self):
+        self._goes.clear()
+
+    def go(self):
+        self._goes.set()
+
+    def end(self):
+        self._server.close()
+        for task in self._tasks:
+            task.cancel()
+
+    async def _begun(self, reader, writer):
+        try:
+            from_there, to_there = await self._there()
+        except OSError:
+            writer.close()
+            return
+        for one, other in ((reader, to_there), (from_there, writer)):
+            task = asyncio.create_task(self._carried(one, other))
+            self._tasks.add(task)
+            task.add_done_callback(self._tasks.discard)
+
+    async def _carried(self, reader, writer):
+        with contextlib.suppress(OSError):
+            while data := await reader.read(1 << 16):
+                await self._goes.wait()
+                writer.write(data)
+                await writer.drain()
+        writer.close()
+
+
+class Networks(support.OnADatabase, unittest.TestCase):
+    kind = "postgres"
+
+    def test_a_network_that_stops(self):
+        """Another worker goes on with what the one has that nobody hears of. Once it is heard of again it is fenced, and works as before."""
+
+        async def go():
+            wire, begun = Wire(self.url), time.monotonic()
+            async with Runtime(app, await wire.url(), lease=1.5, idle=60) as far:
+                id = await far.send("Servers/slowly", 40)
+                while (await far.rows("SELECT entries FROM invocations WHERE id=?", id))[0][0] < 8:
+                    await asyncio.sleep(0.02)
+                async with Runtime(app, self.url, lease=1.5, idle=60) as near:
+                    wire.stop()
+                    self.assertEqual(await near.result(id, 60), 40)
+                    self.assertGreater(time.monotonic() - begun, 1.5)
+                    [(epoch,)] = await near.rows("SELECT epoch FROM invocations WHERE id=?", id)
+                    self.assertEqual(epoch, 2)
+                    [(commands, completions)] = await near.rows("SELECT COUNT(*) FILTER (WHERE completes IS NULL), COUNT(completes) FROM journal WHERE invocation=?", id)
+                    self.assertEqual((commands, completions), (42, 40))  # with the input and the output
+                    wire.go()
+                    self.assertEqual(await asyncio.wait_for(far.call("Servers/slowly", 2), 60), 2)
+            wire.end()
+
+        asyncio.run(asyncio.wait_for(go(), 120))
 
 
 class Pipelines(support.OnADatabase, unittest.TestCase):

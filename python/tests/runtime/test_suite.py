@@ -2,9 +2,11 @@
 
 import os
 import pathlib
+import re
 import signal
 import subprocess
 import sys
+import tempfile
 import time
 import unittest
 from unittest import mock
@@ -13,6 +15,7 @@ import support  # isort: skip
 import needs
 import postgres
 from support import PYTHON
+from tools.gate import packages
 
 TESTS = """\
 import unittest
@@ -52,7 +55,7 @@ class Temporary(support.InAFolder, unittest.TestCase):
         words = [sys.executable, postgres.__file__, "--set", "work_mem=5MB", sys.executable, "-c", code]
         with subprocess.Popen(words, env={**os.environ, "TMPDIR": str(deep)}, stdin=subprocess.PIPE, stdout=subprocess.PIPE, text=True) as maker:
             url, parent = maker.stdout.readline().split()
-            self.assertRegex(url, r"^postgresql://palqytun@127\.0\.0\.1:\d+/postgres$")
+            self.assertRegex(url, r"^postgresql://palqytun@/postgres\?host=127\.0\.0\.1&port=\d+$")
             with support.Plain(url) as db:
                 self.assertEqual(db.rows("SHOW work_mem"), [("5MB",)])
             [room] = deep.iterdir()
@@ -91,21 +94,42 @@ class Counts(support.InAFolder, unittest.TestCase):
     def test_one_kind(self):
         self.assertEqual(self.counted("unittest.SkipTest('no server')", "--only", "postgres")[1].splitlines()[-2:], ["skipped 1: no server", "0 passed, 0 failed, 1 skipped"])
 
+    def test_all_but_one_kind(self):
+        status, said = self.counted("ValueError('why')", "--but", "postgres")
+        self.assertEqual((status, said.splitlines()[-1]), (1, "1 passed, 1 failed, 1 skipped"))
+
     def test_a_module_that_cannot_be_loaded(self):
         (self.folder / "test_other.py").write_text("import nothing_of_this_name\n")
         self.assertEqual(self.counted("unittest.SkipTest('')", "--only", "postgres")[0], 1)
 
 
+class Pages(unittest.TestCase):
+    def test_each_test_that_a_page_names_is_there(self):
+        """In the table of docs/TESTING.md, and in the file that its line links."""
+        page = (PYTHON.parent / "docs/TESTING.md").read_text()
+        lines = re.findall(r"\[test_\w+\]\(\.\./python/tests/(\w+/\w+\.py)\): ((?:`test_\w+`(?:, )?)+) \|", page)
+        self.assertGreater(len(lines), 30)
+        for file, named in lines:
+            there = (PYTHON / "tests" / file).read_text()
+            for name in re.findall(r"test_\w+", named):
+                self.assertIn(f"def {name}(", there, file)
+
+
 class Interpreters(unittest.TestCase):
-    def test_the_one_that_has_most(self):
-        found = {"/a": needs.Interpreter("/a", "3.12.0", ("psycopg",)), "/usr/bin/python3": needs.Interpreter("/usr/bin/python3", "3.11.2", ())}
-        with mock.patch.object(needs, "_asked", found.get), mock.patch.object(sys, "executable", "/a"):
-            self.assertEqual(needs.interpreter().path, "/usr/bin/python3")
-            found["/usr/bin/python3"] = found["/a"]
-            self.assertRegex(str(needs.interpreter()), r"by /a \(3\.12\.0\), which lacks psycopg: apt-get install python3-psycopg$")
+    def python_with(self, *modules: str) -> str:
+        """A program that says what a Python says that has just these modules."""
+        path = pathlib.Path(self.enterContext(tempfile.TemporaryDirectory()), "python3")
+        path.write_text(f"#!/bin/sh\necho {' '.join(modules)}\n")
+        path.chmod(0o755)
+        return str(path)
+
+    def test_what_one_lacks(self):
+        has = [name for it in packages.read().values() if it.kind == "module" for name in it.names if name != "psycopg"]
+        self.assertRegex(needs.lacking(self.python_with(*has)), r"python3 lacks psycopg: apt-get install python3-psycopg$")
+        self.assertEqual(needs.lacking(self.python_with(*has, "psycopg")), "")
 
     def test_one_that_is_named(self):
-        with mock.patch.dict(os.environ, {"PALQYTUN_PYTHON": "/no/python"}), self.assertRaisesRegex(SystemExit, "none of /no/python is Python 3.11"):
+        with mock.patch.dict(os.environ, {"PALQYTUN_PYTHON": "/no/python"}), self.assertRaisesRegex(SystemExit, "/no/python is no Python 3.11 or newer"):
             needs.interpreter()
 
 

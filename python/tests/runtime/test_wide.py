@@ -6,7 +6,7 @@ import time
 import unittest
 
 import support  # isort: skip
-from palqytun.runtime import App, Context, Service, TerminalError, VirtualObject, gather
+from palqytun.runtime import App, Context, Service, TerminalError, VirtualObject, gather, journal
 from palqytun.runtime.services import Retry
 from support import Runtime
 
@@ -43,6 +43,22 @@ async def sleeps(ctx: Context, n: int) -> int:
 
 
 @service.handler()
+async def spawned(ctx: Context, n: int) -> int:
+    async def two() -> int:
+        return await ctx.run("one", counted, 1) + await ctx.run("none", counted, 0)
+
+    return sum(await gather(*[ctx.spawn(two()) for _ in range(n)]))
+
+
+@service.handler()
+async def waits(ctx: Context, n: int) -> int:
+    """A long journal, and then a signal."""
+    done = sum(await gather(*[ctx.run("one", counted, 1) for _ in range(n)]))
+    await ctx.signal("go")
+    return done
+
+
+@service.handler()
 async def calls(ctx: Context, n: int) -> int:
     return sum(await gather(*[ctx.call(echo, 1) for _ in range(n)]))
 
@@ -65,7 +81,7 @@ class Wide(support.OnADatabase):
         async def go():
             async with Runtime(app, self.url, idle=0.5) as runtime:
                 await runtime.call("S/runs", 100)
-                for path in ("S/runs", "S/plain_runs", "S/sleeps", "O/sets", "S/calls"):
+                for path in ("S/runs", "S/plain_runs", "S/sleeps", "S/spawned", "O/sets", "S/calls"):
                     took = []
                     for count in (100, 1000) if path != "S/calls" else (20, 200):
                         gc.collect()
@@ -76,6 +92,32 @@ class Wide(support.OnADatabase):
                     assert took[1] < 30 * max(took[0], 0.02), (path, took)
 
         asyncio.run(go())
+
+    def test_a_long_journal_lets_others_have_their_turn(self):
+        """While an invocation with 6,000 entries is claimed and fed, nothing of the runtime's holds the loop. Time is the processor's."""
+
+        async def go():
+            async with Runtime(app, self.url, idle=0) as runtime:
+                id = await runtime.send("S/waits", 3000)
+                await runtime.until(id, "suspended")
+                gc.collect()
+                gc.disable()  # a collection isn't the runtime's
+                held, last = [], time.thread_time()
+                await runtime.engine.notify(id, journal.named_signal("go", journal.value(b"1")))
+                ended = asyncio.create_task(runtime.result(id, 300))
+                while not ended.done():
+                    await asyncio.sleep(0)
+                    now = time.thread_time()
+                    held.append(now - last)
+                    last = now
+                self.assertEqual(await ended, 3000)
+                return max(held)
+
+        try:
+            longest = asyncio.run(asyncio.wait_for(go(), 300))
+        finally:
+            gc.enable()
+        self.assertLess(longest, 0.25)
 
     def test_so_many_runs_at_once_and_others_beside_them(self):
         async def go():

@@ -26,7 +26,7 @@ class Folder(unittest.TestCase):
         room = tempfile.TemporaryDirectory()
         self.addCleanup(room.cleanup)
         self.root = Path(room.name)
-        pages = {"README.md": PAGE, "CONTRIBUTING.md": PAGE, "docs/TUTORIAL.md": PAGE, "docs/PROGRAMS.md": BROKEN}
+        pages = {"README.md": PAGE, "CONTRIBUTING.md": PAGE, "docs/PROVED-HANDLERS.md": PAGE, "docs/TOOLS.md": BROKEN}
         for name, text in {"KIT": KIT, **pages}.items():
             self.write(name, text)
 
@@ -61,16 +61,16 @@ class ThePages(Folder):
                 self.assertEqual(self.wrong(), [f"{name}:3: it names a kit with logic {OTHER}; {WANTED}"])
 
     def test_a_logic_after_a_line_break_is_seen(self) -> None:
-        self.write("docs/PROGRAMS.md", BROKEN.replace(LOGIC, OTHER))
-        self.assertEqual(self.wrong(), [f"docs/PROGRAMS.md:2: it names a kit with logic {OTHER}; {WANTED}"])
+        self.write("docs/TOOLS.md", BROKEN.replace(LOGIC, OTHER))
+        self.assertEqual(self.wrong(), [f"docs/TOOLS.md:2: it names a kit with logic {OTHER}; {WANTED}"])
 
     def test_a_page_that_has_to_name_the_logic_and_does_not_fails(self) -> None:
         self.write("README.md", "You need a kit.\n")
         self.assertEqual(self.wrong(), [f"README.md:1: it names no logic; {WANTED}"])
 
     def test_a_page_that_is_not_there_fails(self) -> None:
-        (self.root / "docs/TUTORIAL.md").unlink()
-        self.assertEqual(self.wrong(), ["docs/TUTORIAL.md:1: there is no such page"])
+        (self.root / "docs/PROVED-HANDLERS.md").unlink()
+        self.assertEqual(self.wrong(), ["docs/PROVED-HANDLERS.md:1: there is no such page"])
 
     def test_a_page_of_evidence_may_name_the_kit_of_its_day(self) -> None:
         self.write("docs/evidence/2026-11-29.md", f"A kit with logic {OTHER}.\n")

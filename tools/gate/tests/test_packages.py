@@ -61,6 +61,25 @@ class Finding(unittest.TestCase):
         with mock.patch.dict("os.environ", path, clear=True), mock.patch("sys.executable", sys.executable):
             self.assertNotEqual(packages.chosen_python({"x": self.tool("module", "json")}), f"{room}/python3")
 
+    def python_with(self, *modules: str) -> str:
+        """A program that says what a Python says that has just these modules."""
+        path = Path(self.enterContext(tempfile.TemporaryDirectory()), "python3")
+        path.write_text(f"#!/bin/sh\necho {' '.join(modules)}\n")
+        path.chmod(0o755)
+        return str(path)
+
+    def test_what_is_installed_serves_one_python(self) -> None:
+        """The Python on the path has one module, and the system's has none. Both modules have to be installed, since Debian's packages are for
+        the system's Python: if only the other one was, each of them would lack a module."""
+        tools = {name: Tool(name, "module", (name,), (f"python3-{name}",), "s") for name in ("here", "nowhere")}
+        ours = self.python_with("here")
+        self.enterContext(mock.patch.object(packages, "SYSTEM", self.python_with()))
+        with mock.patch.dict("os.environ", {}, clear=False) as env:
+            env.pop("PALQYTUN_PYTHON", None)
+            self.assertEqual([it.name for it in packages.not_found(tools, ours)], ["nowhere"])
+            self.assertEqual([it.name for it in packages.to_install(tools, ours)], ["here", "nowhere"])
+            self.assertEqual(packages.to_install({"here": tools["here"]}, ours), [])
+
     def test_a_python_that_is_named(self) -> None:
         with mock.patch.dict("os.environ", {"PALQYTUN_PYTHON": "/a/python"}):
             self.assertEqual(packages.chosen_python({}), "/a/python")

@@ -158,7 +158,7 @@ class CommandTest(TreeTest):
         self.assertEqual(lines[-1], "0 passed, 1 failed")
         page = "\n".join((*MAP, *FIGURES))
         self.run_house("--shrink")
-        for name, text in (("docs/ARCHITECTURE.md", page), ("docs/pictures/house.svg", "")):
+        for name, text in (("docs/internals/ARCHITECTURE.md", page), ("docs/pictures/house.svg", "")):
             (self.house.top / name).parent.mkdir(parents=True, exist_ok=True)
             self.put(name, text)
         status, lines, _ = self.run_house("--check")

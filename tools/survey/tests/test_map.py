@@ -32,7 +32,7 @@ FILES = {
     "crates/ffi/src/lib.rt": "//! Functions.\nfn palqytun_sleep() {}\nfn give() {}\n",
     "crates/vm_vectors/src/lib.rt": "//! Rows.\n",
     "python/core.py": "def sleep(): ...\n",
-    "docs/ARCHITECTURE.md": "# A\n\n" + "\n".join(page.MAP) + "\n\nmore\n\n" + "\n".join(page.FIGURES) + "\n\nend\n",
+    "docs/internals/ARCHITECTURE.md": "# A\n\n" + "\n".join(page.MAP) + "\n\nmore\n\n" + "\n".join(page.FIGURES) + "\n\nend\n",
     "tools/survey/limits.txt": "crates: 6, 5\n",
 }
 
@@ -76,8 +76,8 @@ class MapTest(TreeTest):
 
     def test_the_map_has_each_crate_with_its_first_comment(self) -> None:
         text = page.written(self.house)
-        self.assertIn("| [`vm_machine`](../crates/vm_machine) | The machine. It has events. | `vm_types` |", text)
-        self.assertIn("| [`plain`](../crates/plain) | Plain values \\| as such. |  |", text)
+        self.assertIn("| [`vm_machine`](../../crates/vm_machine) | The machine. It has events. | `vm_types` |", text)
+        self.assertIn("| [`plain`](../../crates/plain) | Plain values \\| as such. |  |", text)
         self.assertIn("| [The VM](#the-vm) | `vm_types`, `vm_machine` | Ground |", text)
 
     def test_a_crate_without_a_comment_is_refused(self) -> None:
@@ -119,10 +119,10 @@ class MapTest(TreeTest):
         self.assertIn("tools/survey/families.py: plain is no crate of crates.txt; take it out of FAMILIES", self.run_map("--check")[1])
 
     def test_a_page_without_marks_is_refused(self) -> None:
-        self.put("docs/ARCHITECTURE.md", "# A\n")
+        self.put("docs/internals/ARCHITECTURE.md", "# A\n")
         status, _, err = self.run_map()
         self.assertEqual(status, 1)
-        self.assertIn("docs/ARCHITECTURE.md: two marks aren't there", err)
+        self.assertIn("docs/internals/ARCHITECTURE.md: two marks aren't there", err)
 
     def test_the_picture_has_each_family_and_each_stop(self) -> None:
         drawn = xml.fromstring(picture.picture(self.house))

@@ -93,7 +93,7 @@ FILES = {
     "python/src/palqytun/core.py": '"""The VM."""\ndef sys_peek_promise(): ...\n',
     "tools/programs/rules.py": '"""Rules."""\n"peek-promise"\n',
     "docs/SDK.md": "# SDK\n\nA peek promise.\n",
-    "docs/ARCHITECTURE.md": "# Architecture\n\n    tools/where PeekPromise\n",
+    "docs/internals/ARCHITECTURE.md": "# Architecture\n\n    tools/where PeekPromise\n",
     "tools/survey/figures.py": 'COMMAND = "PeekPromise"\n',
 }
 ORDER = [

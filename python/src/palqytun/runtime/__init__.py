@@ -1,32 +1,51 @@
 """The durable runtime: handlers that survive crashes, over the invocation VM, with SQLite or PostgreSQL.
 
-docs/RUNTIME.md has the architecture, the tables, and what is proved, tested, or rests on the database.
+docs/RUNTIME.md is the guide, docs/OPERATING.md is for operators, and docs/internals/RUNTIME-DESIGN.md says what is proved and what is tested.
 """
 
+from .client import Client, Invocation
 from .codec import Codec, JsonCodec
-from .context import Call, Context, Promise
+from .context import Call, Context
+from .contexts import ObjectContext, Promise, ServiceContext, SharedObjectContext, SharedWorkflowContext, WorkflowContext
+from .desk import Unavailable
 from .durable import Durable, NotDurable, gather, select, wait_any
+from .engine import Engine
 from .schedules import Schedule
-from .services import App, Cancelled, Handler, Retry, Service, TerminalError, VirtualObject, Workflow
+from .services import App, Cancelled, Handler, Retry, Service, TerminalError, TimedOut, VirtualObject, Workflow
+from .steps import Step, step
+from .transactions import Transaction
 
 __all__ = [
     "App",
     "Call",
     "Cancelled",
+    "Client",
     "Codec",
     "Context",
     "Durable",
+    "Engine",
     "Handler",
+    "Invocation",
     "JsonCodec",
     "NotDurable",
+    "ObjectContext",
     "Promise",
     "Retry",
     "Schedule",
     "Service",
+    "ServiceContext",
+    "SharedObjectContext",
+    "SharedWorkflowContext",
+    "Step",
     "TerminalError",
+    "TimedOut",
+    "Transaction",
+    "Unavailable",
     "VirtualObject",
     "Workflow",
+    "WorkflowContext",
     "gather",
     "select",
+    "step",
     "wait_any",
 ]

@@ -4,24 +4,31 @@ from __future__ import annotations
 
 import asyncio
 import time
-from collections.abc import Awaitable, Callable
+from collections.abc import Awaitable, Callable, Mapping
 from types import TracebackType
-from typing import Any, Protocol
+from typing import Any, Protocol, TypeVar
 
 from .. import core
-from . import journal, storing
+from . import journal, storing, transactions
 from .codec import BadValue, decoded, encoded
 from .context import Action, AttemptEnds, CaughtTooMuch, Context, OutsideHandler, given_failure, running
-from .database import Database
-from .durable import Task, Tasks
+from .contexts import kind_of
+from .database import Database, StatementFailed
+from .durable import Task
 from .executions import Closed, Executions, Raised
-from .invocations import Claim
+from .invocations import TAKEN, WAITS, Claim
 from .lease import Growth
 from .outcome import Outcome
 from .services import App, Cancelled, TerminalError
+from .storing import Reads, Writes
+from .tasks import Tasks
 from .texts import plain, said, traced
+from .transactions import Transaction
+from .turns import Turn
 
-_TURN = 0.005  # seconds that an attempt works before the others have their turn
+T = TypeVar("T")
+_LONG = 0.0005  # seconds that a wide tree takes to be asked for
+_FED = 1 << 16  # bytes of a journal that the core is fed at a time
 _STORED = 256  # frames that are stored together, at most
 _PERFORMED = 64  # of them, if they ask something of the runtime
 
@@ -40,11 +47,17 @@ class Worker(Protocol):
     def patience(self) -> float:
         """For how many seconds an attempt may wait now, before it is suspended."""
 
-    async def write(self, operation: Callable[[Database], Awaitable[Outcome]], claim: Claim) -> Outcome:
-        """Commits a transaction on the claim's journal."""
+    async def write(self, operation: Writes, claim: Claim, reads: Reads | None = None) -> Outcome:
+        """Commits a transaction on the claim's journal. The operation is given what `reads` finds before it."""
 
     async def append(self, growth: Growth) -> None:
         """Commits what is appended to a claim's journal, where nobody else is touched."""
+
+    async def alone(self, operation: Callable[[Database], Awaitable[T]]) -> T:
+        """Commits an operation in a transaction of its own."""
+
+    def now(self) -> float:
+        """The database's time, in seconds since the epoch."""
 
 
 class WithoutEnd(Exception):
@@ -106,39 +119,32 @@ class Bell:
                 timer.cancel()
 
 
-class Turn:
-    """Lets others have their turn, in the middle of work that is long."""
-
-    def __init__(self) -> None:
-        self._begun = time.monotonic()
-
-    async def end(self) -> None:
-        """If this turn was long enough, the others have theirs."""
-        if time.monotonic() - self._begun > _TURN:
-            await asyncio.sleep(0)
-            self._begun = time.monotonic()
-
-
 class Attempt:
     def __init__(self, worker: Worker, claim: Claim):
         self.worker, self.claim = worker, claim
         self.bell = Bell()
+        self.status = "lost"  # what its last store has made of the invocation
+        self.task: asyncio.Task[None] | None = None
         self._turn = Turn()
         self._executing: dict[int, asyncio.Task[Any]] = {}
         self._executed: list[int] = []  # handles of runs whose execution has ended
+        self._raised: dict[int, BaseException] = {}  # what runs raised, by their handles
         self._has_dropped = False  # a run for which the core has asked didn't begin
         self._waiting: list[bytes] = []  # frames of output that aren't stored yet
         self._is_only_runs = True  # these frames are commands of runs
         self._written = 0  # how many bytes of output were handed to the store
         self._has_ended = False
         self.was_cancelled_within = False  # the handler has cancelled the task of its own attempt
+        self._unawaited: list[int] = []  # sleeps that nobody can await any more
+        self.awakeables: Mapping[str, Callable[[Any], Any]] | None = None  # that the handler has made: what reads the value of each
 
     async def run(self) -> None:
         """To the attempt's end, which is stored."""
         try:
             with core.VM(self.claim.content_type, awaiting="never", mismatch="pause") as vm:
                 self._vm = vm
-                vm.notify_input(self.claim.input)
+                await self._begun(self.claim.input)
+                self._patches = journal.patches_in(self.claim.input)
                 self.claim.input = b""
                 try:
                     fault = await self._guarded()
@@ -147,7 +153,7 @@ class Attempt:
                     await self._left(lambda db: storing.release(db, self.worker.app, self.claim))
                     return
                 if fault is not None:
-                    why = said(fault)
+                    why, self.claim.fault = said(fault), fault
                     await self._left(lambda db: storing.pause(db, self.worker.app, self.claim, why))
                     return
                 await self._rest()
@@ -157,9 +163,15 @@ class Attempt:
             for task in self._executing.values():
                 task.cancel()
 
+    async def _begun(self, input: bytes) -> None:
+        """Feeds the stored journal."""
+        for at in range(0, len(input), _FED):
+            self._vm.notify_input(input[at : at + _FED])
+            await self._turn.end()
+
     async def _left(self, operation: Callable[[Database], Awaitable[Outcome]]) -> None:
         """The attempt stops without an end of its core."""
-        await self.worker.write(operation, self.claim)
+        self.status = (await self.worker.write(lambda db, found: operation(db), self.claim)).status
 
     async def _guarded(self) -> Exception | None:
         """Drives the handler. What it raises ends the attempt. Answers a fault for which the invocation is to be paused, whatever the core
@@ -167,21 +179,26 @@ class Attempt:
         try:
             return await self._drive(self._vm.sys_input())
         except (core.VMError, AttemptEnds) as ended:
+            self.claim.fault = self.claim.fault or ended
             if isinstance(ended.__cause__, (core.BadLine, UnicodeError)):  # the core wasn't asked
                 self._vm.notify_error(500, plain(f"a call that has no meaning: {ended.__cause__}"))
             # else the core has failed, or is suspended, and has said so
         except core.BadLine as error:
+            self.claim.fault = error
             self._vm.notify_error(500, plain(f"a call that has no meaning: {error}"))
         except CaughtTooMuch as fault:
             return fault
         except HandlerFailed as failed:
+            self.claim.fault = failed.error
             self._vm.notify_error(500, said(failed.error), stacktrace=traced(failed.error))
         return None
 
     async def _drive(self, input: core.Input) -> Exception | None:
         with _handlers_own:
             handler = self.worker.app.find(self.claim.service, self.claim.handler)
-        context = Context(self._vm, input, self.worker.app, self.claim.service, self.claim.exclusive)
+        kind = kind_of(handler.service, self.claim.exclusive)
+        context = kind(self._vm, input, self.worker.app, self.claim.service, self.claim.trace, patches=self._patches, now=self.worker.now)
+        self.awakeables = context.awakeables
         codec = self.worker.app.codec
         with _handlers_own:
             try:
@@ -205,6 +222,7 @@ class Attempt:
         ends: bytes | core.Failure
         with _handlers_own:
             ends = encoded(codec, main.value) if failure is None else given_failure(failure)
+        context.pass_patches()
         self._vm.sys_write_output(ends)
         self._vm.sys_end()
         return None
@@ -220,11 +238,14 @@ class Attempt:
                 try:
                     with context.entered():
                         tasks.run(thrown)
+                    self.claim.is_shielded = context.is_shielded
                 finally:
                     self.was_cancelled_within |= own.cancelling() > before
                 if tasks.main.done:
                     return
                 tree = tasks.tree()
+            if context.left:
+                self._leave(context)
             thrown = None
             await self._turn.end()
             try:
@@ -232,16 +253,16 @@ class Attempt:
             except core.Cancelled:
                 thrown = Cancelled()
                 continue
-            for leaf in tasks.leaves():
-                if leaf.came is None:
-                    leaf.came = self._vm.take_notification(leaf.handle)
-                    if leaf.came is not None:
-                        context.actions.pop(leaf.handle, None)
+            for leaf in tasks.taken(self._vm.take_notification):
+                if leaf is not None and context.actions.pop(leaf.handle, None) is not None:
+                    context.asked.discard(leaf.handle)
                 await self._turn.end()
 
-    async def _await(self, tree: int | core.Future, context: Context) -> None:
+    async def _await(self, tree: int | core.Future | core.AnyOf, context: Context) -> None:
         """Until the tree is awake. Meanwhile runs are executed, and what was written is stored."""
         while True:
+            if self.claim.cancel_waits and not self.claim.is_shielded and self._vm.state() == "Processing":
+                await self._pull()
             begun = time.monotonic()
             answer = self._vm.do_await(tree)
             asked = time.monotonic() - begun
@@ -253,21 +274,22 @@ class Attempt:
             if self.worker.drains and not self._executing and (self._has_dropped or isinstance(answer, core.ExecuteRun)):
                 raise Released()
             await self._progress(context)
-            if asked > _TURN / 10:  # a wide tree is asked again after as long a time, so that what comes meanwhile is asked for at once
+            if asked > _LONG:  # a wide tree is asked again after as long a time, so that what comes meanwhile is asked for at once
                 await asyncio.sleep(asked)
 
     def _begin(self, handle: int, context: Context) -> None:
         """Begins to execute a run, for which the core has asked."""
         if not self.worker.drains:
-            task = self._executing[handle] = asyncio.create_task(self._execute(context.actions[handle]))
+            context.asked.discard(handle)
+            task = self._executing[handle] = asyncio.create_task(self._execute(handle, context.actions[handle]))
             task.add_done_callback(lambda _: self._has_executed(handle))
 
     async def _begin_others(self, context: Context) -> None:
         """Begins the other runs that the handler awaits. Each one is asked for alone: to ask for the next one of a whole tree takes a look at
         all of it. The tree isn't awake by what came, so these questions use nothing of that up."""
         assert context.tasks is not None
-        for leaf in context.tasks.leaves():
-            if leaf.came is None and leaf.handle in context.actions and leaf.handle not in self._executing:
+        for leaf in context.tasks.leaves() if context.asked else ():
+            if leaf.came is None and leaf.handle in context.asked:
                 if isinstance(self._vm.do_await(leaf.handle), core.ExecuteRun):
                     self._begin(leaf.handle, context)
             await self._turn.end()
@@ -276,16 +298,19 @@ class Attempt:
         self._executed.append(handle)
         self.bell.ring()
 
-    async def _execute(self, action: Action) -> bytes | core.Failure | core.Retryable | None:
+    async def _execute(self, handle: int, action: Action) -> bytes | core.Failure | core.Retryable | None:
         """The result of a run; none if it didn't begin."""
         running.set(action)
         begun = time.monotonic()
         try:
-            came = await self.worker.executions.execute(self, action.function, action.arguments)
+            if action.transaction is not None:
+                return await self._transacted(action, action.transaction)
+            came = await self.worker.executions.execute(self, action.function, action.arguments, action.timeout)
         except Closed:
             return None
         lasted = int((time.monotonic() - begun) * 1000)
         if isinstance(came, Raised):
+            self._raised[handle] = came.error
             return _failed(came.error, lasted)
         try:
             return encoded(self.worker.app.codec, came.value)
@@ -293,6 +318,19 @@ class Attempt:
             return _failed(error, lasted)
         except BaseException as error:  # the effect has happened, and no other try of it would have another result
             return core.Failure(500, f"the result of the run {plain(action.name)!r} can't be stored: {said(error)}")
+
+    async def _transacted(self, action: Action, run: int) -> bytes | core.Failure | core.Retryable:
+        """The result of a step on the runtime's own database, which is committed with what the step did."""
+
+        async def step(transaction: Transaction) -> bytes:
+            return encoded(self.worker.app.codec, await action.function(transaction, *action.arguments))
+
+        begun = time.monotonic()
+        try:
+            return await self.worker.alone(lambda db: transactions.made(db, self.claim.lease, run, step, action.timeout))
+        except (transactions.RolledBack, StatementFailed) as failed:
+            error = failed.error if isinstance(failed, transactions.RolledBack) else failed
+            return _failed(error, int((time.monotonic() - begun) * 1000))
 
     async def _progress(self, context: Context) -> None:
         """Stores what was written, or waits until something comes; what comes is fed. If nothing comes the input is closed."""
@@ -323,12 +361,15 @@ class Attempt:
 
     async def _propose(self, ended: list[tuple[int, asyncio.Task[Any]]], context: Context) -> None:
         """Proposes the results of runs. Those that another try is to be made of come last, since the first one fails the attempt."""
-        failed = []
+        failed: list[tuple[int, core.Retryable]] = []
         for handle, task in ended:
             result = _failed(asyncio.CancelledError("the effect cancelled its own task"), 0) if task.cancelled() else task.result()
+            raised = self._raised.pop(handle, None)
             if result is None:
                 self._has_dropped = True
             elif isinstance(result, core.Retryable):
+                if not failed:  # the first one fails the attempt
+                    self.claim.run, self.claim.fault = context.actions[handle].name, raised
                 failed.append((handle, result))
             else:
                 self._vm.propose_run_completion(handle, result, policy=context.actions[handle].policy)
@@ -340,7 +381,11 @@ class Attempt:
 
     async def _pull(self) -> None:
         self.bell.poked = False
-        self._feed(await self.worker.write(lambda db: storing.pull(db, self.claim), self.claim))
+        out = await self.worker.write(lambda db, found: storing.pull(db, self.claim, found), self.claim, storing.arrivals(self.claim))
+        self.bell.poked |= out.has_more
+        self.claim.was_cancelled |= out.cancel == TAKEN
+        self.claim.cancel_waits = out.cancel == WAITS
+        self._feed(out)
 
     async def _rest(self) -> None:
         """Stores all that was written, up to now."""
@@ -369,21 +414,44 @@ class Attempt:
 
     async def _stored(self, output: bytes) -> bool:
         """Stores some of the output."""
-        at = self._written
-        if journal.only_steps(output):
+        at, timers = self._written, self._timers()
+        if not timers and journal.only_steps(output):
             growth = Growth(self.claim.lease)
             growth.store(output, at)
             await self.worker.append(growth)
             out = Outcome(feed=growth.feed)
         else:
-            out = await self.worker.write(lambda db: storing.store(db, self.worker.app, self.claim, output, at), self.claim)
+            claim, app = self.claim, self.worker.app
+            out = await self.worker.write(
+                lambda db, found: storing.store(db, app, claim, output, at, timers, found), claim, storing.reads(claim, output)
+            )
         self._written += len(output)
         return self._feed(out)
+
+    def _leave(self, context: Context) -> None:
+        """A step has ended, and the handler goes on without some sleeps. What is left when a handler fails or is suspended isn't: the next attempt
+        may await it. In a replay nothing is left: what an earlier attempt stored after it was stored with that."""
+        numbers, context.left = context.left, []
+        if self._vm.state() != "Replaying":
+            self._unawaited += numbers
+
+    def _timers(self) -> list[int]:
+        """The completion ids of stored sleeps that nobody can await any more: their timers are deleted with what is stored next."""
+        ids, later = list[int](), list[int]()
+        for number in self._unawaited:
+            id = self.claim.lease.journal.timed(number)
+            if id is None:
+                later.append(number)
+            else:
+                ids.append(id)
+        self._unawaited = later
+        return ids
 
     def _feed(self, out: Outcome) -> bool:
         if out.feed and out.status == "running":
             self._vm.notify_input(b"".join(out.feed))
         self._has_ended = out.status != "running"
+        self.status = out.status
         return bool(out.feed)
 
 

@@ -1,12 +1,14 @@
 """Awakeables from outside: which there are, what they wait for, and that each is completed once.
 
 A journal has no entry of an awakeable that waits; its handler makes it anew in each attempt, with its type. So the attempt that runs here is
-asked for it, and without one the stored journal is replayed, as `palqytun replay` does: nothing is executed, and nothing is stored.
+asked for it. Without one the stored journal is replayed in a thread, as `palqytun replay` does: nothing is executed, and nothing is stored.
 """
 
 from __future__ import annotations
 
-from collections.abc import Callable
+import asyncio
+from collections.abc import Callable, Mapping
+from concurrent.futures import ThreadPoolExecutor
 from typing import Any
 
 from . import effects, inbox, journal
@@ -20,13 +22,16 @@ from .replay import Stored, replayed, stored
 from .services import TerminalError
 
 Read = Callable[[Any], Any]
+_replays = ThreadPoolExecutor(2, thread_name_prefix="palqytun-replay")  # the loop's own threads may all wait for a reply of this worker
 
 
 async def complete(engine: Engine, id: str, result: Result) -> None:
     """Completes an awakeable. Raises a `TerminalError`, and stores nothing: 404 if there is no such awakeable, 409 if it was completed before
     or its invocation has ended, 400 for a value that isn't of its type."""
     invocation, number = effects.awakeable_of(id)
-    _check(id, result, await _readers(engine, invocation))
+    attempt = engine.live.get(invocation)
+    made = None if attempt is None else attempt.awakeables
+    _check(id, result, made if made is not None and id in made else await _readers(engine, invocation))
     out = Outcome()
     why = await engine.transact(lambda db: _delivered(db, out, invocation, number, result))
     if why is not None:
@@ -34,7 +39,7 @@ async def complete(engine: Engine, id: str, result: Result) -> None:
     engine.tell(out)
 
 
-def _check(id: str, result: Result, readers: dict[str, Read] | None) -> None:
+def _check(id: str, result: Result, readers: Mapping[str, Read] | None) -> None:
     if readers is None:
         return
     if id not in readers:
@@ -53,7 +58,7 @@ async def _readers(engine: Engine, invocation: str) -> dict[str, Read] | None:
     found = await engine.transact(lambda db: _stored(db, invocation))
     if found is None:
         raise TerminalError("there is no such awakeable", 404)
-    it = replayed(engine.app, found)
+    it = await asyncio.get_running_loop().run_in_executor(_replays, replayed, engine.app, found)
     return None if it.context is None or it.error is not None else it.context.awakeables
 
 

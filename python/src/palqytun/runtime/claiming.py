@@ -2,16 +2,18 @@
 
 from __future__ import annotations
 
+import functools
 import time
 from collections.abc import AsyncIterator, Collection
 from dataclasses import dataclass, field
 from typing import Any
 
-from . import inbox, invocations, journal, schedules
-from .database import Database
+from . import acts, announced, inbox, invocations, journal, schedules
+from .database import Asked, Database
 from .invocations import CLAIMED, MOST_LOST, SUSPECT, Claim, Claimable
 from .outcome import Outcome
 from .services import App
+from .turns import Turn
 
 _ALONE = 1.0  # seconds for which one that may end its worker is alone with it
 _FOR_GOOD = 1e9  # seconds
@@ -20,6 +22,17 @@ _FRESH = 5000
 _AT_ONCE = 500  # leases that one statement takes
 _FEWEST = 20  # ready invocations that a claim may take, however many workers there are
 _SHARE = f"SELECT CASE WHEN many<2 OR ?<={_FEWEST} THEN ? WHEN ?/many<{_FEWEST} THEN {_FEWEST} ELSE ?/many END FROM alive"
+
+
+def _looked() -> Asked:
+    """Reads for whom something came, each with whether a cancellation is among it."""
+    sql = "SELECT invocation, MAX(CASE WHEN frame=? THEN 1 ELSE 0 END) FROM inbox WHERE fresh=1 GROUP BY invocation LIMIT ?"
+    return sql, (journal.cancellation(), _FRESH)
+
+
+def orphaned(db: Database) -> str:
+    """The condition of those that run by a worker that isn't alive."""
+    return f"status='running' AND worker NOT IN (SELECT id FROM workers WHERE lease>={db.clock})"
 
 
 @dataclass
@@ -34,11 +47,17 @@ class Claims:
 
 
 @dataclass(frozen=True)
-class Share:
-    """Some handlers, by a condition on their rows, and how many more of their attempts may begin."""
+class Condition:
+    """A condition on rows of invocations."""
 
     where: str
     values: tuple[str, ...]
+
+
+@dataclass(frozen=True)
+class Share(Condition):
+    """The invocations of some handlers, and how many more of their attempts may begin."""
+
     room: int
 
 
@@ -50,6 +69,19 @@ class Claimer:
     app: App
     lease: float  # how long it is thought alive after a beat, in seconds
     former: str = ""  # the worker that this process was before it lost its database
+    version: str = ""  # of the app's code, if it isn't the app's own
+
+    @property
+    def code(self) -> str:
+        """The version by which this worker's invocations are begun."""
+        return self.version or self.app.version
+
+    @functools.cached_property
+    def own(self) -> Condition:
+        """Of an invocation that this worker may go on with: it has the handler, and began by this version or not yet."""
+        services = [it for it in self.app.services.values() if it.handlers]
+        served = " OR ".join(f"service=? AND handler IN ({','.join('?' * len(it.handlers))})" for it in services) or "1=0"
+        return Condition(f"({served}) AND (code IS NULL OR code=?)", (*[name for it in services for name in (it.name, *it.handlers)], self.code))
 
     # ---- leases
 
@@ -62,6 +94,7 @@ class Claimer:
         await db.change("DELETE FROM workers WHERE id=?", (self.former,))
         await db.change(f"INSERT INTO workers(id, lease) VALUES (?,{db.clock}+?)", (self.worker, lease))
         await db.change(f"DELETE FROM workers WHERE lease < {db.clock}-3600")
+        await announced.enter(db, self.app, self.worker, self.code)
         await schedules.enter(db, self.app, self.app.services)
         limited = [(it.path,) for it in self.app.limited()]
         db.many("INSERT INTO limits(path) VALUES (?) ON CONFLICT(path) DO NOTHING", limited)
@@ -73,25 +106,36 @@ class Claimer:
     async def leave(self, db: Database) -> None:
         """The worker ends; others may go on with what it had at once."""
         await db.change("DELETE FROM workers WHERE id=?", (self.worker,))
+        await announced.leave(db, self.worker)
         db.notify("ready")
 
     # ---- claims
 
     async def claim(self, db: Database, live: Collection[str], room: int) -> Claims:
         """Fires the timers that are due, and claims at most `room` invocations that can go on; `live` are those that have an attempt here."""
-        found, now = Claims(), db.now()
-        await self._fire(db, found.out, now)
+        found, now, asked = Claims(), db.now(), time.monotonic()
+        due, fresh, [(next_due, clock)] = await db.several([self._due(db, now), _looked(), self._next(db, now)])
+        db.told(float(clock), asked)
+        await self._fire(db, found.out, due, now)
         await schedules.fire(db, self.app, found.out, now)
-        fresh = {row[0] for row in await db.rows("SELECT DISTINCT invocation FROM inbox WHERE fresh=1 LIMIT ?", (_FRESH,))}
-        found.out.touched |= fresh
-        rows = [Claimable(*row) for row in await self._rows(db, found, now, room, bool(fresh))]
+        await self._cancel(db, found.out, [id for id, is_cancelled in fresh if is_cancelled], now)
+        found.out.touched |= {row[0] for row in fresh}
+        rows = [Claimable(*row) for row in await self._rows(db, found, now, room, bool(fresh or due))]
         free = await self._without_suspects(db, [it for it in rows if it.id not in live])
         for first in range(0, len(free), _AT_ONCE):
-            found.claims += await invocations.claim(db, self.worker, free[first : first + _AT_ONCE])
+            found.claims += await invocations.claim(db, self.worker, free[first : first + _AT_ONCE], found.out, self.code)
         if len(free) < sum(it.id not in live for it in rows):
             found.has_more = False  # who is left out is looked for by and by
-        found.next_due = await self._next_due(db, now)
+        times = (now if len(due) == _TIMERS else next_due, await schedules.next_due(db, self.app, now))
+        found.next_due = min((float(it) - db.now() + time.time() for it in times if it is not None), default=None)
         return found
+
+    async def _cancel(self, db: Database, out: Outcome, cancelled: list[str], now: float) -> None:
+        """A cancellation reaches also those that wait for no inbox."""
+        if cancelled:
+            marks, waits = ",".join("?" * len(cancelled)), "(status='paused' OR (status='ready' AND (epoch=0 OR due>?)))"
+            for (id,) in await db.rows(f"SELECT id FROM invocations WHERE id IN ({marks}) AND {waits}{db.skip}", (*cancelled, now)):
+                await acts.reached(db, out, id)
 
     async def _without_suspects(self, db: Database, rows: list[Claimable]) -> list[Claimable]:
         """Of those whose attempts were lost again and again with their workers, one at a time is claimed: that which was lost least often, and the
@@ -104,50 +148,70 @@ class Claimer:
         chosen = None if has_one else min(suspects, key=lambda it: it.lost)
         return [it for it in rows if it is chosen or not SUSPECT <= it.lost < MOST_LOST]
 
-    async def _fire(self, db: Database, out: Outcome, now: float) -> None:
-        due = await db.rows(f"SELECT seq, invocation, completes FROM timers WHERE due<=? ORDER BY due LIMIT {_TIMERS}{db.skip}", (now,))
-        for _, invocation, completes in due:
+    @staticmethod
+    def _due(db: Database, now: float) -> Asked:
+        """Reads the timers that are due."""
+        return f"SELECT due, seq, invocation, completes FROM timers WHERE due<=? ORDER BY due LIMIT {_TIMERS}{db.skip}", (now,)
+
+    async def _fire(self, db: Database, out: Outcome, due: list[Any], now: float) -> None:
+        turn = Turn()
+        out.lags += [now - float(it) for it, _, _, _ in due]
+        for _, _, invocation, completes in due:
             inbox.complete(db, out, invocation, completes, journal.void())
+            await turn.end()
         if due:
-            db.many("DELETE FROM timers WHERE seq=?", [(seq,) for seq, _, _ in due])
+            db.many("DELETE FROM timers WHERE seq=?", [(seq,) for _, seq, _, _ in due])
 
     async def _rows(self, db: Database, claims: Claims, now: float, room: int, has_fresh: bool) -> list[Any]:
         """Invocations that can go on, each with its row kept until the commit."""
-        rows: list[Any] = []
+        rows, orphaned = list[Any](), list[Any]()
         async for share in self._shares(db):
             most = min(share.room, room - len(rows))
-            found = await self._awake(db, share, most) if has_fresh and most > 0 else []
-            if len(found) < most:
-                ready, has_more = await self._ready(db, share, now, most - len(found))
-                found += ready
-                claims.has_more |= has_more
-            rows += found
-        if len(rows) < room:
-            rows += await self._orphaned(db, room - len(rows))
+            if most <= 0:
+                continue
+            asked = [self._ready(db, share, now, most), self._orphaned(db, room), *([self._awake(db, share, most)] if has_fresh else [])]
+            ready, orphaned, *awake = await db.several(asked)
+            claims.has_more |= bool(ready) and len(ready) >= ready[0][-1]
+            found = [*(await self._woken(db, awake[0]) if awake else ()), *(row[:-1] for row in ready)]
+            claims.has_more |= len(found) > most
+            rows += found[:most]
+        rows += orphaned[: room - len(rows)]
         claims.has_more |= len(rows) == room
         return rows
 
     async def _shares(self, db: Database) -> AsyncIterator[Share]:
         """The handlers without a limit, and then each that has one. The rows of the limits are kept until the commit, so two workers don't count
         at one time."""
-        limited, services = self.app.limited(), tuple(self.app.services)
+        limited, own = self.app.limited(), self.own
         is_free = "".join(" AND NOT (service=? AND handler=?)" for _ in limited)
         named = tuple(name for it in limited for name in (it.service.name, it.name))
-        yield Share(f"service IN ({','.join('?' * len(services))}){is_free}", (*services, *named), 1_000_000)
+        yield Share(f"{own.where}{is_free}", (*own.values, *named), 1_000_000)
         for it in limited:
             await db.rows(f"SELECT path FROM limits WHERE path=?{db.lock}", (it.path,))
             names = (it.service.name, it.name)
             [(running,)] = await db.rows("SELECT COUNT(*) FROM invocations WHERE status='running' AND service=? AND handler=?", names)
-            yield Share("service=? AND handler=?", names, (it.limit or 0) - running)
+            yield Share("service=? AND handler=? AND (code IS NULL OR code=?)", (*names, self.code), (it.limit or 0) - running)
 
-    async def _awake(self, db: Database, share: Share, most: int) -> list[Any]:
-        """Suspended ones whose inbox wakes them."""
+    @staticmethod
+    def _awake(db: Database, share: Share, most: int) -> Asked:
+        """Reads suspended ones whose inbox may wake them, each with its suspension."""
         is_fresh = "id IN (SELECT invocation FROM inbox WHERE fresh=1)"
         sql = f"SELECT {CLAIMED}, suspension FROM invocations WHERE {share.where} AND status='suspended' AND {is_fresh} LIMIT ?{db.skip}"
-        return [tuple(row) for *row, suspension in await db.rows(sql, (*share.values, most)) if await inbox.wakes(db, row[0], bytes(suspension))]
+        return sql, (*share.values, most)
 
-    async def _ready(self, db: Database, share: Share, now: float, most: int) -> tuple[list[Any], bool]:
-        """Ready ones, and whether there may be more: a claim takes a share by the number of workers, so that others get theirs."""
+    @staticmethod
+    async def _woken(db: Database, rows: list[Any]) -> list[Any]:
+        """Those of them that their inbox wakes."""
+        inboxes, turn, found = await db.several([inbox.peek(row[0], most=inbox.ALL) for row in rows]), Turn(), list[Any]()
+        for (*row, suspension), arrived in zip(rows, inboxes):
+            if inbox.wakes(db, arrived, bytes(suspension), bool(Claimable(*row).shielded)):
+                found.append(tuple(row))
+            await turn.end()
+        return found
+
+    @staticmethod
+    def _ready(db: Database, share: Share, now: float, most: int) -> Asked:
+        """Reads ready ones, each with how many there may be: a claim takes a share by the number of workers, so that others get theirs."""
         # Of a key whose lock nobody has only the first one is free, so the calls of a key begin in their order, however many workers claim.
         is_free = (
             "(exclusive=0 OR CASE (SELECT holder FROM locks WHERE locks.service=it.service AND locks.key=it.key) WHEN it.id THEN 1=1"
@@ -160,23 +224,18 @@ class Claimer:
             f" SELECT {CLAIMED}, (SELECT most FROM own) FROM invocations AS it WHERE {share.where} AND status='ready' AND due<=? AND {is_free}"
             f" ORDER BY due, seq LIMIT (SELECT most FROM own){db.skip}"
         )
-        rows = await db.rows(sql, (most, most, most, most, *share.values, now))
-        return [row[:-1] for row in rows], bool(rows) and len(rows) >= rows[0][-1]
+        return sql, (most, most, most, most, *share.values, now)
 
-    async def _orphaned(self, db: Database, most: int) -> list[Any]:
-        """Running ones whose worker isn't alive. They are counted as running already, so no limit keeps them out."""
-        services = tuple(self.app.services)
-        is_orphaned = f"status='running' AND worker NOT IN (SELECT id FROM workers WHERE lease>={db.clock})"
-        sql = f"SELECT {CLAIMED} FROM invocations WHERE service IN ({','.join('?' * len(services))}) AND {is_orphaned} LIMIT ?{db.skip}"
-        return await db.rows(sql, (*services, most))
+    def _orphaned(self, db: Database, most: int) -> Asked:
+        """Reads running ones whose worker isn't alive. They are counted as running already, so no limit keeps them out."""
+        sql = f"SELECT {CLAIMED} FROM invocations WHERE {self.own.where} AND {orphaned(db)} LIMIT ?{db.skip}"
+        return sql, (*self.own.values, most)
 
-    async def _next_due(self, db: Database, now: float) -> float | None:
-        """When something is due next, by this process's clock. The database tells its own time with it."""
+    @staticmethod
+    def _next(db: Database, now: float) -> Asked:
+        """Reads when something is due next, and the database's time."""
         sql = (
-            f"SELECT MIN(due), {db.clock} FROM (SELECT MIN(due) AS due FROM timers"
+            f"SELECT MIN(due), {db.clock} FROM (SELECT MIN(due) AS due FROM timers WHERE due>?"
             " UNION ALL SELECT MIN(due) AS due FROM invocations WHERE status='ready' AND due>?) AS next"
         )
-        [(found, clock)] = await db.rows(sql, (now,))
-        db.told(float(clock))
-        scheduled = await schedules.next_due(db, self.app, now)
-        return min((float(it) - db.now() + time.time() for it in (found, scheduled) if it is not None), default=None)
+        return sql, (now, now)

@@ -4,6 +4,8 @@ from __future__ import annotations
 
 import argparse
 import asyncio
+import dataclasses
+import functools
 import importlib
 import importlib.util
 import logging
@@ -17,22 +19,23 @@ from typing import Any, TypeVar
 
 from palqytun._library import Library, library
 
-from . import inbox, journal, operate, process
+from . import acting, logs, operate, process
 from .database import Conflict, Database, Lost, Unsuitable, connect
 from .database.plain import Plain
 from .database.postgres import NoDriver
-from .database.schema import NewerSchema, OlderSchema
+from .database.schema import MIGRATIONS, NewerSchema, NotMigrated, OlderSchema
 from .database.sqlite import InUse
 from .engine import Engine
 from .extras import MissingExtra, needed
+from .filters import STATUSES, Filter
 from .limits import PAYLOAD
-from .outcome import Outcome
-from .replay import replay_all
-from .services import App
+from .replay import replay_all, report
+from .services import App, TerminalError
 
 
 T = TypeVar("T")
 log = logging.getLogger("palqytun")
+_MIGRATING = 60.0  # seconds for which a migration is tried that other transactions are in the way of
 _STUCK = 60.0  # seconds after which a worker ends whose loop doesn't answer
 
 
@@ -99,13 +102,6 @@ def loaded() -> Library:
         raise Refused(error) from error
 
 
-def warn_of_unproved() -> None:
-    """Logs it if the library was built without a proof."""
-    it = loaded()
-    if not it.is_proved:
-        log.warning("the library was built without a proof (%s): ./bindings/build makes one that is proved", it.build)
-
-
 class _Opening:
     """Connects a worker, and keeps why it couldn't."""
 
@@ -134,9 +130,11 @@ async def _opened(engine: Engine, opening: _Opening, seconds: float) -> asyncio.
 
 
 async def _serve(options: argparse.Namespace) -> None:
-    warn_of_unproved()
-    names = ("name", "limit", "idle", "lease", "keep", "effects", "threads", "grace")
+    loaded()
+    process.warn_of_unproved()
+    names = ("name", "limit", "idle", "lease", "keep", "effects", "threads", "grace", "version")
     app, opening = load(options.app), _Opening()
+    process.collect_less()
     engine = Engine(app, checked_url(options.db), stuck=_STUCK, connect=opening, **{name: getattr(options, name) for name in names})
     if options.port < 0:
         process.Signals(asyncio.get_running_loop(), engine.stop, options.grace)
@@ -165,7 +163,9 @@ def _http(engine: Engine, options: argparse.Namespace) -> Any:
     """The ingress of a worker, as the options say."""
     serving = needed("palqytun.runtime.serving", "server", "the ingress (--port -1: none)")
     try:
-        settings = serving.Settings(os.environ.get("PALQYTUN_TOKEN") or None, tuple(options.origin), options.payload, options.wait)
+        settings = serving.Settings(
+            os.environ.get("PALQYTUN_TOKEN") or None, tuple(options.origin), options.payload, options.wait, tokens=os.environ.get("PALQYTUN_TOKENS") or None
+        )
         return serving.Http(engine, settings, options.host, options.port, connections=options.connections, grace=options.grace)
     except (ValueError, OSError) as error:  # an origin that is none, no token, a port that is taken
         raise Refused(error) from error
@@ -183,22 +183,30 @@ def _done(url: str, operation: Callable[[Database], Awaitable[T]]) -> T:
         return db.done(operation)
 
 
-def _stored(url: str) -> Plain:
-    """A connection to a database that is there."""
+def _stored(url: str, migrates: bool = False) -> Plain:
+    """A connection to a database that is there. With `migrates` it is moved to the newest schema."""
     if "://" not in checked_url(url) and not pathlib.Path(url.removeprefix("sqlite:").partition("?")[0]).exists():
         raise Refused(f"there is no database {url}")
-    return Plain(url)
+    return Plain(url, functools.partial(connect, migrates=migrates))
+
+
+def _filter(options: argparse.Namespace) -> Filter:
+    """The invocations that options name."""
+    return Filter(**{it.name: getattr(options, it.name, None) for it in dataclasses.fields(Filter)})
 
 
 def list_invocations(options: argparse.Namespace) -> int:
-    found = _done(options.db, lambda db: operate.invocations(db, options.status, options.service, options.most))
+    asked = _filter(options)
+    found = _done(options.db, lambda db: operate.invocations(db, asked, options.most))
     if not found:
         print("there are no such invocations", file=sys.stderr)
     for it in found:
-        age = (it["ended"] or time.time()) - it["created"]
+        now = time.time()
+        age = (it["ended"] or now) - it["created"]
         target = "/".join(filter(None, (it["service"], it["key"], it["handler"])))
-        error = (it["error"] or "").splitlines()[:1] if it["status"] in ("ready", "paused") else []
-        print(f"{it['id']}  {it['status']:<9}  {target:<30}  {age:9.1f} s  {it['entries']:>5} entries  {''.join(error)}".rstrip())
+        next = f"next in {it['due'] - now:.1f} s" if it["status"] == "ready" and it["due"] > now else ""
+        said = "  ".join(filter(None, (next, operate.error_of(it))))
+        print(f"{it['id']}  {it['status']:<9}  {target:<30}  {age:9.1f} s  {it['entries']:>5} entries  {said}".rstrip())
     return 0
 
 
@@ -215,17 +223,12 @@ def inspect(options: argparse.Namespace) -> int:
     return 0
 
 
-def cancel(options: argparse.Namespace) -> int:
-    signalled = journal.signal(journal.CANCEL, journal.void())
-    if not _done(options.db, lambda db: inbox.deliver(db, Outcome(), options.id, signalled)):
-        raise Refused(f"there is no invocation {options.id} that hasn't ended")
-    return 0
+def _act(name: str) -> Callable[[argparse.Namespace], int]:
+    def act(options: argparse.Namespace) -> int:
+        app = load(options.app) if getattr(options, "app", None) else None
+        return acting.act(name, options, _filter(options), _done, app)
 
-
-def resume(options: argparse.Namespace) -> int:
-    if not _done(options.db, lambda db: operate.resume(db, Outcome(), options.id)):
-        raise Refused(f"there is no invocation {options.id} that is paused")
-    return 0
+    return act
 
 
 def purge(options: argparse.Namespace) -> int:
@@ -251,11 +254,25 @@ def list_schedules(options: argparse.Namespace) -> int:
 def replay(options: argparse.Namespace) -> int:
     app = load(options.app)
     with _stored(options.db) as db:
-        count, different = db.read(lambda to: replay_all(app, to, options.status))
-    for it in different:
-        print(f"{it.invocation}  {it.handler}  command {it.command}: {it.error}")
-    print(f"{count} journals are replayed, {len(different)} differ")
-    return 1 if different else 0
+        found = db.read(lambda to: replay_all(app, to, options.status, options.all))
+    print("\n".join(report(found)))
+    return int(any(it.difference is not None for it in found))
+
+
+def migrate(options: argparse.Namespace) -> int:
+    until = time.monotonic() + _MIGRATING
+    while True:
+        try:
+            with _stored(options.db, migrates=True) as db:
+                [(count,)] = db.rows("SELECT COUNT(*) FROM invocations WHERE status<>'done'")
+                was, now = db.db.before, len(MIGRATIONS)
+        except Conflict:  # each try waits a second for its locks, and others wait for these meanwhile
+            if time.monotonic() > until:
+                raise
+            time.sleep(1.0)
+            continue
+        print(f"the database has schema version {now}{f', and had {was}' if was < now else ' already'}; {count} invocations haven't ended")
+        return 0
 
 
 class _Version(argparse.Action):
@@ -287,7 +304,6 @@ def _count(text: str) -> int:
 
 _seconds.__name__, _count.__name__ = "number of seconds", "number from 1 on"  # argparse says so
 _APP = "FILE.py, FILE.py:NAME or MODULE:NAME; without a name it has to have one App"
-_STATUSES = ["ready", "running", "suspended", "paused", "done"]
 
 
 class _Help(argparse.ArgumentDefaultsHelpFormatter):
@@ -301,6 +317,7 @@ def _run_options(one: argparse.ArgumentParser) -> None:
     one.add_argument("app", help=_APP)
     of = one.add_argument_group("the worker")
     of.add_argument("--name", default="worker", help="the worker's name in logs and on the page; each session adds letters of its own")
+    of.add_argument("--version", default="", help="the version of the app's code; without it, a hash of the files that define its handlers")
     of.add_argument("--limit", type=_count, default=500, help="attempts at once")
     of.add_argument("--idle", type=_seconds, default=1.0, help="seconds until an attempt that waits is suspended")
     of.add_argument("--lease", type=_seconds, default=10.0, help="seconds until a worker that isn't heard of is thought dead")
@@ -309,6 +326,8 @@ def _run_options(one: argparse.ArgumentParser) -> None:
     of.add_argument("--threads", type=_count, default=64, help="runs of plain functions that are executed at once, each in a thread")
     of.add_argument("--grace", type=_seconds, default=10.0, help="seconds within which runs may end when the worker is told to stop")
     of.add_argument("--wait-for-database", type=_seconds, default=30.0, help="seconds for which a database that can't be reached is tried at first")
+    of.add_argument("--log-format", choices=logs.FORMATS, default="text", help="lines, or an object a line, which needs the extra json")
+    of.add_argument("--log-level", choices=logs.LEVELS, default="info", help="what is logged: this and worse")
     of = one.add_argument_group("the ingress")
     of.add_argument("--host", default="127.0.0.1", help="where it listens; another than 127.0.0.1, ::1 and localhost needs a token")
     of.add_argument("--port", type=int, default=8080, help="0 is a free one, and -1 is no ingress")
@@ -316,6 +335,25 @@ def _run_options(one: argparse.ArgumentParser) -> None:
     of.add_argument("--wait", type=_seconds, default=60.0, help="seconds that a call waits for its result, if it doesn't say; then it gets 202")
     of.add_argument("--payload", type=_count, default=PAYLOAD, help="bytes of a body, at most")
     of.add_argument("--connections", type=_count, default=1000, help="connections at once; fewer if the process may open fewer files")
+
+
+_ACTS = {
+    "cancel": "what they await raises Cancelled, so that their handlers undo what they did",
+    "kill": "end them now with code 409; nothing of their handlers runs any more",
+    "pause": "don't try them until they are resumed",
+    "resume": "try paused ones again",
+    "restart": "make those that have ended again, as new ones",
+}
+
+
+def _filter_options(one: argparse.ArgumentParser) -> None:
+    one.add_argument("--status", choices=STATUSES, help="only those with this status")
+    one.add_argument("--service", help="only those of this service")
+    one.add_argument("--handler", help="only those of this handler")
+    one.add_argument("--key", help="only those of this key")
+    one.add_argument("--older", type=_seconds, help="only those that were made more than so many seconds ago")
+    one.add_argument("--newer", type=_seconds, help="only those that were made less than so many seconds ago")
+    one.add_argument("--error", help="only those whose error has this text, in small or capital letters")
 
 
 def _parser() -> argparse.ArgumentParser:
@@ -332,31 +370,36 @@ def _parser() -> argparse.ArgumentParser:
         made.set_defaults(does=does)
         return made
 
-    token = "The environment variable PALQYTUN_TOKEN is the ingress's bearer token, if it is set."
+    token = "The environment variable PALQYTUN_TOKEN is the ingress's bearer token, if it is set, and PALQYTUN_TOKENS a file of tokens with roles."
     _run_options(add(commands, "run", run, "run an app: its handlers, and the ingress", epilog=token))
-    said = "list, inspect, cancel, resume or purge invocations"
+    said = "list, inspect, cancel, kill, pause, resume, restart or purge invocations"
     asked = commands.add_parser("invocations", help=said, description=said).add_subparsers(required=True)
     one = add(asked, "list", list_invocations, "the newest first")
-    one.add_argument("--status", choices=_STATUSES, help="only those with this status")
-    one.add_argument("--service", help="only those of this service")
+    _filter_options(one)
     one.add_argument("--most", type=_count, default=100, help="so many")
-    of_one = [("inspect", inspect, "one, with its journal"), ("cancel", cancel, "cancel one"), ("resume", resume, "try a paused one again")]
-    for name, does, said in of_one:
-        add(asked, name, does, said).add_argument("id", help="the invocation's id")
+    add(asked, "inspect", inspect, "one, with its journal").add_argument("id", help="the invocation's id")
+    for name, said in _ACTS.items():
+        one = add(asked, name, _act(name), said)
+        acting.act_options(name, one)
+        _filter_options(one)
     one = add(asked, "purge", purge, "delete those that have ended")
     one.add_argument("--older", type=_seconds, default=86400.0, help="ended more than so many seconds ago")
     add(commands, "schedules", list_schedules, "the calls that are made by the clock, each with its next time")
+    acting.state_options(add(commands, "state", lambda options: acting.state(options, _done), "list, read, set and clear the states of keys"))
+    acting.audit_options(add(commands, "audit", lambda options: acting.audited(options, _done), "who did what, the newest first"))
+    add(commands, "migrate", migrate, "move the database to this package's schema, with all that it holds; workers of the version before go on")
     one = add(commands, "replay", replay, "does this code still make the stored journals? nothing is executed or stored")
     one.add_argument("app", help=_APP)
-    one.add_argument("--status", choices=_STATUSES, help="only of invocations with this status")
+    one.add_argument("--status", choices=[it for it in STATUSES if it != "failed"], help="only of invocations with this status")
+    one.add_argument("--all", action="store_true", help="also of invocations that have ended")
     return parser
 
 
 def main() -> int:
     options = _parser().parse_args()
-    logging.basicConfig(level=logging.INFO, format="%(asctime)s %(name)s %(message)s")
     try:
+        logs.set_up(getattr(options, "log_format", "text"), getattr(options, "log_level", "info"))
         return int(options.does(options))
-    except (Refused, Conflict, Lost, Unsuitable, InUse, NewerSchema, OlderSchema, MissingExtra, NoDriver) as error:
+    except (Refused, TerminalError, Conflict, Lost, Unsuitable, InUse, NewerSchema, NotMigrated, OlderSchema, MissingExtra, NoDriver) as error:
         print(f"palqytun: {' '.join(str(error).split())}", file=sys.stderr)
         return 2

@@ -11,16 +11,28 @@ import asyncio
 import logging
 import random
 import time
-from collections.abc import Awaitable, Callable
+from collections.abc import Awaitable, Callable, Sequence
 from dataclasses import dataclass
 from typing import Any, TypeVar
 
 from .appending import AT_ONCE, Append, append
-from .database import Conflict, Database, Lost, StatementFailed, Unsuitable
+from .database import Asked, Conflict, Database, Full, Lost, StatementFailed, Unsuitable
 from .lease import Growth
+from .meter import Meter, NoMeter
 
 T = TypeVar("T")
-Operation = Callable[[Database], Awaitable[Any]] | Append
+
+
+@dataclass(frozen=True)
+class After:
+    """An operation that begins by some reads, and is given what they find. On a server the reads of a group are made in one round trip, before any other
+    operation of the group."""
+
+    reads: Callable[[Database], Sequence[Asked]]
+    then: Callable[[Database, Sequence[list[Any]]], Awaitable[Any]]
+
+
+Operation = Callable[[Database], Awaitable[Any]] | Append | After
 log = logging.getLogger("palqytun")
 _LASTS = 0.25  # seconds that a group is to take, so that beats and short transactions don't wait for long
 _FEWEST = 20  # operations of a group, however slow they are
@@ -28,6 +40,7 @@ _SLOW = 0.05  # seconds of a group, after which the next one doesn't wait for it
 _LANES = 4  # connections for groups, at most
 _WITHOUT = 5.0  # seconds until another connection is tried for again, if there was none
 _LONGEST = 1.0  # seconds between two tries of an operation that something is in the way of
+_SAID = 10.0  # seconds between two warnings of a full disk
 _CLOSING = 5.0  # seconds that what is queued may take at the end
 
 
@@ -66,6 +79,7 @@ class Committer:
         """`grouped`: operations that wait at one time are one transaction, of `most` operations at most."""
         self.db, self.grouped, self.most = db, grouped, most
         self._size = most if grouped else 1  # of the next group
+        self.meter: Meter = NoMeter()
         self.counts = {"transactions": 0, "operations": 0, "conflicts": 0}
         self.lost: Exception | None = None
         self.is_lost = asyncio.Event()
@@ -75,12 +89,17 @@ class Committer:
         self._lanes, self._idle = [db], [db]  # all connections, and those without a transaction
         self._working: dict[asyncio.Task[None], float] = {}  # when each group began; one that may be slow counts as such at once
         self._none_until = 0.0
+        self._full_said = -_SAID
         self._task = asyncio.create_task(self._run())
 
     def submit(self, operation: Callable[[Database], Awaitable[T]], is_slow: bool = False) -> asyncio.Future[T]:
         """Queues an operation. Its future has what the operation returned, once that is committed. One that may be slow is a transaction by
         itself."""
         return self._queued(operation, is_slow)
+
+    def follow(self, operation: After) -> asyncio.Future[Any]:
+        """Queues an operation that begins by some reads."""
+        return self._queued(operation, False)
 
     def append(self, growth: Growth) -> asyncio.Future[bool]:
         """Queues a store that touches nothing but its own journal. Its future has whether it was stored, once the group is committed."""
@@ -94,6 +113,11 @@ class Committer:
             self._queue.append(_Queued(operation, future, is_slow))
             self._has_work.set()
         return future
+
+    @property
+    def connections(self) -> int:
+        """How many connections it has."""
+        return len(self._lanes)
 
     async def close(self) -> None:
         """Makes what is queued, if that takes no longer than some seconds, and closes the connections."""
@@ -170,6 +194,7 @@ class Committer:
         try:
             await self._commit(db, group)
             self._adapt(len(group), time.monotonic() - begun)
+            self.meter.committed(len(group), time.monotonic() - begun)
             self._idle.append(db)
         except Lost as error:
             self._abandon(error)
@@ -204,8 +229,9 @@ class Committer:
         except Lost:
             raise
         except Exception as error:
-            if len(group) == 1:
-                self._failed(group[0], error)
+            if len(group) == 1 or isinstance(error, Full):
+                for it in group:
+                    self._failed(it, error)
             else:
                 await self._apart(db, group)
             return
@@ -256,10 +282,17 @@ class Committer:
             return
         self.counts["conflicts"] += 1
         it.tries += 1
-        if it.tries in (20, 200, 2000):
+        if isinstance(error, Full):
+            self._say_full(error)
+        elif it.tries in (20, 200, 2000):
             log.warning("something is in the way of an operation, which was tried %s times: %s", it.tries, error)
         self._again.append(it)
         asyncio.get_running_loop().call_later(random.random() * min(_LONGEST, 0.02 * it.tries), self._requeue, it)
+
+    def _say_full(self, error: Full) -> None:
+        if time.monotonic() >= self._full_said + _SAID:
+            self._full_said = time.monotonic()
+            log.warning("the database's disk is full; what is to be stored waits until there is room: %s", error)
 
     def _requeue(self, it: _Queued) -> None:
         if it in self._again:
@@ -297,6 +330,8 @@ class Committer:
             try:
                 await db.begin()
                 return
+            except Full:
+                raise
             except Conflict as error:
                 self.counts["conflicts"] += 1
                 tries += 1
@@ -307,7 +342,22 @@ class Committer:
     async def _made(self, db: Database, operations: list[Operation]) -> list[Any]:
         appends = [it for it in operations if isinstance(it, Append)]
         stored = iter(await append(db, appends) if appends else ())
-        return [next(stored) if isinstance(it, Append) else await it(db) for it in operations]
+        following = iter(await self._followed(db, [it for it in operations if isinstance(it, After)]))
+        results: list[Any] = []
+        for it in operations:
+            if isinstance(it, Append):
+                results.append(next(stored))
+            else:
+                results.append(next(following) if isinstance(it, After) else await it(db))
+        return results
+
+    async def _followed(self, db: Database, operations: list[After]) -> list[Any]:
+        """What operations return that begin by some reads."""
+        if not db.is_remote:
+            return [await it.then(db, await db.several(it.reads(db))) for it in operations]
+        reads = [it.reads(db) for it in operations]
+        found = iter(await db.several([one for asked in reads for one in asked]))
+        return [await it.then(db, [next(found) for _ in asked]) for it, asked in zip(operations, reads)]
 
     async def _rollback(self, db: Database) -> None:
         try:

@@ -2,7 +2,9 @@
 
 from __future__ import annotations
 
+import contextlib
 import contextvars
+import functools
 import inspect
 import logging
 import random
@@ -11,19 +13,25 @@ import time
 import typing
 import uuid
 import weakref
-from collections.abc import Awaitable, Callable, Coroutine, MutableMapping
+from collections.abc import Awaitable, Callable, Coroutine, Iterator, Mapping, MutableMapping
 from contextlib import AbstractContextManager
 from dataclasses import dataclass
 from types import TracebackType
-from typing import Any, Generic, NoReturn, TypeVar, cast, overload
+from typing import TYPE_CHECKING, Any, Concatenate, NoReturn, ParamSpec, TypeVar, cast, overload
 
 from .. import core
 from .codec import BadValue, Codec, decoded, encoded
-from .durable import Durable, Leaf, Task, Tasks, select
+from .durable import Durable, Leaf, Task, Timer, select
+from .journal import PATCHED
 from .names import check_name
-from .services import App, Handler, I, O, Retry, TerminalError, to_text_headers
+from .services import App, Handler, I, O, Retry, TerminalError, TimedOut, to_text_headers
+from .steps import Step
+from .tasks import Tasks
+from .traces import Trace
+from .transactions import Transaction
 
 T = TypeVar("T")
+P = ParamSpec("P")
 handler_log = logging.getLogger("palqytun.handler")
 
 
@@ -48,13 +56,16 @@ class NoSuchUse(RuntimeError):
 
 @dataclass
 class Action:
-    """What a run executes, and how it is retried. `key` names the run for systems outside, alike in each attempt."""
+    """What a run executes, and how it is retried. `key` names the run for systems outside, alike in each attempt. `timeout` is in seconds, and
+    `transaction` the index of its command, if it is a step on the runtime's own database."""
 
     name: str
     function: Callable[..., Any]
     arguments: tuple[Any, ...]
     policy: core.RetryPolicy
     key: str
+    timeout: float | None = None
+    transaction: int | None = None
 
 
 running: contextvars.ContextVar[Action | None] = contextvars.ContextVar("palqytun_run", default=None)
@@ -102,29 +113,6 @@ class Call(Leaf[T]):
         self.invocation_id: Durable[str] = Leaf(id, lambda came: str(came.id))
 
 
-class Promise(Generic[T]):
-    """A promise of the workflow."""
-
-    def __init__(self, context: Context, name: str, kind: Any):
-        self._context, self._name, self._read = context, name, context._result(kind)
-
-    def value(self) -> Durable[T]:
-        """Its value, once it is completed."""
-        return Leaf(self._context._vm_call("sys_get_promise", self._name), self._read)
-
-    def peek(self) -> Durable[T | None]:
-        """Its value, or none while it isn't completed."""
-        return Leaf(self._context._vm_call("sys_peek_promise", self._name), self._read)
-
-    def resolve(self, value: Any) -> Durable[None]:
-        """Completes it. Awaited, it raises a `TerminalError` with code 409 if it was completed before."""
-        given = self._context._given(value)
-        return Leaf(self._context._vm_call("sys_complete_promise", self._name, given), lambda came: None)
-
-    def reject(self, message: str, code: int = 500) -> Durable[None]:
-        return self.resolve(TerminalError(message, code))
-
-
 class _Chance(random.Random):
     """Random numbers that are the same in each attempt. They are drawn in the handler's own code alone: a run isn't executed again in a replay,
     so what it drew would be drawn by the next one."""
@@ -164,24 +152,57 @@ _INSTEAD = {
 }
 
 
-class Context:
-    """The calls of a handler in one attempt."""
+_NO_STATE = "{service} is a Service, which has no key and so no state; a VirtualObject has one"
+_ONLY_READS = "this handler only reads the state"
+_NO_PROMISE = {
+    "ServiceContext": "{service} is a Service, which has no promises; a Workflow has them, and an awakeable is one's own",
+    **dict.fromkeys(("ObjectContext", "SharedObjectContext"), "{service} is a VirtualObject, which has no promises; a Workflow has them, and an awakeable is one's own"),
+}
+_READS, _WRITES = ("get", "keys"), ("set", "clear", "clear_all")
+_ABSENT: dict[str, dict[str, str]] = {
+    **{it: {"ServiceContext": _NO_STATE} for it in _READS},
+    **{it: {"ServiceContext": _NO_STATE, **dict.fromkeys(("SharedObjectContext", "SharedWorkflowContext"), _ONLY_READS)} for it in _WRITES},
+    "promise": _NO_PROMISE,
+}
+"""Why a kind of context lacks a call that another has."""
 
-    def __init__(self, vm: core.VM, input: core.Input, app: App, service: str, may_write: bool):
-        self._vm, self._may_write, self._app = vm, may_write, app
+
+class Context:
+    """The calls that each handler has. `ServiceContext`, `ObjectContext` and the others have those of their kind beside these."""
+
+    def __init__(
+        self,
+        vm: core.VM,
+        input: core.Input,
+        app: App,
+        service: str,
+        trace: Trace | None = None,
+        *,
+        patches: Mapping[int, str] | None = None,
+        now: Callable[[], float] = time.time,
+    ):
+        """`patches` are those that the journal has, by the indices of their commands. `now` tells the time in seconds since the epoch."""
+        self._patches, self._is_patched = dict(patches or {}), dict[str, bool]()
+        self._vm, self._app, self._now = vm, app, now
         self._service = app.services[service]
         self._codec: Codec = app.codec
         self._key, self._headers = input.key, dict(input.headers)
         self.invocation_id = input.invocation_id
+        self.traceparent = (trace or Trace.of(input.invocation_id, None)).header
+        """The W3C's header `traceparent` for what the invocation asks of others, also within a run."""
         self._random = _Chance(input.random_seed)
         self._random.context = self
         self._log = ReplayLog(self, input.invocation_id)
         self.actions: dict[int, Action] = {}
+        self._slept = 0
+        self.left: list[int] = []  # sleeps, by their numbers in this invocation, that nobody can await any more
+        self.asked = set[int]()  # handles of runs whose execution hasn't begun
         self.awakeables: dict[str, Callable[[Any], Any]] = {}  # by id: what reads the value
         self.tasks: Tasks | None = None
         self.refused: BaseException | None = None
         self._thread: int | None = None  # in which the handler's own code runs, while it does
         self._entered = _Entered(self)
+        self._shields = 0
 
     # ---- what the attempt does with it
 
@@ -195,7 +216,7 @@ class Context:
         self.refused = self.refused or RuntimeError("the attempt is over")
         fault: Exception | None = None
         self._thread = threading.get_ident()
-        for task in self.tasks.all if self.tasks is not None else ():
+        for task in self.tasks.open() if self.tasks is not None else ():
             try:
                 task.coroutine.close()
             except RuntimeError as error:
@@ -224,10 +245,17 @@ class Context:
             self._own("the context")
         if self.refused is not None:
             raise AttemptEnds()
+        if self._patches and name.startswith("sys_"):
+            self.pass_patches()
         try:
             return getattr(self._vm, name)(*arguments, **options)
         except (core.VMError, core.BadLine, UnicodeError) as error:
             self._end(error)
+
+    def pass_patches(self, until: str | None = None) -> None:
+        """Goes past the patches that are recorded next, up to that of a name. The code doesn't ask for them any more."""
+        while (name := self._patches.get(self._vm.last_command_index() + 1)) is not None and name != until:
+            self._vm.sys_run(PATCHED + name)
 
     def _end(self, error: Exception) -> NoReturn:
         self.refused = error
@@ -261,6 +289,15 @@ class Context:
         if isinstance(value, TerminalError):
             return given_failure(value)
         return encoded(self._codec, value)
+
+    if not TYPE_CHECKING:  # a type checker says that there is no such attribute, and what runs says why
+
+        def __getattr__(self, name: str) -> Any:
+            why = _ABSENT.get(name, {}).get(type(self).__name__)
+            if why is None:
+                raise AttributeError(f"{type(self).__name__} has no {name}", name=name, obj=self)
+            self._only(False, why.format(service=self._service.name))
+            raise AttemptEnds()
 
     @property
     def key(self) -> str:
@@ -299,30 +336,83 @@ class Context:
     # ---- time, chance, effects
 
     def sleep(self, seconds: float) -> Durable[None]:
-        """Ends after so many seconds, across crashes."""
-        return Leaf(self._vm_call("sys_sleep", max(0, _ms(time.time() + seconds))), lambda came: None)
+        """Ends after this number of seconds, across crashes."""
+        handle = self._vm_call("sys_sleep", max(0, _ms(time.time() + seconds)))
+        self._slept += 1
+        return Timer(handle, self._slept - 1, self._leave)
+
+    def _leave(self, number: int) -> None:
+        self.left.append(number)
 
     @overload
-    def run(
-        self, name: str, function: Callable[..., Awaitable[T]], *arguments: Any, retry: Retry | None = None, gives: Any = None
-    ) -> Durable[T]: ...
+    def run(self, step: Step[P, Awaitable[T]], /, *arguments: P.args, **named: P.kwargs) -> Durable[T]: ...
     @overload
-    def run(self, name: str, function: Callable[..., T], *arguments: Any, retry: Retry | None = None, gives: Any = None) -> Durable[T]: ...
-    def run(self, name: str, function: Callable[..., Any], *arguments: Any, retry: Retry | None = None, gives: Any = None) -> Durable[Any]:
+    def run(self, step: Step[P, T], /, *arguments: P.args, **named: P.kwargs) -> Durable[T]: ...
+    @overload
+    def run(
+        self, name: str, function: Callable[..., Awaitable[T]], /, *arguments: Any,
+        retry: Retry | None = None, timeout: float | None = None, gives: Any = None, **named: Any,
+    ) -> Durable[T]: ...  # fmt: skip
+    @overload
+    def run(
+        self, name: str, function: Callable[..., T], /, *arguments: Any,
+        retry: Retry | None = None, timeout: float | None = None, gives: Any = None, **named: Any,
+    ) -> Durable[T]: ...  # fmt: skip
+    def run(self, what: Any, /, *given: Any, **named: Any) -> Durable[Any]:
         """Executes an effect once it is awaited, and keeps its result.
 
         It is executed at least once: a crash before the result is stored executes it again, so give what is outside an idempotency key, as
         `ctx.run_key` or `ctx.uuid()`. A plain function runs in a thread. A `TerminalError` is its result; another error is tried again by
-        `retry`, without which it is tried for ever. A result that the codec can't write is a `TerminalError`, so that the effect isn't executed
-        again. `gives` is the result's type, if the function's annotation doesn't say it."""
+        `retry`, without which it is tried for ever. So is one that takes longer than `timeout` seconds; a plain function can't be stopped, and its thread
+        goes on. A result that the codec can't write is a `TerminalError`, so that the effect isn't executed again. `gives` is the result's type, if
+        the function's annotation doesn't say it. A `step` has name, retries and time limit of its own: `ctx.run(pay, order)`."""
+        if isinstance(what, Step):
+            return self._run(what, given, named, None)
+        retry, timeout, gives = named.pop("retry", None), named.pop("timeout", None), named.pop("gives", None)
+        function = given[0] if given else None
+        if isinstance(function, Step):
+            retry, timeout, function = retry or function.retry, timeout or function.timeout, function.function
+        return self._run(self._step(what, function, retry, timeout), given[1:], named, gives)
+
+    def transaction(
+        self,
+        name: str,
+        function: Callable[Concatenate[Transaction, P], Awaitable[T]],
+        /,
+        *arguments: P.args,
+        **named: P.kwargs,
+    ) -> Durable[T]:
+        """Executes the statements of an `async` function once it is awaited, and commits them in one transaction with the record of its result. They
+        are on the database of the runtime, and so exactly once.
+
+            async def moves(to: Transaction, amount: int) -> int: ..
+                await to.execute("UPDATE accounts SET amount=amount-? WHERE name=?", amount, "ann")
+
+            await ctx.transaction("moves", moves, 5)
+
+        If it raises an error nothing of it is stored. A `TerminalError` is its result; another error is tried again, for ever. It may take 30 seconds."""
+        if not inspect.iscoroutinefunction(function):
+            raise TypeError(f"ctx.transaction({name!r}, ..) takes an `async` function, whose first argument is the transaction, and not {function!r}")
+        return self._run(self._step(name, function, None, None), arguments, named, None, is_transaction=True)
+
+    @staticmethod
+    def _step(name: str, function: Any, retry: Retry | None, timeout: float | None) -> Step[Any, Any]:
         if not callable(function):
             given = "its coroutine" if inspect.iscoroutine(function) else repr(function)
             raise TypeError(f"ctx.run({name!r}, ..) takes a function, and its arguments after it; and not {given}")
-        policy = _FOREVER if retry is None else policy_of(retry)
-        run = self._vm_call("sys_run", name)
-        key = f"{self.invocation_id}-{self._vm.last_command_index()}"
-        self.actions[run.handle] = Action(name, function, arguments, policy, key)
-        return Leaf(run.handle, self._result(_result_of(function) if gives is None else gives))
+        return Step(function, name, retry, timeout)
+
+    def _run(self, step: Step[Any, Any], given: tuple[Any, ...], named: dict[str, Any], gives: Any, *, is_transaction: bool = False) -> Durable[Any]:
+        policy = _FOREVER if step.retry is None else policy_of(step.retry)
+        run = self._vm_call("sys_run", step.name)
+        index = self._vm.last_command_index()
+        function: Callable[..., Any] = step.function
+        if named:
+            function = functools.partial(function, **named)
+        action = Action(step.name, function, given, policy, f"{self.invocation_id}-{index}", step.timeout, index if is_transaction else None)
+        self.actions[run.handle] = action
+        self.asked.add(run.handle)
+        return Leaf(run.handle, self._result(_result_of(step.function) if gives is None else gives))
 
     def uuid(self) -> str:
         """A random UUID, the same in each attempt."""
@@ -331,18 +421,74 @@ class Context:
 
     def now(self) -> Durable[float]:
         """The time in seconds since the epoch, as it was when this was first awaited."""
-        return self.run("now", time.time)
+        return self.run("now", self._now)
 
-    def timeout(self, awaited: Durable[T], seconds: float) -> Durable[tuple[int, T | None]]:
-        """Number 0 and the result, or number 1 if the time is over first. What was awaited goes on."""
-        return select(awaited, self.sleep(seconds))
+    def timeout(self, awaited: Durable[T], seconds: float) -> Durable[T]:
+        """The result, if it comes in that time, in seconds; else it raises `TimedOut`, which is a `TimeoutError` and a `TerminalError` with code 408.
+        Then the calls that were awaited are cancelled, and a coroutine of `spawn` gets `Cancelled`. A run goes on, and its result isn't waited for."""
+        return self.spawn(self._timed(awaited, self.sleep(seconds), seconds))
+
+    async def _timed(self, awaited: Durable[T], over: Durable[None], seconds: float) -> T:
+        which, came = await select(awaited, over)
+        if which == 0:
+            return cast("T", came)
+        await self._give_up(awaited)
+        raise TimedOut(f"it took longer than {seconds:g} s")
+
+    async def _give_up(self, awaited: Durable[Any]) -> None:
+        """Cancels what nobody waits for any more."""
+        for it in list(awaited.pending()):
+            if isinstance(it, Call):
+                self.cancel(await it.invocation_id)
+            elif isinstance(it, Task):
+                if it.waits is not None:
+                    await self._give_up(it.waits)
+                assert self.tasks is not None
+                self.tasks.cancel(it)
+
+    @contextlib.contextmanager
+    def shield(self) -> Iterator[None]:
+        """Within it the invocation isn't cancelled: a cancellation that comes meanwhile is raised by the first await after it. It holds for all
+        coroutines of the handler. A `kill` isn't held up.
+
+            with ctx.shield():
+                await ctx.run("ship", ship)
+                await ctx.run("book", book)
+        """
+        self._own("ctx.shield")
+        self._shields += 1
+        try:
+            yield
+        finally:
+            self._shields -= 1
+
+    @property
+    def is_shielded(self) -> bool:
+        """Whether a coroutine of the handler is within a `shield`."""
+        return self._shields > 0
 
     def spawn(self, coroutine: Coroutine[Any, Any, T]) -> Durable[T]:
         """Runs a coroutine of durables beside the handler. It ends with the handler."""
         assert self.tasks is not None
         task: Task[T] = Task(coroutine)
-        self.tasks.all.append(task)
+        self.tasks.add(task)
         return task
+
+    def patched(self, name: str) -> bool:
+        """Whether a change of the handler's code applies: `if ctx.patched("mail"): await ctx.run("mail", mail)`.
+
+        It does if the handler gets here for the first time, and this is recorded. It doesn't if an attempt by the code before the change has been
+        here, so that the handler makes the calls that are recorded. It is the same at each place and in each attempt of an invocation. Once
+        no invocation is open that began before the change, the question can be taken out of the code, and what it asked for stays."""
+        self._own("ctx.patched")
+        if name not in self._is_patched and self.refused is None:
+            self.pass_patches(until=name)
+            is_recorded = self._patches.get(self._vm.last_command_index() + 1) == name
+            self._is_patched[name] = is_recorded or self._vm.state() == "Processing"
+            if self._is_patched[name]:
+                self._patches.pop(self._vm.last_command_index() + 1, None)
+                self._vm_call("sys_run", PATCHED + name)
+        return self._is_patched.get(name, False)
 
     # ---- other handlers
 
@@ -402,42 +548,6 @@ class Context:
         """Cancels another invocation: what it awaits raises `Cancelled`."""
         self._vm_call("sys_cancel_invocation", invocation_id)
 
-    # ---- state
-
-    @overload
-    def get(self, name: str, kind: type[T]) -> Durable[T | None]: ...
-    @overload
-    def get(self, name: str, kind: Any = Any) -> Durable[Any]: ...
-    def get(self, name: str, kind: Any = Any) -> Durable[Any]:
-        """The value of a state key, or none."""
-        self._keyed()
-        return Leaf(self._vm_call("sys_state_get", name), self._reader(kind))
-
-    def keys(self) -> Durable[list[str]]:
-        """The names of the state's keys."""
-        self._keyed()
-        return Leaf(self._vm_call("sys_state_get_keys"), lambda came: cast("list[str]", came))
-
-    def _keyed(self) -> None:
-        self._only(self._service.keyed, f"{self._service.name} is a Service, which has no key and so no state; a VirtualObject has one")
-
-    def _write(self) -> None:
-        self._keyed()
-        self._only(self._may_write, "this handler only reads the state")
-
-    def set(self, name: str, value: Any) -> None:
-        self._write()
-        check_name("the name of a state", name)
-        self._vm_call("sys_state_set", name, encoded(self._codec, value))
-
-    def clear(self, name: str) -> None:
-        self._write()
-        self._vm_call("sys_state_clear", name)
-
-    def clear_all(self) -> None:
-        self._write()
-        self._vm_call("sys_state_clear_all")
-
     # ---- what others complete
 
     @overload
@@ -466,17 +576,6 @@ class Context:
 
     def send_signal(self, invocation_id: str, name: str, value: Any = None) -> None:
         self._vm_call("sys_complete_signal", invocation_id, name, self._given(value))
-
-    @overload
-    def promise(self, name: str, kind: type[T]) -> Promise[T]: ...
-    @overload
-    def promise(self, name: str, kind: Any = Any) -> Promise[Any]: ...
-    def promise(self, name: str, kind: Any = Any) -> Promise[Any]:
-        """A promise of this workflow's key."""
-        kind_of = type(self._service).__name__
-        self._only(self._service.workflow, f"{self._service.name} is a {kind_of}, which has no promises; a Workflow has them, and an awakeable is one's own")
-        check_name("the name of a promise", name)
-        return Promise(self, name, kind)
 
 
 _results: weakref.WeakKeyDictionary[Any, Any] = weakref.WeakKeyDictionary()

@@ -7,13 +7,12 @@ a foreign name; so without a token only names of this machine are taken, and tho
 
 from __future__ import annotations
 
-import hashlib
-import hmac
 import urllib.parse
 from collections.abc import Iterable, Mapping
-from dataclasses import dataclass
+from dataclasses import dataclass, field
 
-COOKIE = "palqytun"
+from .tokens import Token, Tokens
+
 _LOOPBACK = frozenset(["localhost", "127.0.0.1", "::1"])
 
 
@@ -26,11 +25,6 @@ def is_loopback(host: str) -> bool:
     return host in _LOOPBACK
 
 
-def _is_same(given: str, wanted: str) -> bool:
-    """Compares secrets, in a time that says nothing of the place of a difference."""
-    return hmac.compare_digest(given.encode(), wanted.encode())
-
-
 def _name(address: str) -> str | None:
     """The name in `name:port`."""
     try:
@@ -41,44 +35,44 @@ def _name(address: str) -> str | None:
 
 @dataclass(frozen=True)
 class Door:
-    """Who may come in: `token` is the ingress's bearer token, and `origins` are the addresses under which browsers know it besides its own,
+    """Who may come in: those who have a token, if there are `tokens`. `origins` are the addresses under which browsers know the ingress besides its own,
     as `https://ops.example`, if a proxy stands before it."""
 
-    token: str | None = None
+    tokens: Tokens = field(default_factory=Tokens)
     origins: tuple[str, ...] = ()
 
     @staticmethod
-    def of(token: str | None, origins: Iterable[str]) -> Door:
+    def of(tokens: Tokens, origins: Iterable[str]) -> Door:
         """Raises `ValueError` for an origin that is none: it is a scheme and a name, and a port if it has one."""
         found = tuple(it.rstrip("/") for it in origins)
         for it in found:
             parts = urllib.parse.urlsplit(it)
             if parts.scheme not in ("http", "https") or not parts.netloc or parts.path or parts.query:
                 raise ValueError(f"{it!r} is no origin, which is http:// or https:// and a name, as https://ops.example")
-        return Door(token or None, found)
+        return Door(tokens, found)
 
     def foreign(self, headers: Mapping[str, str]) -> str | None:
         """Why a request is refused as one of a foreign web site; none if it isn't."""
         host, origin = headers.get("host", ""), headers.get("origin")
         names = _LOOPBACK | {urllib.parse.urlsplit(it).hostname for it in self.origins}
-        if self.token is None and host and _name(host) not in names:
+        if not self.tokens.are_asked and host and _name(host) not in names:
             return f"the host {host[:200]!r} isn't known here: without a token, a host is localhost, or the name of an --origin"
         if origin is not None and origin not in self.origins and (not host or urllib.parse.urlsplit(origin).netloc != host):
             return f"the origin {origin[:200]!r} isn't this address: a page of another site may not ask, unless it is an --origin"
         return None
 
-    def has_token(self, headers: Mapping[str, str]) -> bool:
-        return self.token is None or _is_same(headers.get("authorization", ""), f"Bearer {self.token}")
+    def refusal(self, role: str, headers: Mapping[str, str], cookies: Mapping[str, str] | None = None) -> tuple[int, str] | None:
+        """Why a request that needs this role is refused, with the code 401 or 403; none if it isn't."""
+        if not self.tokens.are_asked:
+            return None
+        token = self.tokens.of(headers, cookies)
+        if token is None:
+            return 401, "the header `authorization: Bearer TOKEN` is missing or wrong"
+        if not token.may(role):
+            return 403, f"the token of {token.name} hasn't the role {role}: it has {', '.join(sorted(token.roles))}"
+        return None
 
-    # A browser sends no bearer token by itself, so the page has a cookie that is made of it.
-
-    def is_token(self, given: str) -> bool:
-        return self.token is not None and _is_same(given, self.token)
-
-    @property
-    def cookie(self) -> str:
-        return "" if self.token is None else hashlib.sha256(f"page {self.token}".encode()).hexdigest()
-
-    def may_see(self, headers: Mapping[str, str], cookies: Mapping[str, str]) -> bool:
-        """Whether a request may see the page."""
-        return self.has_token(headers) or _is_same(cookies.get(COOKIE, ""), self.cookie)
+    def who(self, headers: Mapping[str, str], cookies: Mapping[str, str] | None = None) -> str:
+        """Who asks, for the audit."""
+        token: Token | None = self.tokens.of(headers, cookies) if self.tokens.are_asked else None
+        return "ingress" if token is None else token.name

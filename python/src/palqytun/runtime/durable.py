@@ -39,6 +39,11 @@ class Durable(Generic[T_co]):
         """The handles in it that are pending."""
         raise NotImplementedError
 
+    def pending(self) -> Iterator[Durable[Any]]:
+        """The handles and coroutines in it that are pending."""
+        if self.outcome() is None:
+            yield self
+
 
 class Leaf(Durable[T]):
     """A handle of the VM. `read` makes its result of what the VM has for it."""
@@ -62,6 +67,18 @@ class Leaf(Durable[T]):
         yield self
 
 
+class Timer(Leaf[None]):
+    """The end of a sleep. `left` gets its number when nobody can await it any more, and it hasn't come: as when a `select` had another first."""
+
+    def __init__(self, handle: int, number: int, left: Callable[[int], None]):
+        super().__init__(handle, lambda came: None)
+        self._number, self._left = number, left
+
+    def __del__(self) -> None:
+        if self.came is None:
+            self._left(self._number)
+
+
 class _Over(Durable[T]):
     """A node over others."""
 
@@ -82,6 +99,10 @@ class _Over(Durable[T]):
         for child in self.children:
             if child.outcome() is None:
                 yield from child.leaves()
+
+    def pending(self) -> Iterator[Durable[Any]]:
+        for child in self.children:
+            yield from child.pending()
 
     def outcomes(self) -> list[bool | None]:
         return [it.outcome() for it in self.children]
@@ -168,6 +189,7 @@ class Task(Durable[T]):
         self.value: T | None = None
         self.failure: TerminalError | None = None
         self.done = False
+        self.thrown: Cancelled | None = None  # what it gets when it next runs
 
     def outcome(self) -> bool | None:
         return None if not self.done else self.failure is None
@@ -198,43 +220,3 @@ class Task(Durable[T]):
                 if self.waits.outcome() is None:
                     return
             thrown = None
-
-
-class Tasks:
-    """The coroutines of one attempt. They run in the order in which they were made, so a replay runs them alike."""
-
-    def __init__(self, main: Task[Any]):
-        self.main = main
-        self.all: list[Task[Any]] = [main]
-
-    def run(self, thrown: Cancelled | None = None) -> None:
-        """Runs each that can go on, until all wait or the handler is done. A cancellation reaches each that waits for the journal."""
-        has_moved = True
-        while has_moved and not self.main.done:
-            has_moved = False
-            for task in list(self.all):
-                waits = task.waits
-                if thrown is not None and waits is not None and waits.tree() is not None:
-                    task.step(thrown)
-                elif waits is None or waits.outcome() is not None:
-                    task.step()
-                else:
-                    continue
-                has_moved = True
-                if self.main.done:
-                    return
-            thrown = None
-            self.all = [it for it in self.all if not it.done]
-
-    def tree(self) -> int | core.Future:
-        """What the coroutines wait for, all together."""
-        trees = [it.waits.tree() for it in self.all if it.waits is not None]
-        left = [it for it in trees if it is not None]
-        if not left:
-            raise RuntimeError("the handler's coroutines wait for each other")
-        return left[0] if len(left) == 1 else core.first_completed(*left)
-
-    def leaves(self) -> Iterator[Leaf[Any]]:
-        for task in self.all:
-            if task.waits is not None:
-                yield from task.waits.leaves()

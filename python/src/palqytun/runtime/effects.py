@@ -10,11 +10,12 @@ from typing import Any
 
 from . import inbox, invocations, journal
 from .database import Database
-from .invocations import New, state_of
+from .invocations import New
 from .journal import Attach, Call, Change, Command, CompleteAwakeable, Promise, Read, Result, SendSignal, Sleep
 from .lease import Growth
 from .outcome import Outcome
 from .services import App, TerminalError
+from .traces import Trace
 
 
 def awakeable_of(id: str) -> tuple[str, int]:
@@ -35,8 +36,8 @@ def child_of(invocation: str, completion: int) -> str:
 class Performer:
     """Does what the commands of one attempt ask for, in one transaction."""
 
-    def __init__(self, db: Database, app: App, out: Outcome, growth: Growth, service: str, key: str):
-        self.db, self.app, self.out, self.growth, self.service, self.key = db, app, out, growth, service, key
+    def __init__(self, db: Database, app: App, out: Outcome, growth: Growth, service: str, key: str, trace: Trace):
+        self.db, self.app, self.out, self.growth, self.service, self.key, self.trace = db, app, out, growth, service, key, trace
         self.own = growth.lease.invocation
 
     @staticmethod
@@ -55,7 +56,7 @@ class Performer:
 
     async def _call(self, it: Call) -> None:
         id = child_of(self.own, it.invocation_id)
-        new = New(it.service, it.handler, it.key, it.parameter, it.headers, it.idempotency_key, it.at / 1000, id)
+        new = New(it.service, it.handler, it.key, it.parameter, it.headers, it.idempotency_key, it.at / 1000, id, self.own, self.trace.header)
         try:
             id, is_new = await invocations.create(self.db, self.app, self.out, new)
         except TerminalError as error:
@@ -83,11 +84,13 @@ class Performer:
             self.db.put(sql, (*place, it.key, it.value))
 
     async def _read(self, it: Read) -> None:
-        state = await state_of(self.db, self.service, self.key)
+        place = (self.service, self.key)
         if it.key is None:
-            self.growth.complete(it.id, journal.keys(sorted(state, key=str.encode)))
+            names = [name for name, in await self.db.rows("SELECT name FROM state WHERE service=? AND key=?", place)]
+            self.growth.complete(it.id, journal.keys(sorted(names, key=str.encode)))
         else:
-            self.growth.complete(it.id, journal.value(state[it.key]) if it.key in state else journal.void())
+            found = await self.db.rows("SELECT value FROM state WHERE service=? AND key=? AND name=?", (*place, it.key))
+            self.growth.complete(it.id, journal.value(bytes(found[0][0])) if found else journal.void())
 
     async def _complete_awakeable(self, it: CompleteAwakeable) -> None:
         try:

@@ -12,17 +12,20 @@ import time
 from collections.abc import Awaitable, Callable
 from typing import Any, TypeVar
 
-from . import inbox, invocations, journal, operate, storing
+from . import logs, operate, storing
+from .adopting import Adopting
 from .attempt import Attempt
 from .claiming import Claimer, Claims
-from .committer import Committer, Stopped
-from .database import Database, Lost, StatementFailed, connect
+from .client import Client
+from .committer import After, Committer, Stopped
+from .database import Beats, Database, Lost, StatementFailed, connect
+from .desk import Desk, Unavailable as Unavailable
 from .executions import Executions
-from .invocations import Claim, New
-from .journal import Result
+from .invocations import Claim
 from .lease import Fenced, Growth
+from .meter import Meter, NoMeter
 from .outcome import Outcome
-from .services import App, TerminalError
+from .services import App
 from .texts import said
 from .watchdog import Watchdog
 
@@ -30,28 +33,20 @@ T = TypeVar("T")
 log = logging.getLogger("palqytun")
 _SHORTEST, _LONGEST = 0.1, 5.0  # seconds between connections
 _CLAIMS = 200  # at most in one transaction, so that other workers get some too
-_ANSWERED = 30.0  # seconds that a request waits for its transaction
+_MOMENTS = 0.002, 0.05  # seconds, the shortest and the longest; others may make something ready many times in it
 _LAST = 5.0  # seconds that each part of a shutdown may take, beside the grace
 
 
-class Unavailable(TerminalError):
-    """The database can't be used now, or the worker stops. Whether the request was stored isn't known: ask again, with an idempotency key,
-    after `retry_after` seconds."""
-
-    retry_after = 1
-
-    def __init__(self, why: str):
-        super().__init__(why, 503)
-
-
-class Engine:
+class Engine(Desk):
     """A worker of an app.
 
-    `limit`: attempts at once. `idle`: after so many seconds an attempt that waits is suspended. `lease`: a worker that isn't heard of for
-    so many seconds is thought dead. `poll`: how often the database is looked at, in seconds, if nothing is known to be due. `keep`: an
-    invocation is purged so many seconds after its end; never if none is given. `effects`: runs of `async` functions that are executed at once,
-    and `threads`: of plain ones. `grace`: after `stop`, runs that are executed may end within so many seconds. `stuck`: if the loop doesn't
-    answer for so many seconds the process ends; never if none is given."""
+    `limit`: attempts at once. These are times in seconds: `idle`, after which an attempt that waits is suspended; `lease`, after which a worker
+    without a beat is thought dead; `poll`, after which the database is looked at again if nothing is known to be due; `keep`, after which an
+    invocation that has ended is purged, never by default; `grace`, in which runs that are executed may end after `stop`; and `stuck`, after
+    which the process ends if the loop doesn't answer, never by default. `effects`: runs of `async` functions that are executed at once, and
+    `threads`: of plain ones. `version`: of the app's code; without it, a hash of the files that define its handlers. An invocation that this
+    worker begins goes on by workers of this version.
+    """
 
     def __init__(
         self,
@@ -68,42 +63,39 @@ class Engine:
         threads: int = 64,
         grace: float = 10.0,
         stuck: float | None = None,
+        version: str = "",
         grouped: bool = True,
         connect: Callable[[str], Awaitable[Database]] = lambda url: connect(url, worker=True),
     ):
-        self.app, self.url = app, url
+        super().__init__(app)
+        self.url = url
         self.name, self.limit, self.idle, self.lease, self.poll, self.keep, self.grouped = name, limit, idle, lease, poll, keep, grouped
         self.grace, self.stuck, self.executions = grace, stuck, Executions(effects, threads)
-        self._connect = connect
+        self._connect, self.version = connect, version or app.version
         self.live: dict[str, Attempt] = {}
+        self.meter: Meter = NoMeter()
         self.counts = {"attempts": 0, "sessions": 0, "fenced": 0}
-        self._results: dict[str, list[asyncio.Future[None]]] = {}
         self._poke = asyncio.Event()
         self._look_at = 0.0  # by the monotonic clock
+        self._is_told, self._moment = False, 0.0  # others have told since the last look; and how long after that the next one is
         self._tasks: set[asyncio.Task[None]] = set()
-        self._committer: Committer | None = None
+        self._running: asyncio.Task[None] | None = None
         self._is_open = asyncio.Event()
         self._stop = asyncio.Event()
         self._has_more = False
+        self._beats: Beats | None = None
+        self.soon = _SHORTEST  # seconds until a lost database is connected to again
         self._former = ""
 
     # ---- transactions
 
-    async def transact(self, operation: Callable[[Database], Awaitable[T]]) -> T:
-        """Commits an operation, in one transaction with others that are queued. Raises `Unavailable` if there is no database."""
-        if self._committer is None:
-            raise Unavailable("the database can't be used now: there is no connection")
-        try:
-            return await asyncio.wait_for(self._committer.submit(operation), _ANSWERED)
-        except asyncio.TimeoutError:
-            raise Unavailable(f"something has been in the way in the database for {_ANSWERED:g} seconds") from None
-        except Stopped as error:
-            raise Unavailable(f"the database can't be used now: {error}") from error
-
-    async def write(self, operation: Callable[[Database], Awaitable[Outcome]], claim: Claim) -> Outcome:
+    async def write(self, operation: storing.Writes, claim: Claim, reads: storing.Reads | None = None) -> Outcome:
         """Commits a transaction on a claim's journal, and tells those whom it touches."""
         assert self._committer is not None
-        out = await self._committer.submit(operation)
+        if reads is None:
+            out = await self._committer.submit(lambda db: operation(db, ()))
+        else:
+            out = await self._committer.follow(After(reads, operation))
         claim.lease.journal.keep()
         self.tell(out)
         return out
@@ -115,12 +107,30 @@ class Engine:
             raise growth.lease.lost(growth.before)
         growth.lease.journal.keep()
 
+    async def alone(self, operation: Callable[[Database], Awaitable[T]]) -> T:
+        """Commits an operation in a transaction of its own, which others don't wait for."""
+        assert self._committer is not None
+        return await self._committer.submit(operation, is_slow=True)
+
+    def now(self) -> float:
+        """The database's time, in seconds since the epoch."""
+        return time.time() if self._committer is None else self._committer.db.now()
+
     def tell(self, out: Outcome) -> None:
-        """Those whom a transaction touches are notified."""
+        """Those whom a transaction touches are notified, and the log says what happened to its invocations."""
+        for note in out.notes:
+            note.log()
+            self.meter.failed(note.handler, note.event)
+        for end in out.ends:
+            self.meter.ended(end)
+        for late in out.lags:
+            self.meter.fired(late)
         for invocation in out.touched:
             self._touch(invocation)
         if out.due is not None:
             self._wake(out.due - time.time())
+        for invocation in out.stopped:
+            self._stopped(invocation)
         for invocation in out.ended:
             self._ended(invocation)
 
@@ -131,6 +141,10 @@ class Engine:
         else:
             self._wake(0)
 
+    def look(self) -> None:
+        """The database is looked at now."""
+        self._wake(0)
+
     def _wake(self, delay: float) -> None:
         """The database is looked at after this delay, if not before. Delays are short and by the monotonic clock, as the other may jump."""
         at = time.monotonic() + delay
@@ -138,20 +152,31 @@ class Engine:
             self._look_at = at
             self._poke.set()
 
-    def _ended(self, invocation: str) -> None:
-        for future in self._results.pop(invocation, []):
-            if not future.done():
-                future.set_result(None)
+    def _stopped(self, invocation: str) -> None:
+        """It was killed or paused: its attempt ends here, with the runs that it executes."""
+        attempt = self.live.get(invocation)
+        if attempt is not None and attempt.task is not None:
+            attempt.task.cancel()
 
     def _heard(self, word: str) -> None:
-        """Another worker tells something: `ready`, `to INVOCATION` or `ended INVOCATION`."""
-        what, _, invocation = word.partition(" ")
-        if what == "ended":
-            self._ended(invocation)
-        elif what == "to":
-            self._touch(invocation)
-        else:
-            self._wake(0)
+        """Another worker tells something: `ready`, or `to`, `stopped` or `ended` with some invocations. Who made something ready looks for it too. So
+        this worker looks at once only if it found something the last time that another told it, and else after a growing moment."""
+        what, *some = word.split(" ")
+        if what == "ready":
+            self._is_told = True
+            self._wake(self._moment)
+        for invocation in some:
+            {"ended": self._ended, "stopped": self._stopped, "to": self._touch}[what](invocation)
+
+    @property
+    def connections(self) -> int:
+        """How many connections for transactions the worker has."""
+        return 0 if self._committer is None else self._committer.connections
+
+    @property
+    def lease_age(self) -> float:
+        """How many seconds ago the worker's lease was kept; 0 if no other worker could take it."""
+        return 0.0 if self._beats is None else time.monotonic() - self._beats.last
 
     # ---- sessions
 
@@ -165,7 +190,7 @@ class Engine:
                     await self._session()
                 except Lost as error:
                     log.warning("the database is lost: %s", error)
-                    delay = _SHORTEST if self.counts["sessions"] > sessions else min(_LONGEST, delay * 2)
+                    delay = self.soon if self.counts["sessions"] > sessions else min(_LONGEST, delay * 2)
                     await self._pause(delay)
         finally:
             watchdog.end()
@@ -191,11 +216,13 @@ class Engine:
         if db is None:
             return
         committer = self._committer = Committer(db, grouped=self.grouped)
-        claimer = Claimer(f"{self.name}-{secrets.token_hex(6)}", self.app, self.lease, self._former)
+        committer.meter = self.meter
+        claimer = Claimer(f"{self.name}-{secrets.token_hex(6)}", self.app, self.lease, self._former, self.version)
         self._former = claimer.worker
         unlisten: Callable[[], None] | None = None
-        beside = [asyncio.create_task(self._purges(committer)), asyncio.create_task(self._sweeps(committer, claimer))]
-        beats = db.beats(claimer.worker, self.lease, lambda: True)
+        others = (self._purges(committer), self._sweeps(committer, claimer), self._adopts(committer, claimer))
+        beside = [asyncio.create_task(it) for it in others]
+        beats = self._beats = db.beats(claimer.worker, self.lease, lambda: True)
         try:
             await committer.submit(claimer.enter)
             if beats is not None:
@@ -254,6 +281,7 @@ class Engine:
             while not self.drains:
                 self._look_at = time.monotonic() + self.poll
                 room, live = min(max(0, self.limit - len(self.live)), _CLAIMS), frozenset(self.live)
+                is_told, self._is_told = self._is_told, False
                 try:
                     found: Claims = await committer.submit(lambda db: claimer.claim(db, live, room))
                 except StatementFailed as error:
@@ -262,6 +290,8 @@ class Engine:
                     continue
                 for claim in found.claims:
                     self._begin(claim)
+                if is_told:
+                    self._moment = 0.0 if found.claims else min(_MOMENTS[1], max(_MOMENTS[0], 2 * self._moment))
                 self._has_more = found.has_more
                 self._look_for_more()
                 found.out.touched &= self.live.keys()
@@ -323,15 +353,31 @@ class Engine:
             except StatementFailed as error:
                 log.warning("what has no attempt wasn't looked for: %s", error)
 
+    async def _adopts(self, committer: Committer, claimer: Claimer) -> None:
+        """Goes on with invocations of other versions that have no worker, if this code makes their journals."""
+        adopting = Adopting(claimer)
+        await self._is_open.wait()
+        while True:
+            try:
+                found = await committer.submit(adopting.sought, is_slow=True)
+                for it in found:
+                    apart = adopting.apart(it)
+                    await committer.submit(functools.partial(adopting.judged, it=it, apart=apart))
+                    self._wake(0)
+                if not found:
+                    await asyncio.sleep(self.poll)
+            except Stopped:
+                return
+            except StatementFailed as error:
+                log.warning("invocations of other versions weren't looked for: %s", error)
+                await asyncio.sleep(self.poll)
+
     def stop(self) -> None:
         """`run` ends once the runs that are executed have ended, or the grace is over, and what they wrote is stored. What isn't finished is
         claimed by the next worker. Requests that wait for a result get `Unavailable`."""
         self._stop.set()
         self._poke.set()
-        for futures in self._results.values():
-            for future in futures:
-                if not future.done():
-                    future.set_result(None)
+        self.let_go()
 
     @property
     def drains(self) -> bool:
@@ -351,14 +397,18 @@ class Engine:
 
     def _begin(self, claim: Claim) -> None:
         self.counts["attempts"] += 1
+        if claim.late is not None:
+            self.meter.claimed(claim.service, claim.handler, claim.late)
         attempt = Attempt(self, claim)
         self.live[claim.invocation] = attempt
-        task = asyncio.create_task(self._attempt(attempt))
+        task = attempt.task = asyncio.create_task(self._attempt(attempt))
         self._tasks.add(task)
         task.add_done_callback(functools.partial(self._has_left, attempt))
 
     async def _attempt(self, attempt: Attempt) -> None:
         invocation = attempt.claim.invocation
+        logs.within.set(attempt.claim.fields)
+        begun = time.monotonic()
         try:
             await attempt.run()
         except Fenced as fenced:
@@ -372,6 +422,8 @@ class Engine:
                 raise  # the session ends, or others' code has cancelled it; what is left is taken back
             log.exception("an attempt of %s stopped; the invocation is paused", invocation)
             await self._give_up(attempt, error)
+        finally:
+            self.meter.attempt(attempt.claim.service, attempt.claim.handler, attempt.status, time.monotonic() - begun)
 
     def _has_left(self, attempt: Attempt, task: asyncio.Task[None]) -> None:
         """An attempt has ended, or was cancelled before it began."""
@@ -394,67 +446,34 @@ class Engine:
             if self._committer is None:
                 return
             try:
-                await self._committer.submit(lambda db: storing.pause(db, self.app, attempt.claim, why))
+                self.tell(await self._committer.submit(lambda db: storing.pause(db, self.app, attempt.claim, why)))
                 return
             except Exception as second:
                 log.warning("%s wasn't paused: %s", attempt.claim.invocation, said(second))
-
-    # ---- what an ingress does
 
     async def is_open(self) -> None:
         """Waits until the database can be used."""
         await self._is_open.wait()
 
-    async def submit(self, new: New) -> str:
-        """Makes an invocation. It is stored once this answers its id."""
-        if self.drains:
-            raise Unavailable("the worker stops, and takes no new calls")
-        invocations.check(self.app, new)  # what is refused doesn't reach the database
-        out = Outcome()
-        id, _ = await self.transact(lambda db: invocations.create(db, self.app, out, new))
-        self.tell(out)
-        return id
+    async def __aenter__(self) -> Engine:
+        """Runs the worker until the end of an `async with`. Its database is open then; what is wrong with it is raised."""
+        self._running = asyncio.create_task(self.run())
+        is_open = asyncio.create_task(self.is_open())
+        await asyncio.wait([self._running, is_open], return_when=asyncio.FIRST_COMPLETED)
+        is_open.cancel()
+        if self._running.done():
+            self._running.result()
+        return self
 
-    async def result(self, invocation: str, wait: float | None = None) -> Result | None:
-        """What an invocation ends with; none if there is no such invocation. `TimeoutError` if it hasn't ended after `wait` seconds, and
-        `Unavailable` if the worker stops before."""
-        until = None if wait is None else time.monotonic() + wait
-        future: asyncio.Future[None] = asyncio.get_running_loop().create_future()
-        self._results.setdefault(invocation, []).append(future)
-        try:
-            while True:
-                rows = await self.transact(lambda db: db.rows("SELECT result FROM invocations WHERE id=?", (invocation,)))
-                if not rows or rows[0][0] is not None:
-                    return Result(bytes(rows[0][0])) if rows else None
-                left = 5.0 if until is None else min(5.0, until - time.monotonic())
-                if left <= 0:
-                    raise TimeoutError(f"{invocation} hasn't ended")
-                if self.drains:
-                    raise Unavailable(f"the worker stops; {invocation} goes on with another one")
-                await asyncio.wait([future], timeout=left)
-        finally:
-            waiting = self._results.get(invocation, [])
-            if future in waiting:
-                waiting.remove(future)
-                if not waiting:
-                    del self._results[invocation]
+    async def __aexit__(self, *error: object) -> None:
+        self.stop()
+        if self._running is not None:
+            await self._running
 
-    async def notify(self, invocation: str, notification: bytes) -> bool:
-        """Sends a signal from outside; answers whether there is an invocation that gets it."""
-        out = Outcome()
-        is_there = await self.transact(lambda db: inbox.deliver(db, out, invocation, notification))
-        self.tell(out)
-        return is_there
-
-    async def cancel(self, invocation: str) -> bool:
-        return await self.notify(invocation, journal.signal(journal.CANCEL, journal.void()))
-
-    async def resume(self, invocation: str) -> bool:
-        """Tries a paused invocation again; answers whether there is such a one."""
-        out = Outcome()
-        is_done = await self.transact(lambda db: operate.resume(db, out, invocation))
-        self.tell(out)
-        return is_done
+    @property
+    def client(self) -> Client:
+        """Calls handlers, and looks at invocations, by this worker's connection."""
+        return Client(self)
 
 
 async def _within(what: str, awaited: Awaitable[object], seconds: float = _LAST) -> None:

@@ -100,6 +100,10 @@ def _called(within: contextvars.Context, function: Callable[..., Any], arguments
         return Raised(error)
 
 
+def _too_long(seconds: float | None) -> Raised:
+    return Raised(TimeoutError(f"it took longer than {seconds:g} s"))
+
+
 class Executions:
     """The executions of one worker: `effects` of `async` functions at once, and `threads` of plain ones."""
 
@@ -107,16 +111,16 @@ class Executions:
         self._effects, self._plain = Slots(effects), Slots(threads)
         self._threads = ThreadPoolExecutor(threads, thread_name_prefix="palqytun-effect")
 
-    async def execute(self, owner: object, function: Callable[..., Any], arguments: tuple[Any, ...]) -> Done | Raised:
-        """Executes an effect once there is a slot for it. Raises `Closed` if it didn't begin."""
+    async def execute(self, owner: object, function: Callable[..., Any], arguments: tuple[Any, ...], seconds: float | None = None) -> Done | Raised:
+        """Executes an effect once there is a slot for it, for so many seconds at most. Raises `Closed` if it didn't begin."""
         try:
             if not inspect.iscoroutinefunction(function):
-                came = await self._in_thread(owner, function, arguments)
+                came = await self._in_thread(owner, function, arguments, seconds)
                 if isinstance(came, Raised) or not inspect.isawaitable(came.value):
                     return came
                 awaitable = came.value
-                return await self._awaited(owner, lambda: awaitable, ())
-            return await self._awaited(owner, function, arguments)
+                return await self._awaited(owner, lambda: awaitable, (), seconds)
+            return await self._awaited(owner, function, arguments, seconds)
         except Closed:
             raise
         except asyncio.CancelledError:
@@ -124,11 +128,14 @@ class Executions:
         except BaseException as error:
             return Raised(error)
 
-    async def _awaited(self, owner: object, function: Callable[..., Any], arguments: tuple[Any, ...]) -> Done | Raised:
+    async def _awaited(self, owner: object, function: Callable[..., Any], arguments: tuple[Any, ...], seconds: float | None) -> Done | Raised:
         await self._effects.take(owner)
         try:
-            return Done(await function(*arguments))
+            async with asyncio.timeout(seconds) as time:
+                return Done(await function(*arguments))
         except BaseException as error:
+            if time.expired() and isinstance(error, TimeoutError):
+                return _too_long(seconds)
             task = asyncio.current_task()
             if isinstance(error, asyncio.CancelledError) and task is not None and task.cancelling():
                 raise
@@ -136,7 +143,7 @@ class Executions:
         finally:
             self._effects.give(owner)
 
-    async def _in_thread(self, owner: object, function: Callable[..., Any], arguments: tuple[Any, ...]) -> Done | Raised:
+    async def _in_thread(self, owner: object, function: Callable[..., Any], arguments: tuple[Any, ...], seconds: float | None) -> Done | Raised:
         await self._plain.take(owner)
         loop, within = asyncio.get_running_loop(), contextvars.copy_context()
         future: Future[Done | Raised] = self._threads.submit(_called, within, function, arguments)
@@ -146,7 +153,8 @@ class Executions:
                 loop.call_soon_threadsafe(self._plain.give, owner)
 
         future.add_done_callback(has_ended)
-        return await asyncio.wrap_future(future)
+        done, _ = await asyncio.wait([asyncio.wrap_future(future)], timeout=seconds)
+        return done.pop().result() if done else _too_long(seconds)
 
     def close(self) -> None:
         """What executes goes on, and nothing else begins."""

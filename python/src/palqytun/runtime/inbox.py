@@ -9,11 +9,13 @@ from collections.abc import Sequence
 from typing import Any
 
 from . import journal
-from .database import Database
+from .database import Asked, Database
 from .journal import Result
 from .outcome import Outcome
 
 
+MOST = 1000  # that are moved to a journal by one transaction
+ALL = 1 << 40
 _SQL = "INSERT INTO inbox(invocation, frame) SELECT ?,? WHERE EXISTS (SELECT 1 FROM invocations WHERE id=? AND status<>'done')"
 
 
@@ -40,22 +42,39 @@ def _tell(db: Database, out: Outcome, invocation: str) -> None:
     db.notify_holder(invocation)
 
 
-async def peek(db: Database, invocation: str, epoch: int | None = None) -> list[tuple[int, bytes]]:
-    """What waits, in the order of its arrival, each with its number. If an epoch is given and the lease is another's, nothing."""
+def peek(invocation: str, epoch: int | None = None, most: int = MOST) -> Asked:
+    """Reads what waits, in the order of its arrival, each with its number. If an epoch is given and the lease is another's, nothing."""
     is_own = "" if epoch is None else " AND EXISTS (SELECT 1 FROM invocations WHERE id=invocation AND epoch=? AND status='running')"
-    sql = f"SELECT seq, frame FROM inbox WHERE invocation=?{is_own} ORDER BY seq"
-    return [(seq, bytes(frame)) for seq, frame in await db.rows(sql, (invocation,) if epoch is None else (invocation, epoch))]
+    sql = f"SELECT seq, frame FROM inbox WHERE invocation=?{is_own} ORDER BY seq LIMIT ?"
+    return sql, ((invocation, most) if epoch is None else (invocation, epoch, most))
 
 
 def remove(db: Database, rows: Sequence[tuple[Any, ...]]) -> None:
-    if rows:
-        db.many("DELETE FROM inbox WHERE seq=?", [(seq,) for seq, _ in rows])
+    _each(db, "DELETE FROM inbox", rows)
 
 
-async def wakes(db: Database, invocation: str, suspension: bytes) -> bool:
-    """Whether what waits wakes a suspended invocation. What was looked at in vain isn't looked at again, until something else comes."""
-    rows = await peek(db, invocation)
-    if journal.is_awake(suspension, [frame for _, frame in rows]):
+def wakes(db: Database, rows: Sequence[tuple[Any, ...]], suspension: bytes, is_shielded: bool = False) -> bool:
+    """Whether what waits, as `peek` read it, wakes a suspended invocation; a cancellation doesn't wake one that is shielded. What was looked at in vain
+    isn't looked at again, until something else comes."""
+    frames = [bytes(frame) for _, frame in rows]
+    if journal.is_awake(suspension, [it for it in frames if not (is_shielded and it == journal.cancellation())]):
         return True
-    db.many("UPDATE inbox SET fresh=0 WHERE seq=?", [(seq,) for seq, _ in rows])
+    seen(db, rows)
     return False
+
+
+def seen(db: Database, rows: Sequence[tuple[Any, ...]]) -> None:
+    """These were looked at, and stay until something else comes."""
+    _each(db, "UPDATE inbox SET fresh=0", rows)
+
+
+async def is_cancelled(db: Database, invocation: str) -> bool:
+    """Whether a cancellation waits for it."""
+    return bool(await db.rows("SELECT 1 FROM inbox WHERE invocation=? AND frame=?", (invocation, journal.cancellation())))
+
+
+def _each(db: Database, change: str, rows: Sequence[tuple[Any, ...]]) -> None:
+    if len(rows) > 1 and db.is_remote:
+        db.put(f"{change} WHERE seq=ANY(?::bigint[])", ([seq for seq, _ in rows],))
+    elif rows:
+        db.many(f"{change} WHERE seq=?", [(seq,) for seq, _ in rows])

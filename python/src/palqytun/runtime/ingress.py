@@ -5,9 +5,12 @@
     GET  /-/health
     GET  /-/metrics                      for Prometheus
     GET  /-/schedules                    each with its next time
-    GET  /-/invocations                  `?status=`, `?service=`, `?most=`
+    GET  /-/invocations                  by the names of `Filter`, as `?status=failed&service=Shop`; `?most=`
     GET  /-/invocations/{id}             its row; /journal: its entries; /timeline: these with their times; /result: its result, once it has ended
-    POST /-/invocations/{id}/cancel      or /resume, or /signals/{name} with a value
+    POST /-/invocations/{id}/cancel      or /kill, /pause, /resume, /restart (`?step=NUMBER`), or /signals/{name} with a value
+    POST /-/acts/{cancel}                does it to all that a filter finds, as `?status=paused&service=Shop`; `?dry_run=1` only says which
+    GET  /-/audit                        who did what; `?invocation=`, `?most=`, `?before=`
+    GET  /-/state/{service}/{key}/{name} the state; PUT sets and DELETE clears it; /-/state/{service}: the keys, /-/state: the services
     POST /-/awakeables/{id}/resolve      or /reject, with a value or a message
     GET  /-/page                         the operator's page: the list, and /{id}: one invocation as a picture
 
@@ -19,10 +22,11 @@ and once the worker stops, they are answered with 202 and the invocation's id. W
 from __future__ import annotations
 
 import asyncio
+import json
 import time
 import urllib.parse
 from collections.abc import Iterable
-from dataclasses import dataclass
+from dataclasses import dataclass, replace
 from typing import Any
 
 from starlette.applications import Starlette
@@ -33,16 +37,19 @@ from starlette.responses import JSONResponse, Response
 from starlette.routing import Route
 from starlette.types import ASGIApp, Receive, Scope, Send
 
-from . import awakeables, invocations, journal, metrics, operate, timeline
+from . import acts, announced, audit, awakeables, invocations, journal, keyed, metrics, operate, restarting, timeline, traces
 from .codec import BadValue, decoded
 from .door import Door
-from .engine import Engine, Unavailable
+from .desk import Unavailable
+from .engine import Engine
+from .filters import Filter
 from .invocations import New
 from .journal import Result
 from .limits import PAYLOAD, check_payload
 from .names import check_name
-from .pages import Pages
+from .pages import Answer, Pages
 from .services import TerminalError
+from .tokens import Tokens, needed
 
 _METHODS = ["GET", "HEAD", "POST", "PUT", "PATCH", "DELETE", "OPTIONS"]
 _LONGEST_WAIT = 3600.0
@@ -51,7 +58,7 @@ _LONGEST_DELAY = 1e10  # seconds, some three centuries
 
 @dataclass(frozen=True)
 class Settings:
-    """`token` and `origins`: who may ask (`Door`). `payload`: bytes of a body. `wait`: for so many seconds a call waits for its result,
+    """`token`, `tokens` (the path of a file) and `origins`: who may ask (`Tokens`, `Door`). `payload`: bytes of a body. `wait`: for so many seconds a call waits for its result,
     if it doesn't say. `patience`: so many seconds a client may take to send a request."""
 
     token: str | None = None
@@ -59,6 +66,7 @@ class Settings:
     payload: int = PAYLOAD
     wait: float = 60.0
     patience: float = 60.0
+    tokens: str | None = None
 
 
 def _fault(code: int, message: str, **more: Any) -> Response:
@@ -113,6 +121,24 @@ def _number(request: Request, name: str, most: float) -> float | None:
     return number
 
 
+def _whole(request: Request, name: str, otherwise: int) -> int:
+    """A whole number that the query gives."""
+    text = request.query_params.get(name)
+    if text is None:
+        return otherwise
+    if not (text.isascii() and text.isdigit() and len(text) < 16):
+        raise TerminalError(f"{name}={text[:40]} is no whole number from 0 on", 400)
+    return int(text)
+
+
+def _readable(value: bytes) -> Any:
+    """A value of the state as JSON; what is none is its text."""
+    try:
+        return json.loads(value)
+    except ValueError:
+        return keyed.shown(value)
+
+
 class Guarded:
     """Lets in what the door does: the application behind it sees nothing else."""
 
@@ -135,9 +161,10 @@ class Guarded:
             return _fault(400, "the path or the query has the character NUL, which isn't allowed")
         if (why := self._door.foreign(request.headers)) is not None:
             return _fault(403, why)
-        if parts[:2] in (("-", "page"), ("-", "health")) or self._door.has_token(request.headers):
+        if parts[:2] in (("-", "page"), ("-", "health")):
             return None
-        return _fault(401, "the header `authorization: Bearer TOKEN` is missing or wrong")
+        refused = self._door.refusal(needed(request.method, parts), request.headers)
+        return None if refused is None else _fault(*refused)
 
 
 class Ingress:
@@ -147,7 +174,8 @@ class Ingress:
         self.engine, self.settings = engine, settings
         self._waiting: set[asyncio.Future[Any]] = set()
         self._is_closing = False
-        door = Door.of(settings.token, settings.origins) if door is None else door
+        door = self._door = Door.of(Tokens(settings.token, settings.tokens), settings.origins) if door is None else door
+        self._measured = engine.meter = metrics.Measured()
         routes = [*self._routes(), *Pages(engine, door).routes(), Route("/{path:path}", self._call, methods=_METHODS)]
         faults: dict[Any, Any] = {TerminalError: _of_handler, HTTPException: _of_routes, ClientDisconnect: _of_gone, Exception: _of_bugs}
         self.app = Starlette(routes=routes, middleware=[Middleware(Guarded, door=door)], exception_handlers=faults)
@@ -162,8 +190,13 @@ class Ingress:
         yield Route(f"{one}/journal", self._journal)
         yield Route(f"{one}/timeline", self._timeline)
         yield Route(f"{one}/result", self._result)
-        yield Route(f"{one}/cancel", self._cancel, methods=["POST"])
-        yield Route(f"{one}/resume", self._resume, methods=["POST"])
+        for name in acts.ACTS:
+            yield Route(f"{one}/{name}", self._act(name), methods=["POST"])
+        yield Route("/-/acts/{name}", self._act_on_all, methods=["POST"])
+        yield Route("/-/audit", self._audit)
+        yield Route("/-/state", self._states)
+        yield Route("/-/state/{service}", self._keys)
+        yield Route("/-/state/{rest:path}", self._state, methods=["GET", "PUT", "DELETE"])
         yield Route(f"{one}/signals/{{name:path}}", self._signal, methods=["POST"])
         yield Route("/-/awakeables/{id}/resolve", self._resolve, methods=["POST"])
         yield Route("/-/awakeables/{id}/reject", self._reject, methods=["POST"])
@@ -182,13 +215,13 @@ class Ingress:
             raise HTTPException(404)
         if request.method != "POST":
             return _fault(405, f"a handler is called by POST, and not by {request.method}")
-        new, is_sent = self._called(request, *parts)
+        new, is_sent = await self._called(request, *parts)
         wait = _number(request, "wait", _LONGEST_WAIT)
         argument = await self._body(request)
         self._check(argument, new)
         if self._is_closing:
             raise Unavailable("the worker stops, and takes no new calls")
-        id = await self.engine.submit(New(new.service, new.handler, new.key, argument, (), new.idempotency_key, new.due))
+        id = await self.engine.submit(replace(new, argument=argument))
         if is_sent:
             return JSONResponse({"invocation": id}, 202)
         try:
@@ -196,25 +229,26 @@ class Ingress:
         except Unavailable:
             return self._pending(id)  # it is stored all the same
 
-    def _called(self, request: Request, service: str, *rest: str) -> tuple[New, bool]:
+    async def _called(self, request: Request, service: str, *rest: str) -> tuple[New, bool]:
         """What a request calls, without its argument, and whether it doesn't wait. What can't be called is refused before its body is read."""
         check_name("the service's name", service)
-        known = self.engine.app.services.get(service)
-        if known is None:
-            raise TerminalError(f"there is no service {service}", 404)
-        is_sent = len(rest) == 2 + known.keyed and rest[-1] == "send"
+        keyed = await self.engine.is_keyed(service)
+        is_sent = len(rest) == 2 + keyed and rest[-1] == "send"
         names = rest[:-1] if is_sent else rest
-        if len(names) != 1 + known.keyed:
-            raise TerminalError(f"the path is /{service}/{'KEY/' if known.keyed else ''}HANDLER", 404)
+        if len(names) != 1 + keyed:
+            raise TerminalError(f"the path is /{service}/{'KEY/' if keyed else ''}HANDLER", 404)
         check_name("the handler's name", names[-1])
         delay = _number(request, "delay", _LONGEST_DELAY)
-        key, once = names[0] if known.keyed else "", request.headers.get("idempotency-key")
-        new = New(service, names[-1], key, b"", (), once, time.time() + delay if delay else 0)
-        invocations.check(self.engine.app, new)
+        key, once = names[0] if keyed else "", request.headers.get("idempotency-key")
+        trace = traces.checked(request.headers.get(traces.HEADER))
+        new = New(service, names[-1], key, b"", (), once, time.time() + delay if delay else 0, trace=trace)
+        invocations.check(new, await self.engine.target(service, new.handler))
         return new, is_sent
 
     def _check(self, body: bytes, new: New) -> None:
-        """The body has to be of the type that the handler takes."""
+        """The body has to be of the type that the handler takes, if it is one of this app."""
+        if announced.own(self.engine.app, new.service, new.handler) is None:
+            return
         handler = self.engine.app.find(new.service, new.handler)
         try:
             decoded(self.engine.app.codec, body, handler.takes)
@@ -289,18 +323,19 @@ class Ingress:
         return JSONResponse({"live": len(self.engine.live), **self.engine.counts})
 
     async def _metrics(self, request: Request) -> Response:
-        statuses = await self.engine.transact(operate.by_status)
-        return Response(metrics.text(statuses, len(self.engine.live), self.engine.counts), 200, {"content-type": metrics.CONTENT_TYPE})
+        it = self.engine
+        statuses, queues = await asyncio.gather(it.transact(operate.by_status), it.transact(operate.queues))
+        now = metrics.Now(statuses, queues, len(it.live), it.connections, it.lease_age, it.counts)
+        return Response(metrics.text(self._measured, now), 200, {"content-type": metrics.CONTENT_TYPE})
 
     async def _schedules(self, request: Request) -> Response:
         return JSONResponse(await self.engine.transact(operate.schedules))
 
     async def _list(self, request: Request) -> Response:
-        query = request.query_params
-        status, service, most = query.get("status"), query.get("service"), query.get("most", "100")
+        asked, most = Filter.of(request.query_params), request.query_params.get("most", "100")
         if not most.isascii() or not most.isdigit() or not 1 <= int(most[:9]) <= 10_000:
             raise TerminalError(f"most={most[:40]} is out of bounds: it is from 1 to 10000", 400)
-        return JSONResponse(await self.engine.transact(lambda db: operate.invocations(db, status, service, int(most))))
+        return JSONResponse(await self.engine.transact(lambda db: operate.invocations(db, asked, int(most))))
 
     async def _inspect(self, request: Request) -> Response:
         return self._found(await self.engine.transact(lambda db: operate.invocation(db, request.path_params["id"])))
@@ -318,11 +353,62 @@ class Ingress:
     def _done(self, is_done: bool) -> Response:
         return JSONResponse({"done": True}) if is_done else _fault(404, "there is no invocation that this could be done to")
 
-    async def _cancel(self, request: Request) -> Response:
-        return self._done(await self.engine.cancel(request.path_params["id"]))
+    def _act(self, name: str) -> Answer:
+        async def act(request: Request) -> Response:
+            id, step = request.path_params["id"], _whole(request, "step", 0)
+            if name == "restart" and step:
+                made = self.engine.done(lambda db, out: restarting.restart(db, self.engine.app, out, id, self._who(request), step))
+                return JSONResponse({"done": True, "said": f"is made again as {await made}"})
+            return JSONResponse({"done": True, "said": await self.engine.act(name, id, self._who(request))})
 
-    async def _resume(self, request: Request) -> Response:
-        return self._done(await self.engine.resume(request.path_params["id"]))
+        return act
+
+    async def _act_on_all(self, request: Request) -> Response:
+        name, query = request.path_params["name"], request.query_params
+        acts.known(name)
+        asked = Filter.of(query)
+        if not (asked.given or query.get("all")):
+            raise TerminalError("say which invocations, by ?status=, ?service= and the like; ?all=1 is all of them", 400)
+        if query.get("dry_run"):
+            found = await self.engine.transact(lambda db: acts.found(db, name, asked))
+            count = await self.engine.transact(lambda db: acts.count(db, name, asked))
+            return JSONResponse({"count": count, "invocations": [id for _, id in found]})
+        done: dict[str, str] = {}
+        async for some in self.engine.act_on_all(name, asked, self._who(request)):
+            done |= some
+        return JSONResponse({"count": len(done), "done": done})
+
+    def _who(self, request: Request) -> str:
+        return self._door.who(request.headers)
+
+    async def _audit(self, request: Request) -> Response:
+        id, most, before = request.query_params.get("invocation"), _whole(request, "most", 100), _whole(request, "before", 0)
+        return JSONResponse(await self.engine.transact(lambda db: audit.records(db, id, min(most, 10_000), before or None)))
+
+    async def _states(self, request: Request) -> Response:
+        return JSONResponse(await self.engine.transact(keyed.services))
+
+    async def _keys(self, request: Request) -> Response:
+        service, query = request.path_params["service"], request.query_params
+        text, after, most = query.get("text", ""), query.get("after", ""), min(_whole(request, "most", 100), 10_000)
+        found = await self.engine.transact(lambda db: keyed.keys(db, service, text, most, after))
+        return JSONResponse([{"key": key, "names": many, "bytes": size} for key, many, size in found])
+
+    async def _state(self, request: Request) -> Response:
+        _, _, service, key, *rest = path_of(request.scope)
+        name = rest[0] if rest else None
+        if len(rest) > 1 or (request.method == "PUT" and name is None):
+            raise TerminalError("the path of a state is /-/state/SERVICE/KEY/NAME", 404)
+        if request.method == "GET":
+            state = await self.engine.transact(lambda db: keyed.state_of(db, service, key))
+            if name is not None and name not in state:
+                raise TerminalError(f"the state of {service}/{key} has no {name}", 404)
+            if name is not None:
+                return Response(state[name], 200, {"content-type": self.engine.app.codec.content_type})
+            return JSONResponse({it: _readable(value) for it, value in state.items()})
+        value = keyed.checked(self.engine.app.codec, await self._body(request)) if request.method == "PUT" else None
+        many = await self.engine.transact(lambda db: keyed.change(db, service, key, name, value, self._who(request)))
+        return JSONResponse({"done": True, "names": many})
 
     async def _signal(self, request: Request) -> Response:
         name = str(request.path_params["name"])

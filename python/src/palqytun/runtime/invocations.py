@@ -5,19 +5,25 @@ from __future__ import annotations
 import hashlib
 import secrets
 import time
-from collections.abc import Iterable
+from collections.abc import Iterable, Sequence
 from dataclasses import dataclass, field, fields
 from typing import Any
 
-from . import inbox, journal
-from .database import Database, StatementFailed
+from . import announced, inbox, journal, notes, places
+from .announced import Target
+from .database import Asked, Database, StatementFailed
 from .journal import Begin, Journal, Result
 from .lease import Fenced, Growth, Lease
 from .names import check_name
+from .notes import Note
 from .outcome import Outcome
-from .services import App, Handler, TerminalError
+from .services import App, TerminalError
+from .texts import storable
+from .traces import Trace
+from .turns import Turn
 
 SUSPECT, MOST_LOST = 2, 5  # attempts in a row that are lost with their workers: then an invocation is claimed alone, or not any more
+HANDED_OUT = 1 << 18  # bytes of a key's values that an attempt is handed; the core reads them as text
 VERSION = 7  # of the core's protocol, for new invocations; one that is there keeps its own, for its journal was written by it
 
 
@@ -33,16 +39,8 @@ class New:
     idempotency_key: str | None = None
     due: float = 0
     id: str | None = None
-
-    def target(self, app: App) -> Handler[Any, Any]:
-        """The handler that it calls. Raises a `TerminalError` if there is none, or if it can't be stored as it is; so this is asked before a
-        transaction, which others share."""
-        handler = app.find(self.service, self.handler)
-        if bool(self.key) != handler.service.keyed:
-            raise TerminalError(f"{handler.path} is called {'with' if handler.service.keyed else 'without'} a key", 400)
-        check_name("the key", self.key)
-        check_name("the idempotency key", self.idempotency_key or "")
-        return handler
+    parent: str | None = None
+    trace: str | None = None  # the header `traceparent` of whoever makes it
 
 
 def _seed(id: str | None) -> int:
@@ -51,32 +49,33 @@ def _seed(id: str | None) -> int:
     return int.from_bytes(hashlib.blake2b(id.encode(), digest_size=7).digest(), "big")
 
 
-def check(app: App, new: New) -> Handler[Any, Any]:
-    """The handler of a new invocation. `TerminalError` with code 404 if there is none, or 400 if a key is missing, too long, or none that each
-    database can store."""
-    handler = app.find(new.service, new.handler)
-    if bool(new.key) != handler.service.keyed:
-        raise TerminalError(f"{handler.path} is called {'with' if handler.service.keyed else 'without'} a key", 400)
+def check(new: New, target: Target) -> None:
+    """`TerminalError` with code 400 if a key is missing, too long, or none that each database can store."""
+    if bool(new.key) != target.keyed:
+        raise TerminalError(f"{target.path} is called {'with' if target.keyed else 'without'} a key", 400)
     check_name("the key", new.key)
     check_name("the idempotency key", new.idempotency_key or "")
-    return handler
 
 
 async def create(db: Database, app: App, out: Outcome, new: New) -> tuple[str, bool]:
-    """Makes an invocation; returns its id and True. If there is one with this idempotency key, or a workflow with this key, its id and False."""
-    handler = check(app, new)
-    is_main = handler.service.workflow and handler.exclusive
+    """Makes an invocation, of this app or of another one that a worker serves; returns its id and True. If there is one with this idempotency key, or
+    a workflow with this key, its id and False. `TerminalError` with code 404 if nobody serves it."""
+    target = await announced.find(db, app, new.service, new.handler)
+    check(new, target)
+    is_main = target.workflow and target.exclusive
     idem = "" if is_main else new.idempotency_key or None  # a workflow's main runs once a key
     now = db.now()
     due = now + new.due - time.time() if new.due else None if db.is_shared else now
     id = new.id or f"inv_{secrets.token_hex(12)}"
     # What begins at once is due when the server makes this statement: so calls of a key are in their order, whichever worker stores them.
     sql = (
-        "INSERT INTO invocations(id, service, handler, key, exclusive, version, idem, seed, status, due, entries, created)"
-        f" VALUES (?,?,?,?,?,?,?,?,'ready',COALESCE(?,{db.clock}),1,?) ON CONFLICT DO NOTHING"
+        "INSERT INTO invocations(id, service, handler, key, exclusive, version, idem, seed, status, due, entries, created, parent, trace)"
+        f" VALUES (?,?,?,?,?,?,?,?,'ready',COALESCE(?,{db.clock}),1,?,?,?)"
     )
-    row = (id, new.service, new.handler, new.key, int(handler.exclusive), VERSION, idem, _seed(new.id), due, now)
-    if not await db.change(sql, row):
+    row = (id, new.service, new.handler, new.key, int(target.exclusive), VERSION, idem, _seed(new.id), due, now, new.parent, new.trace)
+    if idem is None:  # no other has its name
+        db.put(sql, row)
+    elif not await db.change(f"{sql} ON CONFLICT DO NOTHING", row):
         found = await db.rows("SELECT id FROM invocations WHERE service=? AND handler=? AND key=? AND idem=?", (new.service, new.handler, new.key, idem))
         return str(found[0][0]) if found else id, False
     sql = "INSERT INTO journal(invocation, at, frame, stored) VALUES (?,0,?,?)"
@@ -102,20 +101,43 @@ def wait(db: Database, growth: Growth, invocation: str, id: int) -> None:
     db.put("INSERT INTO waiters(invocation, waiter, completes) VALUES (?,?,?)", (invocation, growth.lease.invocation, id))
 
 
-async def end(db: Database, out: Outcome, invocation: str, service: str, key: str, result: Result) -> None:
-    """What an invocation's end does for others: it gives its result to those that wait, and its key to the next."""
-    for waiter, completes in await db.rows("SELECT waiter, completes FROM waiters WHERE invocation=?", (invocation,)):
+def waiters_of(invocation: str) -> Asked:
+    """Reads who waits for an invocation."""
+    return "SELECT waiter, completes FROM waiters WHERE invocation=?", (invocation,)
+
+
+_GONE = [("waiters", "invocation"), ("timers", "invocation"), ("inbox", "invocation"), ("waiters", "waiter"), ("promise_waiters", "waiter")]
+_ALL_GONE = "WITH gone(id) AS (SELECT ?::text), " + ", ".join(
+    f"deleted{at} AS (DELETE FROM {table} WHERE {column}=(SELECT id FROM gone))" for at, (table, column) in enumerate(_GONE)
+)
+
+
+def ending(result: Result) -> tuple[int | None, str | None]:
+    """The code and the text of the failure that an end is; none if it isn't one."""
+    if not journal.is_failure(result):
+        return None, None
+    _, (code, message, _) = journal.answer(result)
+    return code, storable(f"{code} {message}")
+
+
+async def end(db: Database, out: Outcome, invocation: str, service: str, key: str, result: Result, waiters: list[Any] | None = None) -> None:
+    """What an invocation's end does for others: it gives its result to those that wait, and its key to the next. `waiters` are those who wait, if they
+    were read since the invocation's row is kept."""
+    waiting = await db.rows(*waiters_of(invocation)) if waiters is None else waiters
+    for waiter, completes in waiting:
         inbox.complete(db, out, waiter, completes, result)
-    for table in ("waiters", "timers", "inbox"):
-        db.put(f"DELETE FROM {table} WHERE invocation=?", (invocation,))
-    for table in ("waiters", "promise_waiters"):  # it waits for nothing any more
-        db.put(f"DELETE FROM {table} WHERE waiter=?", (invocation,))
+    if db.is_remote:
+        db.put(f"{_ALL_GONE} SELECT 1", (invocation,))
+    else:
+        for table, column in _GONE:  # it waits for nothing any more, and nobody for it
+            db.put(f"DELETE FROM {table} WHERE {column}=?", (invocation,))
     if key:
         db.put("DELETE FROM locks WHERE service=? AND key=? AND holder=?", (service, key, invocation))
         out.is_due(time.time())
         db.notify("ready")
     out.ended[invocation] = result
-    db.notify(f"ended {invocation}")
+    if not waiting:  # what a handler has called is seldom asked for elsewhere too, and then it is looked for (`Engine.result`)
+        db.notify(f"ended {invocation}")
 
 
 # ---- claims
@@ -133,20 +155,40 @@ class Claim:
     content_type: str
     begun: float
     input: bytes
+    created: float
+    trace: Trace
+    late: float | None = None  # if it was ready: how long it was due
+    was_cancelled: bool = False  # its journal has a cancellation
+    cancel_waits: bool = False  # its inbox has one, which the attempt takes when the handler may be cancelled
+    is_shielded: bool = False  # the handler may not be cancelled now
     by_run: bool = False  # the attempt has failed by a run, which has its own policy
+    run: str | None = None  # the name of that run
+    fault: BaseException | None = None  # what the handler or the run raised
 
     @property
     def invocation(self) -> str:
         return self.lease.invocation
 
+    def note(self, event: str, error: str, delay: float | None = None) -> Note:
+        """What the log says of this attempt."""
+        path, at = f"{self.service}/{self.handler}", places.of_error(self.fault)
+        return Note(event, self.invocation, path, self.lease.epoch, error, at, self.run, delay, self.trace.trace_id)
 
-def _loaded(invocation: str, entries: int, rows: Iterable[Any], version: int) -> Journal:
+    @property
+    def fields(self) -> dict[str, object]:
+        """What a record of the log has of this attempt."""
+        own = {"invocation": self.invocation, "handler": f"{self.service}/{self.handler}", "attempt": self.lease.epoch}
+        return {**own, "trace_id": self.trace.trace_id, "span_id": self.trace.span_id}
+
+
+async def _loaded(invocation: str, entries: int, rows: Iterable[Any], version: int, turn: Turn) -> Journal:
     """A journal of the rows that are stored of it."""
     loaded = Journal(version)
     for at, frame in rows:
         if at != loaded.entries:
             raise journal.Dishonest("WHOLE", f"entry {loaded.entries} of {invocation} isn't there")
         loaded.entry(bytes(frame))
+        await turn.end()
     if loaded.entries != entries:
         raise journal.Dishonest("WHOLE", f"{invocation} has {loaded.entries} of {entries} entries")
     loaded.keep()
@@ -155,12 +197,22 @@ def _loaded(invocation: str, entries: int, rows: Iterable[Any], version: int) ->
 
 async def load(db: Database, invocation: str, entries: int, version: int = journal.DEFAULT_VERSION) -> Journal:
     """The stored journal, for attempts of this version."""
-    return _loaded(invocation, entries, await db.rows("SELECT at, frame FROM journal WHERE invocation=? ORDER BY at", (invocation,)), version)
+    rows = await db.rows("SELECT at, frame FROM journal WHERE invocation=? ORDER BY at", (invocation,))
+    return await _loaded(invocation, entries, rows, version, Turn())
 
 
 async def state_of(db: Database, service: str, key: str) -> dict[str, bytes]:
     """The keyed state. It is changed in the transaction that stores the command, so it is as the journals' commands leave it."""
     return {name: bytes(data) for name, data in await db.rows("SELECT name, value FROM state WHERE service=? AND key=? ORDER BY name", (service, key))}
+
+
+def _small_state(service: str, key: str) -> Asked:
+    """Reads what an attempt is handed of the keyed state: the smallest values, and NULL for the others, which are read when the handler asks for them."""
+    sql = (
+        "SELECT name, CASE WHEN total<=? THEN value END FROM (SELECT name, value, SUM(length(value)) OVER (ORDER BY length(value), name) AS total"
+        " FROM state WHERE service=? AND key=?) AS sized ORDER BY name"
+    )
+    return sql, (HANDED_OUT, service, key)
 
 
 @dataclass(frozen=True)
@@ -182,6 +234,16 @@ class Claimable:
     status: str
     worker: str | None
     deaths: int
+    cancelled: float | None
+    shielded: int
+    trace: str | None
+    created: float
+    due: float
+    code: str | None
+
+    def note(self, event: str, error: str, delay: float | None = None) -> Note:
+        """What the log says of its last attempt."""
+        return Note(event, self.id, f"{self.service}/{self.handler}", self.epoch, error, delay=delay, trace_id=Trace.of(self.id, self.trace).trace_id)
 
     @property
     def lost(self) -> int:
@@ -208,51 +270,72 @@ async def _with_keys(db: Database, rows: list[Claimable]) -> list[Claimable]:
     return [it for it in rows if not it.exclusive or it.id in holders]
 
 
-async def _lease(db: Database, worker: str, rows: list[Claimable], now: float) -> None:
-    """Takes the leases, and writes down the attempts before. One that didn't say how it stopped was lost, with its worker or its lease."""
+def _lease(db: Database, worker: str, version: str | None, rows: list[Claimable], now: float) -> None:
+    """Takes the leases, and writes down the attempts before. An invocation that begins keeps the version of the code from here on. An attempt that
+    didn't say how it stopped was lost, with its worker or its lease."""
     kept = (
         "INSERT INTO attempts(invocation, epoch, worker, begun, stopped, how, error)"
         " SELECT id, epoch, worker, begun, COALESCE(stopped, ?), COALESCE(how, 'lost'), CASE WHEN how IN ('failed', 'paused') THEN error END"
-        " FROM invocations WHERE id=?"
+        " FROM invocations WHERE "
     )
-    db.many(kept, [(now, it.id) for it in rows if it.epoch])
+    if before := [it.id for it in rows if it.epoch]:
+        is_one, ids = _among(db, "id", before)
+        db.put(f"{kept}{is_one}", (now, *ids))
+    # On a server a list is one value, so the statement is the same for any number of rows.
+    pairs = [part for it in rows for part in (it.id, it.epoch)]
+    values: list[Any] = [[it.id for it in rows], [it.epoch for it in rows]] if db.is_remote else pairs
+    listed = "unnest(?::text[], ?::bigint[]) AS taken(column1, column2)" if db.is_remote else f"(VALUES {_marks(len(rows), '(?,?)')}) AS taken"
     sql = (
         "UPDATE invocations SET status='running', epoch=epoch+1, worker=?, suspension=NULL, begun=?, stopped=NULL, how=NULL,"
-        " deaths=deaths+CASE WHEN status='running' THEN 1 ELSE 0 END"
-        f" FROM (VALUES {_marks(len(rows), '(?,?)')}) AS taken WHERE id=taken.column1 AND epoch=taken.column2"
+        " deaths=deaths+CASE WHEN status='running' THEN 1 ELSE 0 END, code=COALESCE(code, ?)"
+        f" FROM {listed} WHERE id=taken.column1 AND epoch=taken.column2"
     )
-    if await db.change(sql, (worker, now, *[part for it in rows for part in (it.id, it.epoch)])) != len(rows):
-        raise Fenced(", ".join(it.id for it in rows[:3]))
+    db.must(sql, (worker, now, version, *values), Fenced(", ".join(it.id for it in rows[:3])), len(rows))
 
 
-async def _by_invocation(db: Database, columns: str, table: str, order: str, ids: list[str]) -> dict[str, list[tuple[Any, ...]]]:
-    """Rows of a table by their invocations."""
+def _among(db: Database, column: str, ids: list[str]) -> tuple[str, list[Any]]:
+    """A condition that a column has one of these values, and what it is given."""
+    return (f"{column}=ANY(?::text[])", [ids]) if db.is_remote else (f"{column} IN ({_marks(len(ids))})", list(ids))
+
+
+def _of(db: Database, columns: str, table: str, order: str, ids: list[str]) -> Asked:
+    """Reads rows of a table by their invocations."""
+    is_one, values = _among(db, "invocation", ids)
+    return f"SELECT invocation, {columns} FROM {table} WHERE {is_one} ORDER BY {order}", values
+
+
+def _by_invocation(rows: list[Any], ids: list[str]) -> dict[str, list[tuple[Any, ...]]]:
     found: dict[str, list[tuple[Any, ...]]] = {id: [] for id in ids}
-    sql = f"SELECT invocation, {columns} FROM {table} WHERE invocation IN ({_marks(len(ids))}) ORDER BY {order}"
-    for id, *row in await db.rows(sql, ids):
+    for id, *row in rows:
         found[id].append(tuple(row))
     return found
 
 
-async def claim(db: Database, worker: str, rows: list[Claimable]) -> list[Claim]:
-    """Takes the leases of invocations. One whose key another has is left out. One that can't be claimed is paused: its stored journal breaks a rule,
-    the database refuses a statement on it, or too many attempts were lost with their workers."""
-    rows = [it for it in rows if not await _is_deadly(db, it)]
+async def claim(db: Database, worker: str, rows: list[Claimable], out: Outcome | None = None, version: str | None = None) -> list[Claim]:
+    """Takes the leases of invocations, for a worker of this version. One whose key another has is left out. One that can't be claimed is paused: its stored
+    journal breaks a rule, the database refuses a statement on it, or too many attempts were lost with their workers."""
+    out = Outcome() if out is None else out
+    rows = [it for it in rows if not await _is_deadly(db, it, out)]
     if not rows:
         return []
     db.put("SAVEPOINT claim")
     try:
-        return await _claims(db, worker, rows)
+        return await _claims(db, worker, version, rows, out)
     except StatementFailed as error:
         await db.change("ROLLBACK TO claim")
         if len(rows) > 1:
-            return [claimed for it in rows for claimed in await claim(db, worker, [it])]
-        sql = "UPDATE invocations SET status='paused', stopped=?, how='paused', error=? WHERE id=?"
-        db.put(sql, (db.now(), f"it can't be claimed: {error}", rows[0].id))
+            return [claimed for it in rows for claimed in await claim(db, worker, [it], out, version)]
+        _pause(db, out, rows[0], f"it can't be claimed: {error}")
         return []
 
 
-async def _is_deadly(db: Database, it: Claimable) -> bool:
+def _pause(db: Database, out: Outcome, it: Claimable, why: str) -> None:
+    sql = "UPDATE invocations SET status='paused', stopped=?, how='paused', error=? WHERE id=?"
+    db.put(sql, (db.now(), why, it.id))
+    out.notes.append(it.note(notes.PAUSED, why))
+
+
+async def _is_deadly(db: Database, it: Claimable, out: Outcome) -> bool:
     """Whether the attempts of an invocation were lost so often that the next one might end another worker. Then it is paused."""
     if it.lost < MOST_LOST:
         return False
@@ -262,40 +345,72 @@ async def _is_deadly(db: Database, it: Claimable) -> bool:
     error = f"{it.lost} attempts in a row were lost before they stored anything, with the workers {names}: see how these ended, and then resume it"
     sql = "UPDATE invocations SET status='paused', stopped=?, how='lost', deaths=?, error=? WHERE id=?"
     db.put(sql, (db.now(), it.lost, error, it.id))
+    out.notes.append(it.note(notes.PAUSED, error))
     return True
 
 
-async def _claims(db: Database, worker: str, rows: list[Claimable]) -> list[Claim]:
+async def _claims(db: Database, worker: str, version: str | None, rows: list[Claimable], out: Outcome) -> list[Claim]:
     rows = await _with_keys(db, rows)
     if not rows:
         return []
     now, ids = db.now(), [it.id for it in rows]
-    await _lease(db, worker, rows, now)
-    entries = await _by_invocation(db, "at, frame", "journal", "invocation, at", ids)
-    arrived = await _by_invocation(db, "seq, frame", "inbox", "seq", ids)
-    claims: list[Claim] = []
+    _lease(db, worker, version, rows, now)
+    exclusive = [it for it in rows if it.exclusive]
+    asked = [_of(db, "at, frame", "journal", "invocation, at", ids), _of(db, "seq, frame", "inbox", "seq", ids)]
+    found, came, *states = await db.several([*asked, *(_small_state(it.service, it.key) for it in exclusive)])
+    entries, arrived, small = _by_invocation(found, ids), _by_invocation(came, ids), {it.id: state for it, state in zip(exclusive, states)}
+    claims, turn = list[Claim](), Turn()
     for it in rows:
         try:
-            claims.append(await _claim(db, it, now, entries[it.id], arrived[it.id]))
+            claims.append(await _claim(db, it, now, entries[it.id], arrived[it.id], small.get(it.id), turn))
         except journal.Dishonest as broken:
-            sql = "UPDATE invocations SET status='paused', stopped=?, how='paused', error=? WHERE id=?"
-            db.put(sql, (now, f"the stored journal is broken: {broken}", it.id))
-    await db.change("RELEASE claim")
+            _pause(db, out, it, f"the stored journal is broken: {broken}")
+    db.put("RELEASE claim")
+    out.notes += [it.note(notes.LOST, f"its worker {it.worker} isn't alive", 0) for it in rows if it.status == "running"]
     return claims
 
 
-async def _claim(db: Database, it: Claimable, now: float, entries: list[tuple[Any, ...]], arrived: list[tuple[Any, ...]]) -> Claim:
-    """Moves what came for a leased invocation to its journal, and makes ready what its attempt is fed."""
-    growth = Growth(Lease(it.id, it.epoch + 1, _loaded(it.id, it.entries, entries, it.version)), is_fenced=True)
-    for _, frame in arrived:
-        growth.arrive(bytes(frame))
-    inbox.remove(db, arrived)
-    if arrived:
+async def _claim(
+    db: Database, it: Claimable, now: float, entries: list[tuple[Any, ...]], arrived: list[tuple[Any, ...]], state: list[Any] | None, turn: Turn
+) -> Claim:
+    """Moves what came for a leased invocation to its journal, and makes ready what its attempt is fed. `state` is the small part of its key's, if it
+    may write that."""
+    growth = Growth(Lease(it.id, it.epoch + 1, await _loaded(it.id, it.entries, entries, it.version, turn)), is_fenced=True)
+    came = await arrive(db, growth, arrived, it.cancelled is not None, turn, takes_cancel=False)
+    if growth.entries:
         await growth.write(db)
     growth.lease.journal.keep()  # if the commit fails, the claim is thrown away
     failing = max(0, int((now - it.failing_since) * 1000)) if it.retries and it.failing_since is not None else 0
-    # A handler that may write is handed the whole state; one that only reads is handed none, and reads by completions.
-    state = tuple((await state_of(db, it.service, it.key)).items()) if it.exclusive else ()
-    begin = Begin(it.id, it.key, it.seed, state, bool(it.key) and not it.exclusive, it.retries, failing, it.idem or None)
+    # A handler that may write is handed the state, as far as it is small; one that only reads is handed none, and reads by completions.
+    small = tuple((name, bytes(value)) for name, value in state or () if value is not None)
+    is_partial = bool(it.key) if state is None else len(small) < len(state)
+    begin = Begin(it.id, it.key, it.seed, small, is_partial, it.retries, failing, it.idem or None)
     content_type = f"application/vnd.restate.invocation.v{it.version}"
-    return Claim(growth.lease, it.service, it.handler, it.key, bool(it.exclusive), content_type, now, growth.lease.journal.start(begin))
+    start = growth.lease.journal.start(begin)
+    was_cancelled, cancel_waits = it.cancelled is not None, came == WAITS
+    trace, late = Trace.of(it.id, it.trace), now - it.due if it.status == "ready" else None
+    more = (it.created, trace, late, was_cancelled, cancel_waits)
+    return Claim(growth.lease, it.service, it.handler, it.key, bool(it.exclusive), content_type, now, start, *more)
+
+
+TAKEN, WAITS = "taken", "waits"
+
+
+async def arrive(db: Database, growth: Growth, rows: Sequence[Sequence[Any]], was_cancelled: bool, turn: Turn, *, takes_cancel: bool) -> str | None:
+    """Moves what came from the inbox to the journal; says whether a cancellation is `TAKEN` or `WAITS` in the inbox. A second one is dropped."""
+    taken, left, cancel = list[tuple[Any, ...]](), list[tuple[Any, ...]](), None
+    for seq, data in rows:
+        frame = bytes(data)
+        if frame != journal.cancellation():
+            growth.arrive(frame)
+        elif not was_cancelled and cancel is None:
+            cancel = TAKEN if takes_cancel else WAITS
+            if not takes_cancel:
+                left.append((seq, frame))
+                continue
+            growth.arrive(frame)
+        taken.append((seq, frame))
+        await turn.end()
+    inbox.remove(db, taken)
+    inbox.seen(db, left)
+    return cancel

@@ -6,11 +6,16 @@ Whoever lost a lease is fenced: the fence stands before any effect, so that noth
 from __future__ import annotations
 
 from dataclasses import dataclass, field
+from typing import Any
 
-from .database import Database
+from .database import Asked, Database
 from .journal import Entry, Journal, Result, Stored, completion
 
 INSERTED = "INSERT INTO journal(invocation, at, completes, frame, stored) VALUES (?,?,?,?,?)"
+_INSERTED_TOGETHER = (
+    "INSERT INTO journal(invocation, at, completes, frame, stored) SELECT ?, at, completes, frame, ?"
+    " FROM unnest(?::bigint[], ?::bigint[], ?::bytea[]) AS entry(at, completes, frame)"
+)
 _FENCED = "WHERE id=? AND epoch=? AND entries=? AND status='running'"
 # Once an attempt has stored something, those before it aren't counted any more.
 PROGRESS: dict[str, object] = {"retries": 0, "failing_since": None, "failures": 0, "failed_since": None, "deaths": 0}
@@ -33,6 +38,11 @@ class Lease:
         return Fenced(f"{self.invocation} is not this worker's at epoch {self.epoch} with {entries} entries")
 
 
+def fence(db: Database, lease: Lease, entries: int) -> Asked:
+    """Finds and keeps the invocation's row, if the lease isn't lost and so many entries are stored."""
+    return f"SELECT 1 FROM invocations {_FENCED}{db.lock}", (lease.invocation, lease.epoch, entries)
+
+
 @dataclass
 class Growth:
     """What one transaction appends to a journal, and what of it the attempt is fed."""
@@ -50,8 +60,12 @@ class Growth:
 
     async def fence(self, db: Database) -> None:
         """Keeps the invocation's row until the commit. It stands before any effect, so that a lost lease has none."""
-        sql = f"SELECT 1 FROM invocations {_FENCED}{db.lock}"
-        if not await db.rows(sql, (self.lease.invocation, self.lease.epoch, self.before)):
+        db.must(*fence(db, self.lease, self.before), self.lease.lost(self.before))
+        self.is_fenced = True
+
+    def fenced(self, found: list[Any]) -> None:
+        """`fence` was read before this transaction's operation, and this was found."""
+        if not found:
             raise self.lease.lost(self.before)
         self.is_fenced = True
 
@@ -77,12 +91,14 @@ class Growth:
         values = (self.lease.journal.entries, *changed.values(), self.lease.invocation, self.lease.epoch, self.before)
         if self.is_fenced:
             db.put(sql, values)
-        elif await db.change(sql, values) != 1:
-            raise self.lease.lost(self.before)
-        if self.entries:
+        else:
+            db.must(sql, values, self.lease.lost(self.before))
+        if len(self.entries) > 1 and db.is_remote:
+            columns = [list(it) for it in zip(*((it.at, it.completes, it.frame) for it in self.entries))]
+            db.put(_INSERTED_TOGETHER, (self.lease.invocation, db.now(), *columns))
+        else:
             now = db.now()
-            rows = [(self.lease.invocation, it.at, it.completes, it.frame, now) for it in self.entries]
-            db.many(INSERTED, rows)
+            db.many(INSERTED, [(self.lease.invocation, it.at, it.completes, it.frame, now) for it in self.entries])
 
     async def grow(self, db: Database) -> bool:
         """Writes the new count of entries alone, if the lease isn't lost; returns whether it did."""

@@ -2,34 +2,44 @@
 
 from __future__ import annotations
 
-import time
 from typing import Any
 
 from . import journal
 from .database import Database
-from .lease import PROGRESS
-from .outcome import Outcome
+from .filters import Filter
 
-_COLUMNS = ("id", "service", "handler", "key", "status", "created", "ended", "entries", "epoch", "retries", "worker", "error")
+_COLUMNS = (
+    *("id", "service", "handler", "key", "status", "created", "ended", "due", "entries", "epoch", "retries", "worker", "failed", "error"),
+    *("cancelled", "parent", "origin", "trace", "seq"),
+)
+
+
+_COUNTED = 100_000  # of those that have failed, at most
 
 
 def _shown(row: Any) -> dict[str, Any]:
-    return dict(zip(_COLUMNS, row))
+    it = dict(zip(_COLUMNS, row))
+    if it["failed"] is not None:
+        it["status"] = "failed"
+    return it
 
 
-async def invocations(db: Database, status: str | None = None, service: str | None = None, most: int = 100) -> list[dict[str, Any]]:
-    """The newest invocations first."""
-    asked = [(name, it) for name, it in (("status", status), ("service", service)) if it is not None]
-    where = " AND ".join(f"{name}=?" for name, _ in asked) or "1=1"
-    if status not in (None, "done"):
-        where += " AND status<>'done'"  # by this the index of those that haven't ended is known to have them all
+async def invocations(db: Database, asked: Filter = Filter(), most: int = 100) -> list[dict[str, Any]]:
+    """The newest invocations first, of those that are asked for."""
+    where, values = asked.where(db.now())
     sql = f"SELECT {', '.join(_COLUMNS)} FROM invocations WHERE {where} ORDER BY seq DESC LIMIT ?"
-    return [_shown(row) for row in await db.rows(sql, (*[it for _, it in asked], most))]
+    return [_shown(row) for row in await db.rows(sql, (*values, most))]
 
 
 async def invocation(db: Database, id: str) -> dict[str, Any] | None:
     rows = await db.rows(f"SELECT {', '.join(_COLUMNS)} FROM invocations WHERE id=?", (id,))
     return _shown(rows[0]) if rows else None
+
+
+def error_of(row: dict[str, Any]) -> str:
+    """The first line of what is wrong with an invocation: why it is paused, tried again, or has failed."""
+    is_wrong = row["status"] in ("paused", "failed") or bool(row["retries"])
+    return str(row["error"] or "").partition("\n")[0] if is_wrong else ""
 
 
 async def journal_of(db: Database, id: str) -> list[str]:
@@ -43,17 +53,6 @@ async def schedules(db: Database) -> list[dict[str, Any]]:
     return [dict(zip(names, row)) for row in await db.rows(f"SELECT {', '.join(names)} FROM schedules ORDER BY name")]
 
 
-async def resume(db: Database, out: Outcome, id: str) -> bool:
-    """A paused invocation is tried again, as if it hadn't failed before."""
-    fresh = ", ".join(f"{name}=?" for name in PROGRESS)
-    sql = f"UPDATE invocations SET status='ready', due=?, {fresh} WHERE id=? AND status='paused'"
-    if not await db.change(sql, (db.now(), *PROGRESS.values(), id)):
-        return False
-    out.is_due(time.time())
-    db.notify("ready")
-    return True
-
-
 async def purge(db: Database, older: float, most: int = 200) -> int:
     """Deletes at most so many invocations that ended more than `older` seconds ago, with their journals; returns how many. With a workflow's
     `main` go the state and the promises of its key, so that the key can run again. It is called until it returns 0, each time in a transaction of
@@ -61,7 +60,7 @@ async def purge(db: Database, older: float, most: int = 200) -> int:
     sql = f"SELECT id, service, key, exclusive, idem FROM invocations WHERE status='done' AND ended<? ORDER BY ended LIMIT ?{db.skip}"
     rows = await db.rows(sql, (db.now() - older, most))
     ids = [row[0] for row in rows]
-    for table, column in (("journal", "invocation"), ("attempts", "invocation"), ("invocations", "id")) if ids else ():
+    for table, column in (("journal", "invocation"), ("attempts", "invocation"), ("transactions", "invocation"), ("invocations", "id")) if ids else ():
         db.put(f"DELETE FROM {table} WHERE {column} IN ({','.join('?' * len(ids))})", ids)
     workflows = [(service, key) for _, service, key, exclusive, idem in rows if exclusive and idem == ""]
     for table in ("state", "promises"):
@@ -69,9 +68,17 @@ async def purge(db: Database, older: float, most: int = 200) -> int:
     return len(rows)
 
 
+async def queues(db: Database) -> list[tuple[str, str, int, float]]:
+    """Of each handler how many invocations are ready and due, and for how many seconds the first of them."""
+    now = db.now()
+    sql = "SELECT service, handler, COUNT(*), MIN(due) FROM invocations WHERE status='ready' AND due<=? GROUP BY service, handler"
+    return [(service, handler, int(many), now - first) for service, handler, many, first in await db.rows(sql, (now,))]
+
+
 async def by_status(db: Database) -> dict[str, int]:
     """How many invocations have each status. Of those that are done it is an estimate, by the numbers of the oldest and the newest one: a count
-    would take the longer, the more there are."""
+    would take the longer, the more there are. Of those that have failed at most 100,000 are counted."""
     found = dict(await db.rows("SELECT status, COUNT(*) FROM invocations WHERE status<>'done' GROUP BY status"))
+    [(found["failed"],)] = await db.rows(f"SELECT COUNT(*) FROM (SELECT 1 FROM invocations WHERE failed IS NOT NULL LIMIT {_COUNTED}) AS counted")
     [(first, last)] = await db.rows("SELECT (SELECT MIN(seq) FROM invocations), (SELECT MAX(seq) FROM invocations)")
     return {**found, "done": max(0, (last or 0) - (first or 1) + 1 - sum(found.values()))}

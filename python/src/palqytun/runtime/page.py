@@ -1,48 +1,33 @@
-"""The page of an operator, written by the server without a script: a list of invocations, and one of them as a picture over time. The texts are
-those of the folder templates, in which Jinja escapes whatever is put in."""
+"""The pages of operators, written by the server without a script. The texts are those of the folder templates, in which Jinja escapes whatever is
+put in."""
 
 from __future__ import annotations
 
-import datetime
 import pathlib
 import urllib.parse
-from dataclasses import dataclass, field
+from collections.abc import Iterable, Mapping
+from dataclasses import replace
 from typing import Any
 
 import jinja2
 
-from .timeline import Attempt, Step, Timeline
+from . import keyed, shown
+from .acts import ACTS
+from .filters import STATUSES, Filter
+from .operate import error_of
+from .picture import MOST_STEPS, picture
+from .timeline import Timeline
 
-_MOST_STEPS = 300  # that one page draws
-_WIDTH, _LABELS, _ROW = 1000, 360, 22  # of the picture: all of it, its labels, and a row of it
-STATUSES = ("ready", "running", "suspended", "paused", "done")
-
-
-def _moment(at: float | None) -> str:
-    if at is None:
-        return ""
-    return datetime.datetime.fromtimestamp(at, datetime.timezone.utc).strftime("%Y-%m-%d %H:%M:%S")
-
-
-def _lasted(seconds: float) -> str:
-    if seconds < 1:
-        return f"{seconds * 1000:.0f} ms"
-    if seconds < 120:
-        return f"{seconds:.1f} s"
-    return f"{seconds / 60:.0f} min" if seconds < 7200 else f"{seconds / 3600:.1f} h"
-
-
-def _target(row: dict[str, Any]) -> str:
-    return "/".join(filter(None, (row["service"], row["key"], row["handler"])))
+ROOT = "/-/page"
+MOST = 100  # rows of a list
 
 
 def _first_error(row: dict[str, Any]) -> str:
-    """The first line of what is wrong with an invocation that is to go on."""
-    return (row["error"] or "").partition("\n")[0][:120] if row["status"] in ("ready", "paused") else ""
+    return error_of(row)[:120]
 
 
-def _query(pairs: dict[str, str | None]) -> str:
-    return urllib.parse.urlencode({name: value for name, value in pairs.items() if value is not None})
+def _query(pairs: Mapping[str, object]) -> str:
+    return urllib.parse.urlencode({name: value for name, value in pairs.items() if value not in (None, "")})
 
 
 def _part(text: str) -> str:
@@ -50,118 +35,89 @@ def _part(text: str) -> str:
     return urllib.parse.quote(text, safe="")
 
 
+def _as_text(value: bytes) -> str:
+    return keyed.shown(value)
+
+
 def _environment() -> jinja2.Environment:
     folder = pathlib.Path(__file__).parent / "templates"
     made = jinja2.Environment(loader=jinja2.FileSystemLoader(folder), autoescape=True, undefined=jinja2.StrictUndefined)
-    for it in (_moment, _lasted, _target, _first_error, _query, _part):
-        made.filters[it.__name__[1:]] = it
+    made.filters |= {"moment": shown.moment, "lasted": shown.lasted, "target": shown.target, "first_error": _first_error}
+    made.filters |= {"query": _query, "part": _part, "as_text": _as_text}
     return made
 
 
 _templates = _environment()
 
 
-def _page(template: str, title: str, **parts: Any) -> str:
-    return _templates.get_template(template).render(title=title, **parts)
+def _page(template: str, title: str, root: str, **parts: Any) -> str:
+    return _templates.get_template(template).render(title=title, root=root, **parts)
 
 
-def listed(rows: list[dict[str, Any]], status: str | None, service: str | None, now: float) -> str:
-    """The newest invocations, and links to those of each status."""
-    return _page("list.html", "Invocations", rows=rows, status=status, service=service, now=now, statuses=(None, *STATUSES))
+def asked_for_token(is_wrong: bool, root: str = ROOT) -> str:
+    """What stands in the place of a page until the ingress's token is given."""
+    return _page("token.html", "Palqytun", root, is_wrong=is_wrong)
 
 
-def asked_for_token(is_wrong: bool, root: str = "") -> str:
-    """What stands in the place of a page until the ingress's token is given. `root` is where the ingress is mounted."""
-    return _page("token.html", "Palqytun", is_wrong=is_wrong, root=root)
+# ---- invocations
 
 
-# ---- one invocation
+def listed(rows: list[dict[str, Any]], asked: Filter, now: float, *, services: Iterable[str] = (), root: str = ROOT) -> str:
+    """Invocations that were asked for, the newest first, at most `MOST` of them; what asks for others; and what acts on them."""
+    given = asked.given
+    older = replace(asked, after=None, before=rows[MOST - 1]["seq"]).given if len(rows) > MOST else None
+    kinds = [(it, replace(asked, status=it, before=None, after=None).given) for it in (None, *STATUSES)]
+    parts = {"rows": rows[:MOST], "asked": asked, "given": given, "older": older, "kinds": kinds, "services": sorted(services), "now": now}
+    return _page("list.html", "Invocations", root, acts=list(ACTS), **parts)
 
 
-@dataclass(frozen=True)
-class Bar:
-    x: float
-    y: int
-    width: float
-    height: int
-    kind: str
-    said: str
+def confirmed(name: str, asked: Filter, ids: list[str], count: int, root: str = ROOT) -> str:
+    """What is asked before an act is done to several invocations: `ids` are chosen ones, or else the first ones that the filter finds."""
+    return _page("confirm.html", f"{name.capitalize()} {count} invocations?", root, act=name, given=asked.given, ids=ids, count=count)
 
 
-@dataclass(frozen=True)
-class Label:
-    y: int
-    text: str
-    whole: str = ""
+def done(name: str, said: Mapping[str, str], root: str = ROOT) -> str:
+    """What was done to each."""
+    return _page("done.html", f"{name.capitalize()}: {len(said)} invocations", root, said=said)
 
 
-@dataclass
-class Picture:
-    """The attempts in one row, and each command in a row of its own, from when it was stored until its completion was. `count` is how many
-    commands and signals there are, with those that aren't drawn."""
-
-    begin: float
-    end: float
-    rows: int
-    count: int
-    bars: list[Bar] = field(default_factory=list)
-    labels: list[Label] = field(default_factory=list)
-    width: int = _WIDTH
-    left: int = _LABELS
-
-    @property
-    def height(self) -> int:
-        return (self.rows + 1) * _ROW
-
-    @property
-    def foot(self) -> int:
-        return self.rows * _ROW
-
-    def label(self, row: int, text: str, whole: str = "") -> None:
-        self.labels.append(Label((row + 1) * _ROW - 7, text, whole))
-
-    def bar(self, row: int, since: float | None, until: float | None, kind: str, said: str) -> None:
-        scale = (_WIDTH - _LABELS) / max(self.end - self.begin, 0.001)
-        begin = max(since or self.begin, self.begin)
-        left, width = _LABELS + (begin - self.begin) * scale, max(3.0, ((until or self.end) - begin) * scale)
-        self.bars.append(Bar(min(left, _WIDTH - 3), row * _ROW + 4, width, _ROW - 8, kind, said))
-
-
-def drawn(it: Timeline, now: float) -> str:
+def drawn(it: Timeline, now: float, root: str = ROOT) -> str:
     """An invocation: its row, the picture, and each entry as a line."""
-    row, steps = it.invocation, it.steps[-_MOST_STEPS:]
-    facts = [f"{name}: {_moment(row[name])} UTC" for name in ("created", "ended") if row[name] is not None]
+    row, steps = it.invocation, it.steps[-MOST_STEPS:]
+    facts = [f"{name}: {shown.moment(row[name])} UTC" for name in ("created", "cancelled", "ended") if row[name] is not None]
+    if row["status"] == "ready" and row["due"] > now:
+        facts.append(f"goes on in {shown.lasted(row['due'] - now)}")
     facts += [f"{row['entries']} entries", f"{len(it.attempts)} attempts"]
-    buttons = ["cancel"] * (row["status"] != "done") + ["resume"] * (row["status"] == "paused")
-    return _page("invocation.html", _target(row), row=row, facts=facts, buttons=buttons, steps=steps, picture=_picture(it, steps, now))
+    has_ended = row["status"] in ("done", "failed")
+    acts = ["restart"] if has_ended else ["cancel", "kill", "resume" if row["status"] == "paused" else "pause"]
+    return _page("invocation.html", shown.target(row), root, row=row, facts=facts, acts=acts, has_ended=has_ended, steps=steps, picture=picture(it, steps, now))
 
 
-def _picture(it: Timeline, steps: list[Step], now: float) -> Picture:
-    end = it.invocation["ended"] or now
-    begin = it.invocation["created"] if len(steps) == len(it.steps) else min((step.begun or end for step in steps), default=end)
-    picture = Picture(begin, end, len(steps) + 1, len(it.steps))
-    picture.label(0, "attempts")
-    for one in it.attempts:
-        if (one.stopped or end) >= begin:
-            picture.bar(0, one.begun, one.stopped, one.how or "runs", _of_attempt(one, end))
-    for row, step in enumerate(steps, 1):
-        label = str(step.entry)
-        picture.label(row, f"{step.at} {_short(step)}", label)
-        kind = "failed" if step.has_failed else "waits" if step.is_open else "done"
-        said = "; ".join([label, *map(str, step.completions)]) + f"; {_lasted((step.ended or end) - (step.begun or end))}"
-        picture.bar(row, step.begun, step.ended, kind, said)
-    return picture
+# ---- the rest
 
 
-def _of_attempt(it: Attempt, end: float) -> str:
-    lasted = _lasted((it.stopped or end) - (it.begun or end))
-    error = f": {it.error.partition(chr(10))[0]}" if it.error else ""
-    return f"attempt {it.epoch} by {it.worker}, {it.how or 'runs'} after {lasted}{error}"
+def schedules(rows: list[dict[str, Any]], now: float, root: str = ROOT) -> str:
+    return _page("schedules.html", "Schedules", root, rows=rows, now=now)
 
 
-def _short(step: Step) -> str:
-    """A command's name, and what tells it from others of its kind."""
-    fields = {name: shown.strip("'\"") for name, shown in step.entry.fields if shown not in ("''", "None")}
-    told = ("id",) if step.entry.name == "Notification" else ("service", "handler", "name", "key", "target", "awakeable", "invocation")
-    text = f"{step.entry.name} {'/'.join(fields[it] for it in told if it in fields)}".rstrip()
-    return text if len(text) <= 48 else f"{text[:47]}…"
+def services_with_state(names: list[str], root: str = ROOT) -> str:
+    return _page("states.html", "States", root, names=names)
+
+
+def keys(service: str, rows: list[tuple[str, int, int]], text: str, root: str = ROOT) -> str:
+    """The keys of a service that have a state, at most `MOST`."""
+    return _page("keys.html", f"States of {service}", root, service=service, rows=rows[:MOST], text=text, after=rows[MOST - 1][0] if len(rows) > MOST else None)
+
+
+def state(service: str, key: str, found: Mapping[str, bytes], holder: str | None, said: str = "", root: str = ROOT) -> str:
+    """The state of a key, which can be changed while no invocation has the key."""
+    return _page("state.html", f"State of {service}/{key}", root, service=service, key=key, found=found, holder=holder, said=said)
+
+
+def audit(rows: list[dict[str, Any]], invocation: str | None, root: str = ROOT) -> str:
+    older = rows[MOST - 1]["seq"] if len(rows) > MOST else None
+    return _page("audit.html", "Audit", root, rows=rows[:MOST], invocation=invocation, older=older)
+
+
+def refused(code: int, message: str, root: str = ROOT) -> str:
+    return _page("refused.html", f"That isn't possible ({code})", root, message=message)

@@ -4,6 +4,7 @@ from __future__ import annotations
 
 import asyncio
 import contextlib
+import gc
 import logging
 import os
 import signal
@@ -14,10 +15,27 @@ from collections.abc import Callable, Coroutine
 from types import FrameType
 from typing import Any, TypeVar
 
+from palqytun._library import library
+
 T = TypeVar("T")
 log = logging.getLogger("palqytun")
 _LAST = 1.0  # seconds for what is left of tasks, and for threads
 _BEYOND = 20.0  # seconds beside the grace, after which a shutdown is over
+
+
+def warn_of_unproved() -> None:
+    """Logs it if the library was built without a proof. A worker that a program is for asks this when it starts."""
+    it = library()
+    if not it.is_proved:
+        log.warning("the library was built without a proof (%s): ./bindings/build makes one that is proved", it.build)
+
+
+def collect_less() -> None:
+    """What a program has loaded stays, so the collector of garbage needn't look at it again and again; and of new objects most die without it. Asked
+    once, when the program's worker begins."""
+    gc.collect()
+    gc.freeze()
+    gc.set_threshold(20_000, 20, 20)
 
 
 def run(main: Coroutine[Any, Any, T]) -> T:

@@ -6,29 +6,35 @@ The handler's own code between its calls does run, as it does in each attempt.
 
 from __future__ import annotations
 
-from collections.abc import AsyncIterator
+from collections.abc import AsyncIterator, Iterator, Sequence
 from dataclasses import dataclass
+from itertools import groupby
 from typing import Any
 
 from .. import core
 from . import journal
 from .codec import BadValue, decoded
 from .context import AttemptEnds, CaughtTooMuch, Context, ReplayLog, given_failure
+from .contexts import kind_of
 from .database import Database
-from .durable import Task, Tasks
+from .durable import Task
 from .invocations import CLAIMED, Claimable, load
-from .journal import Begin, Failed
+from .journal import Begin, Described, Failed
 from .services import App, Cancelled, Handler, TerminalError
+from .tasks import Tasks
+from .traces import Trace
 
 
 @dataclass(frozen=True)
-class Difference:
-    """A journal that a handler doesn't make any more. `command` is the index, from 0, of the command at which they part; -1 is before any."""
+class Checked:
+    """A stored journal, and where the code parts from it: `difference` says so, and is none if the code makes the journal. `command` is the index,
+    from 0, of the command at which they part; -1 is before any. `is_open`: the invocation hasn't ended."""
 
     invocation: str
     handler: str
+    is_open: bool
     command: int
-    error: str
+    difference: str | None
 
 
 @dataclass(frozen=True)
@@ -38,15 +44,21 @@ class Stored:
     row: Claimable
     start: bytes
 
+    @property
+    def entries(self) -> list[bytes]:
+        """The frames of the journal's entries."""
+        return [frame for _, frame in journal.split(self.start)][1:]
+
 
 @dataclass(frozen=True)
 class Replayed:
     """How far a handler went over a stored journal: up to the command with this index, and what was wrong there. `context` is that of the
-    handler, if it was called."""
+    handler, if it was called, and `written` what the core wrote after the journal."""
 
     command: int
     error: str | None
     context: Context | None = None
+    written: bytes = b""
 
 
 class _Silent(ReplayLog):
@@ -56,9 +68,13 @@ class _Silent(ReplayLog):
         return False
 
 
+def _begin(it: Claimable) -> Begin:
+    return Begin(it.id, it.key, it.seed, idempotency_key=it.idem or None)
+
+
 async def stored(db: Database, it: Claimable) -> Stored:
     """What is stored of an invocation."""
-    return Stored(it, (await load(db, it.id, it.entries, it.version)).start(Begin(it.id, it.key, it.seed, idempotency_key=it.idem or None)))
+    return Stored(it, (await load(db, it.id, it.entries, it.version)).start(_begin(it)))
 
 
 def replayed(app: App, it: Stored) -> Replayed:
@@ -72,11 +88,13 @@ def replayed(app: App, it: Stored) -> Replayed:
         vm.notify_input(it.start)
         vm.notify_input_closed()
         input = vm.sys_input()
-        context = Context(vm, input, app, row.service, bool(row.exclusive))
+        kind, trace = kind_of(handler.service, bool(row.exclusive)), Trace.of(row.id, row.trace)
+        context = kind(vm, input, app, row.service, trace, patches=journal.patches_in(it.start))
         context._log = _Silent(context, row.id)
         raised = _replayed(app, vm, context, handler, input.value)
-        said = [one for one in journal.messages_in(vm.take_output()) if isinstance(one, Failed)]
-        return Replayed(vm.last_command_index(), f"{said[0].code} {said[0].message}" if said else raised, context)
+        written = vm.take_output()
+        said = [one for one in journal.messages_in(written) if isinstance(one, Failed)]
+        return Replayed(vm.last_command_index(), f"{said[0].code} {said[0].message}" if said else raised, context, written)
 
 
 def _replayed(app: App, vm: core.VM, context: Context, handler: Handler[Any, Any], given: bytes) -> str | None:
@@ -108,6 +126,7 @@ def _drive(app: App, vm: core.VM, context: Context, tasks: Tasks) -> None:
             tasks.run(thrown)
         if tasks.main.done:
             failure = tasks.main.failure
+            context.pass_patches()
             vm.sys_write_output(app.codec.encode(tasks.main.value) if failure is None else given_failure(failure))
             return
         thrown = None
@@ -117,20 +136,121 @@ def _drive(app: App, vm: core.VM, context: Context, tasks: Tasks) -> None:
         except core.Cancelled:
             thrown = Cancelled()
             continue
-        for leaf in tasks.leaves():
-            if leaf.came is None:
-                leaf.came = vm.take_notification(leaf.handle)
+        for _ in tasks.taken(vm.take_notification):
+            pass
 
 
-async def _all(app: App, db: Database, status: str | None) -> AsyncIterator[Difference | None]:
-    where, values = ("WHERE status=?", (status,)) if status else ("", ())
+# ---- both commands
+
+
+def _before(it: Stored, command: int) -> Stored:
+    """The journal up to a command, without it, and with all that came for the commands before it."""
+    kept, carried, count = journal.Journal(it.row.version), set[int](), 0
+    for frame in it.entries:
+        found = journal.described(frame)
+        if found.name != "Notification":
+            count += 1
+            if count > command:
+                continue
+            carried.update(found.carries)
+        elif found.completes is not None and found.completes not in carried:
+            continue
+        kept.entry(frame)
+    kept.keep()
+    return Stored(it.row, kept.start(_begin(it.row)))
+
+
+def _recorded(it: Stored, command: int) -> Described | None:
+    """The recorded command with this index."""
+    found = [one for frame in it.entries if (one := journal.described(frame)).name != "Notification"]
+    return found[command] if command < len(found) else None
+
+
+def _asked(app: App, it: Stored, command: int) -> Described | None:
+    """The command that the code makes at this index: what it writes after the journal up to there."""
+    written = replayed(app, _before(it, command)).written
+    frames = [frame for _, frame in journal.commands_in(written)]
+    return journal.described(frames[0]) if frames else None
+
+
+_OWN = ("id", "invocation_id", "due", "at")  # what replay doesn't compare, or what follows from the place
+_NAMING = ("name", "service", "handler", "key", "invocation", "target")  # what tells one command from another at a glance
+_LONG = 120  # characters of a field
+
+
+def _named(it: Described) -> str:
+    """A command by what names it."""
+    names = {name: shown for name, shown in it.fields if name in _NAMING and shown not in ("None", "''")}
+    if "handler" in names:
+        names["service"] = f"{names['service']}/{names.pop('handler')}".replace("'", "")
+    return " ".join([it.name, *names.values()])
+
+
+def _parted(command: int, recorded: Described, asked: Described) -> str:
+    """Both commands, in words."""
+    if recorded.name != asked.name:
+        return f"command {command} is recorded as {_named(recorded)}, and the code makes {_named(asked)}"
+    there, here = dict(recorded.fields), dict(asked.fields)
+    for name in there:
+        if name not in _OWN and there[name] != here.get(name):
+            said = f"{name} {there[name]:.{_LONG}}, and the code gives {here.get(name, 'none'):.{_LONG}}"
+            return f"command {command}, {_named(recorded)}, is recorded with {said}"
+    return f"command {command} is recorded as {recorded}, and the code makes {asked}"
+
+
+def difference(app: App, it: Stored) -> tuple[int, str | None]:
+    """The index of the command at which the code parts from a journal, and how, with both commands; none if the code makes the journal."""
+    found = replayed(app, it)
+    if found.error is None:
+        return found.command, None
+    if found.command < 0 or not found.error.startswith("570"):
+        return found.command, found.error
+    recorded, asked = _recorded(it, found.command), _asked(app, it, found.command)
+    if recorded is None or asked is None:
+        text = found.error if recorded is None else f"command {found.command} is recorded as {_named(recorded)}, and the code awaits what hasn't come"
+        return found.command, text
+    return found.command, _parted(found.command, recorded, asked)
+
+
+# ---- all journals of a database
+
+
+async def _all(app: App, db: Database, status: str | None, ended: bool) -> AsyncIterator[Checked]:
+    where, values = ("WHERE status=?", (status,)) if status else ("" if ended else "WHERE status<>'done'", ())
     for row in await db.rows(f"SELECT {CLAIMED} FROM invocations {where} ORDER BY seq", values):
         it = Claimable(*row)
-        found = replayed(app, await stored(db, it))
-        yield None if found.error is None else Difference(it.id, f"{it.service}/{it.handler}", found.command, found.error)
+        yield Checked(it.id, f"{it.service}/{it.handler}", it.status != "done", *difference(app, await stored(db, it)))
 
 
-async def replay_all(app: App, db: Database, status: str | None) -> tuple[int, list[Difference]]:
-    """How many journals were replayed, and those that differ."""
-    found = [it async for it in _all(app, db, status)]
-    return len(found), [it for it in found if it is not None]
+async def replay_all(app: App, db: Database, status: str | None = None, ended: bool = False) -> list[Checked]:
+    """Replays the journals of the invocations that haven't ended, and of the others too if they are asked for; or of those with a status."""
+    return [it async for it in _all(app, db, status, ended)]
+
+
+PROVES = (
+    "What this shows: a journal without a difference is a history of its handler as it is now, so an attempt makes each recorded command again and goes on"
+    " after the last (the core's law replays_prove_histories, docs/THEOREMS.md). Of calls that aren't recorded yet it shows nothing."
+)
+
+
+def report(found: Sequence[Checked]) -> Iterator[str]:
+    """The lines of a report: by handler, those that are open first."""
+    for is_open, what in ((True, "open"), (False, "ended")):
+        ordered = sorted((it for it in found if it.is_open == is_open), key=lambda it: it.handler)
+        for handler, group in groupby(ordered, key=lambda it: it.handler):
+            yield from _of_handler(handler, what, list(group))
+    count = sum(it.difference is not None for it in found)
+    yield f"{len(found)} journals are replayed, {count} differ"
+    yield PROVES
+
+
+def _of_handler(handler: str, what: str, found: list[Checked]) -> Iterator[str]:
+    apart: dict[str, list[str]] = {}
+    for it in found:
+        if it.difference is not None:
+            apart.setdefault(it.difference, []).append(it.invocation)
+    count = sum(map(len, apart.values()))
+    yield f"{handler}: {len(found) - count} of {len(found)} {what} {'invocations go on' if what == 'open' else 'journals are those of this code'}"
+    for text, invocations in apart.items():
+        yield f"  {text}"
+        yield f"    {', '.join(invocations)}"

@@ -24,7 +24,7 @@ _AGAIN = 1.0  # seconds until what is due, and another worker has, is looked at 
 
 
 class Schedule:
-    """Calls a handler by the clock: `every` so many seconds, or by a `cron` expression of five fields, in a time `zone` as `"Europe/Berlin"`. The
+    """Calls a handler by the clock: each `every` seconds, or by a `cron` expression of five fields, in a time `zone` as `"Europe/Berlin"`. The
     name is one of its own in the database. The handler is called with `argument`, and with `key` if its service has keys; `ctx.headers` has the
     schedule's name as `schedule`, and as `scheduled-for` the time for which the call is, in the form of ISO 8601."""
 
@@ -78,7 +78,7 @@ class Schedule:
 
 async def enter(db: Database, app: App, services: Collection[str]) -> None:
     """A worker begins: its app's schedules are those of these services."""
-    [(now,)] = await db.rows(f"SELECT {db.clock}")
+    now = db.now()
     stored = {name: (service, handler, rule) for name, service, handler, rule in await db.rows("SELECT name, service, handler, rule FROM schedules")}
     for it in app.schedules.values():
         if stored.get(it.name) == it.row:
@@ -87,7 +87,7 @@ async def enter(db: Database, app: App, services: Collection[str]) -> None:
             "INSERT INTO schedules(name, service, handler, rule, due) VALUES (?,?,?,?,?) ON CONFLICT(name)"
             " DO UPDATE SET service=excluded.service, handler=excluded.handler, rule=excluded.rule, due=excluded.due"
         )
-        await db.change(sql, (it.name, *it.row, it.next(float(now))))
+        await db.change(sql, (it.name, *it.row, it.next(now)))
     for name, (service, _, _) in stored.items():
         if service in services and name not in app.schedules:
             await db.change("DELETE FROM schedules WHERE name=?", (name,))

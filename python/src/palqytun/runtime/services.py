@@ -2,9 +2,12 @@
 
 from __future__ import annotations
 
+import functools
+import hashlib
 import inspect
 import math
 import operator
+import pathlib
 import typing
 from collections.abc import Awaitable, Callable, Iterable, Mapping
 from dataclasses import dataclass, field
@@ -15,13 +18,13 @@ from .extras import needed
 from .texts import plain, said
 
 if TYPE_CHECKING:
-    from .context import Context
+    from .contexts import ObjectContext, ServiceContext, SharedObjectContext, SharedWorkflowContext, WorkflowContext
     from .schedules import Schedule
     from .serving import Mountable
 
 I = TypeVar("I")
 O = TypeVar("O")
-Function = Callable[["Context", I], Awaitable[O]]
+Function = Callable[[Any, I], Awaitable[O]]
 
 
 def to_text_headers(headers: dict[str, str] | None) -> tuple[tuple[str, str], ...]:
@@ -65,12 +68,19 @@ class Cancelled(TerminalError):
         super().__init__(message, 409)
 
 
+class TimedOut(TerminalError, TimeoutError):
+    """What was awaited didn't come in its time."""
+
+    def __init__(self, message: str = "it took too long"):
+        super().__init__(message, 408)
+
+
 @dataclass(frozen=True)
 class Retry:
-    """When what failed is tried again: a run, or the attempts of a handler. Times are in seconds.
+    """When a failed run, or a failed attempt of a handler, is tried again. Times are in seconds.
 
-    The first delay is `initial`; each next one is larger by `factor` (numerator, denominator), up to `longest`. After so many `attempts`,
-    or so long a `duration`, it isn't tried again: `pause` pauses the invocation then, and without it the error is the result."""
+    The first delay is `initial`. Each next one is larger by `factor` (numerator, denominator), up to `longest`. It is tried `attempts` times at most,
+    and for `duration` seconds at most; without them there is no bound. Then `pause` pauses the invocation, and without it the error is the result."""
 
     initial: float = 0.05
     factor: tuple[int, int] = (2, 1)
@@ -91,7 +101,7 @@ class Retry:
             raise ValueError(f"factor is a pair of whole numbers (numerator, denominator), and not {self.factor}")
 
     def delay(self, failures: int) -> float:
-        """The delay after so many failures, in seconds."""
+        """The delay in seconds after this number of failures."""
         numerator, denominator = self.factor
         try:
             return float(min(self.longest, self.initial * (numerator / denominator) ** (failures - 1)))
@@ -99,7 +109,7 @@ class Retry:
             return self.longest
 
     def is_over(self, failures: int, failing: float) -> bool:
-        """Whether it is not tried again, after so many failures in so many seconds."""
+        """Whether it isn't tried again after this number of failures within `failing` seconds."""
         return (self.attempts is not None and failures >= self.attempts) or (self.duration is not None and failing >= self.duration)
 
 
@@ -108,7 +118,7 @@ ATTEMPTS = Retry(attempts=50, pause=True)  # of a handler that says nothing else
 
 @dataclass
 class Handler(Generic[I, O]):
-    """A handler of a service. `exclusive` ones of a key run one at a time and may change its state. `limit`: at most so many attempts of it run
+    """A handler of a service. `exclusive` ones of a key run one at a time and may change its state. `limit` is how many of its attempts may run
     at once, over all workers."""
 
     service: "Service"
@@ -134,6 +144,14 @@ def _types_of(function: Callable[..., Any]) -> tuple[Any, Any, int]:
         hints = {}
     takes = hints.get(parameters[1].name, Any) if len(parameters) > 1 else Any
     return takes, hints.get("return", Any), len(parameters)
+
+
+def _source(function: Callable[..., Any]) -> bytes:
+    """The file that defines a function; of one that has no file, what it is compiled to."""
+    try:
+        return pathlib.Path(inspect.getsourcefile(function) or "").read_bytes()
+    except (OSError, TypeError):
+        return repr(inspect.unwrap(function).__code__.co_code).encode()
 
 
 @dataclass
@@ -162,18 +180,22 @@ class Service:
 
         return added
 
-    def handler(self, **options: Any) -> Callable[[Function[I, O]], Handler[I, O]]:
+    def handler(self, **options: Any) -> Callable[[Callable[[ServiceContext, I], Awaitable[O]]], Handler[I, O]]:
         """Registers a handler under its function's name. `retry` says when its attempts are tried again, and `limit` how many of them may run
         at once."""
         return self._add(self.keyed and not self.workflow, **options)
 
 
 class VirtualObject(Service):
-    """Handlers with a key and its state. Of one key one handler at a time runs, but for those that are `shared`, which only read."""
+    """Handlers with a key and its state. One handler of a key runs at a time, except for those that are `shared`, which only read."""
 
     keyed = True
 
-    def shared(self, **options: Any) -> Callable[[Function[I, O]], Handler[I, O]]:
+    def handler(self, **options: Any) -> Callable[[Callable[[ObjectContext, I], Awaitable[O]]], Handler[I, O]]:  # type: ignore[override]
+        """Registers a handler that runs alone beside the others of its key, and may change the state."""
+        return self._add(self.keyed and not self.workflow, **options)
+
+    def shared(self, **options: Any) -> Callable[[Callable[[SharedObjectContext, I], Awaitable[O]]], Handler[I, O]]:
         """Registers a handler that reads the state and doesn't wait for others of its key."""
         return self._add(False, **options)
 
@@ -183,7 +205,11 @@ class Workflow(VirtualObject):
 
     workflow = True
 
-    def main(self, **options: Any) -> Callable[[Function[I, O]], Handler[I, O]]:
+    def handler(self, **options: Any) -> Callable[[Callable[[SharedWorkflowContext, I], Awaitable[O]]], Handler[I, O]]:  # type: ignore[override]
+        """Registers a handler that runs beside `main`: it reads the state and completes promises."""
+        return self._add(False, **options)
+
+    def main(self, **options: Any) -> Callable[[Callable[[WorkflowContext, I], Awaitable[O]]], Handler[I, O]]:
         """Registers the handler that runs once a key."""
         return self._add(True, **options)
 
@@ -215,6 +241,18 @@ class App:
         except Exception as error:
             raise ValueError(f"the argument of the schedule {it.name} is none that {it.target.path} takes: {error}") from error
         return data
+
+    @functools.cached_property
+    def version(self) -> str:
+        """The version of this code, as long as nothing else names it: a hash of the files in which its handlers are defined, and of their names.
+        What other modules do isn't in it."""
+        found = hashlib.blake2b(digest_size=6)
+        handlers = sorted((it for service in self.services.values() for it in service.handlers.values()), key=lambda it: it.path)
+        for it in handlers:
+            found.update(f"{it.path}\0{int(it.exclusive)}\0".encode())
+        for source in sorted({_source(it.function) for it in handlers}):
+            found.update(source)
+        return found.hexdigest()
 
     def limited(self) -> list[Handler[Any, Any]]:
         """The handlers that have a limit, in the order of their paths."""
@@ -250,7 +288,7 @@ class App:
 
         `token` is the bearer token that requests need, and `origins` are addresses under which browsers know it, as "https://ops.example": without a
         token, a request for another host than localhost and these is refused. A call waits `wait` seconds for its result, if it doesn't say, and a body has at
-        most `payload` bytes (4 MiB). `worker` are options of `Engine`, as `limit`. Raises `MissingExtra` if the extra `server` isn't installed."""
+        most `payload` bytes (4 MiB). `worker` are options of `Engine`, such as `limit`. Raises `MissingExtra` if the extra `server` isn't installed."""
         engine = needed("palqytun.runtime.engine", "server", "the ingress").Engine(self, url, **worker)
         serving = needed("palqytun.runtime.serving", "server", "the ingress")
         limits = {"wait": wait} if payload is None else {"wait": wait, "payload": payload}

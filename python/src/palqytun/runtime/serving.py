@@ -4,13 +4,17 @@ from __future__ import annotations
 
 import asyncio
 import contextlib
-from collections.abc import AsyncIterator
+import signal
+import threading
+from collections.abc import AsyncIterator, Callable, Iterator
+from types import FrameType
 
 from starlette.types import Receive, Scope, Send
 
 from .door import is_loopback
 from .engine import Engine
 from .ingress import Ingress, Settings
+from .process import warn_of_unproved
 from .server import CONNECTIONS, Config, Server, address_of, listening
 
 
@@ -24,7 +28,7 @@ class Http:
     Raises `Taken` if nothing can listen there, and `Unguarded` if other machines could call handlers without a token."""
 
     def __init__(self, engine: Engine, settings: Settings, host: str, port: int, *, connections: int = CONNECTIONS, grace: float = 10.0):
-        if settings.token is None and not is_loopback(host):
+        if settings.token is None and settings.tokens is None and not is_loopback(host):
             raise Unguarded(f"{host} is reached by other machines, so the ingress needs a token: set PALQYTUN_TOKEN, or listen on 127.0.0.1")
         self._ingress, self._grace = Ingress(engine, settings), grace
         self._socket = listening(host, port)
@@ -60,13 +64,39 @@ class Http:
             await self._serving  # it closes the socket
 
 
+@contextlib.contextmanager
+def _told_of_signals(stop: Callable[[], None]) -> Iterator[None]:
+    """SIGTERM and SIGINT call `stop` in the loop, and then do what they did before: a server lets requests end first, and only then says by its
+    lifespan that it stops. One that doesn't listen for a signal, or runs in another thread than the main one, isn't asked."""
+    loop = asyncio.get_running_loop()
+    if threading.current_thread() is not threading.main_thread():
+        yield
+        return
+    before = {number: it for number in (signal.SIGTERM, signal.SIGINT) if callable(it := signal.getsignal(number))}
+
+    def came(number: int, frame: FrameType | None) -> None:
+        with contextlib.suppress(RuntimeError):  # the loop is closed
+            loop.call_soon_threadsafe(stop)
+        before[signal.Signals(number)](number, frame)
+
+    for number in before:
+        signal.signal(number, came)
+    try:
+        yield
+    finally:
+        for number, handler in before.items():
+            if signal.getsignal(number) is came:
+                signal.signal(number, handler)
+
+
 class Mountable:
     """An ASGI application: the ingress of a worker that runs as long as `lifespan`.
 
         durable = app.asgi("postgresql://..")
         site = Starlette(routes=[Mount("/durable", durable)], lifespan=durable.lifespan)
 
-    A server that serves it as it is runs the worker by ASGI's own lifespan."""
+    A server that serves it as it is runs the worker by ASGI's own lifespan. When the process is told to stop by SIGTERM or SIGINT, requests that wait
+    are answered at once; a server that stops for another reason calls `stop`."""
 
     def __init__(self, engine: Engine, settings: Settings):
         self.engine, self._ingress = engine, Ingress(engine, settings)
@@ -75,6 +105,7 @@ class Mountable:
     @contextlib.asynccontextmanager
     async def lifespan(self, app: object = None) -> AsyncIterator[None]:
         """Runs the worker. Its database is open when this begins; what is wrong with it is raised."""
+        warn_of_unproved()
         running = asyncio.create_task(self.engine.run())
         is_open = asyncio.create_task(self.engine.is_open())
         await asyncio.wait([running, is_open], return_when=asyncio.FIRST_COMPLETED)
@@ -82,11 +113,17 @@ class Mountable:
         try:
             if running.done():
                 running.result()
-            yield
+            with _told_of_signals(self.stop):
+                yield
         finally:
-            self._ingress.close()
-            self.engine.stop()
+            self.stop()
             await running
+
+    def stop(self) -> None:
+        """The server begins to stop: requests that wait are answered with 202 and the id of their invocation, others are refused with 503, and
+        the worker ends as it does by SIGTERM. It is called in the event loop, and may be called again."""
+        self._ingress.close()
+        self.engine.stop()
 
     async def __call__(self, scope: Scope, receive: Receive, send: Send) -> None:
         await self._ingress.app(scope, receive, send)

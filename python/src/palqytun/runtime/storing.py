@@ -3,37 +3,68 @@
 from __future__ import annotations
 
 import time
+from collections.abc import Awaitable, Callable, Sequence
 from dataclasses import dataclass
+from typing import Any
 
-from . import inbox, invocations, journal
-from .database import Database
+from . import inbox, invocations, journal, notes
+from .database import Asked, Database
 from .effects import Performer
 from .invocations import Claim
 from .journal import Failed, Output, Result, Suspension
-from .lease import PROGRESS, Growth
+from .lease import PROGRESS, Growth, fence
+from .meter import Ended
 from .outcome import Outcome
 from .services import App
-from .texts import plain
+from .texts import storable
+from .turns import Turn
 
 
-async def store(db: Database, app: App, claim: Claim, output: bytes, at: int) -> Outcome:
-    """Stores what an attempt wrote, after its first `at` bytes. If it has ended, its invocation's status follows."""
+Reads = Callable[[Database], Sequence[Asked]]
+"""What an operation reads before it begins. The reads of a group are made together, so no other operation of the group comes before them."""
+
+
+Writes = Callable[[Database, Sequence[list[Any]]], Awaitable[Outcome]]
+"""An operation on a claim's journal, which is given what was read before."""
+
+
+def reads(claim: Claim, output: bytes) -> Reads | None:
+    """What `store` needs to have read before, if this is all: an output that asks nothing of the runtime but to end or to suspend the attempt. First
+    the invocation's row is kept: so all is there that others have stored for it, and they wait with more."""
+    lease, entries = claim.lease, claim.lease.journal.entries
+    if journal.only_ends(output):
+        return lambda db: (fence(db, lease, entries), invocations.waiters_of(lease.invocation))
+    if journal.only_suspends(output):
+        return lambda db: (fence(db, lease, entries), inbox.peek(lease.invocation))
+    return None
+
+
+async def store(
+    db: Database, app: App, claim: Claim, output: bytes, at: int, timers: Sequence[int] = (), found: Sequence[list[Any]] = ()
+) -> Outcome:
+    """Stores what an attempt wrote, after its first `at` bytes. If it has ended, its invocation's status follows. `timers` are completion ids of
+    sleeps that nobody awaits any more. `found` is what `reads` has found, if it asks for something."""
     out, growth = Outcome(), Growth(claim.lease)
     stored = growth.store(output, at)
-    if isinstance(stored.end, Suspension) or any(map(Performer.has_effect, stored.commands)):
+    if found:
+        growth.fenced(found[0])
+    elif isinstance(stored.end, Suspension) or any(map(Performer.has_effect, stored.commands)):
         await growth.fence(db)  # else the first statement that changes something is that of `write`, which fences
-    performer = Performer(db, app, out, growth, claim.service, claim.key)
+    performer = Performer(db, app, out, growth, claim.service, claim.key, claim.trace)
     for command in stored.commands:
         await performer.perform(command)
+    db.many("DELETE FROM timers WHERE invocation=? AND completes=?", [(claim.invocation, id) for id in timers])
     if stored.end is None:
         await growth.write(db, **(PROGRESS if growth.has_progress else {}))
     elif isinstance(stored.end, Suspension):
-        await _suspend(db, out, growth, stored.end)
+        arrived = found[1] if found else (await db.several([inbox.peek(claim.invocation)]))[0]
+        await _suspend(db, out, claim, growth, stored.end, arrived)
     elif isinstance(stored.end, Failed):
         await _fail(db, app, out, claim, growth, stored.end)
     else:
         results = [it.result for it in stored.commands if isinstance(it, Output)]
-        await _end(db, out, claim, growth, results[0] if results else await _stored_output(db, claim.invocation))
+        result = results[0] if results else await _stored_output(db, claim.invocation)
+        await _end(db, out, claim, growth, result, found[1] if found else None)
     if stored.end is not None:
         _leave_room(db, app, out, claim)
     out.feed = growth.feed
@@ -47,13 +78,18 @@ def _leave_room(db: Database, app: App, out: Outcome, claim: Claim) -> None:
         db.notify("ready")
 
 
-async def _suspend(db: Database, out: Outcome, growth: Growth, suspension: Suspension) -> None:
+async def _suspend(db: Database, out: Outcome, claim: Claim, growth: Growth, suspension: Suspension, arrived: list[Any]) -> None:
     """The invocation waits; or it doesn't, if what wakes it came just now."""
-    now, own = db.now(), growth.lease.invocation
-    is_awake = journal.is_awake(suspension.frame, [it.frame for it in growth.entries]) or await inbox.wakes(db, own, suspension.frame)
+    now = db.now()
+    is_awake = (
+        journal.is_awake(suspension.frame, [it.frame for it in growth.entries])
+        or inbox.wakes(db, arrived, suspension.frame, claim.is_shielded)
+        or len(arrived) == inbox.MOST
+    )
     out.status = "ready" if is_awake else "suspended"
     progress = PROGRESS if growth.has_progress else {"deaths": 0}
-    await growth.write(db, status=out.status, due=now, suspension=suspension.frame, stopped=now, how="suspended", **progress)
+    shielded = {"shielded": int(claim.is_shielded)}
+    await growth.write(db, status=out.status, due=now, suspension=suspension.frame, stopped=now, how="suspended", **shielded, **progress)
     if is_awake:
         out.is_due(time.time())
 
@@ -73,6 +109,8 @@ async def _fail(db: Database, app: App, out: Outcome, claim: Claim, growth: Grow
     how = "paused" if out.status == "paused" else "failed"
     await growth.write(db, status=out.status, due=now + delay, error=text, stopped=now, how=how, deaths=0, **vars(counted))
     out.is_due(time.time() + delay)
+    said = text.removeprefix("500 ")  # an error of its own code has no other number
+    out.notes.append(claim.note(notes.PAUSED, said) if out.status == "paused" else claim.note(notes.FAILED, said, delay))
 
 
 @dataclass
@@ -101,34 +139,37 @@ async def _counted(db: Database, claim: Claim, growth: Growth, now: float) -> _C
     return counted
 
 
-def storable(text: str) -> str:
-    """A text that each database can store: without NUL, and without halves of surrogate pairs."""
-    return plain(text).replace("\0", "\\0")
-
-
 async def _stored_output(db: Database, invocation: str) -> Result:
     """The Output that an earlier attempt stored."""
     stream = b"".join(bytes(row[0]) for row in await db.rows("SELECT frame FROM journal WHERE invocation=? ORDER BY at", (invocation,)))
     return next(it.result for it, _ in journal.commands_in(stream) if isinstance(it, Output))
 
 
-async def _end(db: Database, out: Outcome, claim: Claim, growth: Growth, result: Result) -> None:
+async def _end(db: Database, out: Outcome, claim: Claim, growth: Growth, result: Result, waiters: list[Any] | None = None) -> None:
     out.status, now = "done", db.now()
-    await growth.write(db, status="done", ended=now, stopped=now, how="ended", result=result)
-    await invocations.end(db, out, claim.invocation, claim.service, claim.key if claim.exclusive else "", result)
+    failed, error = invocations.ending(result)
+    await growth.write(db, status="done", ended=now, stopped=now, how="ended", result=result, failed=failed, error=error)
+    out.ends.append(Ended(claim.service, claim.handler, "done" if failed is None else "failed", now - claim.created))
+    if error is not None:
+        out.notes.append(claim.note(notes.ENDED, error))
+    await invocations.end(db, out, claim.invocation, claim.service, claim.key if claim.exclusive else "", result, waiters)
 
 
-async def pull(db: Database, claim: Claim) -> Outcome:
-    """Moves what came for a running invocation to its journal."""
-    out, growth = Outcome(), Growth(claim.lease)
-    # What came for another's attempt would seem dishonest to this one. So it is read only if the lease isn't lost, and `write` fences.
-    rows = await inbox.peek(db, claim.invocation, claim.lease.epoch)
+def arrivals(claim: Claim) -> Reads:
+    """What `pull` needs to have read before. What came for another's attempt would seem dishonest to this one. So it is read only if the lease isn't
+    lost."""
+    return lambda db: (inbox.peek(claim.invocation, claim.lease.epoch),)
+
+
+async def pull(db: Database, claim: Claim, found: Sequence[list[Any]]) -> Outcome:
+    """Moves what came for a running invocation, and was found, to its journal."""
+    out, growth, turn = Outcome(), Growth(claim.lease), Turn()
+    [rows] = found
     if rows:
-        for _, frame in rows:
-            growth.arrive(frame)
-        await growth.write(db)
-        inbox.remove(db, rows)
+        out.cancel = await invocations.arrive(db, growth, rows, claim.was_cancelled, turn, takes_cancel=not claim.is_shielded)
+        await growth.write(db, **({"cancelled": db.now()} if out.cancel == invocations.TAKEN else {}))
     out.feed = growth.feed
+    out.has_more = len(rows) == inbox.MOST
     return out
 
 
@@ -136,7 +177,7 @@ async def pause(db: Database, app: App, claim: Claim, why: str) -> Outcome:
     """The attempt stopped without an end: its invocation is paused, if it is still this worker's. What it wrote last isn't stored."""
     sql = "UPDATE invocations SET status='paused', stopped=?, how='paused', error=? WHERE id=? AND epoch=? AND status='running'"
     await db.change(sql, (db.now(), storable(why), claim.invocation, claim.lease.epoch))
-    out = Outcome(status="paused")
+    out = Outcome(status="paused", notes=[claim.note(notes.PAUSED, why)])
     _leave_room(db, app, out, claim)
     return out
 

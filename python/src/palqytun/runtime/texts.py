@@ -10,6 +10,11 @@ def plain(text: str) -> str:
     return text.encode("utf-8", "backslashreplace").decode()
 
 
+def storable(text: str) -> str:
+    """A text that each database can store: without NUL, and without halves of surrogate pairs."""
+    return plain(text).replace("\0", "\\0")
+
+
 _MOST_SAID, _MOST_TRACED = 4_000, 20_000  # characters that are kept of an error's text, and of its stack
 
 

@@ -6,22 +6,20 @@ import asyncio
 import linecache
 import logging
 import os
-import pathlib
 import sys
-import sysconfig
 import threading
 import time
 import traceback
 from collections.abc import Iterator
 from types import FrameType
 
+from .places import is_own, is_users
+
 log = logging.getLogger("palqytun")
 _EVERY = 0.5  # seconds between questions
 _SLICE = 0.25  # a process that was stopped as a whole hasn't waited for longer than two of these at a time
 _SAID_AT = (2.0, 10.0, 30.0)  # seconds without an answer
 _ENDED = 70  # the status of a process whose loop doesn't answer
-_OWN = str(pathlib.Path(__file__).parent.parent)
-_LIBRARY = sysconfig.get_path("stdlib")
 
 
 def _frames(thread: int) -> Iterator[FrameType]:
@@ -32,20 +30,15 @@ def _frames(thread: int) -> Iterator[FrameType]:
         frame = frame.f_back
 
 
-def _is_users(frame: FrameType) -> bool:
-    file = frame.f_code.co_filename
-    return not file.startswith((_OWN, "<")) and (not file.startswith(_LIBRARY) or "-packages" in file)
-
-
 def holder(thread: int) -> str:
     """Who holds a loop, and in which line of its code. If the machine has other work for its processors, that may be nobody."""
     frames = list(_frames(thread))
     if not frames:
         return "a thread that has ended"
-    claims = (getattr(it.f_locals.get("self"), "claim", None) for it in frames if it.f_code.co_filename.startswith(_OWN))
+    claims = (getattr(it.f_locals.get("self"), "claim", None) for it in frames if is_own(it))
     claim = next((it for it in claims if it is not None), None)
     who = "no handler, or the machine is busy" if claim is None else f"{claim.service}/{claim.handler} of {claim.invocation}"
-    at = next((it for it in frames if _is_users(it)), frames[0])
+    at = next((it for it in frames if is_users(it)), frames[0])
     file, line = at.f_code.co_filename, at.f_lineno
     return f"{who}, in {file}:{line}: {linecache.getline(file, line).strip()}"
 

@@ -7,8 +7,12 @@ from typing import Any, Protocol
 
 
 class Conflict(Exception):
-    """Something is in the way now: another's lock, a deadlock, a full disk, a database that may only be read. Nothing was stored, and the
-    transaction is made again until it is."""
+    """Something is in the way now: another's lock, a deadlock, a database that may only be read. Nothing was stored, and the transaction is made
+    again until it is."""
+
+
+class Full(Conflict):
+    """The database's disk has no room for what is to be stored. Nothing of it was stored, and it is once there is room."""
 
 
 class Lost(Exception):
@@ -29,6 +33,10 @@ class Unsuitable(Exception):
     """The database is there, and can't be used as it is set up: what is wrong, and what is allowed."""
 
 
+Asked = tuple[str, Sequence[object]]
+"""A statement with its values."""
+
+
 class Beats(Protocol):
     """A thread that keeps a worker's lease."""
 
@@ -45,6 +53,7 @@ class Database(Protocol):
     """A connection, which belongs to an event loop. Each statement belongs to the transaction that `begin` began; any of them may raise
     `Conflict`, `Lost` or `StatementFailed`."""
 
+    before: int  # the schema's version when this connection found it
     is_shared: bool  # several workers may use it at once
     is_remote: bool  # each statement's result waits for a server, so few statements are better than many
     skip: str  # after a SELECT that takes rows which no other worker is taking
@@ -54,8 +63,9 @@ class Database(Protocol):
     def now(self) -> float:
         """The database's time, in seconds since the epoch, without asking it: as it was when it last told its time, and how long that is ago."""
 
-    def told(self, time: float) -> None:
-        """The database has just told its time."""
+    def told(self, time: float, asked: float) -> None:
+        """The database has told its time, after it was asked for it at `asked`, by `time.monotonic()`. However late the reply is handled, `now`
+        isn't set by that: the database's time was `time` at some moment between the two."""
 
     async def begin(self, reads: bool = False) -> None:
         """Begins a transaction. With `reads` it only reads, sees the database as it is now, and keeps nobody out."""
@@ -64,6 +74,13 @@ class Database(Protocol):
     async def rollback(self) -> None: ...
     async def rows(self, sql: str, values: Sequence[object] = ()) -> list[Any]: ...
     async def change(self, sql: str, values: Sequence[object] = ()) -> int: ...
+    async def several(self, asked: Sequence[Asked]) -> list[list[Any]]:
+        """The rows of each of several statements. On a server they take one round trip together."""
+
+    def must(self, sql: str, values: Sequence[object], otherwise: Exception, count: int = 1) -> None:
+        """A `put` that has to change, or find, just so many rows. If it doesn't, `otherwise` is raised, by this or by one of the statements that follow, the
+        commit too; then nothing of the transaction is stored."""
+
     def put(self, sql: str, values: Sequence[object] = ()) -> None:
         """A change whose count isn't asked for. It is made before each statement that follows; an error in it may be raised by one of these."""
 
@@ -74,10 +91,10 @@ class Database(Protocol):
         """The rest of this transaction waits for another's lock only a moment, and then raises `Conflict`."""
 
     def notify(self, word: str) -> None:
-        """Tells this word to the workers that listen, once the transaction is committed."""
+        """Tells this word to the workers that listen, once the transaction is committed. What has ended is told together: `ended ONE TWO`."""
 
     def notify_holder(self, invocation: str) -> None:
-        """Tells `to INVOCATION` to the worker that has its lease, once the transaction is committed; to all if none has, and to nobody if it has
+        """Tells `to INVOCATION`, or several at a time, to the worker that has its lease, once the transaction is committed; to all if none has, and to nobody if it has
         ended. The lease is looked up just before the commit. A worker that takes it in between finds what came when it next looks by itself."""
 
     async def listen(self, worker: str, heard: Callable[[str], None]) -> Callable[[], None] | None:
@@ -93,17 +110,18 @@ class Database(Protocol):
     def close(self) -> None: ...
 
 
-async def connect(url: str, *, worker: bool = False) -> Database:
+async def connect(url: str, *, worker: bool = False, migrates: bool = False) -> Database:
     """`postgresql://..`, or the path of a SQLite file, which may be followed by `?synchronous=NORMAL`. `worker` says that this connection is
-    that of a worker: a SQLite file has one at a time, and a PostgreSQL database has to let it write."""
+    that of a worker: a SQLite file has one at a time, and a PostgreSQL database has to let it write. With `migrates` a database of an older schema is
+    moved to the newest, and without it it raises `NotMigrated`; the worker of a SQLite file, which is its only one, always moves it."""
     if url.startswith(("postgres://", "postgresql://")):
         from .postgres import Postgres
 
-        return await Postgres.connected(url, worker=worker)
+        return await Postgres.connected(url, worker=worker, migrates=migrates)
     from .sqlite import SQLite
 
     path, _, option = url.removeprefix("sqlite:").partition("?synchronous=")
-    return SQLite(path, synchronous=option or "FULL", worker=worker)
+    return SQLite(path, synchronous=option or "FULL", worker=worker or migrates)
 
 
-__all__ = ["Beats", "Conflict", "Database", "Lost", "StatementFailed", "Unsuitable", "connect"]
+__all__ = ["Asked", "Beats", "Conflict", "Database", "Full", "Lost", "StatementFailed", "Unsuitable", "connect"]

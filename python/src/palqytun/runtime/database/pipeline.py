@@ -1,7 +1,7 @@
 """Statements over one connection of psycopg 3, many in one round trip: libpq's pipeline mode, with prepared statements and binary values.
 
 They are sent by `psycopg.pq`, psycopg's own layer over libpq, and not by its cursors: where psycopg has no part in C, a cursor takes some 150
-microseconds of the processor for a statement, and this some 20 (docs/DECISIONS.md)."""
+microseconds of the processor for a statement, and this some 20 (docs/internals/DECISIONS.md)."""
 
 from __future__ import annotations
 
@@ -19,12 +19,16 @@ from psycopg.adapt import Transformer
 from psycopg.pq import ConnStatus, DiagnosticField, ExecStatus, Format
 from psycopg.pq.abc import PGresult
 
-from . import Conflict, Lost, StatementFailed
+from ..turns import Turn
+from . import Conflict, Full, Lost, StatementFailed
 
 _BLOB, _INT, _TEXT, _FLOAT, _BOOL, _UNKNOWN = 17, 20, 25, 701, 16, 0  # the server's numbers of types
 _OFTEN, _PREPARED = 3, 500  # a statement is prepared when it is made so often; at most so many are
 _IN_THE_WAY = frozenset(("40001", "40P01", "55P03", "57014", "25006", "58030"))
+_FULL = "53100"
 _TOO_LARGE = "53200"  # of class 53, insufficient resources, this one is for want of memory: by the statement's own size
+_READ = 200  # rows that are read in one step
+_NONE_FOUND = b"22012"  # a division by zero
 _BROKEN = (ExecStatus.FATAL_ERROR, ExecStatus.PIPELINE_ABORTED)
 
 Types = tuple[int, ...]
@@ -45,6 +49,8 @@ def named_by(state: str | None, text: str) -> Exception:
     """The error with this SQLSTATE: only classes 08 and 57P, and none at all, say that the connection has ended."""
     if not state or state.startswith(("08", "57P")):
         return Lost(text)
+    if state == _FULL:
+        return Full(text)
     if state in _IN_THE_WAY or (state.startswith("53") and state != _TOO_LARGE):
         return Conflict(text)
     return StatementFailed(state, text)
@@ -106,6 +112,7 @@ class Statement(NamedTuple):
     sql: bytes
     types: Types
     values: list[bytes | None]
+    otherwise: Exception | None = None  # what a division by zero in it says
 
 
 def statement(sql: str, values: Sequence[object] = ()) -> Statement:
@@ -143,20 +150,26 @@ class Pipeline:
 
     async def made(self, statements: Sequence[Statement]) -> PGresult:
         """Makes statements in one round trip; returns the last one's result. An error in one of them is raised, and those after it aren't made."""
+        return (await self.all_made(statements))[-1]
+
+    async def all_made(self, statements: Sequence[Statement]) -> list[PGresult]:
+        """Makes statements in one round trip; returns their results."""
         if self._is_stuck or self._pg.status != ConnStatus.OK:
             raise Lost("the connection has ended")
         self._is_stuck = True
         with named():
-            new = dict[tuple[bytes, Types], bytes]()
-            expected = [name for it in statements for name in self._sent(it, new)]
+            new, expected, turn = dict[tuple[bytes, Types], bytes](), list[bytes | None](), Turn()
+            for it in statements:
+                expected += self._sent(it, new)
+                await turn.end()
             self._pg.pipeline_sync()
             results = await self._results()
         self._is_stuck = False
         self._names |= {key: key_name for key, key_name in new.items() if self._is_prepared(key_name, expected, results)}
-        for it in results:
-            if it.status in _BROKEN:
-                raise self._failed(it)
-        return results[-1]
+        for at, result in enumerate(results):
+            if result.status in _BROKEN:
+                raise self._failed(result, statements[min(expected[: at + 1].count(None), len(statements)) - 1])
+        return [result for result, name in zip(results, expected) if name is None]
 
     def _sent(self, it: Statement, new: dict[tuple[bytes, Types], bytes]) -> Iterator[bytes | None]:
         """Sends a statement, which is prepared before if it is made often; the name that each result is of, if it is of a preparation."""
@@ -182,9 +195,10 @@ class Pipeline:
 
     async def _results(self) -> list[PGresult]:
         """What the server says of each statement up to the synchronisation. Meanwhile what the socket didn't take is sent."""
-        found, ended, pg = list[PGresult](), False, self._pg
+        found, ended, pg, turn = list[PGresult](), False, self._pg, Turn()
         while True:
             has_more = pg.flush()
+            await turn.end()
             while not pg.is_busy():
                 result = pg.get_result()
                 if result is None:  # once after each statement
@@ -199,17 +213,22 @@ class Pipeline:
             await _moved(pg.socket, bool(has_more))
             pg.consume_input()
 
-    def _failed(self, result: PGresult) -> Exception:
+    def _failed(self, result: PGresult, of: Statement) -> Exception:
         state = result.error_field(DiagnosticField.SQLSTATE)
+        if state == _NONE_FOUND and of.otherwise is not None:
+            return of.otherwise
         text = (result.error_field(DiagnosticField.MESSAGE_PRIMARY) or result.error_message).decode("utf-8", "replace").strip()
         found = named_by(state.decode() if state else None, text)
         return found if self._pg.status == ConnStatus.OK or isinstance(found, Lost) else Lost(text)
 
-    def rows(self, result: PGresult) -> list[tuple[Any, ...]]:
-        if result.ntuples == 0:
-            return []
-        self._reader.set_pgresult(result)
-        return self._reader.load_rows(0, result.ntuples, tuple)
+    async def rows(self, result: PGresult) -> list[tuple[Any, ...]]:
+        """The rows of a result. Others have their turn between many of them."""
+        found, turn = list[tuple[Any, ...]](), Turn()
+        for at in range(0, result.ntuples, _READ):
+            self._reader.set_pgresult(result)
+            found += self._reader.load_rows(at, min(at + _READ, result.ntuples), tuple)
+            await turn.end()
+        return found
 
     def close(self) -> None:
         self._pg.finish()

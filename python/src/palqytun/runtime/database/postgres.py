@@ -17,8 +17,8 @@ from collections.abc import Callable, Iterable, Sequence
 from dataclasses import dataclass, field
 from typing import TYPE_CHECKING, Any
 
-from . import Conflict, Lost, StatementFailed, Unsuitable
-from .schema import MIGRATIONS, VERSIONS, missing
+from . import Asked, Conflict, Lost, StatementFailed, Unsuitable
+from .schema import MIGRATIONS, VERSIONS, failed, missing
 
 if TYPE_CHECKING:
     import psycopg
@@ -28,14 +28,20 @@ if TYPE_CHECKING:
 
 log = logging.getLogger("palqytun")
 
-_TYPES = {"serial": "BIGSERIAL PRIMARY KEY", "blob": "BYTEA", "float": "FLOAT8", "plain": ""}
+_FAILED = failed(
+    lambda at, count: f"upper(encode(substring(result from {at} for {count}),'hex'))", lambda at: f"get_byte(result,{at - 1})*256+get_byte(result,{at})"
+)
+_TYPES = {"serial": "BIGSERIAL PRIMARY KEY", "blob": "BYTEA", "float": "FLOAT8", "plain": "", "failed": _FAILED}
+_TYPES |= {"since": "to_timestamp(", "epoch": ")", "text": "convert_from(value, 'UTF8')", "now": "extract(epoch from clock_timestamp())::float8"}
 _CHANNEL = "palqytun"  # of all workers
 _OWN = 12  # each worker has a channel of its own too, named by so many last characters of its name, which are random
 _NOTIFIED = f"SELECT pg_notify('{_CHANNEL}', word) FROM unnest(?::text[]) AS word"
 _TO_HOLDERS = (
-    f"SELECT pg_notify(CASE status WHEN 'running' THEN '{_CHANNEL}_' || right(worker, {_OWN}) ELSE '{_CHANNEL}' END, 'to ' || id)"
-    " FROM invocations WHERE id=ANY(?::text[]) AND status<>'done'"
+    "SELECT pg_notify(channel, 'to ' || string_agg(id, ' ')) FROM ("
+    f"SELECT CASE status WHEN 'running' THEN '{_CHANNEL}_' || right(worker, {_OWN}) ELSE '{_CHANNEL}' END AS channel, id"
+    " FROM invocations WHERE id=ANY(?::text[]) AND status<>'done') AS touched GROUP BY channel"
 )
+_AT_ONCE = 100  # invocations that one notification names; it has less than 8,000 bytes
 _MIGRATING = 7_401_953  # the advisory lock of whoever migrates
 _LEVEL = "ISOLATION LEVEL READ COMMITTED"  # each statement reads all that was committed before it; by an older snapshot changes are lost
 _BEGIN = f"BEGIN {_LEVEL}"
@@ -92,6 +98,11 @@ def _driver() -> Any:
     return pipeline
 
 
+def _some(names: list[str]) -> list[list[str]]:
+    """As many at a time as one notification names."""
+    return [names[at : at + _AT_ONCE] for at in range(0, len(names), _AT_ONCE)]
+
+
 @dataclass
 class _Server:
     """What the connections of one `connect` share."""
@@ -140,16 +151,18 @@ class Postgres:
         self._words: set[str] = set()  # that this transaction tells
         self._touched: set[str] = set()  # the invocations whose holders it tells
         self._queue: list[Statement] = []
+        self.before = len(MIGRATIONS)
 
     @staticmethod
-    async def connected(url: str, *, worker: bool = False) -> Postgres:
-        """A connection to a database of the newest version. A worker has to write there."""
+    async def connected(url: str, *, worker: bool = False, migrates: bool = False) -> Postgres:
+        """A connection to a database of the newest version. A worker has to write there. `migrates`: an older one is moved."""
         server = _Server(url)
         found = Postgres(server, await server.session())
         try:
             await found._check(worker)
-            await found._migrate()
-            found.told((await found.rows(f"SELECT {found.clock}"))[0][0])
+            await found._migrate(migrates)
+            asked = time.monotonic()
+            found.told((await found.rows(f"SELECT {found.clock}"))[0][0], asked)
         except StatementFailed as error:
             found.close()
             if error.code != "42501":
@@ -177,13 +190,14 @@ class Postgres:
             text = f"with {' and '.join(loses)} what was committed may be lost when the server's machine stops"
             raise Unsuitable(f"{text}; to allow it, set {_UNSAFE}=on, as by postgresql://..?options=-c{_UNSAFE}%3Don")
 
-    async def _migrate(self) -> None:
-        if await self._version() == len(MIGRATIONS):
+    async def _migrate(self, migrates: bool) -> None:
+        self.before = await self._version()
+        if not missing(self.before, migrates):
             return
         await self.begin()
         await self.rows("SELECT pg_advisory_xact_lock(?)", (_MIGRATING,))
         self.put(VERSIONS)
-        for version, statements in missing(await self._version()):
+        for version, statements in missing(await self._version(), migrates):
             for it in statements.format(**_TYPES).split(";\n"):
                 self.put(it)
             self.put("INSERT INTO schema_versions VALUES (?)", (version,))
@@ -199,8 +213,9 @@ class Postgres:
     def now(self) -> float:
         return self._server.clock + time.monotonic()
 
-    def told(self, time_of_server: float) -> None:
-        self._server.clock = time_of_server - time.monotonic()
+    def told(self, time_of_server: float, asked: float) -> None:
+        earliest, latest = time_of_server - time.monotonic(), time_of_server - asked
+        self._server.clock = min(max(self._server.clock, earliest), latest)
 
     # ---- statements
 
@@ -215,9 +230,11 @@ class Postgres:
         self._queue = [self._statement(_BEGIN_READING) if reads else self._begin]
 
     async def commit(self) -> None:
-        for sql, names in ((_NOTIFIED, self._words), (_TO_HOLDERS, self._touched)):
-            if names:
-                self.put(sql, (sorted(names),))
+        ended = sorted(it.removeprefix("ended ") for it in self._words if it.startswith("ended "))
+        words = {it for it in self._words if not it.startswith("ended ")} | {f"ended {' '.join(it)}" for it in _some(ended)}
+        for sql, all_names in ((_NOTIFIED, [sorted(words)] if words else []), (_TO_HOLDERS, _some(sorted(self._touched)))):
+            for names in all_names:
+                self.put(sql, (names,))
         done = await self._send(self._statement("COMMIT"))
         if done.command_status != b"COMMIT":
             raise Conflict("the transaction was rolled back")
@@ -228,10 +245,23 @@ class Postgres:
             await self._send(self._statement("ROLLBACK"))
 
     async def rows(self, sql: str, values: Sequence[object] = ()) -> list[Any]:
-        return self._pipeline.rows(await self._send(self._statement(sql, values)))
+        return await self._pipeline.rows(await self._send(self._statement(sql, values)))
 
     async def change(self, sql: str, values: Sequence[object] = ()) -> int:
         return (await self._send(self._statement(sql, values))).command_tuples or 0
+
+    async def several(self, asked: Sequence[Asked]) -> list[list[Any]]:
+        if not asked:
+            return []
+        statements, self._queue = [*self._queue, *(self._statement(sql, values) for sql, values in asked)], []
+        results = await self._pipeline.all_made(statements)
+        return [await self._pipeline.rows(it) for it in results[-len(asked) :]]
+
+    def must(self, sql: str, values: Sequence[object], otherwise: Exception, count: int = 1) -> None:
+        # The server itself refuses, so what is sent with this statement isn't made either, and isn't committed.
+        found = f"{sql} RETURNING 1" if sql.startswith(("UPDATE", "INSERT", "DELETE")) else sql
+        checked = f"WITH found AS ({found}) SELECT 1/CASE WHEN COUNT(*)=? THEN 1 ELSE 0 END FROM found"
+        self._queue.append(self._statement(checked, (*values, count))._replace(otherwise=otherwise))
 
     def put(self, sql: str, values: Sequence[object] = ()) -> None:
         self._queue.append(self._statement(sql, values))

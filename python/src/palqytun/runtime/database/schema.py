@@ -1,10 +1,22 @@
 """The tables, by version. A database is brought to the newest version by the migrations that it lacks, in order.
 
-{serial}, {blob} and {float} are the database's types; {plain} ends a table of SQLite that is kept by its primary key. A migration that is
-published is never changed: a change is a new one.
+{serial}, {blob} and {float} are the database's types; {plain} ends a table of SQLite that is kept by its primary key; {failed} is the code of the
+failure that the column `result` holds, or NULL. A migration that is published is never changed: a change is a new one. It adds
+tables, or columns that may be left out, so that workers of the version before go on.
 """
 
 from __future__ import annotations
+
+from collections.abc import Callable
+
+
+def failed(octets: Callable[[int, int], str], number: Callable[[int], str]) -> str:
+    """The SQL of {failed}, for docs/WIRE.md's Output and Notification. `octets` is the hexadecimal form of so many bytes of `result` from a place on,
+    counted from 1, and `number` the number that two bytes are."""
+    output = f"WHEN {octets(1, 2)}='001D' AND {octets(11, 1)}='01' THEN {number(14)}"
+    completion = f"WHEN {octets(1, 2)}='001E' AND {octets(11, 1)}='00' AND {octets(16, 1)}='02' THEN {number(19)}"
+    return f"CASE {output} {completion} END"
+
 
 _FIRST = """
 CREATE TABLE invocations(
@@ -80,12 +92,59 @@ CREATE INDEX promise_waiters_by ON promise_waiters(waiter);
 DELETE FROM promise_waiters WHERE waiter NOT IN (SELECT id FROM invocations WHERE status<>'done')
 """
 
-MIGRATIONS = [_FIRST, _SECOND, _THIRD, _FOURTH]
+# How an invocation ended, and what operators and others did with it: `failed` is the code of the failure with which it ended, `cancelled` when it
+# was first cancelled, `shielded` whether that waits, `parent` the invocation that called it, and `origin` that of which it is a restart. `trace` is
+# its W3C traceparent. `audit` says who did what.
+_FIFTH = """
+ALTER TABLE invocations ADD COLUMN failed INTEGER;
+ALTER TABLE invocations ADD COLUMN cancelled {float};
+ALTER TABLE invocations ADD COLUMN shielded INTEGER NOT NULL DEFAULT 0;
+ALTER TABLE invocations ADD COLUMN parent TEXT;
+ALTER TABLE invocations ADD COLUMN origin TEXT;
+ALTER TABLE invocations ADD COLUMN trace TEXT;
+UPDATE invocations SET failed={failed}, error=NULL WHERE status='done';
+UPDATE invocations SET error=CAST(failed AS TEXT) WHERE failed IS NOT NULL;
+CREATE INDEX invocations_failed ON invocations(seq) WHERE failed IS NOT NULL;
+CREATE TABLE audit(
+    seq {serial}, at {float} NOT NULL, who TEXT NOT NULL, what TEXT NOT NULL,
+    invocation TEXT, service TEXT, key TEXT, name TEXT, detail TEXT);
+CREATE INDEX audit_of ON audit(invocation) WHERE invocation IS NOT NULL
+"""
+
+# The newest invocations of a service.
+_SIXTH = "CREATE INDEX invocations_of_service ON invocations(service, seq)"
+
+# Views for those who ask by SQL. {since} and {epoch} stand around a number of seconds, and make it a time.
+_SEVENTH = """
+CREATE VIEW palqytun_invocations AS SELECT id, service, handler, key,
+    CASE WHEN failed IS NOT NULL THEN 'failed' ELSE status END AS status, failed AS code, error,
+    {since}created{epoch} AS created, {since}ended{epoch} AS ended, COALESCE(ended, {now}) - created AS seconds, {since}due{epoch} AS due,
+    epoch AS attempts, retries, entries, worker, {since}cancelled{epoch} AS cancelled, parent, origin, trace, idem AS idempotency_key, seq FROM invocations;
+CREATE VIEW palqytun_attempts AS SELECT invocation, epoch AS attempt, worker, {since}begun{epoch} AS begun, {since}stopped{epoch} AS stopped,
+    stopped - begun AS seconds, how, error FROM attempts;
+CREATE VIEW palqytun_state AS SELECT service, key, name, {text} AS value, LENGTH(value) AS bytes FROM state;
+CREATE VIEW palqytun_audit AS SELECT {since}at{epoch} AS at, who, what, invocation, service, key, name, detail, seq FROM audit
+"""
+
+# The version of the app's code by which an invocation was begun; that of each worker, and what it serves, as JSON. Whether a schedule is
+# paused, and its last call. The results of steps that committed the user's own rows.
+_EIGHTH = """
+ALTER TABLE invocations ADD COLUMN code TEXT;
+CREATE TABLE serving(worker TEXT PRIMARY KEY, version TEXT NOT NULL, serves TEXT NOT NULL){plain};
+ALTER TABLE schedules ADD COLUMN paused INTEGER NOT NULL DEFAULT 0;
+ALTER TABLE schedules ADD COLUMN called TEXT;
+CREATE TABLE transactions(invocation TEXT NOT NULL, run BIGINT NOT NULL, result {blob} NOT NULL, PRIMARY KEY(invocation, run)){plain}
+"""
+
+MIGRATIONS = [_FIRST, _SECOND, _THIRD, _FOURTH, _FIFTH, _SIXTH, _SEVENTH, _EIGHTH]
 _OLDEST = 3  # what older databases hold can't be read any more
 
 VERSIONS = "CREATE TABLE IF NOT EXISTS schema_versions(version INTEGER PRIMARY KEY)"
 
-TABLES = ("invocations", "journal", "inbox", "timers", "waiters", "state", "promises", "promise_waiters", "locks", "workers", "attempts", "schedules", "limits")
+TABLES = (
+    *("invocations", "journal", "inbox", "timers", "waiters", "state", "promises", "promise_waiters"),
+    *("locks", "workers", "attempts", "schedules", "limits", "audit", "serving", "transactions"),
+)
 
 
 class NewerSchema(Exception):
@@ -103,10 +162,20 @@ class OlderSchema(Exception):
         super().__init__(f"{text}, and begin a new database")
 
 
-def missing(found: int) -> list[tuple[int, str]]:
-    """The migrations that a database of this version lacks, each with its number; version 0 is an empty database."""
+class NotMigrated(Exception):
+    """The database has an older schema, which isn't moved unless that is asked for."""
+
+    def __init__(self, found: int):
+        super().__init__(f"the database has schema version {found}, and this package needs {len(MIGRATIONS)}: `palqytun migrate` moves it, with all that it holds")
+
+
+def missing(found: int, migrates: bool = True) -> list[tuple[int, str]]:
+    """The migrations that a database of this version lacks, each with its number; version 0 is an empty database. Without `migrates`, only an
+    empty one may lack some."""
     if found > len(MIGRATIONS):
         raise NewerSchema(found)
     if 0 < found < _OLDEST:
         raise OlderSchema(found)
+    if 0 < found < len(MIGRATIONS) and not migrates:
+        raise NotMigrated(found)
     return list(enumerate(MIGRATIONS, 1))[found:]

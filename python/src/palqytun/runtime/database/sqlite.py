@@ -14,16 +14,16 @@ from collections.abc import Callable, Iterable, Sequence
 from types import TracebackType
 from typing import Any, TextIO
 
-from . import Beats, Conflict, Lost, StatementFailed
-from .schema import VERSIONS, missing
+from . import Asked, Beats, Conflict, Full, Lost, StatementFailed
+from .schema import VERSIONS, failed, missing
 
+_READ = 1000  # rows that are read in one step
 _QUICK = 0.001  # seconds; a commit that takes less isn't worth a thread
 _OPENING = 10.0  # seconds that another program's lock is waited for when a file is opened
 _BUSY = (sqlite3.SQLITE_BUSY, sqlite3.SQLITE_LOCKED)
 _UNUSABLE = (
     sqlite3.SQLITE_CANTOPEN,
     sqlite3.SQLITE_CORRUPT,
-    sqlite3.SQLITE_FULL,
     sqlite3.SQLITE_INTERRUPT,
     sqlite3.SQLITE_IOERR,
     sqlite3.SQLITE_NOLFS,
@@ -32,7 +32,18 @@ _UNUSABLE = (
     sqlite3.SQLITE_PROTOCOL,
     sqlite3.SQLITE_READONLY,
 )
-_TYPES = {"serial": "INTEGER PRIMARY KEY AUTOINCREMENT", "blob": "BLOB", "float": "REAL", "plain": " WITHOUT ROWID"}
+
+
+def _hex(at: int, count: int) -> str:
+    return f"hex(substr(result,{at},{count}))"
+
+
+def _number(at: int) -> str:
+    return "+".join(f"{16 ** (3 - it)}*(instr('0123456789ABCDEF',substr({_hex(at, 2)},{it + 1},1))-1)" for it in range(4))
+
+
+_TYPES = {"serial": "INTEGER PRIMARY KEY AUTOINCREMENT", "blob": "BLOB", "float": "REAL", "plain": " WITHOUT ROWID", "failed": failed(_hex, _number)}
+_TYPES |= {"since": "datetime(", "epoch": ", 'unixepoch')", "text": "CAST(value AS TEXT)", "now": "((julianday('now') - 2440587.5) * 86400.0)"}
 
 
 class InUse(Exception):
@@ -73,6 +84,8 @@ def _named_by(error: sqlite3.Error) -> Exception:
     primary = None if code is None else code & 0xFF
     if primary in _BUSY:
         return Conflict(str(error))
+    if primary == sqlite3.SQLITE_FULL:
+        return Full(str(error))
     if primary in _UNUSABLE:
         return Lost(str(error))
     return StatementFailed(getattr(error, "sqlite_errorname", type(error).__name__), str(error))
@@ -94,7 +107,7 @@ class SQLite:
         try:
             with _named:
                 self._connection = sqlite3.connect(path, isolation_level=None, timeout=_OPENING, cached_statements=500, check_same_thread=False)
-                self._set_up(synchronous)
+                self._set_up(synchronous, worker)
         except Conflict as error:
             self._unlock()
             raise Lost(f"another program has locked {path} for {_OPENING:g} seconds") from error
@@ -102,10 +115,11 @@ class SQLite:
             self._unlock()
             raise
 
-    def _set_up(self, synchronous: str) -> None:
+    def _set_up(self, synchronous: str, migrates: bool) -> None:
         self._connection.execute("PRAGMA journal_mode=WAL")
         self._connection.execute(f"PRAGMA synchronous={synchronous}")
-        if missing(self._version()):
+        self.before = self._version()
+        if missing(self.before, migrates):
             self._migrate()
         # From here on whoever is locked out waits in the event loop, which goes on.
         self._connection.execute("PRAGMA busy_timeout=0")
@@ -137,7 +151,7 @@ class SQLite:
     def now(self) -> float:
         return time.time()
 
-    def told(self, time: float) -> None:
+    def told(self, time: float, asked: float) -> None:
         """The database's clock is that of this machine."""
 
     async def begin(self, reads: bool = False) -> None:
@@ -164,11 +178,26 @@ class SQLite:
 
     async def rows(self, sql: str, values: Sequence[object] = ()) -> list[Any]:
         with _named:
-            return self._connection.execute(sql, tuple(values)).fetchall()
+            cursor = self._connection.execute(sql, tuple(values))
+            found = cursor.fetchmany(_READ)
+            while len(found) % _READ == 0 and (more := cursor.fetchmany(_READ)):
+                found += more
+                await asyncio.sleep(0)
+            return found
 
     async def change(self, sql: str, values: Sequence[object] = ()) -> int:
         with _named:
             return self._connection.execute(sql, tuple(values)).rowcount
+
+    async def several(self, asked: Sequence[Asked]) -> list[list[Any]]:
+        return [await self.rows(sql, values) for sql, values in asked]
+
+    def must(self, sql: str, values: Sequence[object], otherwise: Exception, count: int = 1) -> None:
+        with _named:
+            made = self._connection.execute(sql, tuple(values))
+            found = made.rowcount if made.description is None else len(made.fetchall())
+        if found != count:
+            raise otherwise
 
     def put(self, sql: str, values: Sequence[object] = ()) -> None:
         with _named:

@@ -26,6 +26,8 @@ CANCEL = 1  # the signal that cancels an invocation
 _SUSPENSION, _ERROR, _END, _PROPOSAL, _AWAITING_ON = 2, 3, 4, 5, 7
 _INPUT, _CALL, _RUN, _OUTPUT, _NOTIFICATION = 10, 19, 26, 29, 30
 _EAGER_STATE, _EAGER_KEYS = 11, 13
+TIMED = 18
+"""The type of the command that a timer completes."""
 _STEPS = frozenset([_PROPOSAL, _AWAITING_ON, _EAGER_STATE, _EAGER_KEYS, _RUN])
 _COMMANDS = range(_INPUT, _OUTPUT + 1)
 CHANGES = range(15, 18)
@@ -95,6 +97,12 @@ def completion(id: int, result: Result) -> bytes:
 def signal(index: int, result: Result) -> bytes:
     """The notification of the signal with this number, as of an awakeable or of `CANCEL`."""
     return core.signal(index, result)
+
+
+@functools.cache
+def cancellation() -> bytes:
+    """The notification that cancels an invocation."""
+    return signal(CANCEL, void())
 
 
 def named_signal(name: str, result: Result) -> bytes:
@@ -347,7 +355,7 @@ _READERS: dict[int, Callable[[Said, bytes], Message]] = {
     14: lambda it, frame: Read(it.id, None),
     15: lambda it, frame: Change(it.text(0), it.part(1) or b""),
     16: lambda it, frame: Change(it.text(0), None),
-    18: lambda it, frame: Sleep(it.id, it.number),
+    TIMED: lambda it, frame: Sleep(it.id, it.number),
     _CALL: _call,
     20: _call,
     21: lambda it, frame: CompleteAwakeable(it.text(0), Result(frame)),
@@ -384,6 +392,11 @@ def read(kind: int, frame: bytes) -> Message:
     raise ValueError(f"an attempt writes no frame of type {kind}")
 
 
+def timed(it: Message | None) -> int | None:
+    """The completion id that a timer completes, if it is such a command."""
+    return it.id if isinstance(it, Sleep) else None
+
+
 def asked_of(kind: int, frame: bytes) -> Message | None:
     """What a frame that an attempt wrote asks of the runtime: nothing, if it is a step's. One that can't be read is a `ValueError`."""
     if kind in _STEPS:
@@ -400,9 +413,37 @@ def only_steps(output: bytes) -> bool:
     return all(kind in _STEPS for kind, _ in split(output))
 
 
+_OWN = _STEPS | {_OUTPUT}
+
+
+def only_ends(output: bytes) -> bool:
+    """Whether an output has an end, and no command that asks something else of the runtime."""
+    kinds = {kind for kind, _ in split(output)}
+    return _END in kinds and kinds <= _OWN | {_END}
+
+
+def only_suspends(output: bytes) -> bool:
+    """Whether an output has a suspension, and no command that asks something of the runtime."""
+    kinds = {kind for kind, _ in split(output)}
+    return _SUSPENSION in kinds and kinds <= _OWN | {_SUSPENSION}
+
+
 def only_runs(output: bytes) -> bool:
     """Whether an output has no frame but commands of runs."""
     return all(kind == _RUN for kind, _ in split(output))
+
+
+PATCHED = "palqytun.patched "
+"""What a run's name begins with that stands for a patch of the handler's code. It is never executed: the command itself is the record."""
+
+
+def patches_in(stream: bytes) -> dict[int, str]:
+    """The patches in a stored journal: their names by the indices of their commands, of which the Input has 0."""
+    if PATCHED.encode() not in stream:
+        return {}
+    commands = enumerate(it for it in split(stream) if it[0] in _COMMANDS)
+    runs = ((at, read(kind, frame)) for at, (kind, frame) in commands if kind == _RUN)
+    return {at: it.name.removeprefix(PATCHED) for at, it in runs if isinstance(it, Run) and it.name.startswith(PATCHED)}
 
 
 def commands_in(stream: bytes) -> Iterator[tuple[Command, bytes]]:

@@ -78,7 +78,8 @@ class Journal:
         self.written = 0  # how many bytes of this attempt's output are stored
         self._core = palqytun.Journal()
         self._loaded: list[tuple[int, bytes]] | None = []  # its entries, each with its type, until `start` hands them out
-        self._kept = (0, 0)
+        self._timed: list[int | bytes] = []  # of each command that a timer completes, in order: the completion id, or the frame that has it
+        self._kept = (0, 0, 0)
 
     @contextmanager
     def _ruled(self, what: str) -> Iterator[None]:
@@ -99,6 +100,8 @@ class Journal:
         with self._ruled(f"entry {self.entries}"):
             row = self._core.entry(frame)
         self._loaded.append((row.type, frame))
+        if row.type == frames.TIMED:
+            self._timed.append(frame)
         self.entries += 1
 
     def start(self, begin: Begin) -> bytes:
@@ -133,6 +136,8 @@ class Journal:
         for it in asked:
             if isinstance(it, Command):
                 stored.commands.append(it)
+                if (id := frames.timed(it)) is not None:
+                    self._timed.append(id)
             elif isinstance(it, (Suspension, End, Failed)):
                 stored.end = it
         self.written += len(output)
@@ -153,17 +158,28 @@ class Journal:
                 state[it.key] = it.value
         return state
 
+    def timed(self, number: int) -> int | None:
+        """The completion id of a command that a timer completes, with this number, from 0 in the order of the journal; none if it isn't stored yet."""
+        if number >= len(self._timed):
+            return None
+        it = self._timed[number]
+        if isinstance(it, int):
+            return it
+        [read] = frames.messages_in(it)
+        return frames.timed(read)
+
     def keep(self) -> None:
         """What was stored since the last `keep` is committed."""
         self._core.keep()
-        self._kept = (self.entries, self.written)
+        self._kept = (self.entries, self.written, len(self._timed))
 
     def undo(self) -> None:
         """What was stored since the last `keep` isn't committed: it is taken back."""
         self._core.undo()
         if self._loaded is not None:
             del self._loaded[self._kept[0] :]
-        self.entries, self.written = self._kept
+        self.entries, self.written, timed = self._kept
+        del self._timed[timed:]
 
     def _placed(self, row: palqytun.Row) -> Entry:
         self.entries += 1

@@ -1,6 +1,6 @@
 use Rattle.std.proofs.Common.{List, ℕ, ◌∷◌, [], ◌++◌, sym, subst, ◌∙◌}
-use Rattle.engine_inboxes.specs.Deliverable.{Commanded, Deliverable, Entered, IsUnwaited, MayBeStored}
-use Rattle.engine_inboxes.proofs.Coming.{command_entered, command_stays, entry_stays, on_ok_then, other_entered}
+use Rattle.engine_inboxes.specs.Deliverable.{Commanded, Deliverable, Entered, IsProposedApart, IsUnwaited, MayBeStored}
+use Rattle.engine_inboxes.proofs.Coming.{command_apart, command_entered, command_stays, entry_stays, on_ok_then, other_entered}
 use Rattle.engine_inboxes.proofs.inbox.Inbox.stored.Goals as goal
 
 pub returns-in-Some-clause-ok : goal.returns-in-Some-clause-ok
@@ -21,3 +21,9 @@ returns-in-Some-clause-entered c = on_ok_then c.commanded.result (Commanded c.in
 
 pub returns-clause-entered : goal.returns-clause-entered
 returns-clause-entered c = other_entered c.args.entry.now c.args.self.now.waiting.items c.args.self.now.next (sym c.in-Ok.ensures ∙ c.in-None.is)
+
+pub returns-in-Some-clause-apart : goal.returns-in-Some-clause-apart
+returns-in-Some-clause-apart c = command_apart c.commanded.result c.args.entry.now c.in-Some.command c.args.self.now.waiting.items (sym c.in-Ok.ensures ∙ c.in-Some.is)
+
+pub returns-clause-apart : goal.returns-clause-apart
+returns-clause-apart c = λ said. subst (λ o. IsUnwaited o c.args.self.now.waiting.items) c.in-Ok-note_in.ensures (subst (λ l. IsUnwaited c.in-Ok-note_in.note l) c.as_slice.ensures.value c.in-Ok-proposed.ensures)

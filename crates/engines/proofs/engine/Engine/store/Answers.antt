@@ -5,7 +5,7 @@ use Rattle.engines.proofs.engine.Engine.store.Goals as goal
 
 pub returns-in-Ok-Some-clause-does : goal.returns-in-Ok-Some-clause-does
 returns-in-Ok-Some-clause-does g c = on_ok_then c.perform.result (DoesEffect c.args.place c.in-Ok-Some.effect c.store_next.new.self c.perform.new.self) (StoresAndPerforms (λ h. g.H.Handler.meaning h) c.args.place c.args.self.now c.perform.new.self)
-    (stored_then (λ h. g.H.Handler.meaning h) c.args.place c.in-Ok-Some.field-0 c.in-Ok-Some.effect c.args.self.now c.store_next.new.self c.perform.new.self c.in-Ok-Some.field-0-is c.in-Ok-Some.ensures.does)
+    (stored_then (λ h. g.H.Handler.meaning h) c.args.place c.in-Ok-Some.field-0 c.in-Ok-Some.effect c.args.self.now c.store_next.new.self c.perform.new.self c.in-Ok-Some.field-0-is c.in-Ok-Some.ensures.none c.in-Ok-Some.ensures.does)
     c.perform.ensures.does
 
 pub returns-in-Ok-None-clause-does : goal.returns-in-Ok-None-clause-does

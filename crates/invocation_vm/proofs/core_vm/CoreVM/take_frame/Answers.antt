@@ -10,9 +10,9 @@ returns-in_default-clause-ok c =
 pub returns-then-has_failed-clause-ok : goal.returns-then-has_failed-clause-ok
 returns-then-has_failed-clause-ok c =
     let t = rw c.in-Some.is at c.in-Ok.ensures.next in
-    ends c.receive-given.result c.in-Some.raw _ c.next_frame.new.self _ _ _ _ c.requires t c.receive-given.ensures.step c.in-Ok-settle_quietly.ensures (sym c.has_failed.ensures ∙ c.if-has_failed.true) c.clear.ensures
+    ends c.receive-given.result c.in-Some.raw _ c.next_frame.new.self _ _ _ _ c.requires t c.receive-given.ensures.step c.in-Ok-2.ensures (sym c.has_failed.ensures ∙ c.if-has_failed.true) c.clear.ensures
 
 pub returns-clause-ok : goal.returns-clause-ok
 returns-clause-ok c =
     let t = rw c.in-Some.is at c.in-Ok.ensures.next in
-    goes_on c.receive-given.result c.in-Some.raw _ _ _ _ _ c.requires t c.receive-given.ensures.step c.in-Ok-settle_quietly.ensures c.receive-given.ensures.quiet (sym c.has_failed.ensures ∙ c.if-has_failed.false)
+    goes_on c.receive-given.result c.in-Some.raw _ _ _ _ _ c.requires t c.receive-given.ensures.step c.in-Ok-2.ensures c.receive-given.ensures.quiet (sym c.has_failed.ensures ∙ c.if-has_failed.false)

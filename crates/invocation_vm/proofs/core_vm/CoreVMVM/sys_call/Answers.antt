@@ -1,4 +1,4 @@
-use Rattle.std.proofs.Common.{◌≡◌, ap, subst, ◌∙◌}
+use Rattle.std.proofs.Common.{ap, subst, ◌∙◌}
 use Rattle.vm_asks.specs.Asks.{call_command, call_handles}
 use Rattle.invocation_vm.specs.Calls.{CallsFor}
 use Rattle.invocation_vm.specs.Seen.{seen}

@@ -1,4 +1,4 @@
-use Rattle.std.proofs.Common.{◌≡◌, ap, subst, ◌∙◌}
+use Rattle.std.proofs.Common.{ap, subst, ◌∙◌}
 use Rattle.vm_asks.specs.Asks.{millis_of, send_command, send_handle}
 use Rattle.invocation_vm.specs.Calls.{CallsFor}
 use Rattle.invocation_vm.specs.Seen.{seen}

@@ -1,0 +1,467 @@
+/* The functions of palqytun_flat.h. */
+/* tools/header --write writes this file, from palqytun.h. */
+#include "palqytun_flat.h"
+
+uint32_t palqytun_flat_line(palqytun_vm *vm, const uint8_t *line, size_t line_len, palqytun_told *returned)
+{
+    palqytun_told made = palqytun_line(vm, line, line_len);
+    if (returned != NULL)
+        *returned = made;
+    return made.status;
+}
+
+uint32_t palqytun_flat_answer(palqytun_vm *vm, uint8_t *out, size_t out_len, palqytun_told *returned)
+{
+    palqytun_told made = palqytun_answer(vm, out, out_len);
+    if (returned != NULL)
+        *returned = made;
+    return made.status;
+}
+
+uint32_t palqytun_flat_take_output(palqytun_vm *vm, uint8_t *out, size_t out_len, palqytun_told *returned)
+{
+    palqytun_told made = palqytun_take_output(vm, out, out_len);
+    if (returned != NULL)
+        *returned = made;
+    return made.status;
+}
+
+uint32_t palqytun_flat_part(palqytun_vm *vm, size_t at, uint8_t *out, size_t out_len, palqytun_told *returned)
+{
+    palqytun_told made = palqytun_part(vm, at, out, out_len);
+    if (returned != NULL)
+        *returned = made;
+    return made.status;
+}
+
+uint32_t palqytun_flat_make(palqytun_vm *vm, const uint8_t *content_type, size_t content_type_len, const palqytun_options *options, palqytun_replied *returned)
+{
+    palqytun_replied made = palqytun_make(vm, (palqytun_optional){content_type != NULL, {content_type, content_type_len}}, options);
+    if (returned != NULL)
+        *returned = made;
+    return made.status;
+}
+
+uint32_t palqytun_flat_is_ready(palqytun_vm *vm, palqytun_replied *returned)
+{
+    palqytun_replied made = palqytun_is_ready(vm);
+    if (returned != NULL)
+        *returned = made;
+    return made.status;
+}
+
+uint32_t palqytun_flat_head(palqytun_vm *vm, palqytun_replied *returned)
+{
+    palqytun_replied made = palqytun_head(vm);
+    if (returned != NULL)
+        *returned = made;
+    return made.status;
+}
+
+uint32_t palqytun_flat_close_input(palqytun_vm *vm, palqytun_replied *returned)
+{
+    palqytun_replied made = palqytun_close_input(vm);
+    if (returned != NULL)
+        *returned = made;
+    return made.status;
+}
+
+uint32_t palqytun_flat_output(palqytun_vm *vm, palqytun_replied *returned)
+{
+    palqytun_replied made = palqytun_output(vm);
+    if (returned != NULL)
+        *returned = made;
+    return made.status;
+}
+
+uint32_t palqytun_flat_state(palqytun_vm *vm, palqytun_replied *returned)
+{
+    palqytun_replied made = palqytun_state(vm);
+    if (returned != NULL)
+        *returned = made;
+    return made.status;
+}
+
+uint32_t palqytun_flat_last_command_index(palqytun_vm *vm, palqytun_replied *returned)
+{
+    palqytun_replied made = palqytun_last_command_index(vm);
+    if (returned != NULL)
+        *returned = made;
+    return made.status;
+}
+
+uint32_t palqytun_flat_report_error(palqytun_vm *vm, const palqytun_error *error, const palqytun_command *related, palqytun_replied *returned)
+{
+    palqytun_replied made = palqytun_report_error(vm, error, related);
+    if (returned != NULL)
+        *returned = made;
+    return made.status;
+}
+
+uint32_t palqytun_flat_input(palqytun_vm *vm, palqytun_replied *returned)
+{
+    palqytun_replied made = palqytun_input(vm);
+    if (returned != NULL)
+        *returned = made;
+    return made.status;
+}
+
+uint32_t palqytun_flat_await(palqytun_vm *vm, uint32_t handle, palqytun_replied *returned)
+{
+    palqytun_replied made = palqytun_await(vm, handle);
+    if (returned != NULL)
+        *returned = made;
+    return made.status;
+}
+
+uint32_t palqytun_flat_await_tree(palqytun_vm *vm, const palqytun_node *nodes, size_t nodes_len, palqytun_replied *returned)
+{
+    palqytun_replied made = palqytun_await_tree(vm, nodes, nodes_len);
+    if (returned != NULL)
+        *returned = made;
+    return made.status;
+}
+
+uint32_t palqytun_flat_take(palqytun_vm *vm, uint32_t handle, palqytun_replied *returned)
+{
+    palqytun_replied made = palqytun_take(vm, handle);
+    if (returned != NULL)
+        *returned = made;
+    return made.status;
+}
+
+uint32_t palqytun_flat_is_completed(palqytun_vm *vm, uint32_t handle, palqytun_replied *returned)
+{
+    palqytun_replied made = palqytun_is_completed(vm, handle);
+    if (returned != NULL)
+        *returned = made;
+    return made.status;
+}
+
+uint32_t palqytun_flat_sleep(palqytun_vm *vm, const uint8_t *name, size_t name_len, uint64_t wake_up_millis, palqytun_replied *returned)
+{
+    palqytun_replied made = palqytun_sleep(vm, (palqytun_bytes){name, name_len}, wake_up_millis);
+    if (returned != NULL)
+        *returned = made;
+    return made.status;
+}
+
+uint32_t palqytun_flat_state_get(palqytun_vm *vm, const uint8_t *key, size_t key_len, const uint8_t *name, size_t name_len, palqytun_replied *returned)
+{
+    palqytun_replied made = palqytun_state_get(vm, (palqytun_bytes){key, key_len}, (palqytun_bytes){name, name_len});
+    if (returned != NULL)
+        *returned = made;
+    return made.status;
+}
+
+uint32_t palqytun_flat_state_get_keys(palqytun_vm *vm, const uint8_t *name, size_t name_len, palqytun_replied *returned)
+{
+    palqytun_replied made = palqytun_state_get_keys(vm, (palqytun_bytes){name, name_len});
+    if (returned != NULL)
+        *returned = made;
+    return made.status;
+}
+
+uint32_t palqytun_flat_state_set(palqytun_vm *vm, const uint8_t *key, size_t key_len, const uint8_t *value, size_t value_len, const uint8_t *name, size_t name_len, bool unstable, palqytun_replied *returned)
+{
+    palqytun_replied made = palqytun_state_set(vm, (palqytun_bytes){key, key_len}, (palqytun_bytes){value, value_len}, (palqytun_bytes){name, name_len}, unstable);
+    if (returned != NULL)
+        *returned = made;
+    return made.status;
+}
+
+uint32_t palqytun_flat_state_clear(palqytun_vm *vm, const uint8_t *key, size_t key_len, const uint8_t *name, size_t name_len, palqytun_replied *returned)
+{
+    palqytun_replied made = palqytun_state_clear(vm, (palqytun_bytes){key, key_len}, (palqytun_bytes){name, name_len});
+    if (returned != NULL)
+        *returned = made;
+    return made.status;
+}
+
+uint32_t palqytun_flat_state_clear_all(palqytun_vm *vm, const uint8_t *name, size_t name_len, palqytun_replied *returned)
+{
+    palqytun_replied made = palqytun_state_clear_all(vm, (palqytun_bytes){name, name_len});
+    if (returned != NULL)
+        *returned = made;
+    return made.status;
+}
+
+uint32_t palqytun_flat_ephemeral_state_get(palqytun_vm *vm, const uint8_t *key, size_t key_len, palqytun_replied *returned)
+{
+    palqytun_replied made = palqytun_ephemeral_state_get(vm, (palqytun_bytes){key, key_len});
+    if (returned != NULL)
+        *returned = made;
+    return made.status;
+}
+
+uint32_t palqytun_flat_take_ephemeral(palqytun_vm *vm, uint32_t id, palqytun_replied *returned)
+{
+    palqytun_replied made = palqytun_take_ephemeral(vm, id);
+    if (returned != NULL)
+        *returned = made;
+    return made.status;
+}
+
+uint32_t palqytun_flat_call(palqytun_vm *vm, const palqytun_target *target, const uint8_t *input, size_t input_len, const uint8_t *name, size_t name_len, bool unstable, palqytun_replied *returned)
+{
+    palqytun_replied made = palqytun_call(vm, target, (palqytun_bytes){input, input_len}, (palqytun_bytes){name, name_len}, unstable);
+    if (returned != NULL)
+        *returned = made;
+    return made.status;
+}
+
+uint32_t palqytun_flat_call_with_deadline(palqytun_vm *vm, const palqytun_target *target, const uint8_t *input, size_t input_len, uint64_t deadline_millis, const uint8_t *name, size_t name_len, bool unstable, palqytun_replied *returned)
+{
+    palqytun_replied made = palqytun_call_with_deadline(vm, target, (palqytun_bytes){input, input_len}, deadline_millis, (palqytun_bytes){name, name_len}, unstable);
+    if (returned != NULL)
+        *returned = made;
+    return made.status;
+}
+
+uint32_t palqytun_flat_send(palqytun_vm *vm, const palqytun_target *target, const uint8_t *input, size_t input_len, uint64_t at_millis, const uint8_t *name, size_t name_len, bool unstable, palqytun_replied *returned)
+{
+    palqytun_replied made = palqytun_send(vm, target, (palqytun_bytes){input, input_len}, at_millis, (palqytun_bytes){name, name_len}, unstable);
+    if (returned != NULL)
+        *returned = made;
+    return made.status;
+}
+
+uint32_t palqytun_flat_cancel_invocation(palqytun_vm *vm, const uint8_t *invocation_id, size_t invocation_id_len, palqytun_replied *returned)
+{
+    palqytun_replied made = palqytun_cancel_invocation(vm, (palqytun_bytes){invocation_id, invocation_id_len});
+    if (returned != NULL)
+        *returned = made;
+    return made.status;
+}
+
+uint32_t palqytun_flat_attach(palqytun_vm *vm, const palqytun_invocation *invocation, palqytun_replied *returned)
+{
+    palqytun_replied made = palqytun_attach(vm, invocation);
+    if (returned != NULL)
+        *returned = made;
+    return made.status;
+}
+
+uint32_t palqytun_flat_get_output(palqytun_vm *vm, const palqytun_invocation *invocation, palqytun_replied *returned)
+{
+    palqytun_replied made = palqytun_get_output(vm, invocation);
+    if (returned != NULL)
+        *returned = made;
+    return made.status;
+}
+
+uint32_t palqytun_flat_awakeable(palqytun_vm *vm, palqytun_replied *returned)
+{
+    palqytun_replied made = palqytun_awakeable(vm);
+    if (returned != NULL)
+        *returned = made;
+    return made.status;
+}
+
+uint32_t palqytun_flat_complete_awakeable(palqytun_vm *vm, const uint8_t *id, size_t id_len, const palqytun_value *value, bool unstable, palqytun_replied *returned)
+{
+    palqytun_replied made = palqytun_complete_awakeable(vm, (palqytun_bytes){id, id_len}, value, unstable);
+    if (returned != NULL)
+        *returned = made;
+    return made.status;
+}
+
+uint32_t palqytun_flat_signal(palqytun_vm *vm, const uint8_t *name, size_t name_len, palqytun_replied *returned)
+{
+    palqytun_replied made = palqytun_signal(vm, (palqytun_bytes){name, name_len});
+    if (returned != NULL)
+        *returned = made;
+    return made.status;
+}
+
+uint32_t palqytun_flat_complete_signal(palqytun_vm *vm, const uint8_t *invocation_id, size_t invocation_id_len, const uint8_t *name, size_t name_len, const palqytun_value *value, palqytun_replied *returned)
+{
+    palqytun_replied made = palqytun_complete_signal(vm, (palqytun_bytes){invocation_id, invocation_id_len}, (palqytun_bytes){name, name_len}, value);
+    if (returned != NULL)
+        *returned = made;
+    return made.status;
+}
+
+uint32_t palqytun_flat_get_promise(palqytun_vm *vm, const uint8_t *key, size_t key_len, palqytun_replied *returned)
+{
+    palqytun_replied made = palqytun_get_promise(vm, (palqytun_bytes){key, key_len});
+    if (returned != NULL)
+        *returned = made;
+    return made.status;
+}
+
+uint32_t palqytun_flat_peek_promise(palqytun_vm *vm, const uint8_t *key, size_t key_len, palqytun_replied *returned)
+{
+    palqytun_replied made = palqytun_peek_promise(vm, (palqytun_bytes){key, key_len});
+    if (returned != NULL)
+        *returned = made;
+    return made.status;
+}
+
+uint32_t palqytun_flat_complete_promise(palqytun_vm *vm, const uint8_t *key, size_t key_len, const palqytun_value *value, bool unstable, palqytun_replied *returned)
+{
+    palqytun_replied made = palqytun_complete_promise(vm, (palqytun_bytes){key, key_len}, value, unstable);
+    if (returned != NULL)
+        *returned = made;
+    return made.status;
+}
+
+uint32_t palqytun_flat_run(palqytun_vm *vm, const uint8_t *name, size_t name_len, palqytun_replied *returned)
+{
+    palqytun_replied made = palqytun_run(vm, (palqytun_bytes){name, name_len});
+    if (returned != NULL)
+        *returned = made;
+    return made.status;
+}
+
+uint32_t palqytun_flat_propose(palqytun_vm *vm, uint32_t handle, const palqytun_value *value, const palqytun_policy *policy, palqytun_replied *returned)
+{
+    palqytun_replied made = palqytun_propose(vm, handle, value, policy);
+    if (returned != NULL)
+        *returned = made;
+    return made.status;
+}
+
+uint32_t palqytun_flat_propose_retryable(palqytun_vm *vm, uint32_t handle, uint64_t duration_millis, const palqytun_error *error, const palqytun_policy *policy, palqytun_replied *returned)
+{
+    palqytun_replied made = palqytun_propose_retryable(vm, handle, duration_millis, error, policy);
+    if (returned != NULL)
+        *returned = made;
+    return made.status;
+}
+
+uint32_t palqytun_flat_write_output(palqytun_vm *vm, const palqytun_value *value, bool unstable, palqytun_replied *returned)
+{
+    palqytun_replied made = palqytun_write_output(vm, value, unstable);
+    if (returned != NULL)
+        *returned = made;
+    return made.status;
+}
+
+uint32_t palqytun_flat_end(palqytun_vm *vm, palqytun_replied *returned)
+{
+    palqytun_replied made = palqytun_end(vm);
+    if (returned != NULL)
+        *returned = made;
+    return made.status;
+}
+
+uint32_t palqytun_flat_journal_entries(palqytun_journal *journal, palqytun_told *returned)
+{
+    palqytun_told made = palqytun_journal_entries(journal);
+    if (returned != NULL)
+        *returned = made;
+    return made.status;
+}
+
+uint32_t palqytun_flat_journal_entry(palqytun_journal *journal, const uint8_t *entry, size_t entry_len, palqytun_row *returned)
+{
+    palqytun_row made = palqytun_journal_entry(journal, entry, entry_len);
+    if (returned != NULL)
+        *returned = made;
+    return made.status;
+}
+
+uint32_t palqytun_flat_journal_arrive(palqytun_journal *journal, const uint8_t *entry, size_t entry_len, palqytun_row *returned)
+{
+    palqytun_row made = palqytun_journal_arrive(journal, entry, entry_len);
+    if (returned != NULL)
+        *returned = made;
+    return made.status;
+}
+
+uint32_t palqytun_flat_journal_store(palqytun_journal *journal, uint32_t version, const uint8_t *output, size_t output_len, palqytun_stored *returned)
+{
+    palqytun_stored made = palqytun_journal_store(journal, version, output, output_len);
+    if (returned != NULL)
+        *returned = made;
+    return made.status;
+}
+
+uint32_t palqytun_flat_journal_row(palqytun_journal *journal, size_t at, palqytun_row *returned)
+{
+    palqytun_row made = palqytun_journal_row(journal, at);
+    if (returned != NULL)
+        *returned = made;
+    return made.status;
+}
+
+uint32_t palqytun_flat_journal_frame(palqytun_journal *journal, size_t at, uint8_t *out, size_t out_len, palqytun_told *returned)
+{
+    palqytun_told made = palqytun_journal_frame(journal, at, out, out_len);
+    if (returned != NULL)
+        *returned = made;
+    return made.status;
+}
+
+uint32_t palqytun_flat_journal_answer(palqytun_journal *journal, uint8_t *out, size_t out_len, palqytun_told *returned)
+{
+    palqytun_told made = palqytun_journal_answer(journal, out, out_len);
+    if (returned != NULL)
+        *returned = made;
+    return made.status;
+}
+
+uint32_t palqytun_flat_frame_line(const uint8_t *frame, size_t frame_len, uint8_t *out, size_t out_len, palqytun_told *returned)
+{
+    palqytun_told made = palqytun_frame_line(frame, frame_len, out, out_len);
+    if (returned != NULL)
+        *returned = made;
+    return made.status;
+}
+
+uint32_t palqytun_flat_line_frame(const uint8_t *line, size_t line_len, uint8_t *out, size_t out_len, palqytun_told *returned)
+{
+    palqytun_told made = palqytun_line_frame(line, line_len, out, out_len);
+    if (returned != NULL)
+        *returned = made;
+    return made.status;
+}
+
+uint32_t palqytun_flat_notification(uint32_t kind, uint32_t id, const uint8_t *name, size_t name_len, const uint8_t *frame, size_t frame_len, uint8_t *out, size_t out_len, palqytun_told *returned)
+{
+    palqytun_told made = palqytun_notification(kind, id, name, name_len, frame, frame_len, out, out_len);
+    if (returned != NULL)
+        *returned = made;
+    return made.status;
+}
+
+uint32_t palqytun_flat_is_awake(const uint8_t *suspension, size_t suspension_len, const uint8_t *notifications, size_t notifications_len, palqytun_judged *returned)
+{
+    palqytun_judged made = palqytun_is_awake(suspension, suspension_len, notifications, notifications_len);
+    if (returned != NULL)
+        *returned = made;
+    return made.status;
+}
+
+uint32_t palqytun_flat_frame_read(const uint8_t *frame, size_t frame_len, palqytun_frame_row *returned)
+{
+    palqytun_frame_row made = palqytun_frame_read(frame, frame_len);
+    if (returned != NULL)
+        *returned = made;
+    return made.status;
+}
+
+uint32_t palqytun_flat_frame_part(const uint8_t *frame, size_t frame_len, size_t at, uint8_t *out, size_t out_len, palqytun_told *returned)
+{
+    palqytun_told made = palqytun_frame_part(frame, frame_len, at, out, out_len);
+    if (returned != NULL)
+        *returned = made;
+    return made.status;
+}
+
+uint32_t palqytun_flat_value_frame(const uint8_t *value, size_t value_len, uint8_t *out, size_t out_len, palqytun_told *returned)
+{
+    palqytun_told made = palqytun_value_frame(value, value_len, out, out_len);
+    if (returned != NULL)
+        *returned = made;
+    return made.status;
+}
+
+uint32_t palqytun_flat_input_frame(const uint8_t *frame, size_t frame_len, const uint8_t *value, size_t value_len, uint8_t *out, size_t out_len, palqytun_told *returned)
+{
+    palqytun_told made = palqytun_input_frame(frame, frame_len, value, value_len, out, out_len);
+    if (returned != NULL)
+        *returned = made;
+    return made.status;
+}

@@ -1,0 +1,41 @@
+-- What is read of the bytes that C gives.
+use Rattle.std.specs.Prelude.{◌≡◌, ◌⊎◌, ℕ, List, Option, Some, None, Result, Ok, Err}
+use Rattle.journal_protocol.specs.Message.{Message}
+use Rattle.journal_protocol.specs.RawMessage.{RawMessage}
+use Rattle.journal_protocol.specs.Bodies.{message_in}
+use Rattle.journal_protocol.specs.Frames.{type_of}
+use Rattle.journal_protocol.specs.Types.{type_number}
+use Rattle.journal_entries.specs.Entries.{frame_in}
+use Rattle.c_values.specs.declared.status.Status.{Status}
+use Rattle.c_values.specs.declared.status.Status.TheVariants as status
+use Rattle.c_frames.specs.declared.numbers.FrameRow.{FrameRow}
+use Rattle.c_frames.specs.Numbers.{unread_row, message_numbers}
+use Rattle.c_frames.specs.Parts.{message_part}
+
+-- the message of a frame, if there is one and it can be read
+abbrev pub message_behind : Option RawMessage → Option Message
+message_behind None = None
+message_behind (Some raw) = message_in raw.ty raw.body
+
+-- the message of the one whole frame that bytes are
+abbrev pub message_at : List ℕ → Option Message
+message_at bytes = message_behind (frame_in bytes)
+
+-- the row of a message, if there is one
+abbrev pub message_row : Option Message → FrameRow
+message_row None = unread_row status.NotAFrame
+message_row (Some m) = record (message_numbers m) { ty = type_number (type_of m) }
+
+-- The row of a frame; or memory ran out.
+abbrev pub RowRead : List ℕ → FrameRow → Type 0
+RowRead frame row = (row ≡ message_row (message_at frame)) ⊎ (row ≡ unread_row status.NoMemory)
+
+-- a part, if there is one
+abbrev pub found_part : Option (List ℕ) → Result (List ℕ) Status
+found_part None = Err status.NoPart
+found_part (Some part) = Ok part
+
+-- the part of a message at a place, or why there is none
+abbrev pub part_behind : Option Message → ℕ → Result (List ℕ) Status
+part_behind None at = Err status.NotAFrame
+part_behind (Some m) at = found_part (message_part m at)

@@ -1,0 +1,8 @@
+use Rattle.engines.proofs.Keeping.{kept_from_nothing}
+use Rattle.engines.proofs.Storing.{if_ok_then}
+use Rattle.engines.specs.Between.{AllKept}
+use Rattle.engines.specs.Engines.{AllHappen}
+use Rattle.engines.proofs.happen.play_engine.Goals as goal
+
+pub returns-clause-kept : goal.returns-clause-kept
+returns-clause-kept g c = if_ok_then c.run_engine.result (AllHappen (λ h. g.H.Handler.meaning h) c.args.events.now c.new.result) AllKept (λ e d. kept_from_nothing (λ h. g.H.Handler.meaning h) c.args.events.now c.new.result e c.new.ensures d) c.run_engine.ensures.does

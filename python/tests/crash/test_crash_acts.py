@@ -1,0 +1,124 @@
+"""What operators do, at any moment of an invocation's life: a worker dies in place of a commit, somebody cancels, kills, pauses or restarts, another worker
+dies, and a last one does the rest."""
+
+import functools
+import os
+import pathlib
+import sys
+import tempfile
+import unittest
+
+HERE = pathlib.Path(__file__).parent
+sys.path[:0] = [str(HERE), str(HERE.parent)]
+import scenarios  # noqa: E402
+from checked import LEFTOVERS, Wrong  # noqa: E402
+from crash_app import effect  # noqa: E402
+from palqytun.runtime import App, Cancelled, Context, Service, acts, invocations, journal, operate, restarting  # noqa: E402
+from palqytun.runtime.database.plain import Plain  # noqa: E402
+from palqytun.runtime.invocations import New  # noqa: E402
+from palqytun.runtime.outcome import Outcome  # noqa: E402
+
+IS_THOROUGH = os.environ.get("PALQYTUN_TEST_THOROUGH") == "1"
+trips = Service("Trips")
+
+
+@trips.handler()
+async def trip(ctx: Context, it: None) -> None:
+    """Takes two steps, waits, and undoes each step that it has begun if it is cancelled."""
+    undo = []
+    try:
+        for name in ("flight", "hotel"):
+            undo.append(f"undid-{name}-{ctx.uuid()}")
+            await ctx.run(name, effect, undo[-1].removeprefix("un"))
+        await ctx.call(waits)
+    except Cancelled:
+        with ctx.shield():
+            for key in reversed(undo):
+                await ctx.run("undo", effect, key)
+        raise
+
+
+@trips.handler()
+async def waits(ctx: Context, it: None) -> None:
+    await ctx.sleep(100_000)
+
+
+app = App(trips)
+
+
+def _expect(is_so: bool, what: object) -> None:
+    if not is_so:
+        raise Wrong(f"{what}")
+
+
+def _acted(db: Plain, name: str, id: str) -> str:
+    """Does an act as an operator does, and answers in words what it did."""
+    return db.done(lambda to: acts.known(name).act(to, app, Outcome(), id, "ann"))
+
+
+def _row(db: Plain, id: str) -> dict:
+    return db.done(lambda to: operate.invocation(to, id))
+
+
+def acted(folder: pathlib.Path, act: str, commit: int) -> None:
+    """One life: `Wrong` if anything isn't as it has to be."""
+    here = folder / f"{act}-{commit}"
+    here.mkdir()
+    path, effects = here / "db", here / "effects"
+    effects.touch()
+    with Plain(str(path)) as db:
+        db.done(lambda to: invocations.create(to, app, Outcome(), New("Trips", "trip", id="inv_trip", argument=b"null")))
+    worker = functools.partial(scenarios._worker, path, effects, app=app)
+    _expect(worker(dies=commit) in (0, scenarios.faulty.DIED, scenarios.faulty.STUCK), "the first worker has failed")
+    before, id = effects.read_text(), "inv_trip"
+    with Plain(str(path)) as db:
+        if act in ("kill", "restart"):
+            _acted(db, "kill", id)
+        if act == "restart":
+            id = db.done(lambda to: restarting.restart(to, app, Outcome(), "inv_trip", "ann"))
+        if act == "pause":
+            _acted(db, "pause", id)
+    if act == "pause":
+        worker()
+        _expect(effects.read_text() == before, "a paused invocation went on")
+        with Plain(str(path)) as db:
+            _acted(db, "resume", id)
+    worker(dies=commit * 5 % 11 + 1)
+    with Plain(str(path)) as db:
+        if act != "kill" and _acted(db, "cancel", id) == "cancelled":
+            _expect(_acted(db, "cancel", id) == "was cancelled before", "two cancellations")
+    worker(dies=commit * 3 % 7 + 1)
+    _expect(worker() == 0, "the last worker has failed")
+    with Plain(str(path)) as db:
+        _looked_at(db, id, act, before, effects.read_text())
+
+
+def _looked_at(db: Plain, id: str, act: str, before: str, after: str) -> None:
+    row = _row(db, id)
+    _expect((row["status"], row["failed"], row["error"]) == ("failed", 409, "409 killed" if act == "kill" else "409 cancelled"), row)
+    left = {table: db.rows(f"SELECT COUNT(*) FROM {table}")[0][0] for table in LEFTOVERS}
+    _expect(not any(left.values()), left)
+    _expect(db.rows("SELECT status FROM invocations WHERE status<>'done'") == [], "a child is left")
+    done, undone = ({it for it in after.split() if it.startswith(word)} for word in ("did-", "undid-"))
+    if act == "kill":
+        _expect(after == before, "a killed invocation went on")
+        return
+    frames = b"".join(bytes(it) for it, in db.rows("SELECT frame FROM journal WHERE invocation=? ORDER BY at", (id,)))
+    begun = [it for it, _ in journal.commands_in(frames) if isinstance(it, journal.Run) and it.name != "undo"]
+    _expect(len(undone) == len(begun), (undone, begun))
+    own = done if act != "restart" else {it for it in done if it not in before.split()}
+    _expect({f"un{it}" for it in own} <= undone, (done, undone))
+
+
+class Acts(unittest.TestCase):
+    kind = "sqlite"
+
+    def test_at_commits(self) -> None:
+        commits = range(1, 16, 1 if IS_THOROUGH else 4)
+        with tempfile.TemporaryDirectory(prefix="palqytun-acts-", ignore_cleanup_errors=True) as folder:
+            lives = [functools.partial(acted, pathlib.Path(folder), act, it) for act in ("cancel", "kill", "pause", "restart") for it in commits]
+            self.assertEqual(len(list(scenarios.side_by_side(lives))), len(lives))
+
+
+if __name__ == "__main__":
+    unittest.main()

@@ -1,0 +1,149 @@
+"""A database of each earlier schema, with invocations in flight, is moved to the newest one, and a worker ends what was begun.
+
+`schemas/N.sql` is a SQLite database as a package of schema version N left it: its worker died in the middle of `flight_app.py`. From version 3 on
+its rows are put into PostgreSQL too, into tables that the first N migrations make. These make the same tables on SQLite as the file has."""
+
+import asyncio
+import contextlib
+import io
+import pathlib
+import sqlite3
+import sys
+import unittest
+from unittest import mock
+
+import support  # isort: skip
+from support import Runtime
+
+from palqytun.runtime import command, inbox, journal
+from palqytun.runtime.database import connect, schema
+from palqytun.runtime.database.plain import Plain
+from palqytun.runtime.outcome import Outcome
+
+SCHEMAS = pathlib.Path(__file__).parent / "schemas"
+sys.path.append(str(SCHEMAS))
+import flight_app  # noqa: E402
+
+NEWEST = len(schema.MIGRATIONS)
+KEPT = range(1, NEWEST)
+
+
+def kept(version, path=":memory:"):
+    """The database of a version, as a SQLite file."""
+    made = sqlite3.connect(path)
+    made.executescript((SCHEMAS / f"{version}.sql").read_text())
+    return made
+
+
+def tables(db):
+    """The tables and indexes of a SQLite database, as they were made."""
+    return sorted(row[0] for row in db.execute("SELECT sql FROM sqlite_master WHERE sql IS NOT NULL AND name NOT LIKE 'sqlite%'"))
+
+
+def palqytun(*words):
+    """The status and the output of a command."""
+    said, wrong = io.StringIO(), io.StringIO()
+    with mock.patch.object(sys, "argv", ["palqytun", *words]), contextlib.redirect_stdout(said), contextlib.redirect_stderr(wrong):
+        return command.main(), said.getvalue() + wrong.getvalue()
+
+
+class Kept(support.InAFolder, unittest.TestCase):
+    def test_there_is_a_database_of_each_schema(self):
+        """A new migration needs the database of the version before it: docs/DEPLOYING.md says how one is made."""
+        self.assertEqual([it for it in KEPT if not (SCHEMAS / f"{it}.sql").is_file()], [])
+
+    def test_no_migration_was_changed(self):
+        for version in KEPT:
+            with self.subTest(version), mock.patch.object(schema, "MIGRATIONS", schema.MIGRATIONS[:version]), mock.patch.object(schema, "_OLDEST", 1):
+                path = str(self.folder / str(version))
+                Plain(path).close()
+                self.assertEqual(tables(sqlite3.connect(path)), tables(kept(version)))
+
+    def test_results_in_another_form_are_refused(self):
+        for version in (1, 2):
+            path = str(self.folder / str(version))
+            kept(version, path).close()
+            status, said = palqytun("migrate", "--db", path)
+            self.assertEqual(status, 2)
+            self.assertIn(f"has schema version {version}, and this package reads 3 and later", said)
+
+
+@support.on_each_database
+class Migrations(support.OnADatabase):
+    def tearDown(self):
+        if self.kind == "postgres":
+            self._dropped()
+
+    def _dropped(self):
+        """Leaves an empty database of the newest version, whatever is there."""
+
+        async def drop():
+            db = await connect(self.url)
+            await db.begin()
+            for it in (*schema.TABLES, "schema_versions"):
+                db.put(f"DROP TABLE IF EXISTS {it} CASCADE")
+            await db.commit()
+            db.close()
+
+        with mock.patch.object(schema, "missing", lambda *_: []), mock.patch("palqytun.runtime.database.postgres.missing", lambda *_: []):
+            asyncio.run(drop())
+
+    def _made(self, version):
+        """The kept database of a version, at the test's URL."""
+        if self.kind == "sqlite":
+            self.url = str(self.folder / str(version))
+            kept(version, self.url).close()
+            return
+        self._dropped()
+        with mock.patch("palqytun.runtime.database.postgres.MIGRATIONS", schema.MIGRATIONS[:version]), mock.patch.object(schema, "MIGRATIONS", schema.MIGRATIONS[:version]):
+            with Plain(self.url) as db:
+                db.done(lambda to: self._filled(to, kept(version)))
+
+    async def _filled(self, db, source):
+        for table in schema.TABLES:
+            try:
+                names = [row[1] for row in source.execute(f"PRAGMA table_info({table})")]
+                rows = source.execute(f"SELECT * FROM {table}").fetchall()
+            except sqlite3.OperationalError:
+                continue
+            if rows:
+                db.many(f"INSERT INTO {table}({','.join(names)}) VALUES ({','.join('?' * len(names))})", rows)
+            if "seq" in names:
+                db.put(f"SELECT setval(pg_get_serial_sequence('{table}', 'seq'), (SELECT COALESCE(MAX(seq), 0) + 1 FROM {table}), false)")
+        db.put("UPDATE workers SET lease=0")  # that of a file's only worker has no end
+
+    async def _ends(self):
+        """A worker goes on with what the database holds."""
+        async with Runtime(flight_app.app, self.url) as runtime:
+            again = [("Trip/quick", "done before", "once"), ("Trip/sleeps", {"name": "ann", "seats": 2}, "sleeps"), ("Trip/dies", "dan", "dies")]
+            found = [await runtime.send(path, argument, idempotency_key=key) for path, argument, key in again]
+            self.assertEqual([await runtime.result(id) for id in found], ["DONE BEFORE", {"name": "ann", "seats": 3}, "survived"])
+            [(waits,)] = await runtime.rows("SELECT id FROM invocations WHERE handler='waits'")
+            await runtime.engine.transact(lambda db: inbox.deliver(db, Outcome(), waits, journal.signal(17, journal.value(b'"paid"'))))
+            asks = await runtime.send("Trip/asks", "ben", idempotency_key="asks")
+            self.assertEqual(await runtime.result(asks), ["asked", "ben paid"])
+            await runtime.call("Visa/stamp", "stamped", "v")
+            self.assertEqual(await runtime.result(await runtime.send("Visa/main", "cleo", "v")), "stamped")
+            for _ in range(600):
+                if not (left := await runtime.rows("SELECT id, handler, status, error FROM invocations WHERE status<>'done'")):
+                    break
+                await asyncio.sleep(0.02)
+            self.assertEqual(left, [])
+            self.assertEqual([await runtime.call("Seat/taken", key=key) for key in ("a", "late")], [10, 1])
+
+    def test_invocations_in_flight_go_on(self):
+        for version in (it for it in KEPT if it >= 3):
+            with self.subTest(version):
+                self._made(version)
+                status, said = palqytun("invocations", "list", "--db", self.url)
+                self.assertEqual((status, said), (2, f"palqytun: {schema.NotMigrated(version)}\n"))
+                if self.kind == "postgres":
+                    with self.assertRaises(schema.NotMigrated):
+                        Plain(self.url, lambda url: connect(url, worker=True))
+                self.assertEqual(palqytun("migrate", "--db", self.url), (0, f"the database has schema version {NEWEST}, and had {version}; 8 invocations haven't ended\n"))
+                self.assertEqual(palqytun("migrate", "--db", self.url), (0, f"the database has schema version {NEWEST} already; 8 invocations haven't ended\n"))
+                asyncio.run(self._ends())
+
+
+if __name__ == "__main__":
+    unittest.main()
