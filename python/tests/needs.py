@@ -1,4 +1,4 @@
-"""What the tests of the durable runtime need beside Python's library, and how a Debian machine gets it. What isn't there skips tests, which say so.
+"""What the tests of the durable runtime need beside Python's library, and how a Debian host gets it. What isn't there skips tests, which say so.
 
 usage: needs.py    prints the interpreter that runs the tests
 

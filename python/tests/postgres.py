@@ -35,7 +35,7 @@ _FOLDERS = ("/usr/lib/postgresql/*/bin", "/usr/pgsql-*/bin", "/usr/local/pgsql*/
 _PROGRAMS = ("initdb", "pg_ctl", "postgres")
 _USERS = ("postgres", "nobody")  # who run the server for root
 _LONGEST_PATH = 107  # bytes of a Unix socket's path
-_SECONDS = 120  # that the server may take to start, on a machine that is busy with other things
+_SECONDS = 120  # that the server may take to start, on a host that is busy with other things
 _OWNER = "palqytun"  # the database's superuser
 
 
@@ -141,7 +141,7 @@ class Cluster:
         _ran(words, _user(), self.folder)
 
     def kill(self) -> None:
-        """Kills each process of the server, as if its machine stopped."""
+        """Kills each process of the server, as if its host stopped."""
         file = self.folder / "data" / "postmaster.pid"
         server = int(file.read_text().splitlines()[0])
         os.kill(server, signal.SIGSTOP)  # so it begins no process, and ends none in an orderly way

@@ -1,4 +1,4 @@
-"""The answers of the VM, and the values that they show."""
+"""The VM's replies to lines, and the values that they show."""
 
 from __future__ import annotations
 
@@ -8,12 +8,12 @@ from typing import cast
 
 from palqytun.values import VOID, Failure, Input, InvocationId, Result
 
-# One part of an answer: bytes in quotes, a bracket, or a word.
+# One part of a reply: bytes in quotes, a bracket, or a word.
 _PART = re.compile(r'"([^"]*)"|([\[\]{}])|([^\s"\[\]{}]+)')
 
 
 def shown(inside: str) -> bytes:
-    """The bytes that stand between quotes in an answer: each character is printable ASCII, but for `\\xHH`, which is one byte.
+    """The bytes between quotes in a reply: each character is printable ASCII, except `\\xHH`, which is one byte.
 
     `pickle` reads its own by the same function, which no manual has; it takes a quarter of the time of the codec `unicode_escape`.
 
@@ -25,7 +25,7 @@ def shown(inside: str) -> bytes:
 
 
 def texts(answer: str) -> list[str]:
-    """The quoted texts of an answer, in order."""
+    """The quoted texts of a reply, in order."""
     return [shown(it).decode() for it, bracket, word in _PART.findall(answer) if not bracket and not word]
 
 
@@ -35,7 +35,7 @@ def pairs(of: list[str]) -> tuple[tuple[str, str], ...]:
 
 
 def result_of(answer: str) -> Result | None:
-    """What `take` answered."""
+    """What `take` returned."""
     kind, _, rest = answer.partition(" ")
     if kind == "none":
         return None
@@ -53,7 +53,7 @@ def result_of(answer: str) -> Result | None:
 
 
 def input_of(answer: str) -> Input:
-    """What `sys_input` answered: a field is `name="bytes"`, `name=word`, in which `-` is none, or for the headers `headers=[{"text" "text"}]`."""
+    """What `sys_input` returned: a field is `name="bytes"`, `name=word`, in which `-` is none, or for the headers `headers=[{"text" "text"}]`."""
     data: dict[str, bytes] = {}
     words: dict[str, str] = {}
     headers: list[str] = []

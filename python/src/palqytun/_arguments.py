@@ -1,6 +1,6 @@
 """Arguments as a typed call takes them.
 
-Each function is given an argument's name and its value, checks it as `_words` does, and answers a structure of `palqytun.h`, which keeps all that
+Each function is given an argument's name and its value, checks it as `_words` does, and returns a structure of `palqytun.h`, which keeps all that
 it points to.
 """
 
@@ -186,7 +186,7 @@ def lent_invocation(target: InvocationId | WorkflowId | IdempotencyId) -> Invoca
 
 
 def lent_policy(policy: RetryPolicy) -> Policy:
-    """A policy of retries."""
+    """A retry policy."""
     if not isinstance(policy, RetryPolicy):
         raise TypeError(f"policy must be a RetryPolicy, not {type(policy).__name__}")
     return Policy(*policy.numbers)

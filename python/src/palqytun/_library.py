@@ -28,7 +28,7 @@ _WHY = {
 
 def why(status: int) -> str:
     """Why a call wasn't made."""
-    return _WHY.get(status, f"the library answered {status}")
+    return _WHY.get(status, f"the library returned {status}")
 
 
 def buffer(size: int) -> Buffer:

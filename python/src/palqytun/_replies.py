@@ -1,4 +1,4 @@
-"""What typed calls are answered, as values: the numbers of a reply are at hand, and its texts and bytes are its parts."""
+"""What typed calls return, as values: the numbers of a reply are at hand, and its texts and bytes are its parts."""
 
 from __future__ import annotations
 
@@ -57,7 +57,7 @@ _WAITS = [[Waiting(input=bool(first), run=bool(second)) for second in (0, 1)] fo
 
 
 def awaited_of(replied: Replied) -> ExecuteRun | EphemeralReady | Waiting:
-    """What an await is answered that isn't done."""
+    """What an await returns that isn't done."""
     if replied.kind == _abi.WAITING:
         return _WAITS[replied.first][replied.second]
     return ExecuteRun(replied.first) if replied.kind == _abi.EXECUTE_RUN else EphemeralReady(replied.first)

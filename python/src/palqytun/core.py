@@ -254,7 +254,7 @@ class VM:
         return _library.front(self._room, told.len).decode("ascii")
 
     def call(self, line: str) -> str:
-        """Performs a line that is a call, and answers what stands after `ok`; an error is raised.
+        """Performs a line that is a call, and returns what stands after `ok`; an error is raised.
 
         >>> vm.call("await 17")
         'wait true false'
@@ -271,13 +271,13 @@ class VM:
         raise BadLine(f"the VM can't read this line: {line[:200]}")
 
     def _made(self, replied: Replied) -> Replied:
-        """What a typed call is answered; an error is raised."""
+        """What a typed call returns; an error is raised."""
         if replied.status:
             self._check_made(replied)
         return replied
 
     def _check_made(self, replied: Replied, is_first: bool = False) -> None:
-        """Raises an error that a typed call is answered."""
+        """Raises an error that a typed call returned."""
         if replied.status == _abi.REFUSED:
             raise self._refusal(replied.number, self._parts.text(0), is_first)
         self._check(replied.status)
@@ -293,7 +293,7 @@ class VM:
         return error_of(code, said, self._hint(code, said, is_first))
 
     def _hint(self, code: int, said: str, is_first: bool) -> str | None:
-        """What to call in the place of a call that came before the handler's first, or of a first one that came twice."""
+        """What to call instead of a call that came before the handler's first, or of a first one that came twice."""
         if self._is_begun:
             return "sys_input was called before" if is_first and said in ("UnexpectedStateError", "CommandTypeMismatchError") else None
         if said == "UnexpectedStateError":
@@ -365,7 +365,7 @@ class VM:
         return self._made(self._calls["is_ready"](self._session)).first == 1
 
     def is_completed(self, handle: int) -> bool:
-        """Whether a take of the handle would answer a value."""
+        """Whether a take of the handle would return a value."""
         return self._made(self._calls["is_completed"](self._session, integer("handle", handle, HANDLE))).first == 1
 
     def do_await(self, future: int | Future | AnyOf) -> Literal[True] | ExecuteRun | EphemeralReady | Waiting:

@@ -1,4 +1,4 @@
-"""What a call is refused by: the errors that the VM answers, and their codes."""
+"""What a call is refused by: the errors that the VM returns, and their codes."""
 
 from __future__ import annotations
 
@@ -19,7 +19,7 @@ class Code(enum.IntEnum):
     BAD_REQUEST = 400
     """The invocation isn't as the version of the VM has it."""
     CANCELLED = 409
-    """The handler was cancelled. The VM answers no such error: a handler writes it, as `Failure(Code.CANCELLED, "cancelled")`."""
+    """The handler was cancelled. The VM returns no such error: a handler writes it, as `Failure(Code.CANCELLED, "cancelled")`."""
     UNSUPPORTED_MEDIA_TYPE = 415
     """The content type names no version that the VM has."""
     INTERNAL = 500
@@ -37,7 +37,7 @@ class Code(enum.IntEnum):
 
 
 class VMError(Exception):
-    """An error that the VM answered: its `code` and its `text`. The VM has failed, and returns the same from each later call.
+    """An error that the VM returned: its `code` and its `text`. The VM has failed, and returns the same from each later call.
 
     `hint` says what to do in its place, if the call came out of order; else it is `None`.
     """
@@ -50,7 +50,7 @@ class VMError(Exception):
 
 
 class JournalMismatch(VMError):
-    """The handler makes another call than the journal has recorded: its code has changed, or doesn't only depend on what it was answered."""
+    """The handler makes another call than the journal has recorded: its code has changed, or doesn't depend on its results alone."""
 
 
 class Closed(VMError):
@@ -82,7 +82,7 @@ class Fault(enum.IntEnum):
     NOT_A_NOTIFICATION = 11
     """What arrives isn't one whole frame of a notification."""
     NO_SUCH_ID = 12
-    """No stored command carries the completion id."""
+    """No stored command has the completion id."""
     SECOND_COMPLETION = 13
     """The id was completed before."""
     WRONG_KIND = 14
@@ -98,7 +98,7 @@ class Fault(enum.IntEnum):
 _FAULTS = {
     Fault.BAD_OUTPUT: "the output isn't whole frames",
     Fault.NOT_A_NOTIFICATION: "it isn't one whole frame of a notification",
-    Fault.NO_SUCH_ID: "no stored command carries the completion id",
+    Fault.NO_SUCH_ID: "no stored command has the completion id",
     Fault.SECOND_COMPLETION: "the completion id was completed before",
     Fault.WRONG_KIND: "the id of an invocation is completed by something else",
     Fault.RUN_IS_PROPOSED: "the result of a run is proposed by the attempt that ran it",
@@ -111,7 +111,7 @@ class JournalFault(ValueError):
     """An entry can't stand in a journal: `fault` is why. What came since the last `keep` is taken back.
 
     >>> JournalFault(Fault.NO_SUCH_ID)
-    JournalFault('NO_SUCH_ID: no stored command carries the completion id')
+    JournalFault('NO_SUCH_ID: no stored command has the completion id')
     """
 
     def __init__(self, fault: Fault) -> None:

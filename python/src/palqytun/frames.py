@@ -197,7 +197,7 @@ def value_frame(value: Data) -> bytes:
 
 
 def input_frame(frame: Data, value: Data) -> bytes:
-    """The frame of an input, with this value in the place of its own.
+    """The frame of an input, with this value instead of its own.
 
     >>> line_of(input_frame(frame_of('Input headers=[("a" "b")]'), b"Till"))
     'Input headers=[("a" "b")] value="Till"'

@@ -63,7 +63,7 @@ class Journal:
 
         >>> Journal([slept])
         Traceback (most recent call last):
-        palqytun.errors.JournalFault: NO_SUCH_ID: no stored command carries the completion id
+        palqytun.errors.JournalFault: NO_SUCH_ID: no stored command has the completion id
         """
         self._handle = _library.Handle()
         self._calls = _library.library().journals

@@ -1,4 +1,4 @@
-"""When a run whose try failed is tried again."""
+"""When a run whose execution failed is executed again."""
 
 from __future__ import annotations
 
@@ -14,7 +14,7 @@ Numbers = tuple[int, int, int, int, bool, int, bool, int, bool, int, bool]
 
 
 class RetryPolicy(str):
-    """When a run whose try failed is tried again, as a line writes it. The four functions of this module make the policies."""
+    """When a run whose execution failed is executed again, as a line writes it. The four functions of this module make the policies."""
 
     __slots__ = ("numbers",)
     numbers: Numbers

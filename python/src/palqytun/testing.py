@@ -91,7 +91,7 @@ class Called:
 
 
 class Fake:
-    """A function in the place of an effect, which remembers its calls.
+    """A function instead of an effect, which remembers its calls.
 
     It returns `results` one after the other, and the last one again and again: a value; an error, which is raised; or a function, which is called.
 
@@ -116,7 +116,7 @@ class Fake:
         return result(*arguments, **named) if callable(result) else result
 
     def by_key(self) -> dict[str | None, Called]:
-        """The last call of each key: what the world outside has seen, if it takes each key once."""
+        """The last call of each key: what other systems have seen, if they take each key once."""
         return {it.key: it for it in self.calls}
 
 
@@ -333,12 +333,12 @@ class _Left:
 async def crash_everywhere(
     app: App, target: Handler[I, Any], argument: I | Any = None, *, key: str = "", fakes: Iterable[Fake] = (), most: int = 500
 ) -> int:
-    """Runs an invocation without a fault, and then again and again with a death of its worker: at its first commit, its second, and so on, each
+    """Runs an invocation without a failure, and then again and again with a death of its worker: at its first commit, its second, and so on, each
     once before the commit is stored and once after it. Returns the number of deaths; at most so many commits are tried.
 
-    `AssertionError` says what differs from the run without a fault: the result, the state of the keys, or an effect, by the key of its run. An effect
-    may be executed more than once with its key. A death here is a lost database: the attempts are dropped where they stand, and a new worker
-    claims what is stored. Sleeps take no time. The effects of the app have to be fakes, or harmless."""
+    `AssertionError` says what differs from the execution without a failure: the result, the state of the keys, or an effect, by the
+    key of its run. An effect may be executed more than once with its key. A death here is a lost database: the attempts are dropped where they stand,
+    and a new worker claims what is stored. Sleeps take no time. The effects of the app have to be fakes, or harmless."""
     with _silent():
         return await _crashed(app, target, argument, key, list(fakes), most)
 

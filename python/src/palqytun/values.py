@@ -122,7 +122,7 @@ class Run:
 
 @dataclass(frozen=True)
 class ExecuteRun:
-    """What an await answers if a run is to be executed first: the run's handle. It counts as false, for nothing awaited is there yet."""
+    """What an await returns if a run is to be executed first: the run's handle. It counts as false, for nothing awaited is there yet."""
 
     handle: int
 
@@ -132,7 +132,7 @@ class ExecuteRun:
 
 @dataclass(frozen=True)
 class EphemeralReady:
-    """What an await answers if the value of an ephemeral read is there and wasn't taken yet: the read's id. It counts as false: take the value
+    """What an await returns if the value of an ephemeral read is there and wasn't taken yet: the read's id. It counts as false: take the value
     by `VM.take_ephemeral_notification` and await again."""
 
     id: int
@@ -143,11 +143,11 @@ class EphemeralReady:
 
 @dataclass(frozen=True)
 class Waiting:
-    """What an await answers if nothing awaited is there yet: whether `input` may bring it, and whether a `run` that executes may, whose result
+    """What an await returns if nothing awaited is there yet: whether `input` may bring it, and whether a `run` that executes may, whose result
     is to be proposed. It counts as false.
 
-    >>> answer = Waiting(input=True, run=False)
-    >>> "awake" if answer else "more input" if answer.input else "a run's result"
+    >>> reply = Waiting(input=True, run=False)
+    >>> "awake" if reply else "more input" if reply.input else "a run's result"
     'more input'
     """
 
@@ -160,8 +160,8 @@ class Waiting:
 
 @dataclass(frozen=True)
 class Retryable:
-    """A try of a run that failed and may be tried again: the error, and how long the try took in ms. `code` is below 65536; `behaviour` and
-    `delay` are those of `VM.notify_error`."""
+    """A failed execution of a run, which may be executed again: the error, and how long the execution took in ms. `code` is below 65536;
+    `behaviour` and `delay` are those of `VM.notify_error`."""
 
     code: int
     message: str

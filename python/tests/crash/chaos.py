@@ -6,7 +6,7 @@ longer than their lease, and lose their connections. After each part all that is
 prints a line of figures, and the last line is that of all. A round takes about a minute, and the one that has begun is ended.
 
 With --kills there is one long round instead, of so many kills and no other fault. With --failovers there are two, on PostgreSQL servers of their
-own: the primary's machine stops so often, first with a synchronous standby, and then with an asynchronous one, which lacks the last commits.
+own: the primary's host stops so often, first with a synchronous standby, and then with an asynchronous one, which lacks the last commits.
 """
 
 from __future__ import annotations

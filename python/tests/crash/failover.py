@@ -1,4 +1,4 @@
-"""A primary whose machine stops while workers work, and its standby, which takes its place.
+"""A primary whose host stops while workers work, and its standby, which takes its place.
 
 Workers and whoever submits name both servers, and libpq takes the one that may write (`target_session_attrs=read-write`). With a synchronous
 standby nothing that was committed is lost. With an asynchronous one the last commits are: what was submitted by them is submitted again, and all
@@ -83,13 +83,13 @@ class Pair:
         _until(lambda: _asked(self.primary, _FOLLOWERS) == 0, "the standby is cut off")
 
     def fail_over(self) -> None:
-        """The primary's machine stops, and the standby becomes primary. Until the other is back, nobody waits for a standby."""
+        """The primary's host stops, and the standby becomes primary. Until the other is back, nobody waits for a standby."""
         self.primary.kill()
         self.standby.promote()
         self.primary, self.standby = self.standby, self.primary
 
     def split(self) -> None:
-        """The link between both breaks. The synchronous standby becomes primary while the other goes on, until its machine is stopped: no commit of
+        """The link between both breaks. The synchronous standby becomes primary while the other goes on, until its host is stopped: no commit of
         that one counts, since each waits for its standby."""
         self.cut()
         self.standby.promote()
@@ -132,7 +132,7 @@ def _entries(db: Plain) -> int:
 
 
 def _failed_over(servers: Pair, is_split: bool) -> float:
-    """Fails over. Returns the seconds from when the primary's machine began to stop until a worker has stored the next entry of a journal."""
+    """Fails over. Returns the seconds from when the primary's host began to stop until a worker has stored the next entry of a journal."""
     if is_split:
         servers.split()
     killed = time.monotonic()

@@ -40,8 +40,8 @@ from palqytun.runtime.database.schema import TABLES  # noqa: E402
 
 _FORK = multiprocessing.get_context("fork")  # this process has no threads, and has imported what workers need
 COUNT = 7  # workflows, one of each kind
-_LONG = 240.0  # seconds that a worker may take, which needs some two, on a machine that is busy with other things
-LEASE = 3.0  # seconds; on a machine that is busy with other things a shorter one ends by itself
+_LONG = 240.0  # seconds that a worker may take, which needs some two, on a host that is busy with other things
+LEASE = 3.0  # seconds; on a host that is busy with other things a shorter one ends by itself
 
 
 def _told(call: Callable[[], Any], to: multiprocessing.connection.Connection) -> None:
@@ -202,7 +202,7 @@ def _log(path: pathlib.Path) -> str:
 
 
 def _rest(room: Room, path: pathlib.Path, effects: pathlib.Path, **options: Any) -> Found:
-    """A worker without a fault does the rest, and everything is looked at."""
+    """A worker without a failure does the rest, and everything is looked at."""
     status = _worker(path, effects, **options)
     if status:
         raise Wrong(f"the last worker ended with {status}: {_log(path)}")

@@ -58,7 +58,7 @@ class Deaths(InAFolder):
 
 
 class Storms(InAFolder):
-    """36 workflows, and a fault of the machine."""
+    """36 workflows, and a failure of the host."""
 
     def test_storms(self) -> None:
         room, times = scenarios.Room(self.folder / "room", 36), 2 if IS_THOROUGH else 1
@@ -131,7 +131,7 @@ class KillsOfMany(InAFolder):
 
 
 class FailsOver(InAFolder):
-    """Two workers on a PostgreSQL server with a standby. The server's machine stops while they work."""
+    """Two workers on a PostgreSQL server with a standby. The server's host stops while they work."""
 
     kind = "servers of its own"  # whose settings no pass of tools/runtime changes
 

@@ -22,7 +22,7 @@ SOURCES = HERE.parent.parent / "src"
 GRACE = 2.0  # seconds
 _ENDS = GRACE + 10.0  # seconds after SIGTERM; parts of a shutdown beside the grace have limits of their own
 _KEYS = itertools.count()  # of the healthy ones
-_SLOWEST = 8.0  # seconds that the healthy one may take on a machine that is busy, whatever it takes usually
+_SLOWEST = 8.0  # seconds that the healthy one may take on a host that is busy, whatever it takes usually
 
 
 @dataclass(frozen=True)

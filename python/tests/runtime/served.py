@@ -1,4 +1,4 @@
-"""A worker with its ingress on a port of this machine, and its clients: requests as values, and as the bytes on a socket."""
+"""A worker with its ingress on a port of this host, and its clients: requests as values, and as the bytes on a socket."""
 
 import asyncio
 import http.client

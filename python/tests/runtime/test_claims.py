@@ -312,7 +312,7 @@ class Names(support.OnADatabase):
 
 
 class Clocks(support.OnADatabase, unittest.TestCase):
-    """The clock of the worker's machine is a minute ahead of the database's, or behind."""
+    """The clock of the worker's host is a minute ahead of the database's, or behind."""
 
     kind = "postgres"
 
@@ -330,7 +330,7 @@ class Clocks(support.OnADatabase, unittest.TestCase):
 
     async def slept(self):
         async with Runtime(app, self.url, idle=0) as runtime:
-            begun, seconds = time.monotonic(), 6  # so long that a busy machine looks at the timer before it is due
+            begun, seconds = time.monotonic(), 6  # so long that a busy host looks at the timer before it is due
             sleeps = await runtime.send("Claims/sleeps", seconds)
             later = await runtime.send("Claims/echoes", 1, due=time.time() + seconds)
             await runtime.until(sleeps, "suspended")

@@ -260,7 +260,7 @@ class Commands(support.InAFolder, unittest.TestCase):
 
     def test_where_it_may_listen(self):
         app = self.written("one.py", f"{APP}app = App(words)\n")
-        self.assertIn("0.0.0.0 is reached by other machines, so the ingress needs a token: set PALQYTUN_TOKEN", self.refused("run", app, "--host", "0.0.0.0"))
+        self.assertIn("0.0.0.0 is reached by other hosts, so the ingress needs a token: set PALQYTUN_TOKEN", self.refused("run", app, "--host", "0.0.0.0"))
         with server(self.url, self.folder, app) as it:
             port = it.address.rpartition(":")[2]
             other = str(self.folder / "other")

@@ -293,7 +293,7 @@ class Guards(support.OnADatabase, unittest.TestCase):
         ]:
             self.assertEqual((await served.ask("/S/echo/send", 1, **headers))[0], status, headers)
 
-    def test_it_listens_to_other_machines_only_with_a_token(self):
+    def test_it_listens_to_other_hosts_only_with_a_token(self):
         for host in ("0.0.0.0", "::", "10.0.0.1"):
             with self.assertRaisesRegex(Unguarded, "set PALQYTUN_TOKEN, or listen on 127.0.0.1"):
                 Http(None, Settings(), host, 0)

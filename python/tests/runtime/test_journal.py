@@ -10,7 +10,7 @@ from palqytun import frames as core
 from palqytun.runtime import journal
 from palqytun.runtime.invocations import load
 from palqytun.runtime.database.plain import Plain
-from palqytun.runtime.journal import Begin, Dishonest, Journal, frames
+from palqytun.runtime.journal import Begin, BrokenRule, Journal, frames
 from palqytun.runtime.lease import Fenced, Growth, Lease
 
 
@@ -108,7 +108,7 @@ def begun():
 def broken(rule, method, *arguments):
     try:
         method(*arguments)
-    except Dishonest as error:
+    except BrokenRule as error:
         assert error.rule == rule, error
     else:
         raise AssertionError(f"{rule} was broken, and nothing was said")

@@ -425,7 +425,7 @@ class Silent(unittest.TestCase):
         self.url = f"postgresql://postgres@127.0.0.1:{self.server.getsockname()[1]}/none?sslmode=disable"
 
     def test_patience_ends(self):
-        with mock.patch.object(postgres, "_PATIENCE", 0.2), self.assertRaisesRegex(Lost, "hasn't answered for 0.2 seconds"):
+        with mock.patch.object(postgres, "_PATIENCE", 0.2), self.assertRaisesRegex(Lost, "hasn't replied for 0.2 seconds"):
             asyncio.run(connect(self.url))
         self.assert_it_is_closed()
 

@@ -181,7 +181,7 @@ class Schedules(OnAConnection):
 
 
     def test_the_clock_is_the_databases(self):
-        with mock.patch("time.time", return_value=0.0) if self.kind == "postgres" else contextlib.nullcontext():  # a file's clock is this machine's
+        with mock.patch("time.time", return_value=0.0) if self.kind == "postgres" else contextlib.nullcontext():  # a file's clock is this host's
             self.entered(Schedule("often", send, every=60))
         [(due, now)] = self.rows(f"SELECT due, {self.db.clock} FROM schedules")
         self.assertTrue(0 < due - now <= 60)

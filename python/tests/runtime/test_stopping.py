@@ -166,7 +166,7 @@ class Processes(unittest.TestCase):
                 time.sleep(30)
             asyncio.run(main())
         """)
-        assert status == 70 and "didn't answer for 1 s, so this worker ends" in said, (status, said)
+        assert status == 70 and "didn't reply for 1 s, so this worker ends" in said, (status, said)
 
     def test_tasks_cant_end_the_loop(self):
         status, said, _ = ended("""

@@ -1,6 +1,6 @@
 """What operators do to invocations, one or many: cancel, kill, pause, resume, restart. Each act is a transaction with a row in the audit.
 
-An act answers in words what it did. If it can't be done it raises a `TerminalError`, and nothing is stored: 404 if there is no such invocation,
+An act returns in words what it did. If it can't be done it raises a `TerminalError`, and nothing is stored: 404 if there is no such invocation,
 409 if its status isn't one for this.
 """
 

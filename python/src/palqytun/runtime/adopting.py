@@ -56,7 +56,7 @@ class Adopting:
             if self.refused.get(it.id) != (it.epoch, it.entries):
                 try:
                     found.append(await stored(db, it))
-                except journal.Dishonest as broken:
+                except journal.BrokenRule as broken:
                     await self._refuse(db, it, f"the stored journal is broken: {broken}")
         return found
 

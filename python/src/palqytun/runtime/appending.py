@@ -31,7 +31,7 @@ _TOGETHER = (
 
 @dataclass(frozen=True)
 class Append:
-    """What one attempt appends to its journal, as an operation of a group. Its answer is whether it was stored."""
+    """What one attempt appends to its journal, as an operation of a group. Its result is whether it was stored."""
 
     growth: Growth
 

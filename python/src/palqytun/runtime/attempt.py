@@ -61,7 +61,7 @@ class Worker(Protocol):
 
 
 class WithoutEnd(Exception):
-    """An attempt ended and its core said nothing of it. This is a fault of the runtime."""
+    """An attempt ended and its core said nothing of it. This is a bug of the runtime."""
 
 
 class HandlerFailed(Exception):
@@ -174,7 +174,7 @@ class Attempt:
         self.status = (await self.worker.write(lambda db, found: operation(db), self.claim)).status
 
     async def _guarded(self) -> Exception | None:
-        """Drives the handler. What it raises ends the attempt. Answers a fault for which the invocation is to be paused, whatever the core
+        """Drives the handler. What it raises ends the attempt. Returns an error for which the invocation is to be paused, whatever the core
         says."""
         try:
             return await self._drive(self._vm.sys_input())
@@ -401,7 +401,7 @@ class Attempt:
             self._is_only_runs = self._is_only_runs and journal.only_runs(output)
 
     async def _store(self) -> bool:
-        """Stores what was taken of the output, and feeds what that brings; answers whether it brought something. Of much output some is stored
+        """Stores what was taken of the output, and feeds what that brings; returns whether it brought something. Of much output some is stored
         at a time, so that neither the loop nor a transaction is kept for long."""
         frames, self._waiting, self._is_only_runs = self._waiting, [], True
         has_brought, at = False, 0

@@ -16,7 +16,7 @@ def record(db: Database, who: str, what: str, **about: str | None) -> None:
 
 
 async def records(db: Database, invocation: str | None = None, most: int = 100, before: int | None = None) -> list[dict[str, Any]]:
-    """The newest first; of one invocation, or of all. `before`: only those before the one with this number."""
+    """The newest first, for one invocation or all. `before`: only those before the one with this number."""
     asked = [(sql, it) for sql, it in (("invocation=?", invocation), ("seq<?", before)) if it is not None]
     where = " AND ".join(sql for sql, _ in asked) or "1=1"
     rows = await db.rows(f"SELECT {', '.join(_COLUMNS)} FROM audit WHERE {where} ORDER BY seq DESC LIMIT ?", (*[it for _, it in asked], most))

@@ -68,7 +68,7 @@ async def _stored(db: Database, invocation: str) -> Stored | None:
 
 
 async def _delivered(db: Database, out: Outcome, invocation: str, number: int, result: Result) -> str | None:
-    """Puts the completion into the inbox; or answers why it isn't. The invocation's row is kept until the commit, so two completions that come
+    """Puts the completion into the inbox; or returns why it can't. The invocation's row is kept until the commit, so two completions that come
     at once see each other."""
     rows = await db.rows(f"SELECT status FROM invocations WHERE id=?{db.lock}", (invocation,))
     if not rows or rows[0][0] == "done":

@@ -78,7 +78,7 @@ class Claimer:
 
     @functools.cached_property
     def own(self) -> Condition:
-        """Of an invocation that this worker may go on with: it has the handler, and began by this version or not yet."""
+        """The condition of an invocation with which this worker may go on: it has the handler, and began by this version or not yet."""
         services = [it for it in self.app.services.values() if it.handlers]
         served = " OR ".join(f"service=? AND handler IN ({','.join('?' * len(it.handlers))})" for it in services) or "1=0"
         return Condition(f"({served}) AND (code IS NULL OR code=?)", (*[name for it in services for name in (it.name, *it.handlers)], self.code))
@@ -138,7 +138,7 @@ class Claimer:
                 await acts.reached(db, out, id)
 
     async def _without_suspects(self, db: Database, rows: list[Claimable]) -> list[Claimable]:
-        """Of those whose attempts were lost again and again with their workers, one at a time is claimed: that which was lost least often, and the
+        """Invocations whose attempts were lost again and again with their workers are claimed one at a time: that which was lost least often, and the
         next one after a moment. So the one that ends workers is found, and the others that they had go on."""
         suspects = [it for it in rows if SUSPECT <= it.lost < MOST_LOST]
         if not suspects:
@@ -212,7 +212,7 @@ class Claimer:
     @staticmethod
     def _ready(db: Database, share: Share, now: float, most: int) -> Asked:
         """Reads ready ones, each with how many there may be: a claim takes a share by the number of workers, so that others get theirs."""
-        # Of a key whose lock nobody has only the first one is free, so the calls of a key begin in their order, however many workers claim.
+        # If nobody has a key's lock, only its first call is free, so the calls of a key begin in their order, however many workers claim.
         is_free = (
             "(exclusive=0 OR CASE (SELECT holder FROM locks WHERE locks.service=it.service AND locks.key=it.key) WHEN it.id THEN 1=1"
             " ELSE NOT EXISTS (SELECT 1 FROM locks WHERE locks.service=it.service AND locks.key=it.key) AND it.seq=("

@@ -36,7 +36,7 @@ from .services import App, TerminalError
 T = TypeVar("T")
 log = logging.getLogger("palqytun")
 _MIGRATING = 60.0  # seconds for which a migration is tried that other transactions are in the way of
-_STUCK = 60.0  # seconds after which a worker ends whose loop doesn't answer
+_STUCK = 60.0  # seconds after which a worker ends whose loop doesn't reply
 
 
 class Refused(Exception):
@@ -124,7 +124,7 @@ async def _opened(engine: Engine, opening: _Opening, seconds: float) -> asyncio.
     if not is_open.done() and not running.done():
         engine.stop()
         await running
-        raise Refused(f"the database can't be opened: {opening.why or 'it does not answer'}")
+        raise Refused(f"the database can't be opened: {opening.why or 'it does not reply'}")
     is_open.cancel()
     return running
 

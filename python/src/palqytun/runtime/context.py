@@ -155,7 +155,7 @@ _INSTEAD = {
 _NO_STATE = "{service} is a Service, which has no key and so no state; a VirtualObject has one"
 _ONLY_READS = "this handler only reads the state"
 _NO_PROMISE = {
-    "ServiceContext": "{service} is a Service, which has no promises; a Workflow has them, and an awakeable is one's own",
+    "ServiceContext": "{service} is a Service, which has no promises; a Workflow has them, and an awakeable belongs to its handler",
     **dict.fromkeys(("ObjectContext", "SharedObjectContext"), "{service} is a VirtualObject, which has no promises; a Workflow has them, and an awakeable is one's own"),
 }
 _READS, _WRITES = ("get", "keys"), ("set", "clear", "clear_all")
@@ -181,7 +181,7 @@ class Context:
         patches: Mapping[int, str] | None = None,
         now: Callable[[], float] = time.time,
     ):
-        """`patches` are those that the journal has, by the indices of their commands. `now` tells the time in seconds since the epoch."""
+        """`patches` are those that the journal has, by the indices of their commands. `now` gives the time in seconds since the epoch."""
         self._patches, self._is_patched = dict(patches or {}), dict[str, bool]()
         self._vm, self._app, self._now = vm, app, now
         self._service = app.services[service]
@@ -211,22 +211,22 @@ class Context:
         return self._entered
 
     def end(self) -> Exception | None:
-        """The attempt is over. Coroutines that wait are closed: their `finally` parts run, and may not use the context any more. Answers
+        """The attempt is over. Coroutines that wait are closed: their `finally` parts run, and may not use the context any more. Returns
         what is wrong with a coroutine that doesn't let itself be closed."""
         self.refused = self.refused or RuntimeError("the attempt is over")
-        fault: Exception | None = None
+        wrong: Exception | None = None
         self._thread = threading.get_ident()
         for task in self.tasks.open() if self.tasks is not None else ():
             try:
                 task.coroutine.close()
             except RuntimeError as error:
                 if "ignored GeneratorExit" in str(error):
-                    fault = CaughtTooMuch()
+                    wrong = CaughtTooMuch()
             except BaseException:  # raised in a `finally` part, which counts as little as what it does
                 pass
         self._thread = None
         self.actions.clear()
-        return fault
+        return wrong
 
     def _own(self, what: str) -> None:
         """What is asked for belongs to the handler's own code."""

@@ -80,7 +80,7 @@ class Desk:
         return known.keyed if known is not None else await self.transact(lambda db: announced.is_keyed(db, service))
 
     async def submit(self, new: New) -> str:
-        """Makes an invocation. It is stored once this answers its id."""
+        """Makes an invocation. It is stored once this returns its id."""
         if self.drains:
             raise Unavailable("the worker stops, and takes no new calls")
         invocations.check(new, await self.target(new.service, new.handler))  # what is refused isn't in a transaction with others
@@ -128,19 +128,19 @@ class Desk:
                     future.set_result(None)
 
     async def notify(self, invocation: str, notification: bytes) -> bool:
-        """Sends a signal from outside; answers whether there is an invocation that gets it."""
+        """Sends a signal from outside; returns whether there is an invocation that gets it."""
         out = Outcome()
         is_there = await self.transact(lambda db: inbox.deliver(db, out, invocation, notification))
         self.tell(out)
         return is_there
 
     async def act(self, name: str, invocation: str, who: str) -> str:
-        """Does an act of an operator (`acts.ACTS`) to an invocation; answers in words what it did. Raises a `TerminalError` if it can't be done."""
+        """Does an act of an operator (`acts.ACTS`) to an invocation; returns in words what it did. Raises a `TerminalError` if it can't be done."""
         act = acts.known(name).act
         return await self.done(lambda db, out: act(db, self.app, out, invocation, who))
 
     async def cancel(self, invocation: str, who: str = "a program") -> bool:
-        """Cancels an invocation; answers whether there is one that hasn't ended."""
+        """Cancels an invocation; returns whether there is one that hasn't ended."""
         try:
             await self.act("cancel", invocation, who)
         except TerminalError as error:
@@ -161,7 +161,7 @@ class Desk:
             asked = replace(asked, before=before)
 
     async def done(self, operation: Callable[[Database, Outcome], Awaitable[T]], is_slow: bool = False) -> T:
-        """Commits an operation that touches others, and tells them."""
+        """Commits an operation that touches others, and notifies them."""
 
         async def made(db: Database) -> tuple[T, Outcome]:
             out = Outcome()

@@ -2,7 +2,7 @@
 can who doesn't have it.
 
 A browser says from where a request comes (`Origin`), and which name it asked for (`Host`). A site whose name is made to lead here asks for
-a foreign name; so without a token only names of this machine are taken, and those that the door was told.
+a foreign name; so without a token only names of this host are taken, and those that the door was given.
 """
 
 from __future__ import annotations
@@ -17,7 +17,7 @@ _LOOPBACK = frozenset(["localhost", "127.0.0.1", "::1"])
 
 
 def is_loopback(host: str) -> bool:
-    """Whether only this machine reaches what listens there.
+    """Whether only this host reaches what listens there.
 
     >>> is_loopback("127.0.0.1"), is_loopback("0.0.0.0")
     (True, False)

@@ -17,7 +17,7 @@ class NotDurable(TypeError):
 
 
 class Durable(Generic[T_co]):
-    """Something that the journal answers. `await` gives its result, or raises its failure."""
+    """Something that the journal gives. `await` gives its result, or raises its failure."""
 
     def __await__(self) -> Generator[Durable[Any], None, T_co]:
         if self.outcome() is None:

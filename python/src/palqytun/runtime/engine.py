@@ -43,7 +43,7 @@ class Engine(Desk):
     `limit`: attempts at once. These are times in seconds: `idle`, after which an attempt that waits is suspended; `lease`, after which a worker
     without a beat is thought dead; `poll`, after which the database is looked at again if nothing is known to be due; `keep`, after which an
     invocation that has ended is purged, never by default; `grace`, in which runs that are executed may end after `stop`; and `stuck`, after
-    which the process ends if the loop doesn't answer, never by default. `effects`: runs of `async` functions that are executed at once, and
+    which the process ends if the loop doesn't reply, never by default. `effects`: runs of `async` functions that are executed at once, and
     `threads`: of plain ones. `version`: of the app's code; without it, a hash of the files that define its handlers. An invocation that this
     worker begins goes on by workers of this version.
     """
@@ -90,7 +90,7 @@ class Engine(Desk):
     # ---- transactions
 
     async def write(self, operation: storing.Writes, claim: Claim, reads: storing.Reads | None = None) -> Outcome:
-        """Commits a transaction on a claim's journal, and tells those whom it touches."""
+        """Commits a transaction on a claim's journal, and notifies those whom it touches."""
         assert self._committer is not None
         if reads is None:
             out = await self._committer.submit(lambda db: operation(db, ()))
@@ -159,8 +159,8 @@ class Engine(Desk):
             attempt.task.cancel()
 
     def _heard(self, word: str) -> None:
-        """Another worker tells something: `ready`, or `to`, `stopped` or `ended` with some invocations. Who made something ready looks for it too. So
-        this worker looks at once only if it found something the last time that another told it, and else after a growing moment."""
+        """Another worker sends a word: `ready`, or `to`, `stopped` or `ended` with some invocations. Who made something ready looks for it too. So
+        this worker looks at once only if it found something after the last such word, and else after a growing moment."""
         what, *some = word.split(" ")
         if what == "ready":
             self._is_told = True
@@ -334,7 +334,7 @@ class Engine(Desk):
             await asyncio.sleep(max(0.01, time.monotonic() - begun) if count else self.lease / 3)
 
     async def _sweeps(self, committer: Committer, claimer: Claimer) -> None:
-        """Takes back what this worker has by the database, and no attempt here: none of it is lost, whatever fault has left it so. It is looked
+        """Takes back what this worker has by the database, and no attempt here: none of it is lost, whatever has left it so. It is looked
         at twice, since a claim may be on its way to its attempt."""
         before = set[tuple[str, int]]()
         while True:

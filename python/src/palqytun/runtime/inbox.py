@@ -20,7 +20,7 @@ _SQL = "INSERT INTO inbox(invocation, frame) SELECT ?,? WHERE EXISTS (SELECT 1 F
 
 
 async def deliver(db: Database, out: Outcome, invocation: str, notification: bytes) -> bool:
-    """Puts a notification into an invocation's inbox; answers whether it has one. One that has ended or doesn't exist gets nothing."""
+    """Puts a notification into an invocation's inbox; returns whether it has one. One that has ended or doesn't exist gets nothing."""
     if not await db.change(_SQL, (invocation, notification, invocation)):
         return False
     _tell(db, out, invocation)

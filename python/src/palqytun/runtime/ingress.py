@@ -1,6 +1,6 @@
 """The ingress: handlers by HTTP, and what an operator asks. It is an ASGI application, of Starlette.
 
-    POST /{service}/{handler}            or /{service}/{key}/{handler}: calls it with the body, and answers its result
+    POST /{service}/{handler}            or /{service}/{key}/{handler}: calls it with the body, and returns its result
     POST /{service}/../{handler}/send    only makes the invocation (202); `?delay=SECONDS`
     GET  /-/health
     GET  /-/metrics                      for Prometheus
@@ -15,7 +15,7 @@
     GET  /-/page                         the operator's page: the list, and /{id}: one invocation as a picture
 
 A header `idempotency-key` names a call that is made once. A call and `/result` wait for the result, for `?wait=SECONDS` or a minute; then,
-and once the worker stops, they are answered with 202 and the invocation's id. With a token, each request but /-/health has
+and once the worker stops, they get 202 and the invocation's id. With a token, each request but /-/health has
 `authorization: Bearer TOKEN`; the page asks for it. A refusal is `{"code": .., "message": ..}`, and nothing of its request is stored.
 """
 
@@ -53,7 +53,7 @@ from .tokens import Tokens, needed
 
 _METHODS = ["GET", "HEAD", "POST", "PUT", "PATCH", "DELETE", "OPTIONS"]
 _LONGEST_WAIT = 3600.0
-_LONGEST_DELAY = 1e10  # seconds, some three centuries
+_LONGEST_DELAY = 1e10  # seconds, about three centuries
 
 
 @dataclass(frozen=True)
@@ -202,7 +202,7 @@ class Ingress:
         yield Route("/-/awakeables/{id}/reject", self._reject, methods=["POST"])
 
     def close(self) -> None:
-        """Requests that wait are answered with 202 now, and those that come are refused with 503."""
+        """Requests that wait get 202 now, and those that come are refused with 503."""
         self._is_closing = True
         for it in self._waiting:
             it.cancel()

@@ -186,11 +186,11 @@ async def _loaded(invocation: str, entries: int, rows: Iterable[Any], version: i
     loaded = Journal(version)
     for at, frame in rows:
         if at != loaded.entries:
-            raise journal.Dishonest("WHOLE", f"entry {loaded.entries} of {invocation} isn't there")
+            raise journal.BrokenRule("WHOLE", f"entry {loaded.entries} of {invocation} isn't there")
         loaded.entry(bytes(frame))
         await turn.end()
     if loaded.entries != entries:
-        raise journal.Dishonest("WHOLE", f"{invocation} has {loaded.entries} of {entries} entries")
+        raise journal.BrokenRule("WHOLE", f"{invocation} has {loaded.entries} of {entries} entries")
     loaded.keep()
     return loaded
 
@@ -259,7 +259,7 @@ def _marks(count: int, mark: str = "?") -> str:
 
 
 async def _with_keys(db: Database, rows: list[Claimable]) -> list[Claimable]:
-    """Takes the keys that nobody has; answers those that have theirs, or need none."""
+    """Takes the keys that nobody has; returns those that have theirs, or need none."""
     keyed = [it for it in rows if it.exclusive]
     if not keyed:
         return rows
@@ -363,7 +363,7 @@ async def _claims(db: Database, worker: str, version: str | None, rows: list[Cla
     for it in rows:
         try:
             claims.append(await _claim(db, it, now, entries[it.id], arrived[it.id], small.get(it.id), turn))
-        except journal.Dishonest as broken:
+        except journal.BrokenRule as broken:
             _pause(db, out, it, f"the stored journal is broken: {broken}")
     db.put("RELEASE claim")
     out.notes += [it.note(notes.LOST, f"its worker {it.worker} isn't alive", 0) for it in rows if it.status == "running"]

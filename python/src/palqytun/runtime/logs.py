@@ -16,7 +16,7 @@ within: contextvars.ContextVar[Mapping[str, object]] = contextvars.ContextVar("p
 
 
 class Within(logging.Filter):
-    """Gives each record the fields of its attempt, but for those that it has."""
+    """Gives each record the fields of its attempt, except those that it has."""
 
     def filter(self, record: logging.LogRecord) -> bool:
         for name, value in within.get().items():

@@ -60,7 +60,7 @@ class Measured:
 
 @dataclass(frozen=True)
 class Now:
-    """What is so at this moment: how many invocations have each status; of each handler how many are ready and due, and for how many seconds the
+    """What holds at this moment: how many invocations have each status; of each handler how many are ready and due, and for how many seconds the
     first of them; how many attempts and connections this worker has; and how many seconds ago its lease was kept."""
 
     statuses: Mapping[str, int]

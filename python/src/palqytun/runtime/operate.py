@@ -69,7 +69,7 @@ async def purge(db: Database, older: float, most: int = 200) -> int:
 
 
 async def queues(db: Database) -> list[tuple[str, str, int, float]]:
-    """Of each handler how many invocations are ready and due, and for how many seconds the first of them."""
+    """How many invocations of each handler are ready and due, and for how many seconds the first of them."""
     now = db.now()
     sql = "SELECT service, handler, COUNT(*), MIN(due) FROM invocations WHERE status='ready' AND due<=? GROUP BY service, handler"
     return [(service, handler, int(many), now - first) for service, handler, many, first in await db.rows(sql, (now,))]

@@ -55,7 +55,7 @@ def _page(template: str, title: str, root: str, **parts: Any) -> str:
 
 
 def asked_for_token(is_wrong: bool, root: str = ROOT) -> str:
-    """What stands in the place of a page until the ingress's token is given."""
+    """What is shown instead of a page until the ingress's token is given."""
     return _page("token.html", "Palqytun", root, is_wrong=is_wrong)
 
 

@@ -88,7 +88,7 @@ def _of_attempt(it: Attempt, end: float) -> str:
 
 
 def _short(step: Step) -> str:
-    """A command's name, and what tells it from others of its kind."""
+    """A command's name, and what distinguishes it from others of its kind."""
     fields = {name: shown.strip("'\"") for name, shown in step.entry.fields if shown not in ("''", "None")}
     told = ("id",) if step.entry.name == "Notification" else ("service", "handler", "name", "key", "target", "awakeable", "invocation")
     text = f"{step.entry.name} {'/'.join(fields[it] for it in told if it in fields)}".rstrip()

@@ -98,7 +98,7 @@ def replayed(app: App, it: Stored) -> Replayed:
 
 
 def _replayed(app: App, vm: core.VM, context: Context, handler: Handler[Any, Any], given: bytes) -> str | None:
-    """Runs the handler as far as the journal goes; answers what it raised while it was replayed."""
+    """Runs the handler as far as the journal goes; returns what it raised while it was replayed."""
     try:
         argument = decoded(app.codec, given, handler.takes)
     except BadValue as error:
@@ -174,7 +174,7 @@ def _asked(app: App, it: Stored, command: int) -> Described | None:
 
 
 _OWN = ("id", "invocation_id", "due", "at")  # what replay doesn't compare, or what follows from the place
-_NAMING = ("name", "service", "handler", "key", "invocation", "target")  # what tells one command from another at a glance
+_NAMING = ("name", "service", "handler", "key", "invocation", "target")  # what distinguishes one command from another at a glance
 _LONG = 120  # characters of a field
 
 

@@ -1,5 +1,5 @@
 """uvicorn, with limits on what clients may take: how many connections there are, how long a request's head may last, and how long a client may
-leave its answer unread. Signals are the command's.
+leave its response unread. Signals are the command's.
 """
 
 from __future__ import annotations
@@ -31,7 +31,7 @@ def connections_at_most(wanted: int) -> int:
 
 
 class Config(uvicorn.Config):  # type: ignore[misc]
-    """Of a server with limits. `patience`: so many seconds a client may take for a request's head, and to read its answer."""
+    """What a server with limits needs. `patience`: so many seconds a client may take for a request's head, and to read its response."""
 
     def __init__(self, app: ASGIApp, *, connections: int = CONNECTIONS, patience: float = 60.0):
         self.connections, self.patience = connections_at_most(connections), patience
@@ -122,7 +122,7 @@ class Server(uvicorn.Server):  # type: ignore[misc]
         self.is_up.set()
 
     def stop(self, grace: float) -> None:
-        """Takes no connection any more. Requests that are being answered have so many seconds."""
+        """Takes no connection any more. Requests that are being served have so many seconds."""
         self.should_exit = True
         asyncio.get_running_loop().call_later(grace, self._force)
 

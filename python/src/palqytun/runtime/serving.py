@@ -23,20 +23,20 @@ class Unguarded(ValueError):
 
 
 class Http:
-    """The ingress of a worker on an address. It listens from the beginning, and answers from `start` to `stop`.
+    """The ingress of a worker on an address. It listens from the beginning, and serves requests from `start` to `stop`.
 
-    Raises `Taken` if nothing can listen there, and `Unguarded` if other machines could call handlers without a token."""
+    Raises `Taken` if nothing can listen there, and `Unguarded` if other hosts could call handlers without a token."""
 
     def __init__(self, engine: Engine, settings: Settings, host: str, port: int, *, connections: int = CONNECTIONS, grace: float = 10.0):
         if settings.token is None and settings.tokens is None and not is_loopback(host):
-            raise Unguarded(f"{host} is reached by other machines, so the ingress needs a token: set PALQYTUN_TOKEN, or listen on 127.0.0.1")
+            raise Unguarded(f"{host} is reached by other hosts, so the ingress needs a token: set PALQYTUN_TOKEN, or listen on 127.0.0.1")
         self._ingress, self._grace = Ingress(engine, settings), grace
         self._socket = listening(host, port)
         self._server = Server(Config(self._ingress.app, connections=connections, patience=settings.patience))
         self._serving: asyncio.Task[None] | None = None
 
     async def start(self) -> str:
-        """Answers requests from now on; returns the address."""
+        """Serves requests from now on; returns the address."""
         address = address_of(self._socket)
         self._serving = asyncio.create_task(self._server.serve(sockets=[self._socket]))
         is_up = asyncio.create_task(self._server.is_up.wait())
@@ -50,7 +50,7 @@ class Http:
             await asyncio.wait([self._serving])
 
     def stop(self) -> None:
-        """Requests that wait for a result are answered now. Those that are being answered have some seconds, and no others come."""
+        """Requests that wait for a result get 202 now. Those that are being served have some seconds, and no others come."""
         self._ingress.close()
         if self._serving is not None:
             self._server.stop(self._grace)
@@ -96,7 +96,7 @@ class Mountable:
         site = Starlette(routes=[Mount("/durable", durable)], lifespan=durable.lifespan)
 
     A server that serves it as it is runs the worker by ASGI's own lifespan. When the process is told to stop by SIGTERM or SIGINT, requests that wait
-    are answered at once; a server that stops for another reason calls `stop`."""
+    get 202 at once; a server that stops for another reason calls `stop`."""
 
     def __init__(self, engine: Engine, settings: Settings):
         self.engine, self._ingress = engine, Ingress(engine, settings)
@@ -120,7 +120,7 @@ class Mountable:
             await running
 
     def stop(self) -> None:
-        """The server begins to stop: requests that wait are answered with 202 and the id of their invocation, others are refused with 503, and
+        """The server begins to stop: requests that wait get 202 and the id of their invocation, others are refused with 503, and
         the worker ends as it does by SIGTERM. It is called in the event loop, and may be called again."""
         self._ingress.close()
         self.engine.stop()

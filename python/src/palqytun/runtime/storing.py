@@ -156,8 +156,8 @@ async def _end(db: Database, out: Outcome, claim: Claim, growth: Growth, result:
 
 
 def arrivals(claim: Claim) -> Reads:
-    """What `pull` needs to have read before. What came for another's attempt would seem dishonest to this one. So it is read only if the lease isn't
-    lost."""
+    """What `pull` needs to have read before. What came for another's attempt would seem to break a rule to this one. So it is read only if
+    the lease isn't lost."""
     return lambda db: (inbox.peek(claim.invocation, claim.lease.epoch),)
 
 

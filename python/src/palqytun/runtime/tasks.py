@@ -142,8 +142,8 @@ class Tasks:
                 yield it
 
     def taken(self, take: Callable[[int], Any]) -> Iterator[Leaf[Any] | None]:
-        """Takes what has come, after the await of `tree`: each handle that has something, and nothing for each that was looked at in vain. Of the
-        handles that a coroutine waits for alone one comes at a time, and mostly the one that was asked for first: so the others aren't looked at."""
+        """Takes what has come, after the await of `tree`: each handle that has something, and nothing for each that was looked at in vain. The
+        handles that a coroutine waits for alone come one at a time, and mostly the one that was asked for first: so the others aren't looked at."""
         for over in list(self._over.values()):
             for leaf in over.leaves():
                 yield leaf if self._came(leaf, take) else None

@@ -47,7 +47,7 @@ class Timeline:
 
 
 def _steps(rows: Iterable[Any]) -> list[Step]:
-    """The entries of a journal, in order; a completion belongs to the command that carries its id."""
+    """The entries of a journal, in order; a completion belongs to the command that has its id."""
     steps: list[Step] = []
     carriers: dict[int, Step] = {}
     missing: dict[int, int] = {}  # of each command, by its place

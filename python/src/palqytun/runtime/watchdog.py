@@ -18,8 +18,8 @@ from .places import is_own, is_users
 log = logging.getLogger("palqytun")
 _EVERY = 0.5  # seconds between questions
 _SLICE = 0.25  # a process that was stopped as a whole hasn't waited for longer than two of these at a time
-_SAID_AT = (2.0, 10.0, 30.0)  # seconds without an answer
-_ENDED = 70  # the status of a process whose loop doesn't answer
+_SAID_AT = (2.0, 10.0, 30.0)  # seconds without a reply
+_ENDED = 70  # the status of a process whose loop doesn't reply
 
 
 def _frames(thread: int) -> Iterator[FrameType]:
@@ -31,20 +31,20 @@ def _frames(thread: int) -> Iterator[FrameType]:
 
 
 def holder(thread: int) -> str:
-    """Who holds a loop, and in which line of its code. If the machine has other work for its processors, that may be nobody."""
+    """Who holds a loop, and in which line of its code. If the host has other work for its processors, that may be nobody."""
     frames = list(_frames(thread))
     if not frames:
         return "a thread that has ended"
     claims = (getattr(it.f_locals.get("self"), "claim", None) for it in frames if is_own(it))
     claim = next((it for it in claims if it is not None), None)
-    who = "no handler, or the machine is busy" if claim is None else f"{claim.service}/{claim.handler} of {claim.invocation}"
+    who = "no handler, or the host is busy" if claim is None else f"{claim.service}/{claim.handler} of {claim.invocation}"
     at = next((it for it in frames if is_users(it)), frames[0])
     file, line = at.f_code.co_filename, at.f_lineno
     return f"{who}, in {file}:{line}: {linecache.getline(file, line).strip()}"
 
 
 class Watchdog:
-    """Logs it if the loop doesn't answer for some seconds, and who holds it. If it doesn't answer for `stuck` seconds the process ends, so that
+    """Logs it if the loop doesn't reply for some seconds, and who holds it. If it doesn't reply for `stuck` seconds the process ends, so that
     other workers go on with what it has."""
 
     def __init__(self, loop: asyncio.AbstractEventLoop, *, stuck: float | None = None):
@@ -78,10 +78,10 @@ class Watchdog:
             if self._stuck is not None and waited >= self._stuck:
                 self._exit(waited)
         if waited >= _SAID_AT[0]:
-            log.warning("the event loop answers again after %.1f s; give such work to ctx.run as a plain function, which runs in a thread", waited)
+            log.warning("the event loop replies again after %.1f s; give such work to ctx.run as a plain function, which runs in a thread", waited)
 
     def _exit(self, waited: float) -> None:
         stack = "".join(traceback.format_stack(next(_frames(self._held), None)))
-        log.critical("the event loop didn't answer for %.0f s, so this worker ends. It is held by %s\n%s", waited, holder(self._held), stack)
+        log.critical("the event loop didn't reply for %.0f s, so this worker ends. It is held by %s\n%s", waited, holder(self._held), stack)
         logging.shutdown()
         os._exit(_ENDED)

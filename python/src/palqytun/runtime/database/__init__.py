@@ -21,8 +21,8 @@ class Lost(Exception):
 
 
 class StatementFailed(Exception):
-    """The database refuses a statement or a value, by the operation's own fault. Nothing of its transaction was stored, and the connection can be
-    used. `code` is the SQLSTATE, or SQLite's name of the error."""
+    """The database refuses a statement or a value, since something is wrong with the operation itself. Nothing of its transaction was stored, and the
+    connection can be used. `code` is the SQLSTATE, or SQLite's name of the error."""
 
     def __init__(self, code: str, text: str):
         super().__init__(f"{code}: {text}")

@@ -101,7 +101,7 @@ def _how(value: object) -> tuple[int, Callable[[Any], bytes]]:
 
 @functools.lru_cache(1000)
 def _numbered(sql: str) -> bytes:
-    """A statement with `$1`, `$2`, .. in the place of each `?`."""
+    """A statement with `$1`, `$2`, .. instead of each `?`."""
     first, *rest = sql.split("?")
     return "".join([first, *(f"${number}{it}" for number, it in enumerate(rest, 1))]).encode()
 

@@ -1,4 +1,4 @@
-"""PostgreSQL, by psycopg 3: workers on many machines. No thread waits for the server; the event loop does.
+"""PostgreSQL, by psycopg 3: workers on many hosts. No thread waits for the server; the event loop does.
 
 What costs time is the round trip to the server. So statements whose results aren't asked for are queued, and go with the next that has one;
 a transaction's begin goes with its first statement, and its commit with the last.
@@ -56,7 +56,7 @@ _OPTIONS: dict[str, Any] = {
     "tcp_user_timeout": 15000,
     "client_encoding": "UTF8",
 }
-# In the place of the server's defaults, but not of what the URL's options say. A server lacks what its version doesn't have.
+# Instead of the server's defaults, but not of what the URL's options say. A server lacks what its version doesn't have.
 _SETTINGS = {
     "statement_timeout": "0",  # a statement that is ended is made again: the next one would be no quicker
     "lock_timeout": "1s",  # then the operations of a group are made without the one that waits
@@ -119,7 +119,7 @@ class _Server:
                 making = driver.psycopg.AsyncConnection.connect(self.url, autocommit=True, **_OPTIONS)
                 return await asyncio.wait_for(making, _PATIENCE)
         except asyncio.TimeoutError:
-            raise Lost(f"the server hasn't answered for {_PATIENCE} seconds") from None
+            raise Lost(f"the server hasn't replied for {_PATIENCE} seconds") from None
         except StatementFailed as error:  # the URL, the user or the database's name
             raise Unsuitable(str(error)) from error
 
@@ -131,7 +131,7 @@ class _Server:
             await asyncio.wait_for(found.made([driver.statement(it) for it in _SET_UP]), _PATIENCE)
         except asyncio.TimeoutError:
             found.close()
-            raise Lost(f"the server hasn't answered for {_PATIENCE} seconds") from None
+            raise Lost(f"the server hasn't replied for {_PATIENCE} seconds") from None
         except BaseException:
             found.close()
             raise
@@ -148,8 +148,8 @@ class Postgres:
         self._server, self._pipeline = server, pipeline
         self._statement: Callable[..., Statement] = _driver().statement
         self._begin = self._statement(_BEGIN)
-        self._words: set[str] = set()  # that this transaction tells
-        self._touched: set[str] = set()  # the invocations whose holders it tells
+        self._words: set[str] = set()  # that this transaction sends
+        self._touched: set[str] = set()  # the invocations whose holders it notifies
         self._queue: list[Statement] = []
         self.before = len(MIGRATIONS)
 
@@ -187,7 +187,7 @@ class Postgres:
             raise Lost("a worker has to write, and this session may only read: the server is a standby, or default_transaction_read_only is on")
         loses = [f"{name}=off" for name, value in (("fsync", fsync), ("synchronous_commit", synchronous)) if value == "off"]
         if worker and loses and unsafe != "on":
-            text = f"with {' and '.join(loses)} what was committed may be lost when the server's machine stops"
+            text = f"with {' and '.join(loses)} what was committed may be lost when the server's host stops"
             raise Unsuitable(f"{text}; to allow it, set {_UNSAFE}=on, as by postgresql://..?options=-c{_UNSAFE}%3Don")
 
     async def _migrate(self, migrates: bool) -> None:

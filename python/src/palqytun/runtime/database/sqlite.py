@@ -79,7 +79,7 @@ class _Named:
 
 
 def _named_by(error: sqlite3.Error) -> Exception:
-    """The database is lost if its file can't be used; all else is the statement's own fault, or another's lock."""
+    """The database is lost if its file can't be used; all else comes from the statement itself, or from another's lock."""
     code = getattr(error, "sqlite_errorcode", None)
     primary = None if code is None else code & 0xFF
     if primary in _BUSY:
@@ -152,7 +152,7 @@ class SQLite:
         return time.time()
 
     def told(self, time: float, asked: float) -> None:
-        """The database's clock is that of this machine."""
+        """The database's clock is that of this host."""
 
     async def begin(self, reads: bool = False) -> None:
         with _named:

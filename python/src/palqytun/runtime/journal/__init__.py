@@ -1,14 +1,14 @@
 """The stored journal: what a runtime asks of it, and nothing else.
 
-`Journal` holds what the only writer of a stored journal has to know, and keeps the rules of honest storing. `frames` are its entries as
+`Journal` holds what the only writer of a stored journal has to know, and keeps the rules of a well-behaved runtime. `frames` are its entries as
 typed values. The rest of the runtime names nothing of these two modules but what this file lists, and knows no layout of bytes.
 
-Both stand on the core: `rules` on its `palqytun.Journal`, `frames` on `palqytun.frames`, which writes and reads frames by their lines, makes
+Both use the core: `rules` on its `palqytun.Journal`, `frames` on `palqytun.frames`, which writes and reads frames by their lines, makes
 notifications, and judges whether a suspension is awake. What `frames` does beside is tested and not proved.
 
     entry(frame)             the next entry, at load
     start(begin)             the bytes that a new attempt is fed: its Start, and the whole journal
-    arrive(notification)     the entry that is to be stored, or `Dishonest` with the rule that it breaks
+    arrive(notification)     the entry that is to be stored, or `BrokenRule` with the rule that it breaks
     store(output, at)        the entries of what an attempt wrote, its commands as typed values, and the frames to feed back
     state(base)              the keyed state as the journal's commands leave it
     keep(), undo()           what was stored since is committed; or it wasn't, and is taken back
@@ -62,7 +62,7 @@ from .frames import (
     value,
     void,
 )
-from .rules import Dishonest, Entry, Journal, Stored
+from .rules import BrokenRule, Entry, Journal, Stored
 
 __all__ = [
     "CANCEL",
@@ -70,12 +70,12 @@ __all__ = [
     "PATCHED",
     "Attach",
     "Begin",
+    "BrokenRule",
     "Call",
     "Change",
     "Command",
     "CompleteAwakeable",
     "Described",
-    "Dishonest",
     "End",
     "Entry",
     "Failed",

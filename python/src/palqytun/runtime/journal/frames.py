@@ -144,7 +144,7 @@ class Command:
     """A command, as far as a runtime has something to do for it."""
 
     def carried(self) -> tuple[int, ...]:
-        """The completion ids that it carries."""
+        """The completion ids that it has."""
         return ()
 
 
@@ -468,7 +468,7 @@ _NAMES = (
 
 @dataclass(frozen=True)
 class Described:
-    """An entry of a journal as a reader sees it: its name and its fields, the completion ids that it carries, and the one that it completes."""
+    """An entry of a journal as a reader sees it: its name and its fields, the completion ids that it has, and the one that it completes."""
 
     name: str
     fields: tuple[tuple[str, str], ...]

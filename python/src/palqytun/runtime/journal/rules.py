@@ -2,7 +2,7 @@
 
     BEGINNING  the new journal begins with the old one: entries are only appended, at the place after the last
     IN-ORDER   of what an attempt wrote the next bytes are stored, in order, none left out and none twice
-    ONCE       an id is completed at most once, and only after a stored command that carries it
+    ONCE       an id is completed at most once, and only after a stored command that has it
     KIND       an invocation's id is completed by one, a run by what its attempt proposed, and nothing else completes these
     PROPOSAL   a proposal is stored as its run's completion; it is acknowledged only once that is stored
     WHOLE      an attempt is handed the whole journal, from its Input on
@@ -10,7 +10,7 @@
 ONCE, KIND and PROPOSAL are kept by the core's `palqytun.Journal`, which is proved: it says what is stored, and refuses what may not be. The
 others are kept here.
 
-What is fed to an attempt is what these methods answer, and each of them answers it for entries that it has just appended. So a command
+What is fed to an attempt is what these methods return, and each of them returns it for entries that it has just appended. So a command
 stands after every notification that its attempt had been fed when it wrote the command, if a runtime feeds nothing before the commit.
 """
 
@@ -29,7 +29,7 @@ from . import frames
 from .frames import Begin, Change, Command, End, Failed, Suspension
 
 
-class Dishonest(Exception):
+class BrokenRule(Exception):
     """A rule would have been broken, and nothing was stored. `rule` is its name."""
 
     def __init__(self, rule: str, what: str):
@@ -72,7 +72,7 @@ class Journal:
     output is stored."""
 
     def __init__(self, version: int = DEFAULT_VERSION) -> None:
-        """`version` is that of the attempts' VM, which says what answers a proposal."""
+        """`version` is that of the attempts' VM, which says what is fed after a proposal."""
         self.version = version
         self.entries = 0
         self.written = 0  # how many bytes of this attempt's output are stored
@@ -83,7 +83,7 @@ class Journal:
 
     @contextmanager
     def _ruled(self, what: str) -> Iterator[None]:
-        """A fault of the core's journal is the rule that would have been broken. What wasn't committed is taken back, here as there."""
+        """A fault of the core's journal names the rule that would have been broken. What wasn't committed is taken back, here as there."""
         try:
             yield
         except MemoryError:
@@ -91,12 +91,12 @@ class Journal:
             raise
         except JournalFault as error:
             self.undo()
-            raise Dishonest(_RULES[error.fault], f"{what}: {error}") from error
+            raise BrokenRule(_RULES[error.fault], f"{what}: {error}") from error
 
     def entry(self, frame: bytes) -> None:
         """The next entry of a journal that is being loaded, which ends by `keep`."""
         if self._loaded is None:
-            raise Dishonest("WHOLE", "an entry is loaded after the attempt has begun")
+            raise BrokenRule("WHOLE", "an entry is loaded after the attempt has begun")
         with self._ruled(f"entry {self.entries}"):
             row = self._core.entry(frame)
         self._loaded.append((row.type, frame))
@@ -107,7 +107,7 @@ class Journal:
     def start(self, begin: Begin) -> bytes:
         """The bytes that a new attempt is fed: its Start, and the whole journal. It is asked once, before any output is stored."""
         if not self._loaded:
-            raise Dishonest("WHOLE", "the journal has no entries")
+            raise BrokenRule("WHOLE", "the journal has no entries")
         begun = frames.start(begin, self.entries) + b"".join(frame for _, frame in self._loaded)
         self._loaded = None
         return begun
@@ -123,13 +123,13 @@ class Journal:
     def store(self, output: bytes, at: int) -> Stored:
         """The entries of what an attempt wrote; `at` is how many bytes it had written before."""
         if at != self.written:
-            raise Dishonest("IN-ORDER", f"byte {at} of the output comes after byte {self.written}")
+            raise BrokenRule("IN-ORDER", f"byte {at} of the output comes after byte {self.written}")
         # It is read before the core stores it: what can't be read is refused as a whole, and nothing of it is stored.
         try:
             asked = [frames.asked_of(kind, frame) for kind, frame in frames.split(output)]
         except ValueError as error:
             self.undo()
-            raise Dishonest("IN-ORDER", f"an output: {error}") from error
+            raise BrokenRule("IN-ORDER", f"an output: {error}") from error
         with self._ruled("an output"):
             made = self._core.store(output, self.version)
         stored = Stored([self._placed(row) for row in made.rows], feed=[made.feed] if made.feed else [])
