@@ -90,8 +90,14 @@ def _ran(words: list[str | pathlib.Path], user: str | None, folder: pathlib.Path
         how: dict[str, Any] = {"cwd": folder, "stdin": subprocess.DEVNULL, "stdout": said, "stderr": said, "timeout": _SECONDS + 30}
         done = subprocess.run(words, env=environment, **how, **own)
     if done.returncode:
-        server = folder / "log"
-        raise NoServer(f"{words[0]} failed: {log.read_text()[-2000:]}{server.read_text()[-2000:] if server.exists() else ''}")
+        raise NoServer(f"{' '.join(map(str, words[:2]))} failed: {_told(folder / 'log')}\nIt said: {log.read_text()[-2000:]}")
+
+
+def _told(log: pathlib.Path) -> str:
+    """What the server's log says of its failure, first of all on one line, and then its last lines."""
+    lines = log.read_text(errors="replace").splitlines()[-40:] if log.exists() else []
+    first = [it for it in lines if re.search(r" (FATAL|PANIC|ERROR|HINT|DETAIL): ", it)]
+    return "\n".join([" / ".join(first[-4:]) or "the server's log has no error", *lines[-20:]])
 
 
 # ---- a cluster
@@ -141,17 +147,22 @@ class Cluster:
         _ran(words, _user(), self.folder)
 
     def kill(self) -> None:
-        """Kills each process of the server, as if its host stopped."""
+        """Kills each process of the server, as if its host stopped. Like a host that starts again, it leaves no file that names a process: one that
+        has ended, but that nobody has waited for, is to the next server one that runs."""
         file = self.folder / "data" / "postmaster.pid"
         server = int(file.read_text().splitlines()[0])
         os.kill(server, signal.SIGSTOP)  # so it begins no process, and ends none in an orderly way
+        while state(server) not in "TZX":  # until then it may still begin one
+            time.sleep(0.005)
         killed = [*_children(server), server]
         for it in killed:
             with contextlib.suppress(ProcessLookupError):
                 os.kill(it, signal.SIGKILL)
-        while any(map(_is_running, killed)):
+        while any(map(is_running, killed)):
             time.sleep(0.005)
         file.unlink(missing_ok=True)
+        for it in self.folder.glob(".s.PGSQL.*"):
+            it.unlink(missing_ok=True)
 
     def promote(self) -> None:
         """A standby becomes a primary."""
@@ -219,12 +230,17 @@ def _children(process: int) -> list[int]:
     return found
 
 
-def _is_running(process: int) -> bool:
-    """Whether a process is there, and hasn't ended."""
+def state(process: int) -> str:
+    """The letter of a process's state, as proc(5) has it: T is stopped, Z has ended and wasn't waited for. X if it isn't there."""
     try:
-        return pathlib.Path(f"/proc/{process}/stat").read_text().rpartition(")")[2].split()[0] not in "ZX"
+        return pathlib.Path(f"/proc/{process}/stat").read_text().rpartition(")")[2].split()[0]
     except OSError:
-        return False
+        return "X"
+
+
+def is_running(process: int) -> bool:
+    """Whether a process is there, and hasn't ended."""
+    return state(process) not in "ZX"
 
 
 def _removed(folder: pathlib.Path) -> None:
@@ -234,8 +250,7 @@ def _removed(folder: pathlib.Path) -> None:
         server = int(file.read_text().splitlines()[0])
         os.kill(server, signal.SIGQUIT)  # at once: nothing of it is needed any more
         until = time.monotonic() + 20
-        while time.monotonic() < until:
-            os.kill(server, 0)
+        while time.monotonic() < until and is_running(server):
             time.sleep(0.02)
         os.kill(server, signal.SIGKILL)
     shutil.rmtree(folder, ignore_errors=True)
