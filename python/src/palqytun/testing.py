@@ -39,6 +39,11 @@ from .runtime.steps import Step
 T = TypeVar("T")
 _LOOKS = 0.01  # seconds until it is looked whether all waits for the clock
 _SETTLES = 30.0  # seconds that what is due may take
+_NEXT = (  # when something is due next, of what is later than a time
+    "(SELECT MIN(due) FROM (SELECT MIN(due) AS due FROM timers UNION ALL SELECT MIN(due) FROM invocations WHERE status='ready' AND due>?"
+    " UNION ALL SELECT MIN(deadline) FROM invocations WHERE status<>'done'"
+    " UNION ALL SELECT MIN(expires) FROM invocations WHERE status='ready' AND epoch=0) AS due)"
+)
 
 __all__ = ["Called", "Fake", "Testing", "crash_everywhere", "faked"]
 
@@ -255,11 +260,11 @@ class Testing:
             return False, None
         sql = (
             "SELECT EXISTS (SELECT 1 FROM timers WHERE due<=?) OR EXISTS (SELECT 1 FROM invocations WHERE status='running' OR (status='ready' AND due<=?))"
-            " OR EXISTS (SELECT 1 FROM inbox JOIN invocations ON id=invocation WHERE fresh=1 AND status='suspended'),"
-            " (SELECT MIN(due) FROM (SELECT MIN(due) AS due FROM timers UNION ALL SELECT MIN(due) FROM invocations WHERE status='ready' AND due>?) AS due)"
+            " OR EXISTS (SELECT 1 FROM inbox JOIN invocations ON id=invocation WHERE fresh=1 AND status='suspended')"
+            f" OR EXISTS (SELECT 1 FROM invocations WHERE deadline<=? AND status<>'done'), {_NEXT}"
         )
         now = self.now
-        [(is_due, due)] = await self._asked(sql, now, now, now)
+        [(is_due, due)] = await self._asked(sql, now, now, now, now)
         return not is_due and not self.engine.live, None if due is None else float(due)
 
     async def is_settled(self) -> bool:
@@ -275,8 +280,7 @@ class Testing:
         return await self.engine.transact(lambda db: db.rows(sql, values))
 
     async def _next(self) -> float | None:
-        sql = "SELECT MIN(due) FROM (SELECT MIN(due) AS due FROM timers UNION ALL SELECT MIN(due) FROM invocations WHERE status='ready' AND due>?) AS due"
-        [(due,)] = await self._asked(sql, self.now)
+        [(due,)] = await self._asked(f"SELECT {_NEXT}", self.now)
         return None if due is None else float(due)
 
     async def _to(self, at: float) -> None:

@@ -116,14 +116,20 @@ async def kill(db: Database, app: App | None, out: Outcome, id: str, who: str) -
     """Ends the invocation now with code 409: nothing of its handler runs any more, its key is free, and those who wait for it get the failure. The
     calls whose results it waited for are cancelled."""
     await _kept(db, id)
-    sql = "SELECT waiters.invocation FROM waiters JOIN invocations ON invocations.id=waiters.invocation WHERE waiter=? AND parent=?"
-    children = [child for child, in await db.rows(sql, (id, id))]
-    await end(db, out, id, journal.failure(409, "killed"), "killed")
-    for child in children:
-        inbox.put(db, out, child, journal.cancellation())
-    detail = f"{len(children)} calls are cancelled" if children else None
+    count = await end_with_calls(db, out, id, journal.failure(409, "killed"), "killed")
+    detail = f"{count} calls are cancelled" if count else None
     audit.record(db, who, "kill", invocation=id, detail=detail)
     return "killed" if detail is None else f"killed; {detail}"
+
+
+async def end_with_calls(db: Database, out: Outcome, id: str, result: Result, how: str) -> int:
+    """Ends an invocation from outside, and cancels the calls whose results it waits for; returns how many."""
+    sql = "SELECT waiters.invocation FROM waiters JOIN invocations ON invocations.id=waiters.invocation WHERE waiter=? AND parent=?"
+    children = [child for child, in await db.rows(sql, (id, id))]
+    await end(db, out, id, result, how)
+    for child in children:
+        inbox.put(db, out, child, journal.cancellation())
+    return len(children)
 
 
 async def pause(db: Database, app: App | None, out: Outcome, id: str, who: str) -> str:

@@ -11,22 +11,31 @@ from .services import App, TerminalError
 
 @dataclass(frozen=True)
 class Target:
-    """A handler as far as its callers know it. A workflow's `main` is exclusive."""
+    """A handler as far as its callers know it. A workflow's `main` is exclusive. The limits of time are those of `Handler`."""
 
     path: str
     keyed: bool
     workflow: bool
     exclusive: bool
+    timeout: float | None = None
+    queue_timeout: float | None = None
+
+    def until(self, begins: float) -> tuple[float | None, float | None]:
+        """Until when an invocation that is due then has to have ended, and to have begun."""
+        return None if self.timeout is None else begins + self.timeout, None if self.queue_timeout is None else begins + self.queue_timeout
 
 
 _ALIVE = "serving JOIN workers ON workers.id=serving.worker"
 
 
 def _said(app: App) -> str:
-    """What an app serves, as JSON: of each service whether it has keys and is a workflow, and its handlers with whether they are exclusive."""
+    """What an app serves, as JSON: of each service whether it has keys and is a workflow, its handlers with whether they are exclusive, and the
+    limits of time of those that have some."""
     found: dict[str, Any] = {}
     for it in app.services.values():
-        found[it.name] = {"keyed": it.keyed, "workflow": it.workflow, "handlers": {name: one.exclusive for name, one in it.handlers.items()}}
+        times = {name: (one.timeout, one.queue_timeout) for name, one in it.handlers.items() if one.timeout or one.queue_timeout}
+        handlers = {name: one.exclusive for name, one in it.handlers.items()}
+        found[it.name] = {"keyed": it.keyed, "workflow": it.workflow, "handlers": handlers, **({"times": times} if times else {})}
     return json.dumps(found)
 
 
@@ -47,11 +56,10 @@ async def versions(db: Database) -> set[str]:
 
 def own(app: App, service: str, handler: str) -> Target | None:
     """A handler of this app; none if it hasn't such a one."""
-    known = app.services.get(service)
-    if known is None or handler not in known.handlers:
+    it = app.known(service, handler)
+    if it is None:
         return None
-    it = known.handlers[handler]
-    return Target(it.path, known.keyed, known.workflow, it.exclusive)
+    return Target(it.path, it.service.keyed, it.service.workflow, it.exclusive, it.timeout, it.queue_timeout)
 
 
 async def find(db: Database, app: App, service: str, handler: str) -> Target:
@@ -62,8 +70,17 @@ async def find(db: Database, app: App, service: str, handler: str) -> Target:
     for said in await _services(db):
         if handler in said.get(service, {}).get("handlers", ()):
             it = said[service]
-            return Target(f"{service}/{handler}", it["keyed"], it["workflow"], it["handlers"][handler])
+            times = it.get("times", {}).get(handler, (None, None))
+            return Target(f"{service}/{handler}", it["keyed"], it["workflow"], it["handlers"][handler], *times)
     raise TerminalError(f"there is no handler {service}/{handler}, of this app or of a worker that is alive", 404)
+
+
+async def until(db: Database, app: App | None, service: str, handler: str, begins: float) -> tuple[float | None, float | None]:
+    """`Target.until` of a handler; no times if nobody serves it now."""
+    try:
+        return (await find(db, App() if app is None else app, service, handler)).until(begins)
+    except TerminalError:
+        return None, None
 
 
 async def is_keyed(db: Database, service: str) -> bool:

@@ -136,6 +136,9 @@ class Attempt:
         self._has_ended = False
         self.was_cancelled_within = False  # the handler has cancelled the task of its own attempt
         self._unawaited: list[int] = []  # sleeps that nobody can await any more
+        known = worker.app.known(claim.service, claim.handler)
+        self._limit = None if known is None else known.attempt_timeout  # seconds that the attempt may take
+        self._begun_at = time.monotonic()
         self.awakeables: Mapping[str, Callable[[Any], Any]] | None = None  # that the handler has made: what reads the value of each
 
     async def run(self) -> None:
@@ -342,11 +345,21 @@ class Attempt:
         if self.bell.poked:
             await self._pull()
             return
-        patience = self.worker.patience
+        patience, left = self.worker.patience, self._left_of_limit()
         if not self._executing and not patience:
             self._vm.notify_input_closed()
             return
-        await self._wait(None if self._executing else patience, context)
+        await self._wait(left if self._executing else patience if left is None else min(patience, left), context)
+
+    def _left_of_limit(self) -> float | None:
+        """How many seconds the attempt may still take, if there is a limit. An attempt that has taken them, and executes runs, has failed. One that only
+        waits is suspended after its patience, so it takes nothing."""
+        if self._limit is None:
+            return None
+        left = self._begun_at + self._limit - time.monotonic()
+        if left <= 0 and self._executing:
+            raise HandlerFailed(TimeoutError(f"the attempt took longer than its attempt_timeout of {self._limit:g} s"))
+        return max(0.0, left)
 
     async def _wait(self, patience: float | None, context: Context) -> None:
         """Until a run has a result, which is stored, or something comes, or patience is over."""

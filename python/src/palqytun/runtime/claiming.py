@@ -8,7 +8,7 @@ from collections.abc import AsyncIterator, Collection
 from dataclasses import dataclass, field
 from typing import Any
 
-from . import acts, announced, inbox, invocations, journal, schedules
+from . import acts, announced, deadlines, inbox, invocations, journal, schedules
 from .database import Asked, Database
 from .invocations import CLAIMED, MOST_LOST, SUSPECT, Claim, Claimable
 from .outcome import Outcome
@@ -114,8 +114,9 @@ class Claimer:
     async def claim(self, db: Database, live: Collection[str], room: int) -> Claims:
         """Fires the timers that are due, and claims at most `room` invocations that can go on; `live` are those that have an attempt here."""
         found, now, asked = Claims(), db.now(), time.monotonic()
-        due, fresh, [(next_due, clock)] = await db.several([self._due(db, now), _looked(), self._next(db, now)])
+        due, fresh, [(next_due, clock)], *late = await db.several([self._due(db, now), _looked(), self._next(db, now), *deadlines.late(db, now)])
         db.told(float(clock), asked)
+        await deadlines.end(db, found.out, *late)
         await self._fire(db, found.out, due, now)
         await schedules.fire(db, self.app, found.out, now)
         await self._cancel(db, found.out, [id for id, is_cancelled in fresh if is_cancelled], now)
@@ -126,7 +127,8 @@ class Claimer:
             found.claims += await invocations.claim(db, self.worker, free[first : first + _AT_ONCE], found.out, self.code)
         if len(free) < sum(it.id not in live for it in rows):
             found.has_more = False  # who is left out is looked for by and by
-        times = (now if len(due) == _TIMERS else next_due, await schedules.next_due(db, self.app, now))
+        has_more = len(due) == _TIMERS or any(len(it) == deadlines.MOST for it in late)
+        times = (now if has_more else next_due, await schedules.next_due(db, self.app, now))
         found.next_due = min((float(it) - db.now() + time.time() for it in times if it is not None), default=None)
         return found
 
@@ -236,6 +238,6 @@ class Claimer:
         """Reads when something is due next, and the database's time."""
         sql = (
             f"SELECT MIN(due), {db.clock} FROM (SELECT MIN(due) AS due FROM timers WHERE due>?"
-            " UNION ALL SELECT MIN(due) AS due FROM invocations WHERE status='ready' AND due>?) AS next"
+            f" UNION ALL SELECT MIN(due) AS due FROM invocations WHERE status='ready' AND due>?{deadlines.NEXT}) AS next"
         )
-        return sql, (now, now)
+        return sql, (now, now, now, now)

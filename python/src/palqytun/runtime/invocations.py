@@ -69,10 +69,11 @@ async def create(db: Database, app: App, out: Outcome, new: New) -> tuple[str, b
     id = new.id or f"inv_{secrets.token_hex(12)}"
     # What begins at once is due when the server makes this statement: so calls of a key are in their order, whichever worker stores them.
     sql = (
-        "INSERT INTO invocations(id, service, handler, key, exclusive, version, idem, seed, status, due, entries, created, parent, trace)"
-        f" VALUES (?,?,?,?,?,?,?,?,'ready',COALESCE(?,{db.clock}),1,?,?,?)"
+        "INSERT INTO invocations(id, service, handler, key, exclusive, version, idem, seed, status, due, entries, created, parent, trace, deadline, expires)"
+        f" VALUES (?,?,?,?,?,?,?,?,'ready',COALESCE(?,{db.clock}),1,?,?,?,?,?)"
     )
-    row = (id, new.service, new.handler, new.key, int(target.exclusive), VERSION, idem, _seed(new.id), due, now, new.parent, new.trace)
+    times = target.until(now if due is None else due)
+    row = (id, new.service, new.handler, new.key, int(target.exclusive), VERSION, idem, _seed(new.id), due, now, new.parent, new.trace, *times)
     if idem is None:  # no other has its name
         db.put(sql, row)
     elif not await db.change(f"{sql} ON CONFLICT DO NOTHING", row):

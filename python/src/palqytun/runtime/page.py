@@ -84,7 +84,7 @@ def done(name: str, said: Mapping[str, str], root: str = ROOT) -> str:
 def drawn(it: Timeline, now: float, root: str = ROOT) -> str:
     """An invocation: its row, the picture, and each entry as a line."""
     row, steps = it.invocation, it.steps[-MOST_STEPS:]
-    facts = [f"{name}: {shown.moment(row[name])} UTC" for name in ("created", "cancelled", "ended") if row[name] is not None]
+    facts = [f"{name}: {shown.moment(row[name])} UTC" for name in ("created", "cancelled", "deadline", "ended") if row[name] is not None]
     if row["status"] == "ready" and row["due"] > now:
         facts.append(f"goes on in {shown.lasted(row['due'] - now)}")
     facts += [f"{row['entries']} entries", f"{len(it.attempts)} attempts"]

@@ -10,7 +10,7 @@ import secrets
 import time
 from typing import Any
 
-from . import audit, invocations, journal
+from . import announced, audit, invocations, journal
 from .database import Database
 from .effects import Performer
 from .invocations import Claimable
@@ -47,7 +47,7 @@ async def restart(db: Database, app: App | None, out: Outcome, id: str, who: str
         raise TerminalError("what waits before this step is asked for anew by a worker: ask its ingress, or name the app", 409)
     if own["idem"] is not None:
         await db.change("UPDATE invocations SET idem=NULL WHERE id=?", (id,))
-    await it.store(out, id)
+    await it.store(app, out, id)
     audit.record(db, who, "restart", invocation=id, detail=f"as {it.id}" + (f" from step {step}" if step else ""))
     return it.id
 
@@ -120,10 +120,12 @@ class _Restart:
         self.entries += [(it.completes, it.frame) for it in growth.entries]
         self._journal.keep()
 
-    async def store(self, out: Outcome, origin: str) -> None:
-        """Writes the new invocation, which is ready."""
+    async def store(self, app: App | None, out: Outcome, origin: str) -> None:
+        """Writes the new invocation, which is ready. Its limits of time begin now."""
         now = self.db.now()
-        rest = {"id": self.id, "origin": origin, "status": "ready", "due": now, "entries": len(self.entries), "created": now}
+        deadline, expires = await announced.until(self.db, app, self.own["service"], self.own["handler"], now)
+        times = {"due": now, "created": now, "deadline": deadline, "expires": expires}
+        rest = {"id": self.id, "origin": origin, "status": "ready", "entries": len(self.entries), **times}
         row = {**self.own, **rest}
         sql = f"INSERT INTO invocations({', '.join(row)}) VALUES ({','.join('?' * len(row))})"
         await self.db.change(sql, tuple(row.values()))

@@ -119,7 +119,8 @@ ATTEMPTS = Retry(attempts=50, pause=True)  # of a handler that says nothing else
 @dataclass
 class Handler(Generic[I, O]):
     """A handler of a service. `exclusive` ones of a key run one at a time and may change its state. `limit` is how many of its attempts may run
-    at once, over all workers."""
+    at once, over all workers. These are times in seconds: `timeout`, within which an invocation has to end after it was due to begin;
+    `queue_timeout`, within which its first attempt has to begin; and `attempt_timeout`, which an attempt may take."""
 
     service: "Service"
     name: str
@@ -127,8 +128,19 @@ class Handler(Generic[I, O]):
     exclusive: bool = False
     retry: Retry = ATTEMPTS
     limit: int | None = None
+    timeout: float | None = None
+    queue_timeout: float | None = None
+    attempt_timeout: float | None = None
     takes: Any = Any
     gives: Any = Any
+
+    def __post_init__(self) -> None:
+        if self.limit is not None and self.limit < 1:
+            raise ValueError(f"{self.path} has the limit {self.limit}, so it would never run")
+        for name in ("timeout", "queue_timeout", "attempt_timeout"):
+            seconds = getattr(self, name)
+            if seconds is not None and not 0 < seconds < math.inf:
+                raise ValueError(f"{self.path} has the {name} {seconds}, and it is a number of seconds above 0")
 
     @property
     def path(self) -> str:
@@ -173,8 +185,6 @@ class Service:
                 raise TypeError(f"{self.name}/{name} takes {count} parameters; a handler takes the context and its argument")
             if name in self.handlers:
                 raise ValueError(f"{self.name} has two handlers with the name {name}")
-            if (limit := options.get("limit")) is not None and limit < 1:
-                raise ValueError(f"{self.name}/{name} has the limit {limit}, so it would never run")
             self.handlers[name] = handler = Handler(self, name, function, exclusive, takes=takes, gives=gives, **options)
             return handler
 
@@ -182,7 +192,8 @@ class Service:
 
     def handler(self, **options: Any) -> Callable[[Callable[[ServiceContext, I], Awaitable[O]]], Handler[I, O]]:
         """Registers a handler under its function's name. `retry` says when its attempts are tried again, and `limit` how many of them may run
-        at once."""
+        at once. An invocation that hasn't ended `timeout` seconds after it was due, or hasn't begun within `queue_timeout`, ends with code 408, and its
+        calls are cancelled. An attempt that takes longer than `attempt_timeout` has failed, and is tried again."""
         return self._add(self.keyed and not self.workflow, **options)
 
 
@@ -259,23 +270,26 @@ class App:
         found = [it for service in self.services.values() for it in service.handlers.values() if it.limit is not None]
         return sorted(found, key=lambda it: it.path)
 
-    def has_limit(self, service: str, handler: str) -> bool:
+    def known(self, service: str, handler: str) -> Handler[Any, Any] | None:
+        """A handler by its name; none if there is no such one."""
         found = self.services.get(service)
-        known = None if found is None else found.handlers.get(handler)
+        return None if found is None else found.handlers.get(handler)
+
+    def has_limit(self, service: str, handler: str) -> bool:
+        known = self.known(service, handler)
         return known is not None and known.limit is not None
 
     def retry_of(self, service: str, handler: str) -> Retry:
         """When attempts of a handler are tried again, even if there is no such handler any more."""
-        found = self.services.get(service)
-        known = None if found is None else found.handlers.get(handler)
+        known = self.known(service, handler)
         return ATTEMPTS if known is None else known.retry
 
     def find(self, service: str, handler: str) -> Handler[Any, Any]:
         """A handler by its name; there being none is a terminal error with code 404."""
-        found = self.services.get(service)
-        if found is None or handler not in found.handlers:
+        known = self.known(service, handler)
+        if known is None:
             raise TerminalError(f"there is no handler {service}/{handler}", 404)
-        return found.handlers[handler]
+        return known
 
     def asgi(
         self, url: str = "palqytun.db", *, token: str | None = None, origins: Iterable[str] = (), wait: float = 60.0, payload: int | None = None, **worker: Any

@@ -136,7 +136,15 @@ ALTER TABLE schedules ADD COLUMN called TEXT;
 CREATE TABLE transactions(invocation TEXT NOT NULL, run BIGINT NOT NULL, result {blob} NOT NULL, PRIMARY KEY(invocation, run)){plain}
 """
 
-MIGRATIONS = [_FIRST, _SECOND, _THIRD, _FOURTH, _FIFTH, _SIXTH, _SEVENTH, _EIGHTH]
+# Times until which an invocation has to have ended, and to have begun.
+_NINTH = """
+ALTER TABLE invocations ADD COLUMN deadline {float};
+ALTER TABLE invocations ADD COLUMN expires {float};
+CREATE INDEX invocations_deadline ON invocations(deadline) WHERE deadline IS NOT NULL AND status<>'done';
+CREATE INDEX invocations_expires ON invocations(expires) WHERE expires IS NOT NULL AND status='ready' AND epoch=0
+"""
+
+MIGRATIONS = [_FIRST, _SECOND, _THIRD, _FOURTH, _FIFTH, _SIXTH, _SEVENTH, _EIGHTH, _NINTH]
 _OLDEST = 3  # what older databases hold can't be read any more
 
 VERSIONS = "CREATE TABLE IF NOT EXISTS schema_versions(version INTEGER PRIMARY KEY)"
