@@ -3,6 +3,7 @@
 from __future__ import annotations
 
 import os
+import re
 import shutil
 import sys
 from pathlib import Path
@@ -10,6 +11,7 @@ from pathlib import Path
 from . import packages
 
 TOP = Path(__file__).resolve().parents[2]
+MEMORY = 4_000_000  # kilobytes for each crate that is proved
 
 
 def write_program(path: Path, text: str) -> None:
@@ -46,3 +48,9 @@ def cores(kilobytes: int) -> int:
     with open("/proc/meminfo", encoding="ascii") as lines:
         free = next(int(it.split()[1]) for it in lines if it.startswith("MemAvailable:"))
     return max(1, min(len(os.sched_getaffinity(0)), free // kilobytes))
+
+
+def lanes() -> int:
+    """How many crates are proved at a time: RT_JOBS, or as many as there are cores, if each has 4 GB."""
+    named = os.environ.get("RT_JOBS", "")
+    return int(named) if re.fullmatch("[1-9][0-9]*", named) else cores(MEMORY)

@@ -14,7 +14,7 @@ from dataclasses import dataclass, replace
 from pathlib import Path
 
 from . import counts, evidence
-from .environment import TOP, cores, environment, start_anew
+from .environment import TOP, cores, environment, lanes, start_anew
 from .jobs import Done, Job, Runner, total
 from .parts import built, job, library_path, programs, script
 from .show import Show, minutes
@@ -71,6 +71,11 @@ def line_before_counts(output: str) -> str:
     return last_line("\n".join(output.rstrip().splitlines()[:-1]))
 
 
+def tests(it: Options) -> Job:
+    """rt ci at the top of the repository, where all crates are."""
+    return replace(job("tests", "rt", "ci"), env={"RT_JOBS": str(lanes())})
+
+
 def wrong_bodies(it: Options) -> Job:
     return job("wrong-bodies", sys.executable, "-m", "tools.gate.bodies", "--minutes", f"{it.minutes:g}")
 
@@ -125,6 +130,7 @@ def failovers_of(it: Options) -> str:
 
 
 PARTS = [
+    Part("tests", "rt ci over the whole repository, so the crates of tests are proved too", tests, lambda it: "", last_line),
     Part(
         "wrong-bodies",
         "the prover refuses each wrong body in crates/NAME/wrong-bodies; a run that was stopped goes on",

@@ -5,7 +5,6 @@ from __future__ import annotations
 import argparse
 import json
 import os
-import re
 import shutil
 import signal
 import sys
@@ -14,8 +13,8 @@ from collections.abc import Iterator
 from dataclasses import dataclass, replace
 from pathlib import Path
 
-from . import counts
-from .environment import TOP, cores, environment, start_anew
+from . import counts, tree
+from .environment import TOP, cores, environment, lanes, start_anew
 from .jobs import Done, Job, Runner, total
 from .parts import has_tests, job, programs, script
 from .proofs import Processors, Proofs, read_crates, read_times
@@ -24,15 +23,15 @@ from .show import Show, minutes
 OUT = "out/prove"
 TIMES = Path(OUT, "times.json")
 ARCHIVE = "crates/ffi/out/libffi.a"
-PROOFS = "proofs"
+PROOFS, BUILDS = "proofs", "builds"
 HOURS = 6 * 3600  # that rt ci may take
-MEMORY, SMALL = 4_000_000, 1_500_000  # kilobytes for each crate that is proved, and for another job
+SMALL = 1_500_000  # kilobytes for a job that proves nothing
 LOOK = 2  # seconds between two looks at the processes
 
-ABOUT = """Proves every crate and its tests, and has the prover refuse the wrong bodies of the gate (rt ci). Then each program runs once
-without each of its allocations in turn, and so do the examples in C and Python, over the library built from what is proved; and both
-builds of each program play their rows. The last line is 'N passed, M failed'. What passed is kept beside the kit, so a second run proves
-only what changed. Each part's output is kept in out/prove/logs. 'all' is the night run: ./prove all --help."""
+ABOUT = """Proves every crate except those of tests, and has the prover refuse the wrong bodies of the gate (rt ci, in a folder of its own).
+Then each program runs once without each of its allocations in turn, and so do the examples in C and Python, over the library built from
+what is proved; and both builds of each program play their rows. The last line is 'N passed, M failed'. Each part's output is kept in
+out/prove/logs. 'all' is the night run, which proves the crates of tests too: ./prove all --help."""
 
 
 @dataclass(frozen=True)
@@ -44,8 +43,9 @@ class Part:
 
 
 PARTS = [
-    Part(PROOFS, "rt ci: each crate and its tests is proved, the wrong bodies in must-fail/ are refused, programs and tests are run"),
+    Part(PROOFS, "rt ci: each crate except those of tests is proved, the wrong bodies in must-fail/ are refused, programs are run"),
     Part("library", "the static library, built from what is proved"),
+    Part(BUILDS, "what was built is put into crates/NAME/out"),
     Part("refused", "each program on each of its inputs, once without each allocation in turn, as both compilers build it"),
     Part("rows", "the rows of vmscript and vmrounds, by both builds of each"),
     Part("bindings", "the examples in C and Python over the proved library, the header, and each allocation refused in turn"),
@@ -60,20 +60,24 @@ def jobs(seconds: dict[str, float]) -> Iterator[Job]:
 
 def every_job() -> Iterator[Job]:
     # rt ci takes all cores for itself; the library is built in its last minutes, as soon as what it stands on is proved.
-    yield replace(job(PROOFS, "rt", "ci"), seconds=2400, cores=1000, limit=HOURS)
-    log = str(Path(OUT, "logs", f"{PROOFS}.log"))
-    yield replace(script("library", "tools/static-library", "ffi", log), counts=counts.of_status, cores=0, limit=HOURS)
+    room = tree.place()
+    yield replace(job(PROOFS, "rt", "ci"), seconds=2400, cores=1000, limit=HOURS, folder=str(room))
+    log = str(TOP / OUT / "logs" / f"{PROOFS}.log")
+    library = script("library", str(TOP / "tools/static-library"), "ffi", log)
+    yield replace(library, counts=counts.of_status, cores=0, limit=HOURS, folder=str(room))
+    take = job(BUILDS, sys.executable, "-m", "tools.gate.tree", "take")
+    yield replace(take, seconds=1, counts=counts.of_status, after=(PROOFS, "library"))
     for program in programs():
         cases = sorted(Path("crates", program, "runs").glob("*.in"))
         for it in cases:
             arguments = it.with_suffix(".args")
             words = arguments.read_text(encoding="utf-8").splitlines() if arguments.is_file() else []
-            yield replace(script(f"refused/{program}-{it.stem}", "tools/refused-memory", program, str(it), *words), after=(PROOFS,))
+            yield replace(script(f"refused/{program}-{it.stem}", "tools/refused-memory", program, str(it), *words), after=(BUILDS,))
         if not cases:
-            yield replace(job(f"refused/{program}", "sh", "-c", f"echo crates/{program}/runs has no input; exit 1"), after=(PROOFS,))
-    yield replace(script("rows", "tools/rows"), after=(PROOFS,))
+            yield replace(job(f"refused/{program}", "sh", "-c", f"echo crates/{program}/runs has no input; exit 1"), after=(BUILDS,))
+    yield replace(script("rows", "tools/rows"), after=(BUILDS,))
     groups = ("examples", "header", "refused")
-    yield replace(script("bindings", "tools/bindings", "--archive", ARCHIVE, *groups, needs=("library",)), seconds=200, after=(PROOFS,))
+    yield replace(script("bindings", "tools/bindings", "--archive", ARCHIVE, *groups, needs=("library",)), seconds=200, after=(BUILDS,))
 
 
 class ShowProofs(Show):
@@ -121,7 +125,7 @@ class ShowProofs(Show):
 
     def _later(self) -> float:
         """The seconds of what follows rt ci. The library is built beside it."""
-        return sum(seconds for name, seconds in self.seconds.items() if name not in (PROOFS, "library")) / self.cores
+        return sum(seconds for name, seconds in self.seconds.items() if name not in (PROOFS, "library", BUILDS)) / self.cores
 
 
 def arguments(words: list[str]) -> argparse.Namespace:
@@ -134,12 +138,6 @@ def arguments(words: list[str]) -> argparse.Namespace:
     if options.jobs is not None and options.jobs < 1:
         parser.error("--jobs wants a number above 0")
     return options
-
-
-def lanes() -> int:
-    """How many crates are proved at a time: RT_JOBS, or as many as there are cores, if each has 4 GB."""
-    named = os.environ.get("RT_JOBS", "")
-    return int(named) if re.fullmatch("[1-9][0-9]*", named) else cores(MEMORY)
 
 
 def write_times(proofs: Proofs, last: dict[str, float], done: dict[str, Done]) -> None:
@@ -155,6 +153,8 @@ def run(options: argparse.Namespace) -> int:
     times, begun = read_times(TIMES), time.monotonic()
     of_jobs = {name.removeprefix("job "): it for name, it in times.items() if name.startswith("job ")}
     crates = read_crates(TOP, [it.name for it in TOP.glob("crates/*") if has_tests(it)])
+    crates = {name: crates[name] for name in tree.promising(crates)}
+    tree.make(TOP, tree.place(), crates)
     proofs = Proofs(crates, {name: it for name, it in times.items() if name in crates})
     those = list(jobs(of_jobs))
     at_a_time = options.jobs or lanes()

@@ -9,10 +9,11 @@ import unittest
 from pathlib import Path
 from unittest import mock
 
-from tools.gate import bodies, evidence, night
+from tools.gate import bodies, evidence, night, tree
 from tools.gate.bodies import Bodies, Tried
+from tools.gate.texts import sum_of_crates
 
-# Stands for rt: it refuses each edit but those whose name begins with `bad`, and notes the crates that it is asked for.
+# Stands for rt, and is no script of Python: it refuses each edit except those whose name begins with `bad`, and notes for which crates it was run.
 RT = """#!/bin/sh
 [ "$1" = version ] && { echo rattle-kit-0 logic 00; exit; }
 echo "$2" >>"$ASKED"
@@ -42,6 +43,13 @@ class WrongBodies(unittest.TestCase):
         self.enterContext(mock.patch.dict("os.environ", {"PATH": path, "ASKED": str(self.asked)}))
         self.enterContext(mock.patch("tools.gate.bodies.TOP", self.top))
         self.addCleanup(os.chdir, os.getcwd())
+        self.prove()
+
+    def prove(self) -> None:
+        """What ./prove leaves of the library below."""
+        text = self.top / "crates/low" / tree.TEXT
+        text.parent.mkdir(parents=True, exist_ok=True)
+        text.write_text(sum_of_crates(self.top, ["low"]))
 
     def tried(self, *words: str) -> tuple[int, list[str], list[str]]:
         """Tries the wrong bodies, and returns the status, what is printed, and the crates that rt was asked for."""
@@ -53,7 +61,7 @@ class WrongBodies(unittest.TestCase):
 
     def test_all_are_refused_once(self) -> None:
         status, said, asked = self.tried()
-        self.assertEqual((status, said[-1], asked), (0, "2 passed, 0 failed", ["low", "top"]))
+        self.assertEqual((status, said[-1], sorted(asked)), (0, "2 passed, 0 failed", ["low", "top"]))
         status, said, asked = self.tried()
         self.assertEqual((status, said[-1], asked), (0, "2 passed, 0 failed", []))
         self.assertEqual(self.tried("--anew", "top")[2], ["top"])
@@ -67,7 +75,14 @@ class WrongBodies(unittest.TestCase):
         (self.top / "crates/top/wrong-bodies/one.edit").write_text("file: src/lib.rt\nold: a\n")
         self.assertEqual(self.tried()[2], ["top"])
         (self.top / "crates/low/src/lib.rt").write_text("// another\n")
-        self.assertEqual(self.tried()[2], ["low", "top"])
+        self.prove()
+        self.assertEqual(sorted(self.tried()[2]), ["low", "top"])
+
+    def test_nothing_is_tried_over_a_library_that_is_not_proved_as_it_stands(self) -> None:
+        (self.top / "crates/low/src/lib.rt").write_text("// another\n")
+        status, said, asked = self.tried()
+        self.assertEqual((status, said[-1], asked), (1, "1 passed, 1 failed", ["low"]))
+        self.assertIn("top/wrong-bodies/one.edit: NOT TRIED: low isn't proved as it stands, so run ./prove first", said)
 
     def test_one_that_is_not_refused_fails_each_time(self) -> None:
         (self.top / "crates/top/wrong-bodies/bad.edit").write_text("file: src/lib.rt\n")
@@ -87,7 +102,7 @@ class WrongBodies(unittest.TestCase):
         self.assertIn("0 of 2 wrong bodies refused, 0 of them only by a limit of the prover; 0 not refused, 2 left", said)
 
     def test_the_copy_has_only_what_is_needed(self) -> None:
-        self.assertEqual((Bodies(self.top).rows("low"), Bodies(self.top).below("top")), ("low:\n", {"low", "top"}))
+        self.assertEqual((tree.rows(self.top, ["low"]), Bodies(self.top).below("top")), ("low:\n", {"low", "top"}))
 
     def test_a_file_that_cannot_be_read_is_nothing(self) -> None:
         file = self.top / "kept.json"
