@@ -10,7 +10,7 @@ import support  # isort: skip
 import runtime_app
 from palqytun.runtime import TerminalError, committer, desk
 from palqytun.runtime.committer import Committer
-from palqytun.runtime.database import Conflict, StatementFailed, connect
+from palqytun.runtime.database import Conflict, Lost, StatementFailed, connect
 from palqytun.runtime.database.plain import Plain
 
 
@@ -96,6 +96,68 @@ class Groups(support.OnADatabase):
 
         self.with_committer(test)
         self.assertEqual((len(tries), len(self.names())), (40, 21))
+
+    def test_a_further_connection_that_fails_when_the_first_is_free(self):
+        """One is tried for since a group is slow. Once it is known that there is none, nothing is in work any more."""
+
+        async def test(to):
+            tried = asyncio.Event()
+
+            async def another():
+                tried.set()
+                await slow
+                while to._working:
+                    await asyncio.sleep(0)
+                raise Lost("there is none")
+
+            async def waits(db):
+                await tried.wait()
+                await inserted("slow")(db)
+
+            with mock.patch.object(to.db, "another", another):
+                slow = to.submit(waits)
+                while not to._working:
+                    await asyncio.sleep(0)
+                await asyncio.wait_for(to.submit(inserted("next")), 60)
+
+        self.with_committer(test)
+        self.assertEqual(self.names(), ["next", "slow"])
+
+    def test_a_further_connection_is_tried_for_again(self):
+        """While the slow group is still in work."""
+
+        async def test(to):
+            tries, ended, another = [], asyncio.Event(), to.db.another
+
+            async def second():
+                tries.append(1)
+                if len(tries) < 3:
+                    raise Conflict("too many connections")
+                ended.set()
+                return await another()
+
+            async def waits(db):
+                await ended.wait()
+
+            with mock.patch.object(to.db, "another", second), mock.patch.object(committer, "_WITHOUT", 0.05):
+                slow = to.submit(waits)
+                while not to._working:
+                    await asyncio.sleep(0)
+                await asyncio.wait_for(to.submit(inserted("next")), 60)
+                await asyncio.wait_for(slow, 60)
+
+        self.with_committer(test)
+
+    def test_groups_that_cannot_begin(self):
+        """By a fault of the runtime's own: who waits is told, and the session ends."""
+
+        async def test(to):
+            with mock.patch.object(to, "_free", side_effect=ValueError("a fault")), self.assertLogs("palqytun", "ERROR"):
+                with self.assertRaisesRegex(committer.Stopped, "a fault"):
+                    await asyncio.wait_for(to.submit(inserted("never")), 60)
+            self.assertTrue(to.is_lost.is_set())
+
+        self.with_committer(test)
 
     def test_who_does_not_wait_any_more(self):
         """An operation whose future was cancelled isn't made again."""

@@ -12,7 +12,7 @@ import support  # isort: skip
 import needs
 import postgres
 import runtime_app
-from palqytun.runtime import App, Context, Service
+from palqytun.runtime import App, Context, Service, committer
 from palqytun.runtime.committer import Committer
 from palqytun.runtime.database import Conflict, Full, Lost, StatementFailed, connect
 from palqytun.runtime.database.plain import Plain
@@ -116,6 +116,45 @@ class OnAServer(support.OnADatabase, unittest.TestCase):
                     await outside.rollback()
                     self.assertEqual(await asyncio.wait_for(waits, 20), [1] * 8)
                     self.assertEqual(runtime.engine.counts["sessions"], 1)
+
+        asyncio.run(go())
+
+    def test_a_reader_that_is_taken_away(self):
+        """Somebody else has removed the reader of a connection's socket from the loop: its group goes on, and so does the worker."""
+
+        used = []
+
+        async def slow(db):
+            used.append(db._pipeline._pg.socket)
+            return await db.rows("SELECT pg_sleep(0.5), 7")
+
+        async def go():
+            async with Runtime(runtime_app.app, self.url) as runtime:
+                waits = runtime.engine._committer.submit(slow, is_slow=True)
+                while not (used and asyncio.get_running_loop().remove_reader(used[0])):
+                    await asyncio.sleep(0.001)
+                self.assertEqual((await asyncio.wait_for(waits, 60))[0][1], 7)
+                self.assertEqual(await runtime.call("S/echo", 1), 1)
+                self.assertEqual(runtime.engine.counts["sessions"], 1)
+
+        asyncio.run(go())
+
+    def test_no_connection_beside_a_slow_group(self):
+        """The server has none to give, again and again, while groups are slow: the worker goes on."""
+
+        async def none():
+            await asyncio.sleep(0.05)
+            raise Conflict("53300: sorry, too many clients already")
+
+        async def go():
+            async with Runtime(runtime_app.app, self.url) as runtime:
+                submit, db = runtime.engine._committer.submit, runtime.engine._committer.db
+                with mock.patch.object(db, "another", none), mock.patch.object(committer, "_WITHOUT", 0.0):
+                    for n in range(10):
+                        slow = submit(lambda db: db.rows("SELECT pg_sleep(0.08)"))
+                        self.assertEqual(await runtime.call("S/echo", n), n)
+                        await slow
+                self.assertEqual(runtime.engine.counts["sessions"], 1)
 
         asyncio.run(go())
 

@@ -139,27 +139,39 @@ class Committer:
     # ---- groups
 
     async def _run(self) -> None:
-        while self.lost is None:
-            await self._has_work.wait()
-            await asyncio.sleep(0)  # those that go on by the last results may queue more
-            db = await self._free()
-            if db is None:
-                return
-            group = self._taken()
-            if not group:
-                self._idle.append(db)
-                continue
-            task = asyncio.create_task(self._work(db, group))
-            self._working[task] = -_SLOW if group[0].is_alone else time.monotonic()
+        """Begins groups. If that fails the worker's session ends, as nobody would make what is queued."""
+        try:
+            while self.lost is None:
+                await self._has_work.wait()
+                await asyncio.sleep(0)  # those that go on by the last results may queue more
+                await self._next()
+        except Exception as error:
+            log.exception("no group can begin any more")
+            self._abandon(Stopped(repr(error)))
+
+    async def _next(self) -> None:
+        """Begins the next group, once there is a connection for it."""
+        db = await self._free()
+        if db is None:
+            return
+        group = self._taken()
+        if not group:
+            self._idle.append(db)
+            return
+        task = asyncio.create_task(self._work(db, group))
+        self._working[task] = -_SLOW if group[0].is_alone else time.monotonic()
 
     async def _free(self) -> Database | None:
         """A connection for the next group: at once if none is in work, else once one is done, or the one that began last is slow. None if the
         database is lost."""
         while self._working:
             left = max(self._working.values()) + _SLOW - time.monotonic()
-            if left <= 0 and (db := await self._another()) is not None:
-                return db
-            await asyncio.wait(self._working, timeout=left if left > 0 else None, return_when=asyncio.FIRST_COMPLETED)
+            if left <= 0:
+                if (db := await self._another()) is not None:
+                    return db
+                left = self._none_until - time.monotonic()
+            if self._working:  # while another connection was tried for, all may have ended
+                await asyncio.wait(self._working, timeout=left if left > 0 else None, return_when=asyncio.FIRST_COMPLETED)
         return self._idle.pop() if self._idle and self.lost is None else None
 
     async def _another(self) -> Database | None:

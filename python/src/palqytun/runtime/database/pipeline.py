@@ -28,6 +28,7 @@ _IN_THE_WAY = frozenset(("40001", "40P01", "55P03", "57014", "25006", "58030"))
 _FULL = "53100"
 _TOO_LARGE = "53200"  # of class 53, insufficient resources, this one is for want of memory: by the statement's own size
 _READ = 200  # rows that are read in one step
+_LOOK = 1.0  # seconds between two looks at a socket of which nothing is heard
 _NONE_FOUND = b"22012"  # a division by zero
 _BROKEN = (ExecStatus.FATAL_ERROR, ExecStatus.PIPELINE_ABORTED)
 
@@ -235,7 +236,8 @@ class Pipeline:
 
 
 async def _moved(number: int, writes: bool) -> None:
-    """Waits until a socket can be read, or, if it `writes`, be written."""
+    """Waits until a socket can be read, or, if it `writes`, be written; or a moment. So if the loop doesn't watch the socket any more, as when
+    somebody else has removed its reader, it is watched again."""
     loop = asyncio.get_running_loop()
     moved: asyncio.Future[None] = loop.create_future()
 
@@ -246,9 +248,11 @@ async def _moved(number: int, writes: bool) -> None:
     loop.add_reader(number, tell)
     if writes:
         loop.add_writer(number, tell)
+    look = loop.call_later(_LOOK, tell)
     try:
         await moved
     finally:
+        look.cancel()
         loop.remove_reader(number)
         if writes:
             loop.remove_writer(number)
