@@ -169,6 +169,9 @@ enum {
     PALQYTUN_UNKNOWN = 5
 };
 
+/* The versions of the messages that a VM may have. A version's content type is "application/vnd.restate.invocation.v" and its number. */
+enum { PALQYTUN_MINIMUM_VERSION = 5, PALQYTUN_MAXIMUM_VERSION = 8 };
+
 /* What a VM is asked to do in another way: `palqytun_options options = {0};` are the defaults, and so is NULL. */
 typedef struct {
     /* A PALQYTUN_CANCEL_. */

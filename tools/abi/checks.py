@@ -11,7 +11,7 @@ from pathlib import Path
 
 from tools.kit.errors import Refused
 
-from . import between, flat, python, sources, text
+from . import between, flat, python, rust, sources, text
 from .header import HEADER, Header, read_header
 
 OWN_STATUSES = {"PALQYTUN_BUSY", "PALQYTUN_BAD_HANDLE", "PALQYTUN_BAD_POINTER"}
@@ -28,6 +28,7 @@ def written(top: Path, header: Header) -> dict[str, str]:
         flat.CODE: flat.code(header),
         text.TEXT: text.text_of(header),
         python.MODULE: python.module_of(header),
+        rust.MODULE: rust.module_of(header),
     }
 
 
@@ -65,6 +66,9 @@ def misnumbered(top: Path, header: Header) -> Iterator[str]:
     named = {number for name, number in found.items() if name.startswith("PALQYTUN_CODE_")}
     if named != sources.codes(top):
         yield f"palqytun.h names the codes {sorted(named)}, and the sources have {sorted(sources.codes(top))}"
+    versions = tuple(found.get(f"PALQYTUN_{name}_VERSION") for name in ("MINIMUM", "MAXIMUM"))
+    if versions != sources.versions(top):
+        yield f"palqytun.h has the versions {versions}, and the sources have {sources.versions(top)}"
     statuses = {number for name, number in sources.enumerators(top).items() if name == "PALQYTUN_NOT_FRAMES"}
     for name in OWN_STATUSES:
         if found.get(name, 0) <= max(statuses):

@@ -2,6 +2,7 @@
 
 from __future__ import annotations
 
+from . import words
 from .header import Header
 
 MODULE = "python/src/palqytun/_abi.py"
@@ -55,6 +56,9 @@ def module_of(header: Header) -> str:
     parts = [HEAD]
     parts.append("\n".join(f"{name.removeprefix('PALQYTUN_')}: Final = {number}" for name, number in header.numbers.items()) + "\n")
     parts += ["\n".join(f"{name.removeprefix('PALQYTUN_')}: Final = {number}" for name, number in enum.items()) + "\n" for enum in header.enums]
+    rows = [f'    {name}: "{text}",' for name, _, text in words.statuses(header)]
+    parts.append("\n".join(["TEXTS: Final = {", *rows, "}", '"""What each status says."""']) + "\n")
+    parts.append(f'HOW_TO_MAKE_IT: Final = "{words.HOW_TO_MAKE_IT}"\nANOTHER: Final = "{words.ANOTHER}"\n')
     parts += ["\n" + _struct(name, fields) + "\n" for name, fields in header.structs.items()]
     rows = []
     for name, it in header.functions.items():

@@ -117,6 +117,7 @@ TABLES = (
     Table("journal_errors/src/types.rt", _of_code("MessageType"), "MESSAGE_"),
 )
 CODES = "journal_errors/src/faults.rt"
+VERSIONS = "journal_errors/src/version.rt"
 
 
 def enumerators(top: Path) -> dict[str, int]:
@@ -138,3 +139,9 @@ def codes(top: Path) -> set[int]:
     text = (top / "crates" / CODES).read_text(encoding="utf-8")
     body = text[text.index("pub fn code(") :]
     return {int(it) for it in re.findall(r"=>\s*(\d{3})\b", body[: body.index("\n    }\n")])}
+
+
+def versions(top: Path) -> tuple[int, ...]:
+    """The least and the greatest version that is supported."""
+    text = (top / "crates" / VERSIONS).read_text(encoding="utf-8")
+    return tuple(int(it) for it in re.findall(r"pub fn (?:minimum|maximum)_supported_version.*\n.*\n.*\n\s*Version::V(\d+)", text))

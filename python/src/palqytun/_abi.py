@@ -29,6 +29,9 @@ FIRST_SUCCEEDED_OR_ALL_FAILED: Final = 3
 ALL_SUCCEEDED_OR_FIRST_FAILED: Final = 4
 UNKNOWN: Final = 5
 
+MINIMUM_VERSION: Final = 5
+MAXIMUM_VERSION: Final = 8
+
 CANCEL_CALLS: Final = 0
 CANCEL_NOTHING: Final = 1
 CANCEL_SENDS: Final = 2
@@ -188,6 +191,41 @@ RESULT_VALUE: Final = 2
 RESULT_FAILURE: Final = 3
 RESULT_KEYS: Final = 4
 RESULT_INVOCATION_ID: Final = 5
+
+TEXTS: Final = {
+    DONE: "the call was made",
+    NO_MEMORY: "no memory was found",
+    NO_SESSION: "the VM was closed",
+    NO_VM: "there is no VM",
+    NO_ROOM: "the buffer is too short",
+    REFUSED: "the VM refused the call",
+    BAD_TEXT: "a text isn't UTF-8",
+    BAD_TREE: "the nodes aren't one tree",
+    BAD_NUMBER: "a number names no case of what it is to name",
+    NO_PART: "there is no such part",
+    BAD_OUTPUT: "the output isn't whole frames",
+    NOT_A_NOTIFICATION: "it isn't one whole frame of a notification",
+    NO_SUCH_ID: "no stored command has the completion id",
+    SECOND_COMPLETION: "the completion id was completed before",
+    WRONG_KIND: "the id of an invocation is completed by something else",
+    RUN_IS_PROPOSED: "the result of a run is proposed by the attempt that ran it",
+    JOURNAL_FULL: "the journal is full",
+    BAD_JOURNAL: "it isn't one whole frame of a command or a notification, or the first one isn't an Input",
+    NOT_A_FRAME: "it isn't one whole frame",
+    BAD_LINE: "the line has no meaning",
+    NO_RESULT: "the frame has no result",
+    NOT_A_SUSPENSION: "the frame isn't one of a suspension",
+    NO_JOURNAL: "the journal was closed",
+    NO_ROW: "the last store has no such row",
+    NOT_FRAMES: "the notifications aren't whole frames",
+    BUSY: "a call of another thread has not ended; let a lock guard it",
+    BAD_HANDLE: "the handle is of something else",
+    BAD_POINTER: "a pointer is NULL that may not be",
+}
+"""What each status says."""
+
+HOW_TO_MAKE_IT: Final = "./bindings/build makes it, at the top of the repository, or, in some minutes and without a proof, ./bindings/build --unproved"
+ANOTHER: Final = "PALQYTUN_LIBRARY may name another"
 
 
 class Told(ctypes.Structure):

@@ -16,19 +16,10 @@ Handle = ctypes.c_void_p
 """The handle of a VM or of a journal. Its value is None before it is opened."""
 Buffer = ctypes.Array[ctypes.c_char]
 
-HOW_TO_MAKE_IT = "./bindings/build makes it, at the top of the repository, or, in some minutes and without a proof, ./bindings/build --unproved"
-
-_WHY = {
-    _abi.NO_SESSION: "the VM was let go",
-    _abi.NO_VM: "there is no VM",
-    _abi.NO_JOURNAL: "the journal was let go",
-    _abi.BUSY: "a call of another thread has not ended; let a lock guard it",
-}
-
 
 def why(status: int) -> str:
     """Why a call wasn't made."""
-    return _WHY.get(status, f"the library returned {status}")
+    return _abi.TEXTS.get(status, f"the library returned {status}")
 
 
 def buffer(size: int) -> Buffer:
@@ -106,10 +97,10 @@ class Library:
             abi = getattr(library, "palqytun_abi", None)
             if abi is None or abi() != _abi.ABI:
                 found = "no number" if abi is None else f"the number {abi()}"
-                raise ImportError(f"{path}: its interface has {found}, and this package wants {_abi.ABI}: {HOW_TO_MAKE_IT}")
+                raise ImportError(f"{path}: its interface has {found}, and this package wants {_abi.ABI}: {_abi.HOW_TO_MAKE_IT}")
             functions = {name: getattr(library, f"palqytun_{name}") for name in _abi.FUNCTIONS}
         except (OSError, AttributeError) as error:
-            raise ImportError(f"{error}: {HOW_TO_MAKE_IT}; PALQYTUN_LIBRARY may name another") from error
+            raise ImportError(f"{error}: {_abi.HOW_TO_MAKE_IT}; {_abi.ANOTHER}") from error
         for name, (arguments, result) in _abi.FUNCTIONS.items():
             functions[name].argtypes, functions[name].restype = arguments, result
         self.build, self.version = functions["build"]().decode(), functions["version"]().decode()

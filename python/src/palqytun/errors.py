@@ -4,6 +4,8 @@ from __future__ import annotations
 
 import enum
 
+from palqytun import _abi
+
 __all__ = ["BadFrame", "BadLine", "Cancelled", "Closed", "Code", "Fault", "JournalFault", "JournalMismatch", "Suspended", "VMError", "error_of"]
 
 
@@ -95,18 +97,6 @@ class Fault(enum.IntEnum):
     """What is loaded can't stand there: the first entry is an Input, each other one a command or a notification."""
 
 
-_FAULTS = {
-    Fault.BAD_OUTPUT: "the output isn't whole frames",
-    Fault.NOT_A_NOTIFICATION: "it isn't one whole frame of a notification",
-    Fault.NO_SUCH_ID: "no stored command has the completion id",
-    Fault.SECOND_COMPLETION: "the completion id was completed before",
-    Fault.WRONG_KIND: "the id of an invocation is completed by something else",
-    Fault.RUN_IS_PROPOSED: "the result of a run is proposed by the attempt that ran it",
-    Fault.JOURNAL_FULL: "the journal is full",
-    Fault.BAD_JOURNAL: "it isn't one whole frame of a command or a notification, or the first one isn't an Input",
-}
-
-
 class JournalFault(ValueError):
     """An entry can't stand in a journal: `fault` is why. What came since the last `keep` is taken back.
 
@@ -115,7 +105,7 @@ class JournalFault(ValueError):
     """
 
     def __init__(self, fault: Fault) -> None:
-        super().__init__(f"{fault.name}: {_FAULTS[fault]}")
+        super().__init__(f"{fault.name}: {_abi.TEXTS[fault]}")
         self.fault = fault
 
 

@@ -27,12 +27,6 @@ __all__ = ["Message", "completion", "frame_of", "input_frame", "is_awake", "line
 _COMPLETION, _SIGNAL, _NAMED = range(3)
 _KEPT = 65536  # the largest buffer that is kept between calls
 
-_WHY = {
-    _abi.NOT_FRAMES: "the notifications aren't whole frames",
-    _abi.NOT_A_FRAME: "it isn't one whole frame",
-    _abi.NO_RESULT: "the frame has no result",
-    _abi.NOT_A_SUSPENSION: "the frame isn't one of a suspension",
-}
 
 
 class _Room(threading.local):
@@ -55,8 +49,8 @@ def _refuse(status: int) -> None:
     if status == _abi.NO_MEMORY:
         raise MemoryError("the core found no memory")
     if status == _abi.BAD_LINE:
-        raise BadLine("the line has no meaning")
-    raise BadFrame(_WHY[status])
+        raise BadLine(_abi.TEXTS[status])
+    raise BadFrame(_abi.TEXTS[status])
 
 
 def _written(call: Callable[[_library.Buffer, int], _abi.Told]) -> bytes:

@@ -4,7 +4,7 @@ import tempfile
 import unittest
 from pathlib import Path
 
-from tools.abi import between, checks, sources, text
+from tools.abi import between, checks, sources, text, words
 from tools.abi.header import HEADER, Header, read_header
 from tools.kit.errors import Refused
 
@@ -63,6 +63,20 @@ class Numbers(unittest.TestCase):
     def test_a_code_that_the_vm_has_not(self) -> None:
         header = self.read(self.header.replace("PALQYTUN_CODE_CLOSED = 598", "PALQYTUN_CODE_CLOSED = 597"))
         self.assertIn("names the codes", next(checks.misnumbered(TOP, header)))
+
+    def test_versions_that_the_vm_has_not(self) -> None:
+        header = self.read(self.header.replace("PALQYTUN_MAXIMUM_VERSION = 8", "PALQYTUN_MAXIMUM_VERSION = 9"))
+        self.assertIn("has the versions (5, 9), and the sources have (5, 8)", next(checks.misnumbered(TOP, header)))
+
+    def test_a_status_without_a_text(self) -> None:
+        header = self.read(self.header.replace("PALQYTUN_NO_ROW = 23", "PALQYTUN_NO_ROW = 23,\n    PALQYTUN_NO_LUCK = 28"))
+        with self.assertRaisesRegex(Refused, "no text, or are none: NO_LUCK"):
+            words.statuses(header)
+
+    def test_each_case_has_its_word(self) -> None:
+        found = {it.name: it.cases for it in words.groups(read_header(TOP / HEADER))}
+        self.assertEqual(found["ImplicitCancellation"][-2:], (("CallsAndSends", 3), ("Disabled", 4)))
+        self.assertEqual(found["MessageType"][17], ("SleepCommand", 18))
 
     def test_what_cannot_be_read(self) -> None:
         with self.assertRaisesRegex(Refused, "an enumerator can't be read in 'A, B = 2'"):

@@ -1,0 +1,121 @@
+//! What a call fails by.
+
+use crate::library::LoadError;
+use crate::sys::{self, MessageType, Status};
+use std::fmt;
+
+/// What a call returns.
+pub type Result<T, E = Error> = std::result::Result<T, E>;
+
+/// What a call fails by.
+#[derive(Clone, Debug, PartialEq, Eq)]
+pub enum Error {
+    /// The VM refused the call. It has failed, or is suspended or closed, and each later call returns the same.
+    Vm(Box<VmError>),
+    /// The call wasn't made, and this is why: no memory was found, an argument can't be read, an entry can't stand in a journal, or bytes
+    /// aren't frames.
+    Status(Status),
+    /// There is no shared object that can be used.
+    Load(LoadError),
+}
+
+/// An error that the VM returned.
+#[derive(Clone, Debug, PartialEq, Eq)]
+pub struct VmError {
+    /// A `CODE_` of [`sys`](crate::sys), or that of the handler's own error.
+    pub code: u16,
+    /// What it says.
+    pub message: String,
+    /// The stack trace, if one was reported.
+    pub stacktrace: String,
+    /// The command that it relates to.
+    pub related: Option<Related>,
+}
+
+/// A command that an error relates to.
+#[derive(Clone, Debug, PartialEq, Eq)]
+pub struct Related {
+    /// Its index in the journal.
+    pub index: u32,
+    /// The type of its message.
+    pub message: Option<MessageType>,
+    /// Its name, which may be empty.
+    pub name: String,
+}
+
+impl Error {
+    /// The VM's error, if it is one.
+    pub fn vm(&self) -> Option<&VmError> {
+        match self {
+            Error::Vm(it) => Some(it),
+            _ => None,
+        }
+    }
+
+    /// The code of the VM's error, if it is one.
+    pub fn code(&self) -> Option<u16> {
+        self.vm().map(|it| it.code)
+    }
+
+    fn has_code(&self, code: u32) -> bool {
+        self.code().map(u32::from) == Some(code)
+    }
+
+    /// Whether the invocation is suspended: what is awaited can't come in this attempt.
+    pub fn is_suspended(&self) -> bool {
+        self.has_code(sys::CODE_SUSPENDED)
+    }
+
+    /// Whether the handler has ended, so no call comes after.
+    pub fn is_closed(&self) -> bool {
+        self.has_code(sys::CODE_CLOSED)
+    }
+
+    /// Whether the handler makes another call than the journal has recorded.
+    pub fn is_journal_mismatch(&self) -> bool {
+        self.has_code(sys::CODE_JOURNAL_MISMATCH)
+    }
+
+    /// Whether no memory was found, by the library or by the VM, which has failed then.
+    pub fn is_no_memory(&self) -> bool {
+        match self {
+            Error::Status(status) => *status == Status::NoMemory,
+            Error::Vm(it) => u32::from(it.code) == sys::CODE_INTERNAL && it.message.is_empty(),
+            Error::Load(_) => false,
+        }
+    }
+
+    /// The error of a status that isn't done. A number that no status has can't come from a library of this interface.
+    pub(crate) fn of_status(status: u32) -> Error {
+        Error::Status(Status::of_number(status).unwrap_or(Status::BadNumber))
+    }
+}
+
+impl fmt::Display for VmError {
+    fn fmt(&self, f: &mut fmt::Formatter<'_>) -> fmt::Result {
+        write!(f, "{} {}", self.code, self.message)?;
+        match &self.related {
+            Some(it) => write!(f, " (command {}: {:?} \"{}\")", it.index, it.message, it.name),
+            None => Ok(()),
+        }
+    }
+}
+
+impl fmt::Display for Error {
+    fn fmt(&self, f: &mut fmt::Formatter<'_>) -> fmt::Result {
+        match self {
+            Error::Vm(it) => it.fmt(f),
+            Error::Status(it) => write!(f, "{:?}: {}", it, it.text()),
+            Error::Load(it) => it.fmt(f),
+        }
+    }
+}
+
+impl std::error::Error for VmError {}
+impl std::error::Error for Error {}
+
+impl From<LoadError> for Error {
+    fn from(it: LoadError) -> Error {
+        Error::Load(it)
+    }
+}

@@ -1,0 +1,144 @@
+//! What a caller may do wrong is an error, and the VM goes on.
+
+mod common;
+
+use common::begun;
+use palqytun::{
+    frames, library, sys, Awaited, Error, HandlerError, Journal, NonEmptyValue, NotificationHandle, Options,
+    PayloadOptions, RetryPolicy, RunResult, State, Status, Target, UnresolvedFuture, Vm,
+};
+use std::{ptr, thread};
+
+const LATER: HandlerError<'_> = HandlerError {
+    code: 503,
+    message: "later",
+    stacktrace: "at 1",
+    behavior: palqytun::ErrorBehavior::Retry,
+    next_retry_delay_millis: None,
+};
+
+#[test]
+fn a_vm_goes_from_thread_to_thread() {
+    let mut vm = begun();
+    let vm = thread::spawn(move || {
+        vm.sys_sleep("", 1000).unwrap();
+        vm
+    });
+    let mut vm = vm.join().unwrap();
+    assert_eq!(vm.sys_sleep("", 2000).unwrap(), NotificationHandle::from(18));
+}
+
+#[test]
+fn threads_have_vms_of_their_own() {
+    let threads: Vec<_> = (0..4)
+        .map(|_| {
+            thread::spawn(|| {
+                for _ in 0..200 {
+                    let mut vm = begun();
+                    vm.sys_state_set("key", b"value", "", PayloadOptions::STABLE).unwrap();
+                    assert!(!vm.take_output().unwrap().is_empty());
+                }
+            })
+        })
+        .collect();
+    for it in threads {
+        it.join().unwrap();
+    }
+}
+
+#[test]
+fn a_handle_of_another_vm_stands_for_nothing() {
+    let (mut one, mut other) = (begun(), begun());
+    let handles: Vec<_> = (0..5).map(|_| one.create_signal_handle("go").unwrap()).collect();
+    assert!(!other.is_completed(handles[4]).unwrap());
+    assert_eq!(other.take_notification(handles[4]), Ok(None));
+    let waits = Awaited::WaitingExternalProgress { waiting_input: true, waiting_run_proposal: false };
+    assert_eq!(other.do_await(handles[4]), Ok(waits));
+    assert_eq!(one.state(), Ok(State::Processing));
+}
+
+#[test]
+fn handles_of_another_kind_are_refused() {
+    let it = &library().unwrap().functions;
+    let (mut vm, mut journal) = (ptr::null_mut(), ptr::null_mut());
+    // SAFETY: the pointers are valid, and a handle may be any.
+    unsafe {
+        assert_eq!(((it.open)(&mut vm), (it.journal_open)(&mut journal)), (sys::DONE, sys::DONE));
+        assert_eq!((it.state)(journal).status, sys::BAD_HANDLE);
+        assert_eq!((it.journal_entries)(vm).status, sys::BAD_HANDLE);
+        assert_eq!((it.state)(0xdead_beef_usize as sys::Handle).status, sys::BAD_HANDLE);
+        assert_eq!((it.close)(journal), sys::BAD_HANDLE);
+        assert_eq!(((it.close)(vm), (it.close)(vm)), (sys::DONE, sys::NO_SESSION));
+        assert_eq!(((it.journal_close)(journal), (it.journal_close)(journal)), (sys::DONE, sys::NO_JOURNAL));
+    }
+}
+
+#[test]
+fn what_names_no_case_is_refused() {
+    let mut vm = begun();
+    let run = vm.sys_run("charge").unwrap();
+    assert_eq!(vm.do_await(run.handle), Ok(Awaited::ExecuteRun(run.handle)));
+    let policy = RetryPolicy::Exponential {
+        initial_interval_millis: 100,
+        factor: (3, 0),
+        max_interval_millis: None,
+        max_attempts: None,
+        max_duration_millis: None,
+        pauses: false,
+    };
+    let result = RunResult::RetryableFailure { attempt_duration_millis: 20, error: LATER };
+    assert_eq!(vm.propose_run_completion(run.handle, &result, &policy), Err(Error::Status(Status::BadNumber)));
+    assert_eq!(vm.state(), Ok(State::Processing));
+}
+
+#[test]
+fn a_tree_without_children_is_awaited() {
+    let mut vm = begun();
+    assert_eq!(vm.do_await(UnresolvedFuture::all_completed::<NotificationHandle>([])), Ok(Awaited::AnyCompleted));
+}
+
+#[test]
+fn bytes_that_are_no_frames() {
+    assert_eq!(frames::line_of(b"x"), Err(Error::Status(Status::NotAFrame)));
+    assert_eq!(frames::frame_of("Sleep soundly"), Err(Error::Status(Status::BadLine)));
+    assert_eq!(frames::completion(1, &frames::frame_of("End").unwrap()), Err(Error::Status(Status::NoResult)));
+    assert_eq!(frames::is_awake(&frames::frame_of("End").unwrap(), &[]), Err(Error::Status(Status::NotASuspension)));
+    assert_eq!(Error::Status(Status::NotAFrame).to_string(), "NotAFrame: it isn't one whole frame");
+    let mut journal = Journal::new().unwrap();
+    assert_eq!(journal.store(4, b""), Err(Error::Status(Status::BadNumber)));
+    assert_eq!(journal.entry(b"x"), Err(Error::Status(Status::BadJournal)));
+}
+
+#[test]
+fn an_error_has_all_its_fields() {
+    let replayed = |line: &str| frames::frame_of(line).unwrap();
+    let mut vm = Vm::new("application/vnd.restate.invocation.v7", &Options::default()).unwrap();
+    vm.notify_input(&replayed(r#"Start id="abc" debug_id="abc" known_entries=2"#)).unwrap();
+    vm.notify_input(&replayed(r#"Input value="Till""#)).unwrap();
+    vm.notify_input(&replayed(r#"Sleep wake_up_time=1000 result_completion_id=1 name="nap""#)).unwrap();
+    vm.sys_input().unwrap();
+    let target = Target { service: "Greeter", handler: "greet", ..Target::default() };
+    let error = vm.sys_call(&target, b"Ada", "call", PayloadOptions::STABLE).unwrap_err();
+    assert!(error.is_journal_mismatch());
+    let related = error.vm().unwrap().related.clone().unwrap();
+    assert_eq!((related.index, related.name.as_str()), (1, "call"));
+    assert_eq!(vm.sys_end(), Err(error));
+}
+
+#[test]
+fn an_error_of_the_handlers_own() {
+    let mut vm = begun();
+    let tea = HandlerError { code: 418, message: "no tea", ..LATER };
+    vm.notify_error(&tea, Some(palqytun::RelatedCommand::Last)).unwrap();
+    let error = vm.sys_end().unwrap_err();
+    let found = error.vm().unwrap();
+    assert_eq!((found.code, found.message.as_str(), found.stacktrace.as_str()), (418, "no tea", "at 1"));
+}
+
+#[test]
+fn a_call_after_the_end() {
+    let mut vm = begun();
+    vm.sys_write_output(&NonEmptyValue::Success(b"done"), PayloadOptions::STABLE).unwrap();
+    vm.sys_end().unwrap();
+    assert!(vm.sys_sleep("", 1).unwrap_err().is_closed());
+}
