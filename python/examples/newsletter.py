@@ -1,10 +1,10 @@
-"""A newsletter: limits of time.
+"""A newsletter: limits of time, and a digest by the clock.
 
     palqytun run python/examples/newsletter.py --db letters.db
     curl localhost:8080/Mail/send -d '"ann"'
 """
 
-from palqytun.runtime import App, Service, ServiceContext
+from palqytun.runtime import App, Schedule, Service, ServiceContext
 
 mail = Service("Mail")
 
@@ -27,4 +27,12 @@ async def confirm(ctx: ServiceContext, to: str) -> str:
     return await confirmed
 
 
-app = App(mail)
+@mail.handler()
+async def digest(ctx: ServiceContext, to: str) -> str:
+    """The letter of a day."""
+    assert ctx.scheduled is not None
+    return await ctx.call(send, f"{to}, on {ctx.scheduled:%Y-%m-%d}")
+
+
+DAILY = Schedule("daily", digest, "ann", cron="0 3 * * *", zone="Europe/Berlin", overlap="skip")
+app = App(mail, schedules=[DAILY])

@@ -42,7 +42,12 @@ _SETTLES = 30.0  # seconds that what is due may take
 _NEXT = (  # when something is due next, of what is later than a time
     "(SELECT MIN(due) FROM (SELECT MIN(due) AS due FROM timers UNION ALL SELECT MIN(due) FROM invocations WHERE status='ready' AND due>?"
     " UNION ALL SELECT MIN(deadline) FROM invocations WHERE status<>'done'"
-    " UNION ALL SELECT MIN(expires) FROM invocations WHERE status='ready' AND epoch=0) AS due)"
+    " UNION ALL SELECT MIN(expires) FROM invocations WHERE status='ready' AND epoch=0{}) AS due)"
+)
+_SCHEDULED = " UNION ALL SELECT MIN(due) FROM schedules WHERE paused=0"
+_CALLS = (  # a schedule has a call to make
+    "EXISTS (SELECT 1 FROM schedules WHERE paused=0 AND (due<=?"
+    " OR (queued IS NOT NULL AND NOT EXISTS (SELECT 1 FROM invocations WHERE id=called AND status<>'done'))))"
 )
 
 __all__ = ["Called", "Fake", "Testing", "crash_everywhere", "faked"]
@@ -240,15 +245,16 @@ class Testing:
         return self._memory.now()
 
     async def skip(self, seconds: float) -> None:
-        """The clock moves on by so many seconds, from timer to timer, and what is due is done before this returns."""
+        """The clock moves on by so many seconds, from timer to timer and from one time of a schedule to the next, and what is due is done before this
+        returns."""
         until = self.now + seconds
         await self._settle()
-        while (due := await self._next()) is not None and due < until:
+        while (due := await self._next(_SCHEDULED)) is not None and due < until:
             await self._to(due)
         await self._to(until)
 
     async def skip_to_next(self) -> bool:
-        """The clock moves on to the next timer, delayed call or retry. Whether there is one."""
+        """The clock moves on to the next timer, delayed call, retry or limit of time. Whether there is one."""
         due = await self._next()
         if due is not None:
             await self._to(due)
@@ -261,10 +267,10 @@ class Testing:
         sql = (
             "SELECT EXISTS (SELECT 1 FROM timers WHERE due<=?) OR EXISTS (SELECT 1 FROM invocations WHERE status='running' OR (status='ready' AND due<=?))"
             " OR EXISTS (SELECT 1 FROM inbox JOIN invocations ON id=invocation WHERE fresh=1 AND status='suspended')"
-            f" OR EXISTS (SELECT 1 FROM invocations WHERE deadline<=? AND status<>'done'), {_NEXT}"
+            f" OR EXISTS (SELECT 1 FROM invocations WHERE deadline<=? AND status<>'done') OR {_CALLS}, {_NEXT.format('')}"
         )
         now = self.now
-        [(is_due, due)] = await self._asked(sql, now, now, now, now)
+        [(is_due, due)] = await self._asked(sql, *[now] * 5)
         return not is_due and not self.engine.live, None if due is None else float(due)
 
     async def is_settled(self) -> bool:
@@ -279,8 +285,8 @@ class Testing:
     async def _asked(self, sql: str, *values: object) -> list[Any]:
         return await self.engine.transact(lambda db: db.rows(sql, values))
 
-    async def _next(self) -> float | None:
-        [(due,)] = await self._asked(f"SELECT {_NEXT}", self.now)
+    async def _next(self, beside: str = "") -> float | None:
+        [(due,)] = await self._asked(f"SELECT {_NEXT.format(beside)}", self.now)
         return None if due is None else float(due)
 
     async def _to(self, at: float) -> None:
@@ -310,7 +316,11 @@ def _answered(app: App, answers: Mapping[str, Any]) -> App:
         services.append(one)
     if left:
         raise ValueError(f"there is no handler {', '.join(left)}")
-    return App(*services, codec=app.codec)
+    made = {it.name: it for it in services}
+    schedules = [copy.copy(it) for it in app.schedules.values()]
+    for it in schedules:
+        it.target = made[it.target.service.name].handlers[it.target.name]
+    return App(*services, codec=app.codec, schedules=schedules)
 
 
 def _answer(given: Any) -> Callable[[Any, Any], Awaitable[Any]]:

@@ -273,6 +273,17 @@ class InABrowser(support.OnADatabase, unittest.TestCase):
         self.open("/schedules")
         self.assertIn("cron 0 3 * * * Europe/Berlin", self.one("table").text)
         self.assertIn("Shop/order", self.one("table").text)
+        self.press("pause")
+        self.assertIn("paused", self.one("table").text)
+        self.press("resume")
+        self.press("trigger")
+        self.picture("schedules")
+        self.one("summary").click()
+        self.browser.execute_script("document.querySelector('input[name=since]').value = '2026-11-25T00:00'")
+        self.press("backfill")
+        self.open("/audit")
+        for it in ("pause schedule", "resume schedule", "trigger schedule", "backfill schedule"):
+            self.assertIn(it, self.one("table").text)
 
     def test_the_picture(self):
         """Each bar has a place in it, and each kind a pattern of its own: no two are told apart by a colour alone."""

@@ -16,7 +16,7 @@ import needs
 if lacks := needs.lacks_server():
     raise unittest.SkipTest(lacks)
 import runtime_app
-from palqytun.runtime import command
+from palqytun.runtime import App, Schedule, command
 from palqytun.runtime.serving import Settings
 from served import Served
 from support import PYTHON
@@ -76,6 +76,26 @@ class ByHttp(support.OnADatabase):
                 self.assertEqual((await it.ask(at, None, "DELETE"))[1]["names"], 1)
                 self.assertEqual((await it.ask(f"{at}/n", None, "GET"))[0], 404)
                 self.assertEqual((await it.ask(at, 1, "PUT"))[0], 404)
+
+        asyncio.run(go())
+
+
+    def test_schedules(self):
+        async def go():
+            app = App(runtime_app.service, schedules=[Schedule("a/b", runtime_app.ticks, "tick", cron="0 3 1 1 *", overlap="skip")])
+            async with Served(app, self.url, Settings()) as it:
+                at = "/-/schedules/a%2Fb"
+                self.assertEqual((await it.ask(f"{at}/pause"))[:2], (200, {"done": True, "said": "paused"}))
+                [row] = (await it.ask("/-/schedules", None, "GET"))[1]
+                self.assertEqual([row[name] for name in ("name", "rule", "overlap", "paused", "called")], ["a/b", "cron 0 3 1 1 *", "skip", True, None])
+                self.assertEqual((await it.ask(f"{at}/resume"))[1]["said"], "resumed")
+                id = (await it.ask(f"{at}/trigger"))[1]["said"].removeprefix("made ")
+                self.assertEqual((await it.ask(f"/-/invocations/{id}/result?wait=60", None, "GET"))[0], 200)
+                self.assertEqual((await it.ask(f"{at}/backfill?since=2025-01-01&until=2026-01-02"))[1]["said"], "2 calls are made")
+                self.assertEqual((await it.ask(f"{at}/backfill"))[:2], (400, {"code": 400, "message": "a backfill needs `since`, its first time, as 2026-11-27T03:00"}))
+                self.assertEqual([(await it.ask(it_))[0] for it_ in (f"{at}/stop", "/-/schedules/none/pause", "/-/schedules/a/b/pause")], [404] * 3)
+                audit = (await it.ask("/-/audit", None, "GET"))[1]
+                self.assertEqual([row["what"] for row in audit], [f"{what} schedule" for what in ("backfill", "trigger", "resume", "pause")])
 
         asyncio.run(go())
 
@@ -141,6 +161,9 @@ class ByCommand(support.OnADatabase):
             (("state", "Stock", "pen", "left"), "the state of Stock/pen has no left"),
             (("state", "Stock", "pen", "--set", "1"), "a state is set by SERVICE KEY NAME --set VALUE"),
             (("state", "Stock", "pen", "left", "--set", "{"), "the state is no value"),
+            (("schedules", "pause"), "name the schedule, as palqytun schedules pause NAME"),
+            (("schedules", "pause", "none"), "there is no schedule none"),
+            (("schedules", "pause", "none", "--since", "2026-01-01"), "--since and --until are of a backfill"),
         ]:
             with self.subTest(words):
                 status, said, error = palqytun(*words, "--db", self.url)

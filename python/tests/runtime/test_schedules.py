@@ -14,7 +14,7 @@ import needs
 if lacks := needs.lacks_module("croniter"):
     raise unittest.SkipTest(lacks)
 from palqytun.frames import frame_of
-from palqytun.runtime import App, Context, Schedule, Service, VirtualObject, Workflow, invocations, journal, operate, schedules
+from palqytun.runtime import App, Context, Schedule, Service, TerminalError, VirtualObject, Workflow, invocations, journal, operate, schedules, scheduling
 from palqytun.runtime.claiming import Claimer
 from palqytun.runtime.cron import Cron, Every
 from palqytun.runtime.database.plain import Plain
@@ -112,7 +112,7 @@ class Times(unittest.TestCase):
             self.assertGreater(at, before)
 
     def test_a_schedule_that_has_no_meaning(self):
-        for options in ({}, {"every": 1, "cron": "* * * * *"}, {"every": 0}, {"every": -1}, {"cron": "x"}, {"every": 1, "key": "k"}):
+        for options in ({}, {"every": 1, "cron": "* * * * *"}, {"every": 0}, {"every": -1}, {"cron": "x"}, {"every": 1, "key": "k"}, {"every": 1, "overlap": "drop"}):
             with self.subTest(options), self.assertRaises(ValueError):
                 Schedule("s", send, **options)
         for name in ("s" * 1025, "a\0b"):
@@ -222,6 +222,142 @@ class Schedules(OnAConnection):
 
 
 @support.on_each_database
+class Overlaps(OnAConnection):
+    """What comes of a time while the last call is open."""
+
+    def entered(self, overlap):
+        self.app = App(mail, box, schedules=[Schedule("often", send, {"to": "ann"}, every=60, overlap=overlap)])
+        self.done(Claimer(secrets.token_hex(4), self.app, 10).enter)
+        [(self.first,)] = self.rows("SELECT due FROM schedules")
+
+    def fired(self, *minutes):
+        """Lets the clock be at so many minutes after the first time, and answers for which minutes there are calls."""
+        for it in minutes:
+            self.done(schedules.fire, self.app, Outcome(), self.first + 60 * it)
+        keys = [row[0] for row in self.rows("SELECT idem FROM invocations ORDER BY seq")]
+        return [round((float(it.split()[-1]) - self.first) / 60) for it in keys]
+
+    def end(self):
+        self.done(lambda db: db.change("UPDATE invocations SET status='done'"))
+
+    def test_allow(self):
+        self.entered("allow")
+        self.assertEqual(self.fired(0, 1, 2), [0, 1, 2])
+
+    def test_skip(self):
+        self.entered("skip")
+        self.assertEqual(self.fired(0, 1, 2), [0])
+        self.end()
+        self.assertEqual(self.fired(2.5), [0])
+        self.assertEqual(self.fired(3, 4), [0, 3])
+
+    def test_queue(self):
+        self.entered("queue")
+        self.assertEqual(self.fired(0, 1, 2, 2.5), [0])
+        self.assertEqual(self.rows("SELECT queued FROM schedules"), [(self.first + 60,)])
+        self.assertEqual(self.done(schedules.next_due, self.app, self.first + 150), self.first + 151)
+        self.end()
+        self.assertEqual(self.fired(2.6, 2.7), [0, 1])
+        self.end()
+        self.assertEqual(self.fired(3, 3.5), [0, 1, 3])
+        self.assertEqual(self.fired(4), [0, 1, 3])
+        self.end()
+        self.assertEqual(self.fired(5), [0, 1, 3, 4])  # the fifth is queued now
+        self.end()
+        self.assertEqual(self.fired(5.1), [0, 1, 3, 4, 5])
+
+    def test_cancel(self):
+        self.entered("cancel")
+        self.assertEqual(self.fired(0), [0])
+        [(first,)] = self.rows("SELECT called FROM schedules")
+        self.assertEqual(self.fired(1), [0, 1])
+        self.assertEqual(self.rows("SELECT invocation, frame FROM inbox"), [(first, journal.cancellation())])
+        self.assertEqual(self.rows("SELECT who, what, invocation FROM audit"), [("the schedule often", "cancel", first)])
+        self.end()
+        self.assertEqual(self.fired(2), [0, 1, 2])
+        self.assertEqual(len(self.rows("SELECT invocation FROM inbox")), 1)
+
+    def test_another_overlap(self):
+        """A new version of the app changes it; what was kept is called."""
+        self.entered("queue")
+        self.fired(0, 1)
+        first = self.first
+        self.entered("allow")
+        self.assertEqual((self.first, self.rows("SELECT overlap FROM schedules")), (first + 120, [("allow",)]))
+        self.first = first
+        self.assertEqual(self.fired(1.5, 2), [0, 1, 2])
+
+
+@support.on_each_database
+class ActsOnSchedules(OnAConnection):
+    def setUp(self):
+        super().setUp()
+        self.app = App(mail, box, schedules=[Schedule("often", send, {"to": "ann"}, every=60), Schedule("a/b", clean, key="k", cron="0 3 * * *")])
+        self.done(Claimer("one", self.app, 10).enter)
+
+    def act(self, what, name="often", since="", until=""):
+        """Without the app, as the command does it."""
+        return self.done(scheduling.act, None, Outcome(), what, name, "ann", since, until)
+
+    def row(self):
+        return next(it for it in self.done(operate.schedules) if it["name"] == "often")
+
+    def test_pause_and_resume(self):
+        due = self.row()["due"]
+        self.assertEqual([self.act("pause"), self.act("pause"), self.row()["paused"]], ["paused", "is paused", True])
+        self.done(schedules.fire, self.app, Outcome(), due + 1)
+        self.assertEqual(self.rows("SELECT id FROM invocations"), [])
+        self.assertGreater(self.done(schedules.next_due, self.app, due + 1), due + 60)  # that of the other
+        self.done(lambda db: db.change("UPDATE schedules SET due=1"))
+        self.assertEqual([self.act("resume"), self.row()["paused"]], ["resumed", False])
+        self.assertGreaterEqual(self.row()["due"], due)
+        self.assertEqual(self.rows("SELECT id FROM invocations"), [])
+        with self.assertRaisesRegex(TerminalError, "the schedule often isn't paused"):
+            self.act("resume")
+        self.assertEqual(self.rows("SELECT who, what, name FROM audit ORDER BY seq"), [("ann", "pause schedule", "often"), ("ann", "resume schedule", "often")])
+
+    def test_trigger(self):
+        self.act("pause")
+        said = self.act("trigger")
+        [(id, key)] = self.rows("SELECT id, idem FROM invocations")
+        self.assertEqual((said, self.row()["called"]), (f"made {id}", id))
+        self.assertAlmostEqual(self.row()["last"], time.time(), delta=60)
+        self.assertEqual(key, f"schedule often {self.row()['last']}")
+        self.act("trigger", "a/b")
+        self.assertEqual(self.rows("SELECT service, handler, key FROM invocations WHERE key<>''"), [("Box", "clean", "k")])
+        [(frame,)] = self.rows("SELECT frame FROM journal WHERE invocation=?", id)
+        self.assertIn("('schedule', 'often'), ('scheduled-for', '", journal.line_of(bytes(frame)))
+        self.assertIn("""value=b'{"to":"ann"}'""", journal.line_of(bytes(frame)))
+
+    def test_backfill(self):
+        self.done(scheduling.trigger, None, Outcome(), "often", "ann")
+        self.assertEqual(self.act("backfill", "a/b", "2026-11-24", "2026-11-27T03:00"), "3 calls are made")
+        self.assertEqual(self.act("backfill", "a/b", "2026-11-26T04:00+01:00", "2026-11-27T03:00:01"), "1 calls are made, and 1 were there")
+        keys = sorted(key for key, in self.rows("SELECT idem FROM invocations WHERE service='Box'"))
+        self.assertEqual(keys, sorted(f"schedule a/b {float(utc(f'2026-11-{day} 03:00'))}" for day in (24, 25, 26, 27)))
+        self.assertIn("1 calls are made, and 1 were there, for 2026-11-26T03:00:00+00:00 to ", self.rows("SELECT detail FROM audit ORDER BY seq DESC LIMIT 1")[0][0])
+
+    def test_what_is_refused(self):
+        for words, code, said in (
+            (("pause", "none"), 404, "there is no schedule none"),
+            (("stop",), 404, "there is no act stop on schedules: it is pause, resume, trigger or backfill"),
+            (("backfill",), 400, "a backfill needs `since`"),
+            (("backfill", "often", "yesterday"), 400, "since=yesterday is no time, as 2026-11-27T03:00"),
+            (("backfill", "often", "2026-11-27", "x"), 400, "until=x is no time"),
+            (("backfill", "often", "2026-11-27", "2026-11-26"), 400, "a backfill is of times that have passed"),
+            (("backfill", "often", "2026-11-27", "2999-01-01"), 400, "`until` isn't later than now"),
+            (("backfill", "often", "2026-11-24", "2026-11-27"), 400, "there are more than 1000 times between these"),
+        ):
+            with self.subTest(words), self.assertRaisesRegex(TerminalError, said) as raised:
+                self.act(*words)
+            self.assertEqual(raised.exception.code, code)
+        self.assertEqual((self.rows("SELECT id FROM invocations"), self.rows("SELECT who FROM audit")), ([], []))
+        self.done(lambda db: db.change("UPDATE schedules SET argument=NULL"))
+        with self.assertRaisesRegex(TerminalError, "the argument of the schedule often isn't stored"):
+            self.act("trigger")
+
+
+@support.on_each_database
 class Limits(OnAConnection):
     def test_at_most_so_many(self):
         app = App(mail, box)
@@ -287,7 +423,7 @@ class Broken(OnAConnection):
         self.done(lambda db: db.change("INSERT INTO inbox(invocation, frame) VALUES ('b',?)", (nobodys,)))
         self.assertEqual([it.invocation for it in self.done(claimer.claim, (), 100).claims], ["c"])
         self.assertEqual(self.rows("SELECT id, status FROM invocations ORDER BY id"), [("a", "paused"), ("b", "paused"), ("c", "running")])
-        self.assertIn("no stored command carries the completion id", self.rows("SELECT error FROM invocations WHERE id='a'")[0][0])
+        self.assertIn("no stored command has the completion id", self.rows("SELECT error FROM invocations WHERE id='a'")[0][0])
 
 
 @support.on_each_database

@@ -10,7 +10,7 @@ import support  # isort: skip
 
 sys.path.append(str(support.PYTHON / "examples"))
 from orders_test import Orders as Orders  # noqa: E402
-from palqytun.runtime import App, Context, Service, TerminalError, VirtualObject, Workflow, gather, step  # noqa: E402
+from palqytun.runtime import App, Context, Schedule, Service, TerminalError, VirtualObject, Workflow, gather, step  # noqa: E402
 from palqytun.testing import Fake, Testing, crash_everywhere, faked  # noqa: E402
 
 shop, stock, visa = Service("Shop"), VirtualObject("Stock"), Workflow("Visa")
@@ -130,6 +130,21 @@ class Kit(unittest.TestCase):
     def test_deaths_find_what_depends_on_attempts(self):
         with self.assertRaisesRegex(AssertionError, "with a death (at|after) commit [0-9]+ the result is "):
             asyncio.run(crash_everywhere(app, depends, None))
+
+    def test_schedules(self):
+        """The clock stops at each of their times, also if other handlers are answers."""
+        nightly = App(shop, stock, schedules=[Schedule("nightly", take, 1, key="pen", cron="0 3 * * *")])
+
+        async def go():
+            async with Testing(nightly) as it:
+                await it.skip(10 * 86400)
+                self.assertEqual(await it.state("Stock", "pen"), {"left": 0})
+            async with Testing(nightly, answers={"Stock/take": 1}) as it:
+                await it.skip(86400)
+                self.assertEqual(await it.state("Stock", "pen"), {})
+                self.assertEqual(len(await it._asked("SELECT id FROM invocations WHERE status='done'")), 1)
+
+        asyncio.run(go())
 
     def test_nothing_is_left_on_the_disk(self):
         async def go():

@@ -1,4 +1,4 @@
-"""The commands of operators that change something: acts on invocations, one or many, the state of keys, and who did what."""
+"""The commands of operators that change something: acts on invocations, one or many, on schedules, the state of keys, and who did what."""
 
 from __future__ import annotations
 
@@ -12,7 +12,7 @@ from collections.abc import Awaitable, Callable
 from dataclasses import replace
 from typing import Any, TypeVar
 
-from . import acts, audit, keyed, restarting
+from . import acts, audit, keyed, restarting, scheduling
 from .codec import JsonCodec
 from .database import Database
 from .filters import Filter
@@ -90,6 +90,31 @@ def act_options(name: str, one: argparse.ArgumentParser) -> None:
     if name == "restart":
         one.add_argument("--step", type=int, default=0, help="the number of the command from which on it is made again; 0 is from its start")
         one.add_argument("--app", help="the app, whose handler has to make the commands before the step")
+
+
+# ---- schedules
+
+
+def act_on_schedule(options: argparse.Namespace, done: Done) -> int:
+    """Does an act to a schedule. A line says what was done."""
+    if options.name is None:
+        raise TerminalError(f"name the schedule, as palqytun schedules {options.act} NAME", 400)
+    if options.act != "backfill" and (options.since or options.until):
+        raise TerminalError("--since and --until are of a backfill", 400)
+    said = done(
+        options.db,
+        lambda db: scheduling.act(db, None, Outcome(), options.act, options.name, options.by, options.since, options.until),
+    )
+    print(f"{options.name}  {said}")
+    return 0
+
+
+def schedule_options(one: argparse.ArgumentParser) -> None:
+    one.add_argument("act", nargs="?", choices=[*scheduling.ACTS, "backfill"], help="what is done; without it, the schedules are listed")
+    one.add_argument("name", nargs="?", help="the schedule's name")
+    one.add_argument("--since", default="", metavar="TIME", help="the first time of a backfill, as 2026-11-27T03:00; UTC, if it names no zone")
+    one.add_argument("--until", default="", metavar="TIME", help="the time before which a backfill ends; now without it")
+    one.add_argument("--by", default=who(), help="who does it, for the audit")
 
 
 # ---- the state of keys

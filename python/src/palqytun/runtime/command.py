@@ -241,13 +241,16 @@ def purge(options: argparse.Namespace) -> int:
     return 0
 
 
-def list_schedules(options: argparse.Namespace) -> int:
+def schedules(options: argparse.Namespace) -> int:
+    """Lists schedules, or does an act to one."""
+    if options.act is not None:
+        return acting.act_on_schedule(options, _done)
     found = _done(options.db, operate.schedules)
     if not found:
         print("there are no schedules", file=sys.stderr)
     for it in found:
-        due = time.strftime("%Y-%m-%d %H:%M:%S", time.gmtime(it["due"]))
-        print(f"{it['name']:<20}  {it['service']}/{it['handler']:<20}  {it['rule']:<20}  next {due} UTC")
+        due = time.strftime("next %Y-%m-%d %H:%M:%S UTC", time.gmtime(it["due"]))
+        print(f"{it['name']:<20}  {it['service']}/{it['handler']:<20}  {it['rule']:<20}  {it['overlap']:<6}  {'paused' if it['paused'] else due}")
     return 0
 
 
@@ -384,7 +387,8 @@ def _parser() -> argparse.ArgumentParser:
         _filter_options(one)
     one = add(asked, "purge", purge, "delete those that have ended")
     one.add_argument("--older", type=_seconds, default=86400.0, help="ended more than so many seconds ago")
-    add(commands, "schedules", list_schedules, "the calls that are made by the clock, each with its next time")
+    said = "the calls that are made by the clock, each with its next time; or pause, resume, trigger or backfill one"
+    acting.schedule_options(add(commands, "schedules", schedules, said))
     acting.state_options(add(commands, "state", lambda options: acting.state(options, _done), "list, read, set and clear the states of keys"))
     acting.audit_options(add(commands, "audit", lambda options: acting.audited(options, _done), "who did what, the newest first"))
     add(commands, "migrate", migrate, "move the database to this package's schema, with all that it holds; workers of the version before go on")

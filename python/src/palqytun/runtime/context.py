@@ -4,6 +4,7 @@ from __future__ import annotations
 
 import contextlib
 import contextvars
+import datetime
 import functools
 import inspect
 import logging
@@ -149,6 +150,7 @@ _INSTEAD = {
     "ctx.log": "a run has a logger of its own, as logging.getLogger(__name__)",
     "ctx.key": "take it before, in the handler, and give it to the run as an argument",
     "ctx.headers": "take them before, in the handler, and give them to the run as an argument",
+    "ctx.scheduled": "take it before, in the handler, and give it to the run as an argument",
 }
 
 
@@ -310,6 +312,13 @@ class Context:
         """The headers that the handler is called with."""
         self._own("ctx.headers")
         return self._headers
+
+    @property
+    def scheduled(self) -> datetime.datetime | None:
+        """The time, with its zone UTC, for which a schedule has made this call; none if none has."""
+        self._own("ctx.scheduled")
+        at = self._headers.get("scheduled-for")
+        return datetime.datetime.fromisoformat(at) if at is not None and "schedule" in self._headers else None
 
     @property
     def log(self) -> ReplayLog:

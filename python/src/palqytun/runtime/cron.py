@@ -77,3 +77,13 @@ class Every:
     def after(self, now: float) -> float:
         at = (now // self.seconds + 1) * self.seconds
         return at if at > now else at + self.seconds
+
+
+def times_of(rule: str) -> Cron | Every:
+    """The times of a rule, as a schedule's row has it.
+
+    >>> times_of("every 60").after(119.5)
+    120.0
+    """
+    kind, *words = rule.split()
+    return Every(float(words[0])) if kind == "every" else Cron.read(" ".join(words[:5]), *words[5:])

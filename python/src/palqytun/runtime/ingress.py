@@ -5,6 +5,7 @@
     GET  /-/health
     GET  /-/metrics                      for Prometheus
     GET  /-/schedules                    each with its next time
+    POST /-/schedules/{name}/pause       or /resume, /trigger, or /backfill?since=2026-11-27T03:00&until=2026-11-28
     GET  /-/invocations                  by the names of `Filter`, as `?status=failed&service=Shop`; `?most=`
     GET  /-/invocations/{id}             its row; /journal: its entries; /timeline: these with their times; /result: its result, once it has ended
     POST /-/invocations/{id}/cancel      or /kill, /pause, /resume, /restart (`?step=NUMBER`), or /signals/{name} with a value
@@ -37,7 +38,7 @@ from starlette.responses import JSONResponse, Response
 from starlette.routing import Route
 from starlette.types import ASGIApp, Receive, Scope, Send
 
-from . import acts, announced, audit, awakeables, invocations, journal, keyed, metrics, operate, restarting, timeline, traces
+from . import acts, announced, audit, awakeables, invocations, journal, keyed, metrics, operate, restarting, scheduling, timeline, traces
 from .codec import BadValue, decoded
 from .door import Door
 from .desk import Unavailable
@@ -185,6 +186,7 @@ class Ingress:
         yield Route("/-/health", self._health)
         yield Route("/-/metrics", self._metrics)
         yield Route("/-/schedules", self._schedules)
+        yield Route("/-/schedules/{rest:path}", self._act_on_schedule, methods=["POST"])
         yield Route("/-/invocations", self._list)
         yield Route(one, self._inspect)
         yield Route(f"{one}/journal", self._journal)
@@ -330,6 +332,15 @@ class Ingress:
 
     async def _schedules(self, request: Request) -> Response:
         return JSONResponse(await self.engine.transact(operate.schedules))
+
+    async def _act_on_schedule(self, request: Request) -> Response:
+        parts, query = path_of(request.scope)[2:], request.query_params
+        if len(parts) != 2:
+            raise TerminalError("the path of an act on a schedule is /-/schedules/NAME/ACT", 404)
+        (name, what), app, who = parts, self.engine.app, self._who(request)
+        since, until = query.get("since", ""), query.get("until", "")
+        said = await self.engine.done(lambda db, out: scheduling.act(db, app, out, what, name, who, since, until))
+        return JSONResponse({"done": True, "said": said})
 
     async def _list(self, request: Request) -> Response:
         asked, most = Filter.of(request.query_params), request.query_params.get("most", "100")

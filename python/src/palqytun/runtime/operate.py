@@ -48,9 +48,11 @@ async def journal_of(db: Database, id: str) -> list[str]:
 
 
 async def schedules(db: Database) -> list[dict[str, Any]]:
-    """The schedules, each with when it is due next, and which time of it made the last call."""
-    names = ("name", "service", "handler", "rule", "due", "last")
-    return [dict(zip(names, row)) for row in await db.rows(f"SELECT {', '.join(names)} FROM schedules ORDER BY name")]
+    """The schedules: each with when it is due next, which time of it made the last call, and that call; whether it is paused; what it does while that
+    call is open, and which time's call waits for that."""
+    names = ("name", "service", "handler", "key", "rule", "overlap", "due", "last", "called", "queued", "paused")
+    found = [dict(zip(names, row)) for row in await db.rows(f"SELECT {', '.join(names)} FROM schedules ORDER BY name")]
+    return [{**it, "paused": bool(it["paused"])} for it in found]
 
 
 async def purge(db: Database, older: float, most: int = 200) -> int:

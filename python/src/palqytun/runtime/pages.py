@@ -14,7 +14,7 @@ from starlette.requests import Request
 from starlette.responses import HTMLResponse, PlainTextResponse, RedirectResponse, Response
 from starlette.routing import Route
 
-from . import acts, audit, keyed, operate, page, restarting, timeline
+from . import acts, audit, keyed, operate, page, restarting, scheduling, timeline
 from .door import Door
 from .engine import Engine
 from .filters import Filter
@@ -64,6 +64,7 @@ class Pages:
         yield Route("/-/page/acts", self._seen(self._confirm))
         yield Route("/-/page/acts", self._seen(self._act), methods=["POST"])
         yield Route("/-/page/schedules", self._seen(self._schedules))
+        yield Route("/-/page/schedules", self._seen(self._act_on_schedule), methods=["POST"])
         yield Route("/-/page/audit", self._seen(self._audit))
         yield Route("/-/page/states", self._seen(self._states))
         yield Route("/-/page/states/{service}", self._seen(self._keys))
@@ -158,6 +159,13 @@ class Pages:
 
     async def _schedules(self, request: Request) -> Response:
         return _html(page.schedules(await self._engine.transact(operate.schedules), time.time(), _root(request)))
+
+    async def _act_on_schedule(self, request: Request) -> Response:
+        """Presses a button of a schedule."""
+        query, form, app, who = request.query_params, await _form(request, 4096), self._engine.app, self._who(request)
+        what, name, since, until = query.get("do", ""), query.get("name", ""), form.get("since", ""), form.get("until", "")
+        await self._engine.done(lambda db, out: scheduling.act(db, app, out, what, name, who, since, until))
+        return RedirectResponse(f"{_root(request)}/schedules", 303)
 
     async def _audit(self, request: Request) -> Response:
         id, before = request.query_params.get("invocation") or None, request.query_params.get("before", "")

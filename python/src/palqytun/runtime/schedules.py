@@ -1,7 +1,8 @@
 """Schedules: calls that are made by the clock. Each is a row, whose `due` one transaction moves on with the call that it makes.
 
-So each time of a schedule makes one call, however many workers there are. The times that passed while no worker ran make one call together. The
-clock is the database's. A row that is due later than its rule says, since that clock was ahead, is put back.
+So each time of a schedule makes one call at most, however many workers there are. The times that passed while no worker ran make one call together.
+What comes of a time while the last call is open is the schedule's `overlap`. The clock is the database's. A row that is due later than its rule says,
+since that clock was ahead, is put back. `scheduling` has what operators do with schedules.
 """
 
 from __future__ import annotations
@@ -9,8 +10,10 @@ from __future__ import annotations
 import datetime
 import logging
 from collections.abc import Collection
-from typing import Any
+from dataclasses import dataclass, fields
+from typing import Any, Literal, get_args
 
+from . import audit, inbox, journal
 from .cron import Cron, Every
 from .database import Database
 from .invocations import New, create
@@ -20,13 +23,17 @@ from .services import App, Handler, TerminalError
 
 log = logging.getLogger("palqytun")
 _LATE = 60.0  # seconds after which a schedule that no other worker calls is taken over from another version of the app
-_AGAIN = 1.0  # seconds until what is due, and another worker has, is looked at again
+_AGAIN = 1.0  # seconds until what is due, and another worker has or its last call keeps waiting, is looked at again
+Overlap = Literal["allow", "skip", "queue", "cancel"]
 
 
 class Schedule:
     """Calls a handler by the clock: each `every` seconds, or by a `cron` expression of five fields, in a time `zone` as `"Europe/Berlin"`. The
-    name is one of its own in the database. The handler is called with `argument`, and with `key` if its service has keys; `ctx.headers` has the
-    schedule's name as `schedule`, and as `scheduled-for` the time for which the call is, in the form of ISO 8601."""
+    name is one of its own in the database. The handler is called with `argument`, and with `key` if its service has keys. `ctx.scheduled` is the time
+    for which the call is; `ctx.headers` has it as `scheduled-for`, in the form of ISO 8601, and the schedule's name as `schedule`.
+
+    `overlap` says what comes of a time while the last call hasn't ended: `allow` makes its call beside that one; `skip` makes none; `queue` makes
+    its call once that one has ended, and none for further times until then; `cancel` cancels that one, and makes its call."""
 
     def __init__(
         self,
@@ -38,11 +45,14 @@ class Schedule:
         every: float | None = None,
         cron: str | None = None,
         zone: str = "UTC",
+        overlap: Overlap = "allow",
     ):
         if (every is None) == (cron is None):
             raise ValueError(f"the schedule {name} has either `every` or `cron`")
         if every is not None and not 0 < every < 1e10:
             raise ValueError(f"the schedule {name} is due every {every} seconds, which is no time")
+        if overlap not in get_args(Overlap):
+            raise ValueError(f"the schedule {name} has the overlap {overlap!r}, and it is one of {', '.join(get_args(Overlap))}")
         if bool(key) != target.service.keyed:
             raise ValueError(f"{target.path} is called {'with' if target.service.keyed else 'without'} a key")
         if target.service.workflow and target.exclusive:
@@ -52,14 +62,14 @@ class Schedule:
                 check_name(what, text)
             except TerminalError as error:
                 raise ValueError(error.message) from None
-        self.name, self.target, self.argument, self.key = name, target, argument, key
+        self.name, self.target, self.argument, self.key, self.overlap = name, target, argument, key, overlap
         self.times: Cron | Every = Every(every) if every is not None else Cron.read(cron or "", zone)
         self.rule = f"every {every}" if every is not None else f"cron {cron}" if zone == "UTC" else f"cron {cron} {zone}"
         self._next = (0.0, 0.0)  # at each time from the first to the second, the second is the next
 
     @property
     def row(self) -> tuple[str, str, str]:
-        """What is stored of it, beside its times."""
+        """What is stored of it, by which its times go."""
         return self.target.service.name, self.target.name, self.rule
 
     def next(self, now: float) -> float:
@@ -69,50 +79,105 @@ class Schedule:
             self._next = (now, self.times.after(now))
         return self._next[1]
 
-    def new(self, argument: bytes, due: float) -> New:
-        """The call for a time."""
-        time = datetime.datetime.fromtimestamp(due, datetime.timezone.utc).isoformat()
-        headers = (("schedule", self.name), ("scheduled-for", time))
-        return New(self.target.service.name, self.target.name, self.key, argument, headers, f"schedule {self.name} {due}")
+
+@dataclass(frozen=True)
+class Stored:
+    """The row of a schedule. `last` is the time that made the last call, whose id is `called`; `queued` a time whose call waits for that one's end."""
+
+    name: str
+    service: str
+    handler: str
+    rule: str
+    due: float
+    last: float | None
+    paused: int
+    called: str | None
+    overlap: str
+    key: str
+    argument: bytes | None
+    queued: float | None
+
+    @property
+    def row(self) -> tuple[str, str, str]:
+        return self.service, self.handler, self.rule
+
+
+_COLUMNS = ", ".join(it.name for it in fields(Stored))
+
+
+async def stored(db: Database, where: str = "1=1", *values: object) -> list[Stored]:
+    """The rows of schedules."""
+    return [Stored(*row) for row in await db.rows(f"SELECT {_COLUMNS} FROM schedules WHERE {where}", values)]
+
+
+def call(name: str, service: str, handler: str, key: str, argument: bytes, at: float) -> New:
+    """A schedule's call for a time. A second one for the same time is none."""
+    time = datetime.datetime.fromtimestamp(at, datetime.timezone.utc).isoformat()
+    return New(service, handler, key, argument, (("schedule", name), ("scheduled-for", time)), f"schedule {name} {at}")
 
 
 async def enter(db: Database, app: App, services: Collection[str]) -> None:
     """A worker begins: its app's schedules are those of these services."""
     now = db.now()
-    stored = {name: (service, handler, rule) for name, service, handler, rule in await db.rows("SELECT name, service, handler, rule FROM schedules")}
+    found = {it.name: it for it in await stored(db)}
     for it in app.schedules.values():
-        if stored.get(it.name) == it.row:
-            continue
-        sql = (
-            "INSERT INTO schedules(name, service, handler, rule, due) VALUES (?,?,?,?,?) ON CONFLICT(name)"
-            " DO UPDATE SET service=excluded.service, handler=excluded.handler, rule=excluded.rule, due=excluded.due"
-        )
-        await db.change(sql, (it.name, *it.row, it.next(now)))
-    for name, (service, _, _) in stored.items():
-        if service in services and name not in app.schedules:
+        was, rest = found.get(it.name), (it.overlap, it.key, app.scheduled[it.name])
+        if was is None or was.row != it.row:
+            sql = (
+                "INSERT INTO schedules(name, service, handler, rule, due, overlap, key, argument) VALUES (?,?,?,?,?,?,?,?) ON CONFLICT(name)"
+                " DO UPDATE SET service=excluded.service, handler=excluded.handler, rule=excluded.rule, due=excluded.due,"
+                " overlap=excluded.overlap, key=excluded.key, argument=excluded.argument"
+            )
+            await db.change(sql, (it.name, *it.row, it.next(now), *rest))
+        elif (was.overlap, was.key, was.argument and bytes(was.argument)) != rest:
+            await db.change("UPDATE schedules SET overlap=?, key=?, argument=? WHERE name=?", (*rest, it.name))
+    for name, was in found.items():
+        if was.service in services and name not in app.schedules:
             await db.change("DELETE FROM schedules WHERE name=?", (name,))
 
 
-def _own(app: App, name: str, row: tuple[str, str, str], due: float, now: float) -> Schedule | None:
+def _own(app: App, was: Stored, now: float) -> Schedule | None:
     """The app's schedule of this name, if it is this row's: of this version, or of another one whose workers don't call it any more."""
-    it = app.schedules.get(name)
-    return it if it is not None and (it.row == row or due <= now - _LATE) else None
+    it = app.schedules.get(was.name)
+    return it if it is not None and (it.row == was.row or was.due <= now - _LATE) else None
 
 
 async def fire(db: Database, app: App, out: Outcome, now: float) -> None:
     """Makes the calls that are due. `now` is the database's time."""
     if not app.schedules:
         return
-    for name, service, handler, rule, due in await db.rows(f"SELECT name, service, handler, rule, due FROM schedules WHERE due<=?{db.skip}", (now,)):
-        it = _own(app, name, (service, handler, rule), due, now)
-        if it is None:
-            continue  # it is that of another app
+    for was in await stored(db, f"(due<=? OR queued IS NOT NULL) AND paused=0{db.skip}", now):
+        it = _own(app, was, now)
+        if it is not None:  # else it is that of another app
+            await _fire(db, app, out, it, was, now)
+
+
+async def _fire(db: Database, app: App, out: Outcome, it: Schedule, was: Stored, now: float) -> None:
+    """Makes the calls of a schedule that its overlap lets be made now."""
+    times = [at for at in (was.queued, was.due if was.due <= now else None) if at is not None]
+    is_open = it.overlap != "allow" and await _is_open(db, was.called)
+    waits = is_open and (it.overlap == "queue" or it.overlap == "skip")
+    made = [] if waits else times[:1] if it.overlap == "queue" else times
+    left = times[len(made) :] if it.overlap == "queue" else []
+    if is_open and made and was.called is not None:
+        inbox.put(db, out, was.called, journal.cancellation())
+        audit.record(db, f"the schedule {it.name}", "cancel", invocation=was.called)
+    last, called = was.last, was.called
+    for at in made:
         try:
-            await create(db, app, out, it.new(app.scheduled[name], due))
+            called, _ = await create(db, app, out, call(it.name, *it.row[:2], it.key, app.scheduled[it.name], at))
+            last = at
         except TerminalError as error:
-            log.warning("the schedule %s can't call %s: %s", name, it.target.path, error)
-        sql = "UPDATE schedules SET service=?, handler=?, rule=?, due=?, last=? WHERE name=?"
-        await db.change(sql, (*it.row, it.next(now), due, name))
+            log.warning("the schedule %s can't call %s: %s", it.name, it.target.path, error)
+    due, queued = it.next(now) if was.due <= now else was.due, left[0] if left else None
+    if (due, queued) != (was.due, was.queued):
+        sql = "UPDATE schedules SET service=?, handler=?, rule=?, due=?, last=?, called=?, queued=? WHERE name=?"
+        await db.change(sql, (*it.row, due, last, called, queued, it.name))
+
+
+async def _is_open(db: Database, id: str | None) -> bool:
+    """Whether a call hasn't ended."""
+    return bool(await db.rows("SELECT 1 FROM invocations WHERE id=? AND status<>'done'", (id,)))
 
 
 async def next_due(db: Database, app: App, now: float) -> float | None:
@@ -121,15 +186,16 @@ async def next_due(db: Database, app: App, now: float) -> float | None:
     if not app.schedules:
         return None
     found = []
-    for name, service, handler, rule, due in await db.rows("SELECT name, service, handler, rule, due FROM schedules"):
-        it = app.schedules.get(name)
+    for was in await stored(db, "paused=0"):
+        it = app.schedules.get(was.name)
         if it is None:
             continue
-        if it.row != (service, handler, rule):
-            found.append(max(due + _LATE, now + _AGAIN))
+        if it.row != was.row:
+            found.append(max(was.due + _LATE, now + _AGAIN))
             continue
+        due = was.due
         if due > it.next(now):  # the clock was ahead when this was stored
-            await db.change("UPDATE schedules SET due=? WHERE name=? AND due=?", (it.next(now), name, due))
+            await db.change("UPDATE schedules SET due=? WHERE name=? AND due=?", (it.next(now), was.name, due))
             due = it.next(now)
-        found.append(due if due > now else now + _AGAIN)
+        found.append(due if due > now and was.queued is None else now + _AGAIN)
     return min(found, default=None)

@@ -129,6 +129,7 @@ def needed(method: str, parts: tuple[str, ...]) -> str:
     >>> needed("POST", ("Shop", "order")), needed("GET", ("-", "metrics")), needed("POST", ("-", "invocations", "inv_1", "kill"))
     ('call', 'read', 'operate')
     """
-    if parts[0] != "-" or parts[1:2] == ("awakeables",) or parts[3:4] in (("result",), ("signals",)):
+    is_of_one = parts[1:2] == ("invocations",) and parts[3:4] in (("result",), ("signals",))
+    if parts[0] != "-" or parts[1:2] == ("awakeables",) or is_of_one:
         return CALL
     return READ if method in ("GET", "HEAD") else OPERATE

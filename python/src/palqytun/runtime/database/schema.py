@@ -136,12 +136,17 @@ ALTER TABLE schedules ADD COLUMN called TEXT;
 CREATE TABLE transactions(invocation TEXT NOT NULL, run BIGINT NOT NULL, result {blob} NOT NULL, PRIMARY KEY(invocation, run)){plain}
 """
 
-# Times until which an invocation has to have ended, and to have begun.
+# Times until which an invocation has to have ended, and to have begun. Of a schedule what it does while its last call is open, its call's key and
+# argument, by which others than its app's workers can make the call, and a time whose call waits for the end of the one before.
 _NINTH = """
 ALTER TABLE invocations ADD COLUMN deadline {float};
 ALTER TABLE invocations ADD COLUMN expires {float};
 CREATE INDEX invocations_deadline ON invocations(deadline) WHERE deadline IS NOT NULL AND status<>'done';
-CREATE INDEX invocations_expires ON invocations(expires) WHERE expires IS NOT NULL AND status='ready' AND epoch=0
+CREATE INDEX invocations_expires ON invocations(expires) WHERE expires IS NOT NULL AND status='ready' AND epoch=0;
+ALTER TABLE schedules ADD COLUMN overlap TEXT NOT NULL DEFAULT 'allow';
+ALTER TABLE schedules ADD COLUMN key TEXT NOT NULL DEFAULT '';
+ALTER TABLE schedules ADD COLUMN argument {blob};
+ALTER TABLE schedules ADD COLUMN queued {float}
 """
 
 MIGRATIONS = [_FIRST, _SECOND, _THIRD, _FOURTH, _FIFTH, _SIXTH, _SEVENTH, _EIGHTH, _NINTH]
