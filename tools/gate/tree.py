@@ -6,6 +6,7 @@ usage: python3 -m tools.gate.tree take      hands what rt ci has built there to 
 
 from __future__ import annotations
 
+import os
 import shutil
 import sys
 from collections.abc import Iterable, Mapping
@@ -23,7 +24,7 @@ NOT_COPIED = ("out", "wrong-bodies")
 def place(top: Path = TOP) -> Path:
     """Where the folder is: beside what git and rt ci keep, since rt ci wants no second crates.txt among the repository's files."""
     git = top / ".git"
-    return git / "prove" if git.is_dir() else top / "out/prove/tree"
+    return git / "prove" if git.is_dir() and os.access(git, os.W_OK) else top / "out/prove/tree"
 
 
 def below(crates: Mapping[str, Crate], names: Iterable[str]) -> set[str]:
