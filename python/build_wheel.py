@@ -2,6 +2,9 @@
 
 pip calls the functions that begin with `build_` (PEP 517 and PEP 660). They use Python's library alone, so no build needs a network. What the
 package is called, and all that is said of it, stands in `pyproject.toml`.
+
+A wheel is for the host on which it is made. With the setting `platform=manylinux_2_17` it is for each Linux of this processor whose C library is
+glibc 2.17 or newer, if the shared object needs no newer one: that is looked up by objdump, of binutils.
 """
 
 from __future__ import annotations
@@ -10,6 +13,9 @@ import base64
 import hashlib
 import io
 import pathlib
+import platform
+import re
+import subprocess
 import sys
 import sysconfig
 import tarfile
@@ -21,6 +27,10 @@ from typing import Any
 HERE = pathlib.Path(__file__).resolve().parent
 LIBRARY = "libpalqytun.so"
 HOW_TO_MAKE_IT = "at the top of the repository, `./bindings/build --unproved` makes it in some minutes, and `./bindings/build` makes one that is proved"
+LICENCES = ("LICENSE", "NOTICE")
+PORTABLE, GLIBC = "manylinux_2_17", (2, 17)
+NEEDED = re.compile(r"^ *NEEDED +(\S+)$", re.MULTILINE)
+SYMBOL = re.compile(r"\(?GLIBC_([\w.]+)\)? +(\w+)$", re.MULTILINE)
 Settings = Mapping[str, str | list[str]]
 
 
@@ -36,15 +46,51 @@ def stem() -> str:
     return f"{project()['name']}-{project()['version']}"
 
 
-def tag() -> str:
-    """For which machines the wheel is: any Python 3, on the system and processor of this one."""
-    return f"py3-none-{sysconfig.get_platform().replace('-', '_').replace('.', '_')}"
+def tag(settings: Settings | None) -> str:
+    """For which hosts the wheel is: any Python 3, on the system and processor of this one, or on each Linux as `PORTABLE` says."""
+    asked = (settings or {}).get("platform")
+    if asked is None:
+        return f"py3-none-{sysconfig.get_platform().replace('-', '_').replace('.', '_')}"
+    if asked != PORTABLE:
+        sys.exit(f"the setting platform is {PORTABLE}, and not {asked}")
+    why = unportable(HERE / "src/palqytun" / LIBRARY)
+    if why is not None:
+        sys.exit(f"python/src/palqytun/{LIBRARY} is no library for {PORTABLE}: {why}; without that setting the wheel is for this host")
+    return f"py3-none-{PORTABLE}_{platform.machine()}"
+
+
+def unportable(library: pathlib.Path) -> str | None:
+    """Why a shared object doesn't load wherever `PORTABLE` says; none if it does."""
+    try:
+        ran = subprocess.run(["objdump", "-T", "-p", str(library)], capture_output=True, text=True)
+    except OSError:
+        return "objdump, which says what it needs, isn't installed"
+    if ran.returncode:
+        return "objdump can't read it"
+    if others := set(NEEDED.findall(ran.stdout)) - {"libc.so.6"}:
+        return f"it needs {', '.join(sorted(others))}"
+    newer = [f"{name} of glibc {version}" for version, name in SYMBOL.findall(ran.stdout) if _number(version) > GLIBC]
+    return f"it needs {', '.join(sorted(newer))}" if newer else None
+
+
+def _number(version: str) -> tuple[int, ...]:
+    """A version of glibc as numbers; what is no number is newer than all of them."""
+    parts = version.split(".")
+    return tuple(map(int, parts)) if all(map(str.isdigit, parts)) else (sys.maxsize,)
+
+
+def licence(name: str) -> bytes:
+    """A file that says who may do what. In an archive of the sources it is beside this one, and else at the top of the repository."""
+    beside = HERE / name
+    return (beside if beside.is_file() else HERE.parent / name).read_bytes()
 
 
 def metadata() -> str:
     """The file METADATA."""
     it = project()
     lines = ["Metadata-Version: 2.1", f"Name: {it['name']}", f"Version: {it['version']}", f"Summary: {it['description']}"]
+    lines += [f"Author: {', '.join(one['name'] for one in it['authors'])}", f"License: {it['license']['text']}"]
+    lines += [f"License-File: {one}" for one in LICENCES]
     lines += [f"Requires-Python: {it['requires-python']}", *(f"Classifier: {one}" for one in it["classifiers"])]
     for extra, needs in it.get("optional-dependencies", {}).items():
         lines += [f"Provides-Extra: {extra}", *(f'Requires-Dist: {one} ; extra == "{extra}"' for one in needs)]
@@ -67,14 +113,21 @@ def sources() -> Iterator[tuple[str, bytes]]:
             yield str(file.relative_to(HERE / "src")), file.read_bytes()
 
 
-def write_wheel(folder: str, files: Iterator[tuple[str, bytes]]) -> str:
-    """Writes a wheel of these files, with what describes them, and answers its name."""
-    info, name = f"{stem()}.dist-info", f"{stem()}-{tag()}.whl"
-    about = f"Wheel-Version: 1.0\nGenerator: {__name__}\nRoot-Is-Purelib: false\nTag: {tag()}\n"
+def below(folder: pathlib.Path) -> Iterator[pathlib.Path]:
+    """The files of a folder of tests or examples."""
+    return (it for it in sorted(folder.rglob("*")) if it.suffix in (".py", ".sql", ".json"))
+
+
+def write_wheel(folder: str, files: Iterator[tuple[str, bytes]], settings: Settings | None) -> str:
+    """Writes a wheel of these files, with what describes them, and returns its name."""
+    data_of, hosts = list(files), tag(settings)
+    info, name = f"{stem()}.dist-info", f"{stem()}-{hosts}.whl"
+    about = f"Wheel-Version: 1.0\nGenerator: {__name__}\nRoot-Is-Purelib: false\nTag: {hosts}\n"
     record = ""
     with zipfile.ZipFile(pathlib.Path(folder) / name, "w", zipfile.ZIP_DEFLATED) as wheel:
-        described = {"METADATA": metadata(), "WHEEL": about, "entry_points.txt": entry_points()}
-        for at, data in [*files, *((f"{info}/{it}", text.encode()) for it, text in described.items())]:
+        texts = {"METADATA": metadata(), "WHEEL": about, "entry_points.txt": entry_points()}
+        described = {name: text.encode() for name, text in texts.items()} | {it: licence(it) for it in LICENCES}
+        for at, data in [*data_of, *((f"{info}/{it}", data) for it, data in described.items())]:
             sum_of = base64.urlsafe_b64encode(hashlib.sha256(data).digest()).rstrip(b"=").decode()
             record += f"{at},sha256={sum_of},{len(data)}\n"
             _add(wheel, at, data)
@@ -91,18 +144,21 @@ def _add(wheel: zipfile.ZipFile, at: str, data: bytes) -> None:
 
 
 def build_wheel(wheel_directory: str, config_settings: Settings | None = None, metadata_directory: str | None = None) -> str:
-    return write_wheel(wheel_directory, sources())
+    return write_wheel(wheel_directory, sources(), config_settings)
 
 
 def build_editable(wheel_directory: str, config_settings: Settings | None = None, metadata_directory: str | None = None) -> str:
-    return write_wheel(wheel_directory, iter([("palqytun.pth", f"{HERE / 'src'}\n".encode())]))
+    return write_wheel(wheel_directory, iter([("palqytun.pth", f"{HERE / 'src'}\n".encode())]), None)
 
 
 def build_sdist(sdist_directory: str, config_settings: Settings | None = None) -> str:
+    """An archive that makes the same wheel: the package with the shared object in it, its tests and examples. The sources of the shared object
+    are the repository's."""
     name = f"{stem()}.tar.gz"
     files = [(it, (HERE / it).read_bytes()) for it in ("pyproject.toml", "README.md", "build_wheel.py")]
+    files += [(it, licence(it)) for it in LICENCES]
     files += [(f"src/{at}", data) for at, data in sources()]
-    files += [(f"tests/{it.name}", it.read_bytes()) for it in sorted((HERE / "tests").glob("*.py"))]
+    files += [(str(it.relative_to(HERE)), it.read_bytes()) for folder in ("tests", "examples") for it in below(HERE / folder)]
     with tarfile.open(pathlib.Path(sdist_directory) / name, "w:gz") as archive:
         for at, data in [*files, ("PKG-INFO", metadata().encode())]:
             entry = tarfile.TarInfo(f"{stem()}/{at}")

@@ -1,4 +1,5 @@
-"""The wheel has what it records, the archive makes the same wheel, and without a shared object nothing is built."""
+"""The wheel has what it records, the archive makes the same wheel, and without a shared object nothing is built. A wheel for each Linux has a
+shared object that loads there."""
 
 import base64
 import hashlib
@@ -14,9 +15,13 @@ import zipfile
 PROJECT = pathlib.Path(__file__).resolve().parents[1]
 
 
-def build(hook: str, project: pathlib.Path, into: pathlib.Path) -> subprocess.CompletedProcess[str]:
+LIBRARY = "src/palqytun/libpalqytun.so"
+PORTABLE = {"platform": "manylinux_2_17"}
+
+
+def build(hook: str, project: pathlib.Path, into: pathlib.Path, settings: dict[str, str] | None = None) -> subprocess.CompletedProcess[str]:
     """Calls a function of the backend as pip does: in the project's folder."""
-    code = f"import build_wheel; print(build_wheel.{hook}({str(into)!r}))"
+    code = f"import build_wheel; print(build_wheel.{hook}({str(into)!r}, {settings!r}))"
     return subprocess.run([sys.executable, "-B", "-c", code], cwd=project, capture_output=True, text=True)
 
 
@@ -24,11 +29,13 @@ class Wheels(unittest.TestCase):
     def setUp(self) -> None:
         self.room = pathlib.Path(self.enterContext(tempfile.TemporaryDirectory()))
         self.project = self.room / "project"
-        shutil.copytree(PROJECT, self.project, ignore=shutil.ignore_patterns("*.so", "__pycache__"))
-        (self.project / "src/palqytun/libpalqytun.so").write_bytes(b"the shared object")
+        shutil.copytree(PROJECT, self.project, ignore=shutil.ignore_patterns("*.so", "__pycache__", ".mypy_cache"))
+        (self.project / LIBRARY).write_bytes(b"the shared object")
+        for name in ("LICENSE", "NOTICE"):
+            shutil.copy(PROJECT.parent / name, self.room)
 
-    def built(self, hook: str, project: pathlib.Path) -> pathlib.Path:
-        ran = build(hook, project, self.room)
+    def built(self, hook: str, project: pathlib.Path, settings: dict[str, str] | None = None) -> pathlib.Path:
+        ran = build(hook, project, self.room, settings)
         self.assertEqual(ran.returncode, 0, ran.stderr)
         return self.room / ran.stdout.strip()
 
@@ -46,6 +53,52 @@ class Wheels(unittest.TestCase):
         for name in set(names) - {record}:
             sum_of = base64.urlsafe_b64encode(hashlib.sha256(wheel.read(name)).digest()).rstrip(b"=").decode()
             self.assertEqual(rows[name], f"sha256={sum_of},{len(wheel.read(name))}")
+
+    def test_who_may_do_what(self) -> None:
+        wheel = zipfile.ZipFile(self.built("build_wheel", self.project))
+        [metadata] = [wheel.read(it).decode() for it in wheel.namelist() if it.endswith(".dist-info/METADATA")]
+        for name in ("LICENSE", "NOTICE"):
+            [text] = [wheel.read(it) for it in wheel.namelist() if it.endswith(f".dist-info/{name}")]
+            self.assertEqual(text, (PROJECT.parent / name).read_bytes())
+            self.assertIn(f"\nLicense-File: {name}\n", metadata)
+        self.assertIn("\nLicense: MIT\n", metadata)
+        self.assertIn("\nAuthor: Palqytun maintainers\n", metadata)
+
+    def compiled(self, code: str, *flags: str) -> None:
+        source = self.room / "it.c"
+        source.write_text(code)
+        subprocess.run(["cc", "-shared", "-fPIC", str(source), "-o", str(self.project / LIBRARY), *flags], check=True)
+
+    def refused(self) -> str:
+        ran = build("build_wheel", self.project, self.room, PORTABLE)
+        self.assertEqual(ran.returncode, 1)
+        (line,) = ran.stderr.splitlines()  # and no traceback
+        return line
+
+    def test_a_wheel_for_each_linux(self) -> None:
+        self.compiled("#include <stdlib.h>\nvoid *it(void) { return malloc(1); }\n")
+        wheel = self.built("build_wheel", self.project, PORTABLE)
+        self.assertRegex(wheel.name, r"^palqytun-.*-py3-none-manylinux_2_17_\w+\.whl$")
+        [about] = [it for it in zipfile.ZipFile(wheel).namelist() if it.endswith(".dist-info/WHEEL")]
+        self.assertIn(f"\nTag: {wheel.stem.split('-', 2)[2]}\n", zipfile.ZipFile(wheel).read(about).decode())
+
+    def test_libraries_that_do_not_load_everywhere(self) -> None:
+        self.assertIn("is no library for manylinux_2_17: objdump can't read it; without that setting", self.refused())
+        self.compiled("#include <sys/random.h>\nlong it(void) { return getrandom(0, 0, 0); }\n")
+        self.assertIn("it needs getrandom of glibc 2.25;", self.refused())
+        self.compiled("int it(void) { return 1; }\n", "-Wl,--no-as-needed", "-lm")
+        self.assertIn("it needs libm.so.6;", self.refused())
+        ran = build("build_wheel", self.project, self.room, {"platform": "any"})
+        self.assertEqual(ran.stderr, "the setting platform is manylinux_2_17, and not any\n")
+
+    def test_the_archive_has_what_it_needs(self) -> None:
+        with tarfile.open(self.built("build_sdist", self.project)) as archive:
+            names = {it.name.split("/", 1)[1] for it in archive}
+        needed = {"LICENSE", "NOTICE", "README.md", "build_wheel.py", "pyproject.toml", LIBRARY, "src/palqytun/runtime/templates/list.html"}
+        needed |= {f"tests/{it.relative_to(PROJECT / 'tests')}" for it in (PROJECT / "tests").rglob("*.py")}
+        needed |= {f"tests/runtime/schemas/{it.name}" for it in (PROJECT / "tests/runtime/schemas").glob("*.sql")}
+        needed |= {f"examples/{it.name}" for it in (PROJECT / "examples").glob("*.py")}
+        self.assertLessEqual(needed, names)
 
     def test_equal_sources_make_equal_wheels(self) -> None:
         first = self.built("build_wheel", self.project).read_bytes()

@@ -18,6 +18,7 @@ from palqytun._library import library as _library_of
 from palqytun.core import *
 from palqytun.core import __all__ as __all__
 
+__version__ = "0.1.0"
 build: str
 is_proved: bool
 

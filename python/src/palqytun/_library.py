@@ -32,6 +32,31 @@ def front(room: Buffer, size: int) -> bytes:
     return cast(bytes, room[:size])
 
 
+KEPT = 65536
+"""Bytes of the largest buffer that is kept between calls."""
+
+
+class Room:
+    """Where the library writes. It grows with what it has to hold, up to `KEPT`; for what is larger a buffer is made that isn't kept."""
+
+    def __init__(self, size: int = 256) -> None:
+        self._kept = buffer(size)
+
+    def __len__(self) -> int:
+        return len(self._kept)
+
+    def written(self, call: Callable[[Buffer, int], Told]) -> tuple[int, bytes]:
+        """The status of a call that writes into a buffer, and what it wrote."""
+        room = self._kept
+        told = call(room, len(room))
+        while told.status == _abi.NO_ROOM:
+            room = buffer(told.len if told.len > KEPT else min(KEPT, 2 * told.len))
+            told = call(room, len(room))
+            if len(room) <= KEPT:
+                self._kept = room
+        return told.status, front(room, told.len)
+
+
 class Frames:
     """The functions on frames."""
 

@@ -2,35 +2,33 @@
 
 from __future__ import annotations
 
-import ctypes
 from collections.abc import Callable
+from functools import partial
 
 from palqytun import _abi, _library
 from palqytun._answers import pairs
 from palqytun._abi import Replied
-from palqytun._library import Handle, Library
+from palqytun._library import Handle, Library, Room
+from palqytun.errors import Related
 from palqytun.values import VOID, EphemeralReady, ExecuteRun, Failure, Input, InvocationId, Result, Waiting
 
 
 class Parts:
     """The parts of a session's last reply."""
 
-    def __init__(self, library: Library, session: Handle) -> None:
+    def __init__(self, library: Library, session: Handle, room: Room) -> None:
         self._part = library.part
         self._session = session
-        self._room = ctypes.create_string_buffer(256)
+        self._room = room
 
     def data(self, at: int) -> bytes | None:
         """A part, if there is one."""
-        told = self._part(self._session, at, self._room, len(self._room))
-        if told.status == _abi.NO_ROOM:
-            self._room = ctypes.create_string_buffer(2 * told.len)
-            told = self._part(self._session, at, self._room, len(self._room))
-        if told.status == _abi.NO_PART:
+        status, found = self._room.written(partial(self._part, self._session, at))
+        if status == _abi.NO_PART:
             return None
-        if told.status:
-            raise RuntimeError(_library.why(told.status))
-        return _library.front(self._room, told.len)
+        if status:
+            raise RuntimeError(_library.why(status))
+        return found
 
     def bytes(self, at: int) -> bytes:
         """A part that is there. Only another thread's call takes it away."""
@@ -51,6 +49,11 @@ class Parts:
     def pairs(self, at: int, rows: int) -> tuple[tuple[str, str], ...]:
         """So many pairs of texts from this part on."""
         return pairs([self.text(it) for it in range(at, at + 2 * rows)])
+
+
+def related_of(replied: Replied, parts: Parts) -> Related | None:
+    """The command that an error relates to, if it names one."""
+    return Related(replied.second, replied.third, parts.text(2)) if replied.first else None
 
 
 _WAITS = [[Waiting(input=bool(first), run=bool(second)) for second in (0, 1)] for first in (0, 1)]

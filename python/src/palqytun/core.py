@@ -25,8 +25,8 @@ Waiting(input=True, run=False)
 Traceback (most recent call last):
 palqytun.errors.Suspended: 599 SUSPENDED
 
-The methods make the typed calls of the shared object. A line of text (docs/VMSCRIPT.md) can be sent by `VM.line`. A VM may go from thread to thread, but has one call at a time: guard one that threads share
-by a lock of your own.
+The methods make the typed calls of the shared object. A line of text (docs/VMSCRIPT.md) can be sent by `VM.line`. A VM may go from thread to
+thread, but has one call at a time: guard one that threads share by a lock of your own.
 
 The shared object is in this package; `./bindings/build` puts it there. It is loaded by the first `VM`. The environment variable
 `PALQYTUN_LIBRARY` may name another.
@@ -36,6 +36,7 @@ from __future__ import annotations
 
 import ctypes
 from collections.abc import Iterable
+from functools import partial
 from types import TracebackType
 from typing import Literal, Never, Self, cast
 
@@ -58,9 +59,9 @@ from palqytun._arguments import (
     lent_value,
 )
 from palqytun._abi import Replied
-from palqytun._replies import Parts, awaited_of, input_of, result_of
+from palqytun._replies import Parts, awaited_of, input_of, related_of, result_of
 from palqytun._words import HANDLE, integer, octets, truth, utf8
-from palqytun.errors import BadLine, Cancelled, Closed, Code, Fault, JournalFault, JournalMismatch, Suspended, VMError, error_of
+from palqytun.errors import BadLine, Cancelled, Closed, Code, Fault, JournalFault, JournalMismatch, Related, Suspended, VMError, error_of
 from palqytun.futures import (
     AnyOf,
     Future,
@@ -116,6 +117,7 @@ __all__ = [
     "Journal",
     "JournalFault",
     "JournalMismatch",
+    "Related",
     "ResponseHead",
     "Result",
     "Retryable",
@@ -205,8 +207,8 @@ class VM:
         self._library = _library.library()
         self._session = _library.Handle()
         self._calls = self._library.calls
-        self._parts = Parts(self._library, self._session)
-        self._room = ctypes.create_string_buffer(256)
+        self._room = _library.Room()
+        self._parts = Parts(self._library, self._session, self._room)
         self._is_begun = False
         if self._library.open(ctypes.byref(self._session)) != _abi.DONE:
             raise MemoryError("no memory for a VM")
@@ -246,12 +248,10 @@ class VM:
         told = self._library.line(self._session, words, len(words))
         if told.status:
             self._check(told.status)
-        if told.len > len(self._room):
-            self._room = ctypes.create_string_buffer(2 * told.len)
-        told = self._library.answer(self._session, self._room, len(self._room))
-        if told.status:
-            self._check(told.status)
-        return _library.front(self._room, told.len).decode("ascii")
+        status, reply = self._room.written(partial(self._library.answer, self._session))
+        if status:
+            self._check(status)
+        return reply.decode("ascii")
 
     def call(self, line: str) -> str:
         """Performs a line that is a call, and returns what stands after `ok`; an error is raised.
@@ -279,18 +279,19 @@ class VM:
     def _check_made(self, replied: Replied, is_first: bool = False) -> None:
         """Raises an error that a typed call returned."""
         if replied.status == _abi.REFUSED:
-            raise self._refusal(replied.number, self._parts.text(0), is_first)
+            text, stack = self._parts.text(0), self._parts.text(1)
+            raise self._refusal(replied.number, text, is_first, stack, related_of(replied, self._parts))
         self._check(replied.status)
         if replied.status == _abi.BAD_TEXT:
             raise BadLine("a text is no UTF-8")
         if replied.status:
             raise RuntimeError(f"the call was not made: status {replied.status}")
 
-    def _refusal(self, code: int, said: str, is_first: bool) -> Exception:
+    def _refusal(self, code: int, said: str, is_first: bool, stacktrace: str = "", related: Related | None = None) -> Exception:
         """What a call is refused by: this error."""
         if code == Code.INTERNAL and not said:
             return MemoryError("the VM found no memory")
-        return error_of(code, said, self._hint(code, said, is_first))
+        return error_of(code, said, self._hint(code, said, is_first), stacktrace, related)
 
     def _hint(self, code: int, said: str, is_first: bool) -> str | None:
         """What to call instead of a call that came before the handler's first, or of a first one that came twice."""
@@ -349,12 +350,9 @@ class VM:
         >>> vm.take_output()
         b''
         """
-        told = self._library.take_output(self._session, self._room, len(self._room))
-        while told.status == _abi.NO_ROOM:
-            self._room = ctypes.create_string_buffer(2 * told.len)
-            told = self._library.take_output(self._session, self._room, len(self._room))
-        self._check(told.status)
-        return _library.front(self._room, told.len)
+        status, output = self._room.written(partial(self._library.take_output, self._session))
+        self._check(status)
+        return output
 
     def is_ready_to_execute(self) -> bool:
         """Whether the handler may begin: all known entries were fed.

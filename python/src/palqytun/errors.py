@@ -3,10 +3,12 @@
 from __future__ import annotations
 
 import enum
+from dataclasses import dataclass
 
 from palqytun import _abi
 
-__all__ = ["BadFrame", "BadLine", "Cancelled", "Closed", "Code", "Fault", "JournalFault", "JournalMismatch", "Suspended", "VMError", "error_of"]
+_ERRORS = ["BadFrame", "BadLine", "Cancelled", "Closed", "JournalFault", "JournalMismatch", "Suspended", "VMError"]
+__all__ = [*_ERRORS, "Code", "Fault", "Related", "error_of"]
 
 
 class Code(enum.IntEnum):
@@ -38,17 +40,35 @@ class Code(enum.IntEnum):
     """The invocation is suspended."""
 
 
+@dataclass(frozen=True)
+class Related:
+    """The command that an error relates to: its index in the journal, the Input being 0; the type of its message (docs/WIRE.md); and its name."""
+
+    index: int
+    type: int
+    name: str
+
+
 class VMError(Exception):
-    """An error that the VM returned: its `code` and its `text`. The VM has failed, and returns the same from each later call.
+    """An error that the VM returned: its `code`, its `text`, its `stacktrace`, which is empty if there is none, and the command to which it is
+    `related`, or `None`. The VM has failed, and returns the same from each later call. By lines of text only code and text are known.
 
     `hint` says what to do in its place, if the call came out of order; else it is `None`.
+
+    >>> VMError(500, "no seat", related=Related(3, 26, "seat")).related.name
+    'seat'
     """
 
-    def __init__(self, code: int, text: str, hint: str | None = None) -> None:
+    def __init__(self, code: int, text: str, hint: str | None = None, stacktrace: str = "", related: Related | None = None) -> None:
         super().__init__(f"{code} {text}" + (f" ({hint})" if hint else ""))
         self.code = code
         self.text = text
         self.hint = hint
+        self.stacktrace = stacktrace
+        self.related = related
+
+    def __reduce__(self) -> tuple[object, ...]:
+        return type(self), (self.code, self.text, self.hint, self.stacktrace, self.related)
 
 
 class JournalMismatch(VMError):
@@ -108,6 +128,9 @@ class JournalFault(ValueError):
         super().__init__(f"{fault.name}: {_abi.TEXTS[fault]}")
         self.fault = fault
 
+    def __reduce__(self) -> tuple[object, ...]:
+        return type(self), (self.fault,)
+
 
 _CLASSES: dict[int, type[VMError]] = {
     Code.JOURNAL_MISMATCH: JournalMismatch,
@@ -116,10 +139,10 @@ _CLASSES: dict[int, type[VMError]] = {
 }
 
 
-def error_of(code: int, text: str, hint: str | None = None) -> VMError:
+def error_of(code: int, text: str, hint: str | None = None, stacktrace: str = "", related: Related | None = None) -> VMError:
     """The error of this code, by its class.
 
     >>> error_of(598, "ClosedError")
     Closed('598 ClosedError')
     """
-    return _CLASSES.get(code, VMError)(code, text, hint)
+    return _CLASSES.get(code, VMError)(code, text, hint, stacktrace, related)

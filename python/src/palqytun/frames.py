@@ -25,18 +25,17 @@ from palqytun.values import Data
 __all__ = ["Message", "completion", "frame_of", "input_frame", "is_awake", "line_of", "named_signal", "signal", "value_frame"]
 
 _COMPLETION, _SIGNAL, _NAMED = range(3)
-_KEPT = 65536  # the largest buffer that is kept between calls
 
 
 
-class _Room(threading.local):
-    """Where the core writes. It grows with what it has to hold; for what is large a buffer is made that isn't kept."""
+class _Own(threading.local):
+    """Where the core writes for a thread."""
 
     def __init__(self) -> None:
-        self.buffer: _library.Buffer = _library.buffer(1024)
+        self.room = _library.Room(1024)
 
 
-_room = _Room()
+_own = _Own()
 
 
 class _NoPart(Exception):
@@ -55,16 +54,10 @@ def _refuse(status: int) -> None:
 
 def _written(call: Callable[[_library.Buffer, int], _abi.Told]) -> bytes:
     """What a call writes."""
-    room = _room.buffer
-    told = call(room, len(room))
-    if told.status == _abi.NO_ROOM:
-        room = _library.buffer(told.len if told.len > _KEPT else 2 * told.len)
-        told = call(room, len(room))
-        if len(room) <= _KEPT:
-            _room.buffer = room
-    if told.status:
-        _refuse(told.status)
-    return _library.front(room, told.len)
+    status, written = _own.room.written(call)
+    if status:
+        _refuse(status)
+    return written
 
 
 def line_of(frame: Data) -> str:

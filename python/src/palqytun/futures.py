@@ -4,8 +4,6 @@ from __future__ import annotations
 
 import ctypes
 from collections.abc import Iterator, Sequence
-from typing import Self
-
 from palqytun._abi import Node
 from palqytun._words import HANDLE, integer
 
@@ -14,12 +12,13 @@ __all__ = ["AnyOf", "Future", "all_completed", "all_succeeded_or_first_failed", 
 
 Nodes = tuple[tuple[int, int], ...]
 """The nodes of a tree, each after those of its children: a kind and how many children, or 0 and a handle."""
+_WORDS = ("", "fc", "ac", "fsaf", "asff", "un")  # of the kinds, in a line
 
 
-class Future(str):
-    """A node over handles and futures, as a line writes it. The five functions of this module make them.
+class Future:
+    """A node over handles and futures. The five functions of this module make them. As a text it is what a line writes.
 
-    >>> first_completed(17, all_completed(18, 19))
+    >>> str(first_completed(17, all_completed(18, 19)))
     'fc(17,ac(18,19))'
     """
 
@@ -28,10 +27,30 @@ class Future(str):
     lent: object
     """The nodes as a typed call takes them, once it was made: a tree is often asked again."""
 
-    def __new__(cls, spelling: str, nodes: Nodes) -> Self:
-        made = super().__new__(cls, spelling)
-        made.nodes, made.lent = nodes, None
-        return made
+    def __init__(self, nodes: Nodes) -> None:
+        self.nodes, self.lent = nodes, None
+
+    def __str__(self) -> str:
+        below = list[str]()
+        for kind, count in self.nodes:
+            if kind:
+                first = len(below) - count
+                below[first:] = [f"{_WORDS[kind]}({','.join(below[first:])})"]
+            else:
+                below.append(str(count))
+        return below[0]
+
+    def __repr__(self) -> str:
+        return f"<Future {self}>"
+
+    def __eq__(self, other: object) -> bool:
+        return isinstance(other, Future) and self.nodes == other.nodes
+
+    def __hash__(self) -> int:
+        return hash(self.nodes)
+
+    def __reduce__(self) -> tuple[object, ...]:
+        return Future, (self.nodes,)
 
 
 def handle_of(name: str, future: object) -> int:
@@ -41,42 +60,39 @@ def handle_of(name: str, future: object) -> int:
     raise TypeError(f"{name} must be a handle or a Future, not {type(future).__name__}")
 
 
-def _over(word: str, kind: int, children: tuple[int | Future, ...]) -> Future:
-    words, below = list[str](), list[tuple[int, int]]()
+def _over(kind: int, children: tuple[int | Future, ...]) -> Future:
+    below = list[tuple[int, int]]()
     for it in children:
         if isinstance(it, Future):
-            words.append(it)
             below += it.nodes
         else:
-            handle = handle_of("each child", it)
-            words.append(str(handle))
-            below.append((0, handle))
-    return Future(f"{word}({','.join(words)})", (*below, (kind, len(words))))
+            below.append((0, handle_of("each child", it)))
+    return Future((*below, (kind, len(children))))
 
 
 def first_completed(*children: int | Future) -> Future:
     """Awaited until some child has an outcome."""
-    return _over("fc", 1, children)
+    return _over(1, children)
 
 
 def all_completed(*children: int | Future) -> Future:
     """Awaited until all children have an outcome."""
-    return _over("ac", 2, children)
+    return _over(2, children)
 
 
 def first_succeeded_or_all_failed(*children: int | Future) -> Future:
     """Awaited until some child succeeds, or all have failed."""
-    return _over("fsaf", 3, children)
+    return _over(3, children)
 
 
 def all_succeeded_or_first_failed(*children: int | Future) -> Future:
     """Awaited until all children succeed, or some child has failed."""
-    return _over("asff", 4, children)
+    return _over(4, children)
 
 
 def unknown(*children: int | Future) -> Future:
     """Some way of the caller's own: asked again at each outcome of a child."""
-    return _over("un", 5, children)
+    return _over(5, children)
 
 
 class AnyOf:

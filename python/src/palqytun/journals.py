@@ -3,7 +3,8 @@
 from __future__ import annotations
 
 import ctypes
-from collections.abc import Iterable
+from collections.abc import Callable, Iterable
+from functools import partial
 from types import TracebackType
 from typing import NamedTuple, Self
 
@@ -67,7 +68,7 @@ class Journal:
         """
         self._handle = _library.Handle()
         self._calls = _library.library().journals
-        self._room = ctypes.create_string_buffer(256)
+        self._room = _library.Room()
         if self._calls.open(ctypes.byref(self._handle)):
             raise MemoryError("no memory for a journal")
         loaded = False
@@ -143,25 +144,20 @@ class Journal:
         told = self._calls.store(self._handle, integer("version", version, _VERSIONS[1], _VERSIONS[0]), output, len(output))
         if told.status:
             self._check(told.status)
-        return Stored([self._row(at) for at in range(told.rows)], self._answer(told.feed) if told.feed else b"")
-
-    def _fits(self, size: int) -> ctypes.Array[ctypes.c_char]:
-        if size > len(self._room):
-            self._room = ctypes.create_string_buffer(2 * size)
-        return self._room
+        return Stored([self._row(at) for at in range(told.rows)], self._written(self._calls.answer) if told.feed else b"")
 
     def _row(self, at: int) -> Row:
         row = self._calls.row(self._handle, at)
         if row.status:
             self._check(row.status)
-        room = self._fits(row.len)
-        self._calls.frame(self._handle, at, room, len(room))
-        return Row(row.type, row.completes if row.is_completion else None, _library.front(room, row.len))
+        return Row(row.type, row.completes if row.is_completion else None, self._written(self._calls.frame, at))
 
-    def _answer(self, size: int) -> bytes:
-        room = self._fits(size)
-        self._calls.answer(self._handle, room, len(room))
-        return _library.front(room, size)
+    def _written(self, call: Callable[..., _abi.Told], *arguments: int) -> bytes:
+        """What a call writes."""
+        status, written = self._room.written(partial(call, self._handle, *arguments))
+        if status:
+            self._check(status)
+        return written
 
     def keep(self) -> None:
         """What came since the last `keep` is committed. After a `MemoryError` the journal is dropped, and has to be loaded again."""

@@ -2,7 +2,7 @@
 
 from __future__ import annotations
 
-from typing import Self
+from dataclasses import dataclass
 
 from palqytun._words import COUNT, flag, number, whole
 
@@ -13,16 +13,18 @@ Numbers = tuple[int, int, int, int, bool, int, bool, int, bool, int, bool]
 """The fields of a policy as `palqytun.h` has them."""
 
 
-class RetryPolicy(str):
-    """When a run whose execution failed is executed again, as a line writes it. The four functions of this module make the policies."""
+@dataclass(frozen=True, slots=True, repr=False)
+class RetryPolicy:
+    """When a run whose execution failed is executed again. The four functions of this module make the policies. As a text it is what a line writes."""
 
-    __slots__ = ("numbers",)
+    words: str
     numbers: Numbers
 
-    def __new__(cls, spelling: str, numbers: Numbers) -> Self:
-        made = super().__new__(cls, spelling)
-        made.numbers = numbers
-        return made
+    def __str__(self) -> str:
+        return self.words
+
+    def __repr__(self) -> str:
+        return f"<RetryPolicy {self.words}>"
 
 
 def _limits(attempts: int | None, duration: int | None, pause: bool) -> str:
@@ -56,7 +58,7 @@ def retry_fixed(interval: int | None = None, *, attempts: int | None = None, dur
     """Tried again after `interval` ms, until that many attempts were made or that many ms have passed. `pause` pauses the invocation then;
     without it the error is the run's result.
 
-    >>> retry_fixed(500, attempts=3)
+    >>> str(retry_fixed(500, attempts=3))
     'fixed(interval=500 attempts=3)'
     """
     words = number("interval", "interval", interval) + _limits(attempts, duration, pause)
@@ -76,7 +78,7 @@ def retry_exponential(
     """Tried again after `initial` ms at first and then after a growing time: each by the factor `numerator`/`denominator`, and never above
     `longest` ms. The rest is as in `retry_fixed`.
 
-    >>> retry_exponential(100, 3, 2, longest=10_000)
+    >>> str(retry_exponential(100, 3, 2, longest=10_000))
     'exp(initial=100 factor=3/2 interval=10000)'
     """
     factor = f"{whole('numerator', numerator, COUNT)}/{whole('denominator', denominator, COUNT, least=1)}"

@@ -39,6 +39,9 @@ class Void:
     def __repr__(self) -> str:
         return "VOID"
 
+    def __reduce__(self) -> str:
+        return "VOID"
+
 
 VOID = Void()
 

@@ -1,0 +1,148 @@
+"""Errors have all their fields, errors and values can be copied and pickled, and large buffers are given back."""
+
+import copy
+import pathlib
+import pickle
+import tomllib
+import unittest
+
+import palqytun
+from attempt import begun, fed, input_frame, sleep_frame, start
+from palqytun import VOID, Awakeable, BadLine, Cancelled, ExecuteRun, Failure, Fault, Future, Input, InvocationId, Journal, JournalFault
+from palqytun import JournalMismatch, Related, Retryable, RetryPolicy, Run, Suspended, VMError, Waiting, WorkflowId, all_completed, first_completed
+from palqytun import retry_fixed, retry_never
+from palqytun.errors import BadFrame, error_of
+from palqytun.frames import frame_of
+from palqytun.frames import input_frame as input_with
+
+PROJECT = pathlib.Path(__file__).resolve().parents[1]
+KEPT = 1 << 16  # bytes of the largest buffer that may stay
+LARGE = 1 << 21
+
+
+class Errors(unittest.TestCase):
+    def test_an_error_has_all_its_fields(self) -> None:
+        vm = begun()
+        vm.sys_run("seat")
+        vm.notify_error(418, "no tea", stacktrace="at the pot", related="last")
+        with self.assertRaises(VMError) as raised:
+            vm.sys_sleep(1000)
+        error = raised.exception
+        self.assertEqual((error.code, error.text, error.hint), (418, "no tea", None))
+        self.assertEqual((error.stacktrace, error.related), ("at the pot", Related(1, 26, "seat")))
+
+    def test_an_error_without_them(self) -> None:
+        vm = begun()
+        vm.notify_error(418, "no tea")
+        with self.assertRaises(VMError) as raised:
+            vm.sys_sleep(1000)
+        self.assertEqual((raised.exception.stacktrace, raised.exception.related), ("", None))
+
+    def test_a_mismatch_names_the_call(self) -> None:
+        vm = fed(start(2), input_frame(), sleep_frame(1000, 1))
+        vm.sys_input()
+        with self.assertRaises(JournalMismatch) as raised:
+            vm.sys_run("charge")
+        self.assertEqual(raised.exception.related, Related(1, 26, "charge"))
+
+
+ERRORS = [
+    VMError(500, "no seat", "call sys_input first", "at x", Related(3, 26, "seat")),
+    error_of(570, "CommandMismatchError"),
+    error_of(598, "ClosedError"),
+    Suspended(599, "SUSPENDED"),
+    JournalFault(Fault.NO_SUCH_ID),
+    Cancelled("the invocation was cancelled"),
+    BadLine("a text is no UTF-8"),
+    BadFrame("it isn't one whole frame"),
+]
+VALUES = [
+    *(VOID, Failure(409, "cancelled", (("a", "b"),)), InvocationId("inv"), WorkflowId("w", "k"), Awakeable(17, "sign_1"), Run(17, True)),
+    *(ExecuteRun(17), Waiting(True, False), Retryable(500, "later"), Related(1, 26, ""), Input("inv", 1, "k", (("a", "b"),), b"x")),
+    *(first_completed(17, all_completed(18, 19)), retry_fixed(500, attempts=3), retry_never(), Fault.BAD_OUTPUT),
+]
+
+
+class Copies(unittest.TestCase):
+    def copies(self, it: object) -> list[object]:
+        pickled = [pickle.loads(pickle.dumps(it, protocol)) for protocol in range(2, pickle.HIGHEST_PROTOCOL + 1)]
+        return [*pickled, copy.copy(it), copy.deepcopy(it)]
+
+    def test_errors(self) -> None:
+        for error in ERRORS:
+            for made in self.copies(error):
+                self.assertIs(type(made), type(error))
+                self.assertEqual((str(made), vars(made)), (str(error), vars(error)))
+
+    def test_values(self) -> None:
+        for value in VALUES:
+            for made in self.copies(value):
+                self.assertEqual((type(made), made, str(made)), (type(value), value, str(value)))
+        self.assertIs(pickle.loads(pickle.dumps(VOID)), VOID)
+
+    def test_a_tree_that_was_awaited(self) -> None:
+        vm = begun()
+        tree = first_completed(vm.sys_sleep(1000), vm.sys_sleep(2000))
+        vm.do_await(tree)
+        self.assertEqual(pickle.loads(pickle.dumps(tree)), tree)
+
+
+class Trees(unittest.TestCase):
+    def test_a_tree_and_a_policy_are_no_texts(self) -> None:
+        for it in (first_completed(17), retry_never()):
+            self.assertNotIsInstance(it, str)
+            with self.assertRaises(TypeError):
+                begun().sys_state_set(it, b"")
+        self.assertEqual((repr(first_completed(17)), repr(retry_never())), ("<Future fc(17)>", "<RetryPolicy none>"))
+        self.assertEqual(len({first_completed(17), first_completed(17), all_completed(17)}), 2)
+
+    def test_a_deep_tree(self) -> None:
+        tree: int | Future = 17
+        for _ in range(500):
+            tree = first_completed(tree)
+        self.assertEqual(str(tree), "fc(" * 500 + "17" + ")" * 500)
+        self.assertIsInstance(retry_never(), RetryPolicy)
+
+
+class Buffers(unittest.TestCase):
+    def test_those_of_a_vm(self) -> None:
+        vm = begun()
+        vm.sys_state_set("k", b"x" * LARGE)
+        self.assertGreater(len(vm.take_output()), LARGE)
+        vm.sys_state_set("k", b"x" * 3000)
+        vm.take_output()
+        self.assertGreater(len(vm.line("state")), 0)
+        self.assertLessEqual(len(vm._room), KEPT)
+
+    def test_a_large_part(self) -> None:
+        vm = begun()
+        vm.notify_error(418, "no tea " * LARGE)
+        with self.assertRaises(VMError) as raised:
+            vm.sys_sleep(1000)
+        self.assertEqual(raised.exception.text, "no tea " * LARGE)
+        self.assertLessEqual(len(vm._room), KEPT)
+
+    def test_those_of_a_journal(self) -> None:
+        journal, vm = Journal([input_with(frame_of("Input"), b"x" * LARGE)]), begun()
+        vm.sys_state_set("k", b"x" * LARGE)
+        [row] = journal.store(vm.take_output()).rows
+        self.assertGreater(len(row.frame), LARGE)
+        self.assertLessEqual(len(journal._room), KEPT)
+
+    def test_a_part_that_is_gone(self) -> None:
+        vm = begun()
+        vm.sys_awakeable()
+        vm.is_completed(17)  # as if another thread had made this call before the id was read
+        with self.assertRaisesRegex(RuntimeError, "another thread's call of this VM came between"):
+            vm._parts.text(0)
+
+
+class Version(unittest.TestCase):
+    def test_it_is_the_packages(self) -> None:
+        project = tomllib.loads((PROJECT / "pyproject.toml").read_text(encoding="utf-8"))["project"]
+        self.assertEqual(palqytun.__version__, project["version"])
+        self.assertEqual(palqytun.build.split()[0], palqytun.__version__)
+
+
+if __name__ == "__main__":
+    unittest.main()
