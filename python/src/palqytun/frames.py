@@ -27,7 +27,6 @@ __all__ = ["Message", "completion", "frame_of", "input_frame", "is_awake", "line
 _COMPLETION, _SIGNAL, _NAMED = range(3)
 
 
-
 class _Own(threading.local):
     """Where the core writes for a thread."""
 
