@@ -11,7 +11,7 @@ from pathlib import Path
 
 from tools.kit.errors import Refused
 
-from . import between, flat, python, rust, sources, text
+from . import between, flat, go, loading, python, rust, sources, text
 from .header import HEADER, Header, read_header
 
 OWN_STATUSES = {"PALQYTUN_BUSY", "PALQYTUN_BAD_HANDLE", "PALQYTUN_BAD_POINTER"}
@@ -29,6 +29,9 @@ def written(top: Path, header: Header) -> dict[str, str]:
         text.TEXT: text.text_of(header),
         python.MODULE: python.module_of(header),
         rust.MODULE: rust.module_of(header),
+        go.MODULE: go.module_of(header),
+        **{f"{folder}/palqytun_abi.h": loading.header_of(header) for folder in loading.FOLDERS},
+        **{f"{folder}/palqytun_abi.c": loading.code_of(header) for folder in loading.FOLDERS},
     }
 
 

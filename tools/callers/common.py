@@ -4,6 +4,7 @@ from __future__ import annotations
 
 import json
 import os
+import re
 import shutil
 import subprocess
 import sys
@@ -24,6 +25,7 @@ class Checks(Protocol):
 
     def tell(self, name: str, wrong: str | None, more: str = "") -> bool: ...
     def build(self, name: str, words: list[str], env: dict[str, str] | None = None, cwd: str | None = None) -> bool: ...
+    def prints(self, name: str, words: list[str], wanted: str, env: dict[str, str] | None = None, cwd: str | None = None) -> bool: ...
     def has(self, what: str, *names: str) -> bool: ...
 
 
@@ -66,6 +68,13 @@ def other_library(it: Bindings, name: str, code: str) -> str | None:
     if not os.path.exists(made) and not it.checks.build(f"{name}.so", ["cc", "-shared", "-fPIC", "-o", made, source]):
         return None
     return made
+
+
+def example_of(language: str, fence: str) -> tuple[str, str]:
+    """The example of a binding's README, and what it prints."""
+    blocks = re.findall(r"^```(\w+)\n(.*?)^```$", Path(f"bindings/{language}/README.md").read_text(encoding="utf-8"), re.M | re.S)
+    (code, *_), (printed, *_) = ([text for name, text in blocks if name == it] for it in (fence, "text"))
+    return code, printed
 
 
 def loads(it: Bindings, language: str, about: list[str]) -> None:

@@ -4,8 +4,8 @@ mod common;
 
 use common::begun;
 use palqytun::{
-    frames, library, sys, Awaited, Error, HandlerError, Journal, NonEmptyValue, NotificationHandle, Options,
-    PayloadOptions, RetryPolicy, RunResult, State, Status, Target, UnresolvedFuture, Vm,
+    frames, library, sys, Awaited, Error, HandlerError, Journal, MessageType, NonEmptyValue, NotificationHandle,
+    Options, PayloadOptions, RetryPolicy, RunResult, State, Status, Target, UnresolvedFuture, Vm,
 };
 use std::{ptr, thread};
 
@@ -107,6 +107,20 @@ fn bytes_that_are_no_frames() {
     let mut journal = Journal::new().unwrap();
     assert_eq!(journal.store(4, b""), Err(Error::Status(Status::BadNumber)));
     assert_eq!(journal.entry(b"x"), Err(Error::Status(Status::BadJournal)));
+}
+
+#[test]
+fn rows_that_are_stored_have_their_effects() {
+    let mut journal = Journal::of([frames::frame_of(r#"Input value="Till""#).unwrap()]).unwrap();
+    let run = frames::frame_of(r#"Run name="a" result_completion_id=1"#).unwrap();
+    let proposal = frames::frame_of(r#"ProposeRunCompletion id=1 result=value("x")"#).unwrap();
+    let stored = journal.store(7, &[run, proposal].concat()).unwrap();
+    assert_eq!(stored.rows.iter().map(|it| it.completes).collect::<Vec<_>>(), [None, Some(1)]);
+    assert!(!stored.feed.is_empty());
+    let effect = stored.rows[0].effect().unwrap();
+    assert_eq!((effect.ty, effect.id, effect.text(0).unwrap().as_str()), (MessageType::RunCommand, 1, "a"));
+    journal.undo().unwrap();
+    assert_eq!(journal.entries(), Ok(1));
 }
 
 #[test]

@@ -1,0 +1,76 @@
+package palqytun
+
+import (
+	"errors"
+	"fmt"
+)
+
+// What an [*Error] may be, for errors.Is.
+var (
+	// ErrSuspended: the invocation is suspended, since what is awaited can't come in this attempt.
+	ErrSuspended = errors.New("the invocation is suspended")
+	// ErrClosed: the handler has ended, so no call comes after.
+	ErrClosed = errors.New("the handler has ended")
+	// ErrJournalMismatch: the handler makes another call than the journal has recorded.
+	ErrJournalMismatch = errors.New("the handler makes another call than the journal has recorded")
+	// ErrNoMemory: the VM found no memory, and has failed. [StatusNoMemory] is one too.
+	ErrNoMemory = errors.New("no memory was found")
+)
+
+// Error is what the VM refuses a call by. It has failed, or is suspended or closed, and returns the same from each later call.
+type Error struct {
+	// Code is a Code constant of this package, or that of the handler's own error.
+	Code       uint16
+	Message    string
+	Stacktrace string
+	// Related is the command that it relates to, or nil.
+	Related *Related
+}
+
+// Related is a command that an error relates to.
+type Related struct {
+	Index   uint32
+	Message MessageType
+	Name    string
+}
+
+func (e *Error) Error() string {
+	text := fmt.Sprintf("%d %s", e.Code, e.Message)
+	if it := e.Related; it != nil {
+		text += fmt.Sprintf(" (command %d: %v %q)", it.Index, it.Message, it.Name)
+	}
+	return text
+}
+
+// Is says whether the error is this one, for errors.Is.
+func (e *Error) Is(target error) bool {
+	switch target {
+	case ErrSuspended:
+		return e.Code == CodeSuspended
+	case ErrClosed:
+		return e.Code == CodeClosed
+	case ErrJournalMismatch:
+		return e.Code == CodeJournalMismatch
+	case ErrNoMemory:
+		return e.Code == CodeInternal && e.Message == ""
+	}
+	return false
+}
+
+// Error says why a call wasn't made.
+func (it Status) Error() string {
+	return fmt.Sprintf("%v: %s", it.String(), textsOfStatus[it])
+}
+
+// Is says whether the status is this error, for errors.Is.
+func (it Status) Is(target error) bool {
+	return target == ErrNoMemory && it == StatusNoMemory
+}
+
+// failure is the error of a status, nil if it is done.
+func failure(status uint32) error {
+	if Status(status) == StatusDone {
+		return nil
+	}
+	return Status(status)
+}

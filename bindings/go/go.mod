@@ -1,0 +1,3 @@
+module palqytun.example/palqytun
+
+go 1.19

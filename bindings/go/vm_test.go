@@ -1,0 +1,253 @@
+package palqytun
+
+import (
+	"bytes"
+	"errors"
+	"log"
+	"os"
+	"runtime"
+	"strings"
+	"sync"
+	"testing"
+	"time"
+)
+
+func must[T any](it T, err error) T {
+	if err != nil {
+		panic(err)
+	}
+	return it
+}
+
+// begun is a VM of version 7 that has its input.
+func begun() *VM {
+	vm := must(New(ContentType(7), Options{}))
+	for _, line := range []string{`Start id="abc" debug_id="abc" known_entries=1`, `Input value="Till"`} {
+		must(0, vm.NotifyInput(must(FrameOf(line))))
+	}
+	if input := must(vm.SysInput()); string(input.Input) != "Till" || input.InvocationID == "" || input.Scope != nil {
+		panic(input)
+	}
+	return vm
+}
+
+func wants(t *testing.T, err, wanted error) {
+	t.Helper()
+	if !errors.Is(err, wanted) {
+		t.Errorf("%v, not %v", err, wanted)
+	}
+}
+
+func TestWhatWasClosed(t *testing.T) {
+	vm := begun()
+	must(0, vm.Close())
+	must(0, vm.Close())
+	_, err := vm.SysSleep("", 1)
+	wants(t, err, StatusNoSession)
+	wants(t, vm.NotifyInput(nil), StatusNoSession)
+	_, err = vm.TakeOutput()
+	wants(t, err, StatusNoSession)
+	journal := must(NewJournal())
+	must(0, journal.Close())
+	must(0, journal.Close())
+	wants(t, journal.Keep(), StatusNoJournal)
+	if text := err.Error(); text != "NoSession: the VM was closed" {
+		t.Error(text)
+	}
+}
+
+func TestGoroutinesShareAVM(t *testing.T) {
+	vm := begun()
+	defer vm.Close()
+	var all sync.WaitGroup
+	for i := 0; i < 8; i++ {
+		all.Add(1)
+		go func() {
+			defer all.Done()
+			for j := 0; j < 200; j++ {
+				must(vm.SysSleep("nap", 1000))
+				must(vm.State())
+				must(vm.TakeOutput())
+				if must(vm.SysAwakeable()).ID == "" {
+					panic("an awakeable has no id")
+				}
+			}
+		}()
+	}
+	all.Wait()
+	if index := must(vm.LastCommandIndex()); index != 1600 {
+		t.Error(index)
+	}
+}
+
+func TestAVMThatIsClosedWhileItIsUsed(t *testing.T) {
+	for i := 0; i < 50; i++ {
+		vm := begun()
+		done := make(chan error)
+		go func() {
+			for {
+				if _, err := vm.SysSleep("", 1); err != nil {
+					done <- err
+					return
+				}
+			}
+		}()
+		must(0, vm.Close())
+		wants(t, <-done, StatusNoSession)
+	}
+}
+
+func TestAHandleOfAnotherVM(t *testing.T) {
+	one, other := begun(), begun()
+	defer one.Close()
+	defer other.Close()
+	var handle Handle
+	for i := 0; i < 5; i++ {
+		handle = must(one.CreateSignalHandle("go"))
+	}
+	if must(other.IsCompleted(handle)) || must(other.TakeNotification(handle)) != nil {
+		t.Error("another VM's handle has a result")
+	}
+	if it := must(other.DoAwait(handle)); it.Kind != WaitingExternalProgress || !it.WaitingInput {
+		t.Error(it)
+	}
+}
+
+func TestWhatNamesNoCase(t *testing.T) {
+	vm := begun()
+	defer vm.Close()
+	_, err := New(ContentType(7), Options{SignalDelivery: 7})
+	wants(t, err, StatusBadNumber)
+	wants(t, vm.NotifyError(HandlerError{Code: 418, Behavior: 9}, nil), StatusBadNumber)
+	wants(t, vm.NotifyError(HandlerError{Code: 418}, &RelatedCommand{Kind: 9}), StatusBadNumber)
+	wants(t, vm.ProposeRetryableFailure(17, 1, HandlerError{}, RetryPolicy{Kind: RetryExponential}), StatusBadNumber)
+	_, err = vm.SysSleep("\xff", 1)
+	wants(t, err, StatusBadText)
+	_, err = vm.SysAttachInvocation(nil)
+	wants(t, err, StatusBadPointer)
+	if it := must(vm.DoAwait(AllCompleted())); it.Kind != AnyCompleted {
+		t.Error(it)
+	}
+	if state := must(vm.State()); state != StateProcessing {
+		t.Error(state)
+	}
+}
+
+func TestErrorsHaveAllTheirFields(t *testing.T) {
+	vm := must(New(ContentType(7), Options{}))
+	defer vm.Close()
+	lines := []string{
+		`Start id="abc" debug_id="abc" known_entries=2`, `Input value="Till"`, `Sleep wake_up_time=1000 result_completion_id=1 name="nap"`,
+	}
+	for _, line := range lines {
+		must(0, vm.NotifyInput(must(FrameOf(line))))
+	}
+	must(vm.SysInput())
+	_, err := vm.SysCall(Target{Service: "Greeter", Handler: "greet", Key: Text("Ada")}, []byte("Ada"), "call", false)
+	wants(t, err, ErrJournalMismatch)
+	var refused *Error
+	if !errors.As(err, &refused) || refused.Code != CodeJournalMismatch || refused.Related == nil || refused.Related.Name != "call" {
+		t.Errorf("%#v", refused)
+	}
+	own := begun()
+	defer own.Close()
+	must(0, own.NotifyError(HandlerError{Code: 418, Message: "no tea", Stacktrace: "at 1"}, &RelatedCommand{Kind: RelatedLast}))
+	err = own.SysEnd()
+	if !errors.As(err, &refused) || refused.Code != 418 || refused.Message != "no tea" || refused.Stacktrace != "at 1" {
+		t.Errorf("%#v", refused)
+	}
+}
+
+func TestSuspensionAndEnd(t *testing.T) {
+	vm := begun()
+	defer vm.Close()
+	slept := must(vm.SysSleep("nap", 1000))
+	must(0, vm.NotifyInputClosed())
+	_, err := vm.DoAwait(FirstCompleted(slept, CancelHandle))
+	wants(t, err, ErrSuspended)
+	other := begun()
+	defer other.Close()
+	must(0, other.SysWriteOutput(Given{Success: []byte("done")}, false))
+	must(0, other.SysEnd())
+	_, err = other.SysSleep("", 1)
+	wants(t, err, ErrClosed)
+}
+
+func TestAJournalAndItsEffects(t *testing.T) {
+	input, sleep := must(FrameOf(`Input value="Till"`)), must(FrameOf("Sleep wake_up_time=1000 result_completion_id=1"))
+	journal := must(NewJournal(input, sleep))
+	defer journal.Close()
+	slept := must(FrameOf("Notification id=completion(1) result=void"))
+	if row := must(journal.Arrive(slept)); row.Completes == nil || *row.Completes != 1 || row.Message != MessageTypeNotification {
+		t.Error(row)
+	}
+	must(0, journal.Keep())
+	_, err := journal.Arrive(slept)
+	wants(t, err, StatusSecondCompletion)
+	run := append(must(FrameOf(`Run name="a" result_completion_id=2`)), must(FrameOf(`ProposeRunCompletion id=2 result=value("x")`))...)
+	stored := must(journal.Store(7, run))
+	if len(stored.Rows) != 2 || *stored.Rows[1].Completes != 2 || len(stored.Feed) == 0 {
+		t.Error(stored)
+	}
+	effect := must(stored.Rows[0].Effect())
+	if effect.Type != MessageTypeRunCommand || effect.ID != 2 || must(effect.Text(0)) != "a" {
+		t.Error(effect)
+	}
+	must(0, journal.Undo())
+	if many := must(journal.Entries()); many != 3 {
+		t.Error(many)
+	}
+	_, err = journal.Store(4, nil)
+	wants(t, err, StatusBadNumber)
+}
+
+func TestFrames(t *testing.T) {
+	completed := must(Completion(3, must(FrameOf(`Output result=value("Till")`))))
+	if line := must(LineOf(completed)); line != `Notification id=completion(3) result=value("Till")` {
+		t.Error(line)
+	}
+	suspension := must(FrameOf("Suspension future=(kind=FirstCompleted completions=[3])"))
+	if must(IsAwake(suspension, nil)) || !must(IsAwake(suspension, completed)) {
+		t.Error("awake too early, or not at all")
+	}
+	value := must(ValueFrame([]byte("Till")))
+	if line := must(LineOf(must(NamedSignal("go", value)))); !strings.Contains(line, `name("go")`) {
+		t.Error(line)
+	}
+	_, err := LineOf([]byte("x"))
+	wants(t, err, StatusNotAFrame)
+	_, err = Signal(17, must(FrameOf("End")))
+	wants(t, err, StatusNoResult)
+}
+
+// said is what the log says while a function runs. It is shared with finalizers.
+type said struct {
+	guard sync.Mutex
+	text  bytes.Buffer
+}
+
+func (it *said) Write(data []byte) (int, error) {
+	it.guard.Lock()
+	defer it.guard.Unlock()
+	return it.text.Write(data)
+}
+
+func (it *said) has(part string) bool {
+	it.guard.Lock()
+	defer it.guard.Unlock()
+	return strings.Contains(it.text.String(), part)
+}
+
+func TestGarbageThatWasNotClosedIsSaid(t *testing.T) {
+	heard := &said{}
+	log.SetOutput(heard)
+	defer log.SetOutput(os.Stderr)
+	begun()
+	for i := 0; i < 600 && !heard.has("a VM became garbage and was not closed"); i++ {
+		runtime.GC()
+		time.Sleep(100 * time.Millisecond)
+	}
+	if !heard.has("a VM became garbage and was not closed") {
+		t.Error("nothing was said for a minute")
+	}
+}
