@@ -1,12 +1,12 @@
-"""A newsletter: limits of time, and a digest by the clock.
+"""A newsletter: limits of time, a digest by the clock, and subscriptions that go on for years.
 
     palqytun run python/examples/newsletter.py --db letters.db
     curl localhost:8080/Mail/send -d '"ann"'
 """
 
-from palqytun.runtime import App, Schedule, Service, ServiceContext
+from palqytun.runtime import App, Schedule, Service, ServiceContext, Workflow, WorkflowContext
 
-mail = Service("Mail")
+mail, subscription = Service("Mail"), Workflow("Subscription")
 
 
 def smtp(key: str, to: str) -> str:
@@ -34,5 +34,15 @@ async def digest(ctx: ServiceContext, to: str) -> str:
     return await ctx.call(send, f"{to}, on {ctx.scheduled:%Y-%m-%d}")
 
 
+@subscription.main()
+async def goes_on(ctx: WorkflowContext, months: int) -> str:
+    """A letter a month, for so many months. The last two go out at once. The journal is that of one month."""
+    if months == 0:
+        return f"the subscription of {ctx.key} has ended"
+    await ctx.call(send, f"{ctx.key}, {months} to go")
+    await ctx.sleep(30 * 86400 if months > 2 else 1)
+    ctx.continue_as_new(months - 1)
+
+
 DAILY = Schedule("daily", digest, "ann", cron="0 3 * * *", zone="Europe/Berlin", overlap="skip")
-app = App(mail, schedules=[DAILY])
+app = App(mail, subscription, schedules=[DAILY])

@@ -54,7 +54,7 @@ async def _one(db: Database, app: App | None, name: str, id: str, options: argpa
     step = getattr(options, "step", 0)
     if name == "restart" and step:
         return f"is made again as {await restarting.restart(db, app, Outcome(), id, options.by, step)}"
-    return await acts.known(name).act(db, app, Outcome(), id, options.by)
+    return await acts.one(db, app, Outcome(), name, id, options.by)
 
 
 def _act_on_all(name: str, options: argparse.Namespace, asked: Filter, done: Done, app: App | None) -> int:

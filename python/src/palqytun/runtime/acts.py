@@ -183,7 +183,7 @@ ACTS = {
     "kill": Known(kill, "status<>'done'"),
     "pause": Known(pause, "status NOT IN ('done', 'paused')"),
     "resume": Known(resume, "status='paused'"),
-    "restart": Known(restart, "status='done'"),
+    "restart": Known(restart, "status='done' AND continued IS NULL"),
 }
 
 
@@ -191,6 +191,11 @@ def known(name: str) -> Known:
     if name not in ACTS:
         raise TerminalError(f"there is no act {name[:40]}: it is {', '.join(ACTS)}", 404)
     return ACTS[name]
+
+
+async def one(db: Database, app: App | None, out: Outcome, name: str, id: str, who: str) -> str:
+    """Does an act to an invocation, or to the one that goes on in its place."""
+    return await known(name).act(db, app, out, await invocations.newest(db, id), who)
 
 
 async def found(db: Database, name: str, asked: Filter, most: int = AT_ONCE) -> list[tuple[int, str]]:

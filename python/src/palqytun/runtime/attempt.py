@@ -16,10 +16,10 @@ from .contexts import kind_of
 from .database import Database, StatementFailed
 from .durable import Task
 from .executions import Closed, Executions, Raised
-from .invocations import TAKEN, WAITS, Claim
+from .invocations import TAKEN, WAITS, Claim, Continues
 from .lease import Growth
 from .outcome import Outcome
-from .services import App, Cancelled, TerminalError
+from .services import App, Cancelled, Handler, TerminalError
 from .storing import Reads, Writes
 from .tasks import Tasks
 from .texts import plain, said, traced
@@ -221,11 +221,12 @@ class Attempt:
             raise
         finally:
             context.end()
-        failure = main.failure
-        ends: bytes | core.Failure
         with _handlers_own:
-            ends = encoded(codec, main.value) if failure is None else given_failure(failure)
+            ends = _ends(context, handler, main)
         context.pass_patches()
+        if main.continued is not None and isinstance(ends, bytes):
+            self._vm.sys_run(journal.CONTINUED)
+            self.claim.continues = Continues(tuple(input.headers), context.signals)
         self._vm.sys_write_output(ends)
         self._vm.sys_end()
         return None
@@ -466,6 +467,22 @@ class Attempt:
         self._has_ended = out.status != "running"
         self.status = out.status
         return bool(out.feed)
+
+
+def _ends(context: Context, handler: Handler[Any, Any], main: Task[Any]) -> bytes | core.Failure:
+    """What a handler has ended with: its result, its failure, or the argument with which it goes on as a new invocation."""
+    codec = context._codec
+    if context.continues is not main.continued:
+        raise RuntimeError("the handler caught what ctx.continue_as_new raises, by `except BaseException` or a bare `except`; catch `Exception` instead")
+    if main.failure is not None:
+        return given_failure(main.failure)
+    if main.continued is None:
+        return encoded(codec, main.value)
+    try:
+        decoded(codec, main.continued.argument, handler.takes)
+    except BadValue as error:
+        return core.Failure(400, f"the argument of ctx.continue_as_new in {handler.path}: {error}")
+    return main.continued.argument
 
 
 def _failed(error: BaseException, lasted: int) -> core.Failure | core.Retryable:

@@ -14,6 +14,7 @@ import time
 import typing
 import uuid
 import weakref
+from collections import Counter
 from collections.abc import Awaitable, Callable, Coroutine, Iterator, Mapping, MutableMapping
 from contextlib import AbstractContextManager
 from dataclasses import dataclass
@@ -22,7 +23,7 @@ from typing import TYPE_CHECKING, Any, Concatenate, NoReturn, ParamSpec, TypeVar
 
 from .. import core
 from .codec import BadValue, Codec, decoded, encoded
-from .durable import Durable, Leaf, Task, Timer, select
+from .durable import ContinuedAsNew, Durable, Leaf, Task, Timer, select
 from .journal import PATCHED
 from .names import check_name
 from .services import App, Handler, I, O, Retry, TerminalError, TimedOut, to_text_headers
@@ -205,6 +206,8 @@ class Context:
         self._thread: int | None = None  # in which the handler's own code runs, while it does
         self._entered = _Entered(self)
         self._shields = 0
+        self.signals = Counter[str]()  # how many signals of a name the handler has asked for
+        self.continues: ContinuedAsNew | None = None  # the handler was asked to end by this
 
     # ---- what the attempt does with it
 
@@ -499,6 +502,21 @@ class Context:
                 self._vm_call("sys_run", PATCHED + name)
         return self._is_patched.get(name, False)
 
+    def continue_as_new(self, argument: Any = None) -> NoReturn:
+        """Ends this invocation, and begins a new one of the same handler with this argument in its place: with the same key, headers, idempotency key
+        and caller, and an empty journal. It raises what ends the handler, so nothing after it is executed.
+
+            async def month(ctx: ObjectContext, number: int) -> str:
+                await ctx.run(send, ctx.key, number)
+                await ctx.sleep(30 * 86400)
+                ctx.continue_as_new(number + 1)
+
+        Those who wait for this invocation get the result of the last one. A key stays held meanwhile, so no other invocation of it comes between. Signals
+        that came and weren't asked for go over; what comes for this one's sleeps, calls and awakeables doesn't."""
+        self._own("ctx.continue_as_new")
+        self.continues = ContinuedAsNew(encoded(self._codec, argument))
+        raise self.continues
+
     # ---- other handlers
 
     def _target(self, target: Handler[Any, Any] | str) -> tuple[str, str, Any]:
@@ -581,7 +599,9 @@ class Context:
     def signal(self, name: str, kind: Any = Any) -> Durable[Any]: ...
     def signal(self, name: str, kind: Any = Any) -> Durable[Any]:
         """The next signal of this name."""
-        return Leaf(self._vm_call("create_signal_handle", name), self._result(kind))
+        handle = self._vm_call("create_signal_handle", name)
+        self.signals[name] += 1
+        return Leaf(handle, self._result(kind))
 
     def send_signal(self, invocation_id: str, name: str, value: Any = None) -> None:
         self._vm_call("sys_complete_signal", invocation_id, name, self._given(value))

@@ -9,7 +9,7 @@ import logging
 import random
 import secrets
 import time
-from collections.abc import AsyncIterator, Awaitable, Callable
+from collections.abc import AsyncIterator, Awaitable, Callable, Iterator
 from dataclasses import replace
 from typing import TypeVar
 
@@ -38,6 +38,14 @@ class Unavailable(TerminalError):
 
     def __init__(self, why: str):
         super().__init__(why, 503)
+
+
+async def _delivered(db: Database, out: Outcome, invocation: str, notification: bytes) -> bool:
+    """Puts a notification into an invocation's inbox, or into that of the one that goes on in its place."""
+    if await inbox.deliver(db, out, invocation, notification):
+        return True
+    id = await invocations.newest(db, invocation)
+    return id != invocation and invocations.goes_over(notification) and await inbox.deliver(db, out, id, notification)
 
 
 class Desk:
@@ -90,17 +98,20 @@ class Desk:
         return id
 
     async def result(self, invocation: str, wait: float | None = None) -> Result | None:
-        """What an invocation ends with; none if there is no such invocation. `TimeoutError` if it hasn't ended after `wait` seconds, and
+        """What an invocation ends with, or the last one that goes on in its place; none if there is no such invocation. `TimeoutError` if it hasn't ended after `wait` seconds, and
         `Unavailable` if the worker stops before."""
-        begun = time.monotonic()
+        begun, id = time.monotonic(), invocation
         until = None if wait is None else begun + wait
-        future: asyncio.Future[None] = asyncio.get_running_loop().create_future()
-        self._results.setdefault(invocation, []).append(future)
-        try:
-            while True:
-                rows = await self.transact(lambda db: db.rows("SELECT result FROM invocations WHERE id=?", (invocation,)))
-                if not rows or rows[0][0] is not None:
-                    return Result(bytes(rows[0][0])) if rows else None
+        while True:
+            with self._told_of(id) as future:
+                rows = await self.transact(lambda db: db.rows("SELECT result, continued FROM invocations WHERE id=?", (id,)))
+                if not rows or rows[0][1] is not None:  # it goes on as another one, or has done so long ago
+                    before, id = id, await self.transact(lambda db: invocations.newest(db, id))
+                    if id == before:
+                        return None
+                    continue
+                if rows[0][0] is not None:
+                    return Result(bytes(rows[0][0]))
                 elapsed = time.monotonic() - begun
                 left = min(self._looks, max(_LOOKED / 50, elapsed), self._looks if until is None else until - time.monotonic())
                 if left <= 0:
@@ -108,6 +119,14 @@ class Desk:
                 if self.drains:
                     raise Unavailable(f"the worker stops; {invocation} goes on with another one")
                 await asyncio.wait([future], timeout=left)
+
+    @contextlib.contextmanager
+    def _told_of(self, invocation: str) -> Iterator[asyncio.Future[None]]:
+        """What is done once the end of an invocation is told."""
+        future: asyncio.Future[None] = asyncio.get_running_loop().create_future()
+        self._results.setdefault(invocation, []).append(future)
+        try:
+            yield future
         finally:
             waiting = self._results.get(invocation, [])
             if future in waiting:
@@ -130,14 +149,14 @@ class Desk:
     async def notify(self, invocation: str, notification: bytes) -> bool:
         """Sends a signal from outside; returns whether there is an invocation that gets it."""
         out = Outcome()
-        is_there = await self.transact(lambda db: inbox.deliver(db, out, invocation, notification))
+        is_there = await self.transact(lambda db: _delivered(db, out, invocation, notification))
         self.tell(out)
         return is_there
 
     async def act(self, name: str, invocation: str, who: str) -> str:
         """Does an act of an operator (`acts.ACTS`) to an invocation; returns in words what it did. Raises a `TerminalError` if it can't be done."""
-        act = acts.known(name).act
-        return await self.done(lambda db, out: act(db, self.app, out, invocation, who))
+        acts.known(name)
+        return await self.done(lambda db, out: acts.one(db, self.app, out, name, invocation, who))
 
     async def cancel(self, invocation: str, who: str = "a program") -> bool:
         """Cancels an invocation; returns whether there is one that hasn't ended."""

@@ -180,6 +180,14 @@ def wait_any(*children: Durable[T]) -> Durable[T]:
     return _AnySuccess(*children)
 
 
+class ContinuedAsNew(BaseException):
+    """The handler ends, and goes on as a new invocation with this argument, as the codec has written it. A handler doesn't catch this."""
+
+    def __init__(self, argument: bytes):
+        super().__init__("ctx.continue_as_new ends the handler, and this isn't to be caught: catch `Exception` instead")
+        self.argument = argument
+
+
 class Task(Durable[T]):
     """A coroutine of the handler, which awaits durables. The handler itself is one."""
 
@@ -189,6 +197,7 @@ class Task(Durable[T]):
         self.value: T | None = None
         self.failure: TerminalError | None = None
         self.done = False
+        self.continued: ContinuedAsNew | None = None  # how it has ended, if the handler goes on as a new invocation
         self.thrown: Cancelled | None = None  # what it gets when it next runs
 
     def outcome(self) -> bool | None:
@@ -214,6 +223,8 @@ class Task(Durable[T]):
                 self.done, self.value = True, end.value
             except TerminalError as failure:
                 self.done, self.failure = True, failure
+            except ContinuedAsNew as continued:
+                self.done, self.continued = True, continued
             else:
                 if not isinstance(self.waits, Durable):
                     raise NotDurable(f"a handler awaits what its context gives, and not {self.waits!r}; other work stands in ctx.run")

@@ -101,7 +101,7 @@ class Performer:
 
     async def _send_signal(self, it: SendSignal) -> None:
         frame = journal.named_signal(it.name, it.result) if it.name is not None else journal.signal(it.index or 0, it.result)
-        inbox.put(self.db, self.out, it.target, frame)
+        inbox.put(self.db, self.out, await invocations.newest(self.db, it.target), frame)
 
     async def _promise(self, it: Promise) -> None:
         place = (self.service, self.key, it.key)
@@ -135,7 +135,7 @@ class Performer:
         if not it.peek:
             await invocations.attach(self.db, self.growth, target, it.id)
             return
-        found = await self.db.rows("SELECT result FROM invocations WHERE id=?", (target,))
+        found = await self.db.rows("SELECT result FROM invocations WHERE id=?", (await invocations.newest(self.db, target or ""),))
         if not found:
             self.growth.complete(it.id, journal.failure(404, "there is no such invocation"))
         else:

@@ -5,7 +5,7 @@ from __future__ import annotations
 import hashlib
 import secrets
 import time
-from collections.abc import Iterable, Sequence
+from collections.abc import Iterable, Mapping, Sequence
 from dataclasses import dataclass, field, fields
 from typing import Any
 
@@ -43,7 +43,8 @@ class New:
     trace: str | None = None  # the header `traceparent` of whoever makes it
 
 
-def _seed(id: str | None) -> int:
+def seed_of(id: str | None) -> int:
+    """The seed of an invocation's random numbers. It follows from an id that was given."""
     if id is None:
         return secrets.randbits(63)
     return int.from_bytes(hashlib.blake2b(id.encode(), digest_size=7).digest(), "big")
@@ -73,7 +74,7 @@ async def create(db: Database, app: App, out: Outcome, new: New) -> tuple[str, b
         f" VALUES (?,?,?,?,?,?,?,?,'ready',COALESCE(?,{db.clock}),1,?,?,?,?,?)"
     )
     times = target.until(now if due is None else due)
-    row = (id, new.service, new.handler, new.key, int(target.exclusive), VERSION, idem, _seed(new.id), due, now, new.parent, new.trace, *times)
+    row = (id, new.service, new.handler, new.key, int(target.exclusive), VERSION, idem, seed_of(new.id), due, now, new.parent, new.trace, *times)
     if idem is None:  # no other has its name
         db.put(sql, row)
     elif not await db.change(f"{sql} ON CONFLICT DO NOTHING", row):
@@ -88,13 +89,37 @@ async def create(db: Database, app: App, out: Outcome, new: New) -> tuple[str, b
 
 async def attach(db: Database, growth: Growth, invocation: str | None, id: int) -> None:
     """The completion id is completed by what the other invocation ends with."""
-    found = await db.rows(f"SELECT result FROM invocations WHERE id=?{db.lock}", (invocation,))
+    found = await last_of(db, invocation or "")
     if not found:
         growth.complete(id, journal.failure(404, "there is no such invocation"))
-    elif found[0][0] is not None:
-        growth.complete(id, Result(bytes(found[0][0])))
+    elif found[0][1] is not None:
+        growth.complete(id, Result(bytes(found[0][1])))
     else:
-        wait(db, growth, str(invocation), id)
+        wait(db, growth, str(found[0][0]), id)
+
+
+_LAST = "(SELECT id FROM invocations WHERE chain=COALESCE((SELECT chain FROM invocations WHERE id=?), ?) ORDER BY seq DESC LIMIT 1)"
+NEWEST = f"COALESCE({_LAST}, ?)"
+"""The invocation that goes on in the place of another one, or else that one. It is given the other's id three times."""
+
+
+async def newest(db: Database, id: str) -> str:
+    """The invocation that goes on in the place of this one, or else this one."""
+    return str((await db.rows(f"SELECT {NEWEST}", (id, id, id)))[0][0])
+
+
+def goes_over(frame: bytes) -> bool:
+    """Whether a notification is also for the invocation that goes on in the place of another one: a signal by its name, or a cancellation."""
+    return frame == journal.cancellation() or journal.signal_name(frame) is not None
+
+
+async def last_of(db: Database, id: str) -> list[Any]:
+    """The id and the result of the invocation that goes on in the place of this one, or else of this one; its row is kept until the commit. Nothing, if
+    there is none."""
+    while True:
+        found = await db.rows(f"SELECT id, result, continued FROM invocations WHERE id=?{db.lock}", (await newest(db, id),))
+        if not found or found[0][2] is None:  # else it has gone on before its row was kept
+            return [row[:2] for row in found]
 
 
 def wait(db: Database, growth: Growth, invocation: str, id: int) -> None:
@@ -113,6 +138,15 @@ _ALL_GONE = "WITH gone(id) AS (SELECT ?::text), " + ", ".join(
 )
 
 
+def leave_nothing(db: Database, invocation: str) -> None:
+    """An invocation ends: it waits for nothing any more, and nobody for it."""
+    if db.is_remote:
+        db.put(f"{_ALL_GONE} SELECT 1", (invocation,))
+    else:
+        for table, column in _GONE:
+            db.put(f"DELETE FROM {table} WHERE {column}=?", (invocation,))
+
+
 def ending(result: Result) -> tuple[int | None, str | None]:
     """The code and the text of the failure that an end is; none if it isn't one."""
     if not journal.is_failure(result):
@@ -127,11 +161,7 @@ async def end(db: Database, out: Outcome, invocation: str, service: str, key: st
     waiting = await db.rows(*waiters_of(invocation)) if waiters is None else waiters
     for waiter, completes in waiting:
         inbox.complete(db, out, waiter, completes, result)
-    if db.is_remote:
-        db.put(f"{_ALL_GONE} SELECT 1", (invocation,))
-    else:
-        for table, column in _GONE:  # it waits for nothing any more, and nobody for it
-            db.put(f"DELETE FROM {table} WHERE {column}=?", (invocation,))
+    leave_nothing(db, invocation)
     if key:
         db.put("DELETE FROM locks WHERE service=? AND key=? AND holder=?", (service, key, invocation))
         out.is_due(time.time())
@@ -142,6 +172,15 @@ async def end(db: Database, out: Outcome, invocation: str, service: str, key: st
 
 
 # ---- claims
+
+
+@dataclass(frozen=True)
+class Continues:
+    """What a new invocation that goes on in the place of another one takes over from its attempt. `asked` is how many signals of a name that one's handler
+    has asked for: as many of those that came are its own."""
+
+    headers: tuple[tuple[str, str], ...]
+    asked: Mapping[str, int]
 
 
 @dataclass
@@ -164,6 +203,7 @@ class Claim:
     is_shielded: bool = False  # the handler may not be cancelled now
     by_run: bool = False  # the attempt has failed by a run, which has its own policy
     run: str | None = None  # the name of that run
+    continues: Continues | None = None  # the handler goes on as a new invocation
     fault: BaseException | None = None  # what the handler or the run raised
 
     @property

@@ -8,7 +8,7 @@ from typing import Protocol
 
 @dataclass(frozen=True)
 class Ended:
-    """An invocation that has ended, after so many seconds since it was made. `outcome` is `done` or `failed`."""
+    """An invocation that has ended, after so many seconds since it was made. `outcome` is `done`, `failed` or `continued`."""
 
     service: str
     handler: str

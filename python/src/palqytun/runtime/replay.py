@@ -125,9 +125,13 @@ def _drive(app: App, vm: core.VM, context: Context, tasks: Tasks) -> None:
         with context.entered():
             tasks.run(thrown)
         if tasks.main.done:
-            failure = tasks.main.failure
+            failure, continued = tasks.main.failure, tasks.main.continued
             context.pass_patches()
-            vm.sys_write_output(app.codec.encode(tasks.main.value) if failure is None else given_failure(failure))
+            if continued is not None:
+                vm.sys_run(journal.CONTINUED)
+                vm.sys_write_output(continued.argument)
+            else:
+                vm.sys_write_output(app.codec.encode(tasks.main.value) if failure is None else given_failure(failure))
             return
         thrown = None
         try:

@@ -30,12 +30,14 @@ async def restart(db: Database, app: App | None, out: Outcome, id: str, who: str
 
     Raises a `TerminalError`, and stores nothing: 404 if there is no such invocation, 400 if no command has this number, and 409 if it hasn't ended,
     if a command before the step has changed the state, or if the app's handler doesn't make the commands before it any more."""
-    rows = await db.rows(f"SELECT status, {', '.join(_COPIED)} FROM invocations WHERE id=?{db.lock}", (id,))
+    rows = await db.rows(f"SELECT status, continued, {', '.join(_COPIED)} FROM invocations WHERE id=?{db.lock}", (id,))
     if not rows:
         raise TerminalError(f"there is no invocation {id[:200]}", 404)
     if rows[0][0] != "done":
         raise TerminalError(f"{id} hasn't ended: kill it before", 409)
-    own = dict(zip(_COPIED, rows[0][1:]))
+    if rows[0][1] is not None:
+        raise TerminalError(f"{id} goes on as {rows[0][1]}: restart that one, or the last one", 409)
+    own = dict(zip(_COPIED, rows[0][2:]))
     frames = [bytes(frame) for frame, in await db.rows("SELECT frame FROM journal WHERE invocation=? ORDER BY at", (id,))]
     it = _Restart(db, f"inv_{secrets.token_hex(12)}", own, frames)
     it.begin(step)

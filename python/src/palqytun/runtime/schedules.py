@@ -16,7 +16,7 @@ from typing import Any, Literal, get_args
 from . import audit, inbox, journal
 from .cron import Cron, Every
 from .database import Database
-from .invocations import New, create
+from .invocations import New, create, newest
 from .names import check_name
 from .outcome import Outcome
 from .services import App, Handler, TerminalError
@@ -155,13 +155,13 @@ async def fire(db: Database, app: App, out: Outcome, now: float) -> None:
 async def _fire(db: Database, app: App, out: Outcome, it: Schedule, was: Stored, now: float) -> None:
     """Makes the calls of a schedule that its overlap lets be made now."""
     times = [at for at in (was.queued, was.due if was.due <= now else None) if at is not None]
-    is_open = it.overlap != "allow" and await _is_open(db, was.called)
-    waits = is_open and (it.overlap == "queue" or it.overlap == "skip")
+    opened = None if it.overlap == "allow" else await _open(db, was.called)
+    waits = opened is not None and it.overlap != "cancel"
     made = [] if waits else times[:1] if it.overlap == "queue" else times
     left = times[len(made) :] if it.overlap == "queue" else []
-    if is_open and made and was.called is not None:
-        inbox.put(db, out, was.called, journal.cancellation())
-        audit.record(db, f"the schedule {it.name}", "cancel", invocation=was.called)
+    if opened is not None and made:
+        inbox.put(db, out, opened, journal.cancellation())
+        audit.record(db, f"the schedule {it.name}", "cancel", invocation=opened)
     last, called = was.last, was.called
     for at in made:
         try:
@@ -175,9 +175,10 @@ async def _fire(db: Database, app: App, out: Outcome, it: Schedule, was: Stored,
         await db.change(sql, (*it.row, due, last, called, queued, it.name))
 
 
-async def _is_open(db: Database, id: str | None) -> bool:
-    """Whether a call hasn't ended."""
-    return bool(await db.rows("SELECT 1 FROM invocations WHERE id=? AND status<>'done'", (id,)))
+async def _open(db: Database, called: str | None) -> str | None:
+    """The last call, or the invocation that goes on in its place, if that hasn't ended."""
+    id = None if called is None else await newest(db, called)
+    return id if await db.rows("SELECT 1 FROM invocations WHERE id=? AND status<>'done'", (id,)) else None
 
 
 async def next_due(db: Database, app: App, now: float) -> float | None:

@@ -7,7 +7,7 @@ from collections.abc import Awaitable, Callable, Sequence
 from dataclasses import dataclass
 from typing import Any
 
-from . import inbox, invocations, journal, notes
+from . import continuing, inbox, invocations, journal, notes
 from .database import Asked, Database
 from .effects import Performer
 from .invocations import Claim
@@ -64,7 +64,10 @@ async def store(
     else:
         results = [it.result for it in stored.commands if isinstance(it, Output)]
         result = results[0] if results else await _stored_output(db, claim.invocation)
-        await _end(db, out, claim, growth, result, found[1] if found else None)
+        if claim.continues is not None:
+            await continuing.go_on(db, app, out, claim, growth, result)
+        else:
+            await _end(db, out, claim, growth, result, found[1] if found else None)
     if stored.end is not None:
         _leave_room(db, app, out, claim)
     out.feed = growth.feed

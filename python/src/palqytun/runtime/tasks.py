@@ -78,6 +78,8 @@ class Tasks:
         self._forget(number, task.waits)
         task.step(thrown)
         if task.done:
+            if task.continued is not None and task is not self.main:
+                raise RuntimeError("ctx.continue_as_new is called in a coroutine of ctx.spawn: it belongs to the handler itself, which then ends")
             del self._all[number]
             self._wake(task)
             return

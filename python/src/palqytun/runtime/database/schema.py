@@ -137,7 +137,8 @@ CREATE TABLE transactions(invocation TEXT NOT NULL, run BIGINT NOT NULL, result 
 """
 
 # Times until which an invocation has to have ended, and to have begun. Of a schedule what it does while its last call is open, its call's key and
-# argument, by which others than its app's workers can make the call, and a time whose call waits for the end of the one before.
+# argument, by which others than its app's workers can make the call, and a time whose call waits for the end of the one before. `continued` is the
+# invocation that goes on in the place of this one, and `chain` the first of all that go on one after the other; that one has it too.
 _NINTH = """
 ALTER TABLE invocations ADD COLUMN deadline {float};
 ALTER TABLE invocations ADD COLUMN expires {float};
@@ -146,7 +147,10 @@ CREATE INDEX invocations_expires ON invocations(expires) WHERE expires IS NOT NU
 ALTER TABLE schedules ADD COLUMN overlap TEXT NOT NULL DEFAULT 'allow';
 ALTER TABLE schedules ADD COLUMN key TEXT NOT NULL DEFAULT '';
 ALTER TABLE schedules ADD COLUMN argument {blob};
-ALTER TABLE schedules ADD COLUMN queued {float}
+ALTER TABLE schedules ADD COLUMN queued {float};
+ALTER TABLE invocations ADD COLUMN chain TEXT;
+ALTER TABLE invocations ADD COLUMN continued TEXT;
+CREATE INDEX invocations_chain ON invocations(chain, seq) WHERE chain IS NOT NULL
 """
 
 MIGRATIONS = [_FIRST, _SECOND, _THIRD, _FOURTH, _FIFTH, _SIXTH, _SEVENTH, _EIGHTH, _NINTH]

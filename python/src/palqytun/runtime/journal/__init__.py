@@ -19,6 +19,7 @@ from palqytun.journals import DEFAULT_VERSION
 
 from .frames import (
     CANCEL,
+    CONTINUED,
     PATCHED,
     Attach,
     Begin,
@@ -58,6 +59,7 @@ from .frames import (
     only_suspends,
     patches_in,
     signal,
+    signal_name,
     split,
     value,
     void,
@@ -66,6 +68,7 @@ from .rules import BrokenRule, Entry, Journal, Stored
 
 __all__ = [
     "CANCEL",
+    "CONTINUED",
     "DEFAULT_VERSION",
     "PATCHED",
     "Attach",
@@ -110,6 +113,7 @@ __all__ = [
     "only_suspends",
     "patches_in",
     "signal",
+    "signal_name",
     "split",
     "value",
     "void",

@@ -437,6 +437,17 @@ PATCHED = "palqytun.patched "
 """What a run's name begins with that stands for a patch of the handler's code. It is never executed: the command itself is the record."""
 
 
+CONTINUED = "palqytun.continued"
+"""The name of a run that stands before the Output of a handler that goes on as a new invocation. It is never executed. The Output is that one's argument."""
+
+
+def signal_name(frame: bytes) -> str | None:
+    """The name of the signal that an entry or a notification is; none if it is something else, or a signal by its number."""
+    [(kind, _)] = split(frame)
+    it = read(kind, frame) if kind not in _COMMANDS else None
+    return it.id[1] if isinstance(it, Notification) and isinstance(it.id[1], str) else None
+
+
 def patches_in(stream: bytes) -> dict[int, str]:
     """The patches in a stored journal: their names by the indices of their commands, of which the Input has 0."""
     if PATCHED.encode() not in stream:
