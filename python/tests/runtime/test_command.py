@@ -137,7 +137,10 @@ class Serving(support.OnADatabase):
             assert palqytun("invocations", "resume", waits["invocation"], "--db", self.url)[0] == 2
             assert palqytun("invocations", "cancel", waits["invocation"], "--db", self.url)[0] == 0
             assert it.ask(f"/-/invocations/{waits['invocation']}/result?wait=20")[0] == 409
-        assert palqytun("invocations", "purge", "--older", "0", "--db", self.url)[1] == "3 invocations are purged\n"
+        assert palqytun("invocations", "purge", "--older", "0", "--by", "ann", "--db", self.url)[1] == "3 invocations are purged\n"
+        assert palqytun("invocations", "purge", "--older", "0", "--db", self.url)[1] == "0 invocations are purged\n"
+        audit = palqytun("audit", "--most", "1", "--db", self.url)[1]
+        assert "ann" in audit and "purge" in audit and "3 invocations that ended more than 0 s before" in audit
         assert palqytun("invocations", "list", "--db", self.url)[1] == ""
         status, _, said = palqytun("invocations", "inspect", "none", "--db", self.url)
         assert (status, said) == (2, "palqytun: there is no invocation none\n")

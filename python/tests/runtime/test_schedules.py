@@ -437,7 +437,9 @@ class Purges(OnAConnection):
         self.done(lambda db: db.change("INSERT INTO promises VALUES ('Flow', 'k', 'p', NULL)"))
         self.done(lambda db: db.change("UPDATE invocations SET status='done', ended=seq WHERE handler<>'free'"))
         self.assertEqual([self.done(operate.purge, 1e10, 2), self.done(operate.purge, 0, 2)], [0, 2])
-        self.assertEqual([self.done(operate.purge, 0, 2), self.done(operate.purge, 0, 2)], [1, 0])
+        found = self.done(operate.purge_by, 0, "ann", operate.Purged(2, None))
+        self.assertEqual((found.count, self.done(operate.purge_by, 0, "ann", found)), (3, found))
+        self.assertEqual(self.rows("SELECT seq, who, what, detail FROM audit"), [(found.row, "ann", "purge", "3 invocations that ended more than 0 s before")])
         self.assertEqual(self.rows("SELECT handler FROM invocations"), [("free",)])
         self.assertEqual(len(self.rows("SELECT invocation FROM journal")), 1)
         # An object keeps its state; a workflow's key can run again as a new one.

@@ -92,6 +92,30 @@ async def books(ctx: Context, it):
     return found
 
 
+@step(retry=Retry(attempts=2, initial=0.01))
+async def refuses(to: Transaction, name: str) -> None:
+    await enters(to, name)
+    raise OSError("never")
+
+
+@step(retry=Retry(attempts=1), timeout=1)
+async def lasts(to: Transaction) -> None:
+    await enters(to, "late")
+    await asyncio.sleep(100)
+
+
+@work.handler()
+async def moves(ctx: Context, it):
+    """Steps as transactions, by their own retries and times."""
+    found = []
+    for transaction in (ctx.transaction(refuses, "cleo"), ctx.transaction(lasts)):
+        try:
+            await transaction
+        except TerminalError as error:
+            found.append(error.message)
+    return found
+
+
 @work.handler(retry=ONCE)
 async def misuses(ctx: Context, what):
     if what == "plain":
@@ -217,6 +241,17 @@ class Steps(support.OnADatabase):
             self.assertEqual(await runtime.call("Work/books"), [[1], [1, "ann"], 418])
             self.assertEqual(seen, ["ann", "flaky", "flaky", "flaky", "bad"])
             self.assertEqual(await runtime.rows("SELECT name, number FROM guests ORDER BY name"), [("ann", 1), ("flaky", 3)])
+
+        self.with_runtime(go)
+
+    def test_transactions_by_steps(self):
+        async def go(runtime):
+            for it in ("DROP TABLE IF EXISTS guests", "CREATE TABLE guests(name TEXT, number BIGINT)"):
+                await runtime.engine.transact(lambda db: db.change(it))
+            found = await runtime.call("Work/moves")
+            self.assertEqual(found, ["OSError: never", "TimeoutError: the transaction took longer than 1 s"])
+            self.assertEqual(seen, ["cleo", "cleo", "late"])
+            self.assertEqual(await runtime.rows("SELECT name FROM guests"), [])
 
         self.with_runtime(go)
 

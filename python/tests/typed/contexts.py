@@ -45,6 +45,11 @@ async def moved(to: Transaction, count: int) -> int:
     return await to.execute("UPDATE boxes SET count=?", count)
 
 
+@step(retry=Retry(attempts=3), timeout=5)
+async def moved_back(to: Transaction, count: int) -> int:
+    return await to.execute("UPDATE boxes SET count=?", count)
+
+
 @mail.handler()
 async def send(ctx: ServiceContext, to: str) -> int:
     ctx.get("sent")  # type: ignore[attr-defined]
@@ -55,6 +60,8 @@ async def send(ctx: ServiceContext, to: str) -> int:
     await ctx.run(pay, "key", amount="much")  # type: ignore[arg-type]
     assert_type(await ctx.transaction("moved", moved, 5), int)
     await ctx.transaction("moved", moved, "five")  # type: ignore[arg-type]
+    assert_type(await ctx.transaction(moved_back, 5), int)
+    await ctx.transaction(moved_back, "five")  # type: ignore[arg-type]
     assert_type(await ctx.run("named", plain, 5, retry=Retry(attempts=1)), int)
     assert_type(await ctx.timeout(ctx.run(printed, "text"), 5), bytes)
     return await ctx.timeout(ctx.call(left, None, key=to), 5)

@@ -15,6 +15,15 @@ def record(db: Database, who: str, what: str, **about: str | None) -> None:
     db.put(f"INSERT INTO audit({', '.join(names)}) VALUES ({','.join('?' * len(names))})", (db.now(), who, what, *about.values()))
 
 
+async def counted(db: Database, row: int | None, who: str, what: str, detail: str) -> int:
+    """Writes down an act of several transactions: the first one makes the row, whose number this returns, and the others change its detail."""
+    if row is None:
+        sql = "INSERT INTO audit(at, who, what, detail) VALUES (?,?,?,?) RETURNING seq"
+        return int((await db.rows(sql, (db.now(), who, what, detail)))[0][0])
+    await db.change("UPDATE audit SET detail=? WHERE seq=?", (detail, row))
+    return row
+
+
 async def records(db: Database, invocation: str | None = None, most: int = 100, before: int | None = None) -> list[dict[str, Any]]:
     """The newest first, for one invocation or all. `before`: only those before the one with this number."""
     asked = [(sql, it) for sql, it in (("invocation=?", invocation), ("seq<?", before)) if it is not None]

@@ -232,12 +232,12 @@ def _act(name: str) -> Callable[[argparse.Namespace], int]:
 
 
 def purge(options: argparse.Namespace) -> int:
-    count = 0
+    found = operate.Purged()
     with _stored(options.db) as db:
-        while some := db.done(lambda to: operate.purge(to, options.older)):
-            count += some
+        while (more := db.done(lambda to: operate.purge_by(to, options.older, options.by, found))) != found:
+            found = more
             time.sleep(0.01)  # a worker of the file gets its turn
-    print(f"{count} invocations are purged")
+    print(f"{found.count} invocations are purged")
     return 0
 
 
@@ -387,6 +387,7 @@ def _parser() -> argparse.ArgumentParser:
         _filter_options(one)
     one = add(asked, "purge", purge, "delete those that have ended")
     one.add_argument("--older", type=_seconds, default=86400.0, help="ended more than so many seconds ago")
+    one.add_argument("--by", default=acting.who(), help="who does it, for the audit")
     said = "the calls that are made by the clock, each with its next time; or pause, resume, trigger or backfill one"
     acting.schedule_options(add(commands, "schedules", schedules, said))
     acting.state_options(add(commands, "state", lambda options: acting.state(options, _done), "list, read, set and clear the states of keys"))

@@ -386,14 +386,15 @@ class Context:
             retry, timeout, function = retry or function.retry, timeout or function.timeout, function.function
         return self._run(self._step(what, function, retry, timeout), given[1:], named, gives)
 
+    @overload
     def transaction(
-        self,
-        name: str,
-        function: Callable[Concatenate[Transaction, P], Awaitable[T]],
-        /,
-        *arguments: P.args,
-        **named: P.kwargs,
-    ) -> Durable[T]:
+        self, step: Step[Concatenate[Transaction, P], Awaitable[T]], /, *arguments: P.args, **named: P.kwargs
+    ) -> Durable[T]: ...  # fmt: skip
+    @overload
+    def transaction(
+        self, name: str, function: Callable[Concatenate[Transaction, P], Awaitable[T]], /, *arguments: P.args, **named: P.kwargs
+    ) -> Durable[T]: ...  # fmt: skip
+    def transaction(self, what: Any, /, *given: Any, **named: Any) -> Durable[Any]:
         """Executes the statements of an `async` function once it is awaited, and commits them in one transaction with the record of its result. They
         are on the database of the runtime, and so exactly once.
 
@@ -402,10 +403,20 @@ class Context:
 
             await ctx.transaction("moves", moves, 5)
 
-        If it raises an error nothing of it is stored. A `TerminalError` is its result; another error is tried again, for ever. It may take 30 seconds."""
-        if not inspect.iscoroutinefunction(function):
-            raise TypeError(f"ctx.transaction({name!r}, ..) takes an `async` function, whose first argument is the transaction, and not {function!r}")
-        return self._run(self._step(name, function, None, None), arguments, named, None, is_transaction=True)
+        If it raises an error nothing of it is stored. A `TerminalError` is its result; another error is tried again, for ever. So is one that takes
+        longer than 30 seconds. A `step` has a name, retries and a time limit of its own:
+
+            @step(retry=Retry(attempts=3), timeout=5)
+            async def moves(to: Transaction, amount: int) -> int: ..
+
+            await ctx.transaction(moves, 5)
+        """
+        step = what
+        if not isinstance(what, Step):
+            step, given = Step(given[0] if given else None, what), given[1:]
+        if not inspect.iscoroutinefunction(step.function):
+            raise TypeError(f"ctx.transaction({step.name!r}, ..) takes an `async` function, whose first argument is the transaction, and not {step.function!r}")
+        return self._run(step, given, named, None, is_transaction=True)
 
     @staticmethod
     def _step(name: str, function: Any, retry: Retry | None, timeout: float | None) -> Step[Any, Any]:

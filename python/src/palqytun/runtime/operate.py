@@ -2,9 +2,10 @@
 
 from __future__ import annotations
 
+from dataclasses import dataclass
 from typing import Any
 
-from . import journal
+from . import audit, journal
 from .database import Database
 from .filters import Filter
 
@@ -68,6 +69,23 @@ async def purge(db: Database, older: float, most: int = 200) -> int:
     for table in ("state", "promises"):
         db.many(f"DELETE FROM {table} WHERE service=? AND key=?", workflows)
     return len(rows)
+
+
+@dataclass(frozen=True)
+class Purged:
+    """What an operator's purge has deleted so far, and its row in the audit."""
+
+    count: int = 0
+    row: int | None = None
+
+
+async def purge_by(db: Database, older: float, who: str, before: Purged) -> Purged:
+    """`purge` as an operator's act, which the audit has as one row. It is called until its count grows no more."""
+    many = await purge(db, older)
+    if not many:
+        return before
+    count = before.count + many
+    return Purged(count, await audit.counted(db, before.row, who, "purge", f"{count} invocations that ended more than {older:g} s before"))
 
 
 async def queues(db: Database) -> list[tuple[str, str, int, float]]:
