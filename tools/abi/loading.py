@@ -10,7 +10,7 @@ from tools.kit.exports import Prototype
 from . import flat, words
 from .header import Header
 
-FOLDERS = ("bindings/go",)
+FOLDERS = ("bindings/go", "bindings/node/src")
 PREFIX = "palqytun_"
 HANDLES = {"palqytun_vm *": "uintptr_t", "palqytun_journal *": "uintptr_t", "palqytun_vm **": "uintptr_t *", "palqytun_journal **": "uintptr_t *"}
 SAID = "/* tools/header --write writes this file, from palqytun.h. */\n"
@@ -77,7 +77,7 @@ bool pq_load(const char *path, char *said, size_t said_len);
 """
 
 
-def _passed(it: Prototype) -> tuple[str, list[tuple[str, str]]]:
+def passed(it: Prototype) -> tuple[str, list[tuple[str, str]]]:
     """The name in the library of the form without structs by value, and its parameters."""
     if not flat.is_flattened(it):
         return it.name, list(it.parameters)
@@ -96,7 +96,7 @@ def _declared(ty: str, name: str) -> str:
 
 
 def _head(it: Prototype) -> str:
-    taken = ", ".join(_declared(HANDLES.get(ty, ty), name) for ty, name in _passed(it)[1]) or "void"
+    taken = ", ".join(_declared(HANDLES.get(ty, ty), name) for ty, name in passed(it)[1]) or "void"
     return _declared(_result(it), f"pq_{it.name.removeprefix(PREFIX)}({taken})")
 
 
@@ -117,7 +117,7 @@ def header_of(header: Header) -> str:
 
 def _function(it: Prototype) -> str:
     given = []
-    for ty, name in _passed(it)[1]:
+    for ty, name in passed(it)[1]:
         given.append(f"(void {ty.count('*') * '*'}){name}" if ty in HANDLES else name)
     return f"{_head(it)}\n{{\n    return it.{it.name.removeprefix(PREFIX)}({', '.join(given)});\n}}\n"
 
@@ -128,13 +128,13 @@ def code_of(header: Header) -> str:
     parts.append('#define _GNU_SOURCE\n#include "palqytun_abi.h"\n\n#include <dlfcn.h>\n#include <pthread.h>\n#include <stdio.h>\n#include <stdlib.h>\n#include <string.h>\n')
     rows = []
     for it in header.functions.values():
-        taken = ", ".join("void *" + "*" * (ty.count("*") - 1) if ty in HANDLES else ty for ty, _ in _passed(it)[1]) or "void"
+        taken = ", ".join("void *" + "*" * (ty.count("*") - 1) if ty in HANDLES else ty for ty, _ in passed(it)[1]) or "void"
         rows.append(f"    {_result(it)} (*{it.name.removeprefix(PREFIX)})({taken});")
     parts.append("\n".join(["static struct {", *rows, "} it;"]))
     found = []
     for it in header.functions.values():
         name = it.name.removeprefix(PREFIX)
-        found.append(f'    if ((*(void **)&it.{name} = dlsym(object, "{_passed(it)[0]}")) == NULL)\n        is_whole = false, *lacks = "{_passed(it)[0]}";\n')
+        found.append(f'    if ((*(void **)&it.{name} = dlsym(object, "{passed(it)[0]}")) == NULL)\n        is_whole = false, *lacks = "{passed(it)[0]}";\n')
     load = LOAD.replace("FOUND", "".join(found)).replace("HOW", words.HOW_TO_MAKE_IT).replace("ANOTHER", words.ANOTHER)
     load = load.replace("NUMBER", str(header.numbers["PALQYTUN_ABI"])).replace('"LIBRARY"', f'"{words.soname(header)}"')
     parts.append(load)

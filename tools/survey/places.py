@@ -16,7 +16,13 @@ from .tree import PARTS, House
 # A line that shows how this command is called names nothing that a change touches; neither do the files of the survey, nor files that a
 # command writes, nor what stands in for modules of the original where it is measured.
 CALL = re.compile(r"tools/where\b")
-WRITTEN = ("bindings/calls.c", "bindings/flat.c", "bindings/palqytun.abi", "bindings/palqytun_flat.h", "bindings/proved.h", "bindings/rust/src/sys.rs", "bindings/go/abi.go", "bindings/go/palqytun_abi.c", "bindings/go/palqytun_abi.h", "docs/API.md", "docs/guarantees/", "python/src/palqytun/_abi.py")
+WRITTEN = (
+    *("bindings/calls.c", "bindings/flat.c", "bindings/palqytun.abi", "bindings/palqytun_flat.h", "bindings/proved.h"),
+    *("bindings/rust/src/sys.rs", "bindings/go/abi.go", "bindings/go/palqytun_abi.c", "bindings/go/palqytun_abi.h"),
+    *("bindings/node/lib/abi.d.ts", "bindings/node/lib/abi.js", "bindings/node/src/calls.c"),
+    *("bindings/node/src/palqytun_abi.c", "bindings/node/src/palqytun_abi.h"),
+    *("docs/API.md", "docs/guarantees/", "python/src/palqytun/_abi.py"),
+)
 OWN = ("tools/survey/", "tools/benchmarks/original/", *WRITTEN)
 DATA = ("rows", "runs", "stdin", "stdout", "args", "data")
 
@@ -32,7 +38,7 @@ class Group:
 # After the crates, in this order. A path belongs to the first group that it begins with.
 GROUPS = (
     Group("C: the header and what is built with it", ("bindings/palqytun.h", "bindings/palqytun.map", "bindings/packaging/", "bindings/build")),
-    Group("Rust and Go: the crate and the package", ("bindings/rust/", "bindings/go/")),
+    Group("Rust, Go and Node: the crate and the packages", ("bindings/rust/", "bindings/go/", "bindings/node/")),
     Group("C, Java and Python: examples and their output", ("bindings/",)),
     Group("Python: the package", ("python/src/",)),
     Group("Python: tests, examples, benches", ("python/tests/", "python/examples/", "python/bench/")),

@@ -1,0 +1,62 @@
+// The addon, and the library that it loads.
+'use strict';
+
+const path = require('node:path');
+const { LoadError, StatusError, refusal } = require('./errors');
+const { NUMBERS } = require('./abi');
+
+const FILE = path.join(__dirname, '..', 'build', 'palqytun.node');
+
+let found;
+
+/** The addon, once the library is loaded. Raises a LoadError that names the path that was looked for. */
+function addon() {
+  if (found) return found;
+  let made;
+  try {
+    made = require(FILE);
+  } catch (error) {
+    throw new LoadError(FILE, `${FILE}: the addon can't be loaded: ${error.message}: node build.js, in the folder of this package, makes it`);
+  }
+  const said = made.load();
+  if (said !== null) throw new LoadError(said.split(': ', 1)[0], said);
+  found = made;
+  return made;
+}
+
+/** The bytes that a call returned, or the error of its status. */
+function written(bytes) {
+  if (typeof bytes === 'number') throw new StatusError(bytes);
+  return bytes;
+}
+
+/** Raises the error of a status that isn't done. */
+function done(status) {
+  if (status !== NUMBERS.DONE) throw new StatusError(status);
+}
+
+/** A part of the last reply; undefined if there is none. */
+function part(it, session, at) {
+  const bytes = it.part(session, at);
+  return bytes === NUMBERS.NO_PART ? undefined : written(bytes);
+}
+
+function text(it, session, at) {
+  const bytes = part(it, session, at);
+  return bytes === undefined ? undefined : bytes.toString('utf8');
+}
+
+function pairs(it, session, first, rows) {
+  return Array.from({ length: rows }, (_, row) => [text(it, session, first + 2 * row), text(it, session, first + 2 * row + 1)]);
+}
+
+/** The reply to a call: `[status, kind, first, second, third, low, high, rows]`. An error is raised. */
+function made(it, session, status) {
+  if (status === NUMBERS.DONE) return it.reply;
+  if (status !== NUMBERS.REFUSED) throw new StatusError(status);
+  const [, , isRelated, index, type, code] = it.reply;
+  const [message, stacktrace, name] = [0, 1, 2].map((at) => text(it, session, at) ?? '');
+  throw refusal(code, message, stacktrace, isRelated ? { index, type, name } : undefined);
+}
+
+module.exports = { addon, done, made, pairs, part, text, written };

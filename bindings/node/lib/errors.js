@@ -1,0 +1,58 @@
+// What a call fails by.
+'use strict';
+
+const { MessageType, NUMBERS, STATUSES } = require('./abi');
+
+/** The shared object, or the addon, can't be used. */
+class LoadError extends Error {
+  constructor(path, message) {
+    super(message);
+    this.name = 'LoadError';
+    this.path = path;
+  }
+}
+
+/** A call wasn't made, and this is why. */
+class StatusError extends Error {
+  constructor(number) {
+    const [status, said] = STATUSES[number] ?? [`${number}`, 'the library returned a status that it has not'];
+    super(`${status}: ${said}`);
+    this.name = 'StatusError';
+    this.status = status;
+  }
+}
+
+/** The VM refused a call. */
+class VMError extends Error {
+  constructor(code, text, stacktrace, related) {
+    super(`${code} ${text}${related ? ` (command ${related.index}: ${related.type} "${related.name}")` : ''}`);
+    this.name = new.target.name;
+    this.code = code;
+    this.text = text;
+    this.stacktrace = stacktrace;
+    this.related = related;
+  }
+}
+
+/** The invocation is suspended. */
+class Suspended extends VMError {}
+
+/** The handler has ended. */
+class Closed extends VMError {}
+
+/** The handler makes another call than the journal has recorded. */
+class JournalMismatch extends VMError {}
+
+const CLASSES = { [NUMBERS.CODE_SUSPENDED]: Suspended, [NUMBERS.CODE_CLOSED]: Closed, [NUMBERS.CODE_JOURNAL_MISMATCH]: JournalMismatch };
+
+/** The case of a number. */
+function caseOf(group, number) {
+  return Object.keys(group).find((it) => group[it] === number) ?? `${number}`;
+}
+
+function refusal(code, text, stacktrace, related) {
+  const known = related && { index: related.index, type: caseOf(MessageType, related.type), name: related.name };
+  return new (CLASSES[code] ?? VMError)(code, text, stacktrace, known);
+}
+
+module.exports = { Closed, JournalMismatch, LoadError, StatusError, Suspended, VMError, caseOf, refusal };

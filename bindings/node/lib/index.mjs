@@ -1,0 +1,25 @@
+import palqytun from './index.js';
+
+export const {
+  CANCEL_HANDLE,
+  Closed,
+  Future,
+  Journal,
+  JournalMismatch,
+  LoadError,
+  StatusError,
+  SUPPORTED_VERSIONS,
+  Suspended,
+  VM,
+  VMError,
+  allCompleted,
+  allSucceededOrFirstFailed,
+  build,
+  contentType,
+  firstCompleted,
+  firstSucceededOrAllFailed,
+  frames,
+  isProved,
+  libraryVersion,
+  unknown,
+} = palqytun;

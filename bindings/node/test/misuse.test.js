@@ -1,0 +1,141 @@
+// What a caller may do wrong is an error, and the VM goes on.
+'use strict';
+
+const assert = require('node:assert');
+const { test } = require('node:test');
+const { Worker } = require('node:worker_threads');
+const { Closed, Journal, JournalMismatch, StatusError, Suspended, VM, VMError, allCompleted, firstCompleted, frames } = require('..');
+const { begun, fed } = require('./common');
+
+const status = (name) => (error) => error instanceof StatusError && error.status === name;
+
+test('what was closed', () => {
+  const vm = begun();
+  vm.close();
+  vm.close();
+  assert.throws(() => vm.sysSleep(1), { status: 'NO_SESSION', message: 'NO_SESSION: the VM was closed' });
+  assert.throws(() => vm.notifyInput(Buffer.of(1)), status('NO_SESSION'));
+  assert.throws(() => vm.takeOutput(), status('NO_SESSION'));
+  const journal = new Journal();
+  journal.close();
+  journal.close();
+  assert.throws(() => journal.keep(), status('NO_JOURNAL'));
+});
+
+test('objects of another kind', () => {
+  const journal = new Journal();
+  assert.throws(() => VM.prototype.sysEnd.call(journal), TypeError);
+  assert.throws(() => VM.prototype.sysEnd.call({}), TypeError);
+  assert.throws(() => Journal.prototype.keep.call(begun()), TypeError);
+  assert.throws(() => VM('application/vnd.restate.invocation.v7'), TypeError);
+  assert.strictEqual(structuredClone(begun()).sysEnd, undefined);
+  assert.throws(() => begun().doAwait(allCompleted(17, {})), { message: 'each child must be a handle or a Future, not object' });
+});
+
+test('arguments of the wrong type are named', () => {
+  const vm = begun();
+  for (const [call, message] of [
+    [() => vm.sysSleep('x'), 'wakeUpMillis must be a number or a bigint, not string'],
+    [() => vm.sysStateSet('key', 'value'), 'value must be a Uint8Array, not string'],
+    [() => vm.sysStateSet(7, Buffer.of(1)), 'key must be a string, not number'],
+    [() => vm.sysCall({ service: 'S' }, Buffer.of(1)), 'handler must be a string, not undefined'],
+    [() => vm.sysCall({ service: 'S', handler: 'h', headers: [['a']] }, Buffer.of(1)), 'each of headers must be a pair of strings, not an array'],
+    [() => vm.sysWriteOutput({ code: 7 }), 'value.message must be a string, not undefined'],
+    [() => vm.sysAttachInvocation({}), 'target must have an invocationId, a workflow or a service'],
+    [() => vm.notifyInput(null), 'data must be a Uint8Array, not null'],
+    [() => new VM('x', { wait: 'never' }), /VM has no option wait; its options are implicitCancellation, /],
+  ]) assert.throws(call, { name: 'TypeError', message });
+  for (const [call, message] of [
+    [() => vm.sysSleep(-1), /wakeUpMillis must be a whole number/],
+    [() => vm.sysSleep(1.5), /wakeUpMillis must be a whole number/],
+    [() => vm.sysSleep(2n ** 64n), /wakeUpMillis must be from 0 to 2\^64 - 1/],
+    [() => vm.takeNotification(2 ** 32), /handle must be a whole number from 0 to 4294967295/],
+    [() => vm.sysWriteOutput({ code: 65536, message: '' }), /value.code must be a whole number from 0 to 65535/],
+    [() => vm.createSignalHandle('\ud800'), /name has half of a surrogate pair/],
+    [() => new VM('x', { journalReplay: 'never' }), /journalReplay must be one of enabled, disabled, not never/],
+  ]) assert.throws(call, { name: 'RangeError', message });
+  assert.strictEqual(vm.lastCommandIndex(), 0);
+});
+
+test('a handle of another VM stands for nothing', () => {
+  const [one, other] = [begun(), begun()];
+  const handle = [1, 2, 3, 4, 5].map(() => one.createSignalHandle('go'))[4];
+  assert.strictEqual(other.isCompleted(handle), false);
+  assert.strictEqual(other.takeNotification(handle), undefined);
+  assert.deepStrictEqual(other.doAwait(handle), { kind: 'waitingExternalProgress', waitingInput: true, waitingRunProposal: false });
+});
+
+test('what names no case', () => {
+  const vm = begun();
+  const run = vm.sysRun('charge');
+  const policy = { kind: 'exponential', initialMillis: 1, factor: [3, 0] };
+  assert.throws(() => vm.proposeRetryableFailure(run.handle, 1, { code: 503, message: 'later' }, policy), status('BAD_NUMBER'));
+  assert.strictEqual(vm.doAwait(allCompleted()).kind, 'anyCompleted');
+  assert.strictEqual(vm.state(), 'processing');
+});
+
+test('errors have all their fields', () => {
+  const vm = fed('Start id="a" debug_id="a" known_entries=2', 'Input value=""', 'Sleep wake_up_time=1000 result_completion_id=1 name="nap"');
+  vm.sysInput();
+  const call = () => vm.sysCall({ service: 'Greeter', handler: 'greet' }, Buffer.from('Ada'), { name: 'call' });
+  assert.throws(call, (it) => it instanceof JournalMismatch && it.code === 570 && it.related.index === 1 && it.related.name === 'call');
+  const own = begun();
+  own.notifyError({ code: 418, message: 'no tea', stacktrace: 'at 1' }, 'last');
+  assert.throws(() => own.sysEnd(), (it) => it instanceof VMError && it.code === 418 && it.text === 'no tea' && it.stacktrace === 'at 1');
+});
+
+test('a suspension and an end', () => {
+  const vm = begun();
+  const slept = vm.sysSleep(2n ** 63n);
+  vm.notifyInputClosed();
+  assert.throws(() => vm.doAwait(firstCompleted(slept)), Suspended);
+  const other = begun();
+  other.sysWriteOutput(Buffer.from('done'));
+  other.sysEnd();
+  assert.throws(() => other.sysSleep(1), Closed);
+});
+
+test('a journal, and what its rows ask for', () => {
+  const journal = new Journal([frames.frameOf('Input value="Till"'), frames.frameOf('Sleep wake_up_time=1000 result_completion_id=1')]);
+  const slept = frames.frameOf('Notification id=completion(1) result=void');
+  assert.strictEqual(journal.arrive(slept).completes, 1);
+  journal.keep();
+  assert.throws(() => journal.arrive(slept), status('SECOND_COMPLETION'));
+  const run = frames.frameOf('Run name="a" result_completion_id=2');
+  const { rows, feed } = journal.store(7, Buffer.concat([run, frames.frameOf('ProposeRunCompletion id=2 result=value("x")')]));
+  assert.deepStrictEqual(rows.map((it) => it.completes), [undefined, 2]);
+  assert.ok(feed.length > 0);
+  const effect = new frames.Message(rows[0].frame);
+  assert.deepStrictEqual([effect.type, effect.id, effect.text(0)], ['runCommand', 2, 'a']);
+  journal.undo();
+  assert.strictEqual(journal.entries, 3);
+  assert.throws(() => journal.store(4, Buffer.of()), status('BAD_NUMBER'));
+});
+
+test('frames', () => {
+  const completed = frames.completion(3, frames.frameOf('Output result=value("Till")'));
+  assert.strictEqual(frames.lineOf(completed), 'Notification id=completion(3) result=value("Till")');
+  const suspension = frames.frameOf('Suspension future=(kind=FirstCompleted completions=[3])');
+  assert.deepStrictEqual([frames.isAwake(suspension, Buffer.of()), frames.isAwake(suspension, completed)], [false, true]);
+  assert.match(frames.lineOf(frames.namedSignal('go', frames.valueFrame(Buffer.alloc(100_000, 'x')))), /name\("go"\)/);
+  assert.throws(() => frames.lineOf(Buffer.from('x')), { status: 'NOT_A_FRAME', message: "NOT_A_FRAME: it isn't one whole frame" });
+  assert.throws(() => frames.frameOf('Sleep soundly'), status('BAD_LINE'));
+});
+
+test('worker threads have VMs of their own', async () => {
+  const code = `
+    const { begun } = require(${JSON.stringify(require.resolve('./common'))});
+    for (let at = 0; at < 200; at++) begun().sysSleep(1000);
+    require('node:worker_threads').parentPort.postMessage(begun().sysSleep(1000));
+  `;
+  const said = (worker) => new Promise((resolve, reject) => worker.once('message', resolve).once('error', reject));
+  const workers = Array.from({ length: 4 }, () => new Worker(code, { eval: true }));
+  assert.deepStrictEqual(await Promise.all(workers.map(said)), [17, 17, 17, 17]);
+  await Promise.all(workers.map((it) => it.terminate()));
+});
+
+test('both kinds of modules have the same names', async () => {
+  const commonjs = require('..');
+  const module = await import('../lib/index.mjs');
+  assert.deepStrictEqual(Object.keys(module).sort(), Object.keys(commonjs).sort());
+});

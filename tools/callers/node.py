@@ -1,0 +1,38 @@
+"""The package for Node."""
+
+from __future__ import annotations
+
+import re
+from pathlib import Path
+
+from tools.gate import counts as counting
+from tools.programs.commands import ended
+
+from .common import SECONDS, Bindings, copied, example_of, loads, plays
+
+COUNT = re.compile(r"^\W (pass|fail|cancelled|skipped|todo) (\d+)$", re.M)
+TESTS = ("test/misuse.test.js", "test/memory.test.js")
+
+
+def node(it: Bindings) -> None:
+    """Compiles the addon, plays the suite, runs the tests and README's example, and checks the types."""
+    if not it.checks.has("the package for Node", "node", "node-api"):
+        return
+    folder = copied(it, "node")
+    env = {name: value for name, value in it.env().items() if not name.startswith("NODE_")}
+    if not it.checks.build("the addon for Node is compiled", ["node", "build.js"], env, folder):
+        return
+    plays(it, "Node", ["node", f"{folder}/examples/conform.js"])
+    loads(it, "Node", ["node", f"{folder}/examples/about.js"])
+    code, printed = example_of("node", "js")
+    example = Path(folder, "example.mjs")
+    example.write_text(code, encoding="utf-8")
+    it.checks.prints("the example of bindings/node/README.md", ["node", str(example)], printed, env, folder)
+    ran = ended(["node", "--test", *TESTS], env, folder, SECONDS)
+    said = {word: int(count) for word, count in COUNT.findall(ran.output)}
+    passed = said.pop("pass", 0)
+    found = counting.with_status(counting.Counts(passed, sum(said.values())), 1 if ran.status is None else ran.status)
+    it.checks.counts += found
+    print(f"{ran.output + ran.said if found.failed else ''}bindings tests of bindings/node: {found}", flush=True)
+    if it.checks.has("types of bindings/node", "typescript"):
+        it.checks.build("types of bindings/node", ["tsc", "-p", "."], env, folder)
