@@ -25,7 +25,7 @@ PACKAGES = {"palqytun.runtime": "The durable runtime", "palqytun": "The core"}
 # What the runtime makes, and a user doesn't: how these are made isn't shown.
 MADE = {"Call", "Context", "Handler", "Promise"}
 # What the runtime's own modules call.
-INTERNAL = {"App.find", "App.has_limit", "App.limited", "App.retry_of", "Context.end", "Context.entered"}
+INTERNAL = {"App.find", "App.has_limit", "App.limited", "App.retry_of", "Context.end", "Context.entered", "Context.pass_patches", "Context.write_output"}
 INTERNAL |= {f"Durable.{it}" for it in ("leaves", "outcome", "result", "tree")}
 Function = ast.FunctionDef | ast.AsyncFunctionDef
 

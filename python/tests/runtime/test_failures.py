@@ -66,6 +66,21 @@ async def changes(ctx: Context, it):
     await ctx.run("other", lambda: 1)  # replay meets a sleep here
 
 
+@service.handler(retry=TWICE)
+async def counts(ctx: Context, it):
+    tries.append(1)
+    await ctx.call(works, len(tries))  # each attempt gives another number
+    await ctx.sleep(3600)
+
+
+@service.handler(retry=TWICE)
+async def returns_sooner(ctx: Context, it):
+    tries.append(1)
+    if len(tries) == 1:
+        await ctx.sleep(3600)
+    return 1
+
+
 app = App(service)
 
 
@@ -166,8 +181,24 @@ class Failures(support.OnADatabase):
         await runtime.until(id, "paused")
         [note] = self.notes(id)
         self.assertEqual(note.event, "paused")
-        self.assertIn(": 570 ", note.getMessage())
+        said = "570 CommandTypeMismatchError: command 1 is recorded as Sleep, and the code makes Run 'other'"
+        self.assertIn(f": {said} (", note.getMessage())
         self.assertTrue(note.where.endswith(line("replay meets a sleep here")), note.where)
+        [row] = await runtime.engine.transact(lambda db: db.rows("SELECT error FROM invocations WHERE id=?", (id,)))
+        self.assertEqual(row[0].partition("\n")[0], said)
+
+    @with_worker
+    async def test_what_differs_between_attempts_is_named(self, runtime):
+        for handler, said in (
+            ("counts", "570 CommandMismatchError: command 1, Call Fails/works, is recorded with parameter b'1', and the code gives b'2'"),
+            ("returns_sooner", "570 CommandTypeMismatchError: command 1 is recorded as Sleep, and the code makes Output"),
+        ):
+            tries.clear()
+            id = await runtime.send(f"Fails/{handler}", 1)
+            while (found := await runtime.status(id))[0] != "paused":
+                await runtime.engine.transact(lambda db: db.change("UPDATE timers SET due=0"))
+                await asyncio.sleep(0.02)
+            self.assertEqual(found[1].partition("\n")[0], said)
 
     def test_a_database_of_the_version_before(self):
         """What had ended then has its code."""

@@ -9,7 +9,7 @@ from types import TracebackType
 from typing import Any, Protocol, TypeVar
 
 from .. import core
-from . import journal, storing, transactions
+from . import journal, replay, storing, transactions
 from .codec import BadValue, decoded, encoded
 from .context import Action, AttemptEnds, CaughtTooMuch, Context, OutsideHandler, given_failure, running
 from .contexts import kind_of
@@ -134,6 +134,7 @@ class Attempt:
         self._is_only_runs = True  # these frames are commands of runs
         self._written = 0  # how many bytes of output were handed to the store
         self._has_ended = False
+        self._context: Context | None = None
         self.was_cancelled_within = False  # the handler has cancelled the task of its own attempt
         self._unawaited: list[int] = []  # sleeps that nobody can await any more
         known = worker.app.known(claim.service, claim.handler)
@@ -159,12 +160,21 @@ class Attempt:
                     why, self.claim.fault = said(fault), fault
                     await self._left(lambda db: storing.pause(db, self.worker.app, self.claim, why))
                     return
+                await self._part()
                 await self._rest()
                 if not self._has_ended:
                     raise WithoutEnd(self.claim.invocation)
         finally:
             for task in self._executing.values():
                 task.cancel()
+
+    async def _part(self) -> None:
+        """If the core has refused a call as another one than is recorded, says which ones they are. Only this attempt knows its call: another
+        attempt of a handler that goes by the clock or by chance may make others."""
+        call = None if self._context is None else self._context.refused_call
+        if call is not None:
+            found = await self.worker.alone(lambda db: replay.stored_of(db, self.claim.invocation))
+            self.claim.parted = None if found is None else replay.parted(found, self._vm.last_command_index(), call)
 
     async def _begun(self, input: bytes) -> None:
         """Feeds the stored journal."""
@@ -201,7 +211,7 @@ class Attempt:
             handler = self.worker.app.find(self.claim.service, self.claim.handler)
         kind = kind_of(handler.service, self.claim.exclusive)
         context = kind(self._vm, input, self.worker.app, self.claim.service, self.claim.trace, patches=self._patches, now=self.worker.now)
-        self.awakeables = context.awakeables
+        self._context, self.awakeables = context, context.awakeables
         codec = self.worker.app.codec
         with _handlers_own:
             try:
@@ -223,11 +233,10 @@ class Attempt:
             context.end()
         with _handlers_own:
             ends = _ends(context, handler, main)
-        context.pass_patches()
-        if main.continued is not None and isinstance(ends, bytes):
-            self._vm.sys_run(journal.CONTINUED)
+        has_next = main.continued is not None and isinstance(ends, bytes)
+        context.write_output(ends, has_next)
+        if has_next:
             self.claim.continues = Continues(tuple(input.headers), context.signals)
-        self._vm.sys_write_output(ends)
         self._vm.sys_end()
         return None
 

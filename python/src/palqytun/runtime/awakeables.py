@@ -15,10 +15,9 @@ from . import effects, inbox, journal
 from .codec import BadValue
 from .database import Database
 from .engine import Engine
-from .invocations import CLAIMED, Claimable
 from .journal import Result
 from .outcome import Outcome
-from .replay import Stored, replayed, stored
+from .replay import replayed, stored_of
 from .services import TerminalError
 
 Read = Callable[[Any], Any]
@@ -55,16 +54,11 @@ def _check(id: str, result: Result, readers: Mapping[str, Read] | None) -> None:
 
 async def _readers(engine: Engine, invocation: str) -> dict[str, Read] | None:
     """What reads the value of each awakeable that the invocation has made; none if its handler doesn't say any more."""
-    found = await engine.transact(lambda db: _stored(db, invocation))
+    found = await engine.transact(lambda db: stored_of(db, invocation))
     if found is None:
         raise TerminalError("there is no such awakeable", 404)
     it = await asyncio.get_running_loop().run_in_executor(_replays, replayed, engine.app, found)
     return None if it.context is None or it.error is not None else it.context.awakeables
-
-
-async def _stored(db: Database, invocation: str) -> Stored | None:
-    rows = await db.rows(f"SELECT {CLAIMED} FROM invocations WHERE id=?", (invocation,))
-    return await stored(db, Claimable(*rows[0])) if rows else None
 
 
 async def _delivered(db: Database, out: Outcome, invocation: str, number: int, result: Result) -> str | None:

@@ -24,8 +24,9 @@ from typing import TYPE_CHECKING, Any, Concatenate, NoReturn, ParamSpec, TypeVar
 from .. import core
 from .codec import BadValue, Codec, decoded, encoded
 from .durable import ContinuedAsNew, Durable, Leaf, Task, Timer, select
-from .journal import PATCHED
+from .journal import CONTINUED, PATCHED
 from .names import check_name
+from .parting import Asked
 from .services import App, Handler, I, O, Retry, TerminalError, TimedOut, to_text_headers
 from .steps import Step
 from .tasks import Tasks
@@ -203,6 +204,7 @@ class Context:
         self.awakeables: dict[str, Callable[[Any], Any]] = {}  # by id: what reads the value
         self.tasks: Tasks | None = None
         self.refused: BaseException | None = None
+        self.refused_call: Asked | None = None  # of the core, if another command is recorded in its place
         self._thread: int | None = None  # in which the handler's own code runs, while it does
         self._entered = _Entered(self)
         self._shields = 0
@@ -255,7 +257,24 @@ class Context:
         try:
             return getattr(self._vm, name)(*arguments, **options)
         except (core.VMError, core.BadLine, UnicodeError) as error:
+            if isinstance(error, core.JournalMismatch):
+                self.refused_call = Asked(name, arguments, options)
             self._end(error)
+
+    def write_output(self, value: bytes | core.Failure, has_next: bool = False) -> None:
+        """The handler has ended with this result, or it continues as a new invocation that has this argument."""
+        self.pass_patches()
+        if has_next:
+            self._write("sys_run", CONTINUED)
+        self._write("sys_write_output", value)
+
+    def _write(self, name: str, argument: Any) -> None:
+        """Makes a call that ends the handler."""
+        try:
+            getattr(self._vm, name)(argument)
+        except core.JournalMismatch:
+            self.refused_call = Asked(name, (argument,), {})
+            raise
 
     def pass_patches(self, until: str | None = None) -> None:
         """Goes past the patches that are recorded next, up to that of a name. The code doesn't ask for them any more."""

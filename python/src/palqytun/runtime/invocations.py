@@ -205,6 +205,7 @@ class Claim:
     run: str | None = None  # the name of that run
     continues: Continues | None = None  # the handler goes on as a new invocation
     fault: BaseException | None = None  # what the handler or the run raised
+    parted: str | None = None  # how the handler's call parts from the recorded one, if the core has refused it for that
 
     @property
     def invocation(self) -> str:

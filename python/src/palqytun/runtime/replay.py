@@ -12,14 +12,14 @@ from itertools import groupby
 from typing import Any
 
 from .. import core
-from . import journal
+from . import journal, parting
 from .codec import BadValue, decoded
 from .context import AttemptEnds, CaughtTooMuch, Context, ReplayLog, given_failure
 from .contexts import kind_of
 from .database import Database
 from .durable import Task
 from .invocations import CLAIMED, Claimable, load
-from .journal import Begin, Described, Failed
+from .journal import Begin, Failed
 from .services import App, Cancelled, Handler, TerminalError
 from .tasks import Tasks
 from .traces import Trace
@@ -53,12 +53,11 @@ class Stored:
 @dataclass(frozen=True)
 class Replayed:
     """How far a handler went over a stored journal: up to the command with this index, and what was wrong there. `context` is that of the
-    handler, if it was called, and `written` what the core wrote after the journal."""
+    handler, if it was called."""
 
     command: int
     error: str | None
     context: Context | None = None
-    written: bytes = b""
 
 
 class _Silent(ReplayLog):
@@ -77,6 +76,12 @@ async def stored(db: Database, it: Claimable) -> Stored:
     return Stored(it, (await load(db, it.id, it.entries, it.version)).start(_begin(it)))
 
 
+async def stored_of(db: Database, invocation: str) -> Stored | None:
+    """The same of the invocation with this id, if there is one."""
+    rows = await db.rows(f"SELECT {CLAIMED} FROM invocations WHERE id=?", (invocation,))
+    return await stored(db, Claimable(*rows[0])) if rows else None
+
+
 def replayed(app: App, it: Stored) -> Replayed:
     """Replays the journal of one invocation."""
     row = it.row
@@ -92,9 +97,8 @@ def replayed(app: App, it: Stored) -> Replayed:
         context = kind(vm, input, app, row.service, trace, patches=journal.patches_in(it.start))
         context._log = _Silent(context, row.id)
         raised = _replayed(app, vm, context, handler, input.value)
-        written = vm.take_output()
-        said = [one for one in journal.messages_in(written) if isinstance(one, Failed)]
-        return Replayed(vm.last_command_index(), f"{said[0].code} {said[0].message}" if said else raised, context, written)
+        said = [one for one in journal.messages_in(vm.take_output()) if isinstance(one, Failed)]
+        return Replayed(vm.last_command_index(), f"{said[0].code} {said[0].message}" if said else raised, context)
 
 
 def _replayed(app: App, vm: core.VM, context: Context, handler: Handler[Any, Any], given: bytes) -> str | None:
@@ -126,12 +130,10 @@ def _drive(app: App, vm: core.VM, context: Context, tasks: Tasks) -> None:
             tasks.run(thrown)
         if tasks.main.done:
             failure, continued = tasks.main.failure, tasks.main.continued
-            context.pass_patches()
             if continued is not None:
-                vm.sys_run(journal.CONTINUED)
-                vm.sys_write_output(continued.argument)
+                context.write_output(continued.argument, has_next=True)
             else:
-                vm.sys_write_output(app.codec.encode(tasks.main.value) if failure is None else given_failure(failure))
+                context.write_output(app.codec.encode(tasks.main.value) if failure is None else given_failure(failure))
             return
         thrown = None
         try:
@@ -147,73 +149,26 @@ def _drive(app: App, vm: core.VM, context: Context, tasks: Tasks) -> None:
 # ---- both commands
 
 
-def _before(it: Stored, command: int) -> Stored:
-    """The journal up to a command, without it, and with all that came for the commands before it."""
-    kept, carried, count = journal.Journal(it.row.version), set[int](), 0
-    for frame in it.entries:
-        found = journal.described(frame)
-        if found.name != "Notification":
-            count += 1
-            if count > command:
-                continue
-            carried.update(found.carries)
-        elif found.completes is not None and found.completes not in carried:
-            continue
-        kept.entry(frame)
-    kept.keep()
-    return Stored(it.row, kept.start(_begin(it.row)))
-
-
-def _recorded(it: Stored, command: int) -> Described | None:
-    """The recorded command with this index."""
-    found = [one for frame in it.entries if (one := journal.described(frame)).name != "Notification"]
-    return found[command] if command < len(found) else None
-
-
-def _asked(app: App, it: Stored, command: int) -> Described | None:
-    """The command that the code makes at this index: what it writes after the journal up to there."""
-    written = replayed(app, _before(it, command)).written
-    frames = [frame for _, frame in journal.commands_in(written)]
-    return journal.described(frames[0]) if frames else None
-
-
-_OWN = ("id", "invocation_id", "due", "at")  # what replay doesn't compare, or what follows from the place
-_NAMING = ("name", "service", "handler", "key", "invocation", "target")  # what distinguishes one command from another at a glance
-_LONG = 120  # characters of a field
-
-
-def _named(it: Described) -> str:
-    """A command by what names it."""
-    names = {name: shown for name, shown in it.fields if name in _NAMING and shown not in ("None", "''")}
-    if "handler" in names:
-        names["service"] = f"{names['service']}/{names.pop('handler')}".replace("'", "")
-    return " ".join([it.name, *names.values()])
-
-
-def _parted(command: int, recorded: Described, asked: Described) -> str:
-    """Both commands, in words."""
-    if recorded.name != asked.name:
-        return f"command {command} is recorded as {_named(recorded)}, and the code makes {_named(asked)}"
-    there, here = dict(recorded.fields), dict(asked.fields)
-    for name in there:
-        if name not in _OWN and there[name] != here.get(name):
-            said = f"{name} {there[name]:.{_LONG}}, and the code gives {here.get(name, 'none'):.{_LONG}}"
-            return f"command {command}, {_named(recorded)}, is recorded with {said}"
-    return f"command {command} is recorded as {recorded}, and the code makes {asked}"
-
-
 def difference(app: App, it: Stored) -> tuple[int, str | None]:
     """The index of the command at which the code parts from a journal, and how, with both commands; none if the code makes the journal."""
     found = replayed(app, it)
     if found.error is None:
         return found.command, None
-    if found.command < 0 or not found.error.startswith("570"):
+    if found.command < 0 or found.context is None or not found.error.startswith("570"):
         return found.command, found.error
-    recorded, asked = _recorded(it, found.command), _asked(app, it, found.command)
-    if recorded is None or asked is None:
-        text = found.error if recorded is None else f"command {found.command} is recorded as {_named(recorded)}, and the code awaits what hasn't come"
-        return found.command, text
-    return found.command, _parted(found.command, recorded, asked)
+    call = found.context.refused_call
+    return found.command, (parted(it, found.command, call) if call else _awaited(it, found.command)) or found.error
+
+
+def parted(it: Stored, command: int, call: parting.Asked) -> str | None:
+    """How a call that the core has refused parts from the recorded command with this index; none if it makes no command."""
+    return parting.parted(it.entries, command, call, it.row.version, _begin(it.row))
+
+
+def _awaited(it: Stored, command: int) -> str | None:
+    """What is recorded where the code awaits."""
+    recorded = parting.commands(it.entries)
+    return f"command {command} is recorded as {parting.named(recorded[command])}, and the code awaits what hasn't come" if command < len(recorded) else None
 
 
 # ---- all journals of a database

@@ -108,7 +108,8 @@ async def _fail(db: Database, app: App, out: Outcome, claim: Claim, growth: Grow
         return
     out.status = "paused" if is_over or error.behaviour == "pause" else "ready"
     delay = retry.delay(counted.retries if claim.by_run else counted.failures) if error.delay is None else error.delay / 1000
-    text = storable(f"{error.code} {error.message}\n{error.stacktrace}".rstrip())
+    why = error.message if claim.parted is None else f"{error.message}: {claim.parted}"
+    text = storable(f"{error.code} {why}\n{error.stacktrace}".rstrip())
     how = "paused" if out.status == "paused" else "failed"
     await growth.write(db, status=out.status, due=now + delay, error=text, stopped=now, how=how, deaths=0, **vars(counted))
     out.is_due(time.time() + delay)
