@@ -5,10 +5,13 @@ import pathlib
 import pickle
 import tomllib
 import unittest
+from collections.abc import Callable
+from typing import Any
+from unittest import mock
 
 import palqytun
 from attempt import begun, fed, input_frame, sleep_frame, start
-from palqytun import VOID, Awakeable, BadLine, Cancelled, ExecuteRun, Failure, Fault, Future, Input, InvocationId, Journal, JournalFault
+from palqytun import VM, VOID, Awakeable, BadLine, Cancelled, ExecuteRun, Failure, Fault, Future, Input, InvocationId, Journal, JournalFault
 from palqytun import JournalMismatch, Related, Retryable, RetryPolicy, Run, Suspended, VMError, Waiting, WorkflowId, all_completed, first_completed
 from palqytun import retry_fixed, retry_never
 from palqytun.errors import BadFrame, error_of
@@ -135,6 +138,52 @@ class Buffers(unittest.TestCase):
         vm.is_completed(17)  # as if another thread had made this call before the id was read
         with self.assertRaisesRegex(RuntimeError, "another thread's call of this VM came between"):
             vm._parts.text(0)
+
+
+class Locks(unittest.TestCase):
+    """Calls that copy a large payload let other threads run, and others keep the interpreter's lock."""
+
+    def test_large_payloads(self) -> None:
+        vm, made = begun(), list[str]()
+        released = {name: self.noted(made, name, call) for name, call in vm._library.released.items()}
+        with mock.patch.dict(vm._library.released, released):
+            for size in (1, LARGE):
+                self.play(vm, b"x" * size)
+                vm.take_output()
+        self.assertEqual(sorted(made), sorted(released.keys() - {"part", "feed"}))
+
+    def test_large_input(self) -> None:
+        made = list[str]()
+        released = palqytun.core._library.library().released
+        with mock.patch.dict(released, {name: self.noted(made, name, call) for name, call in released.items()}):
+            vm = fed(start(), input_frame(b"x" * LARGE))
+            self.assertEqual(len(vm.sys_input().value), LARGE)
+        self.assertEqual(made, ["feed", "part"])
+
+    def noted(self, made: list[str], name: str, call: Callable[..., Any]) -> Callable[..., Any]:
+        def noting(*arguments: Any) -> Any:
+            told = call(*arguments)
+            made.append(name)
+            return told
+
+        return noting
+
+    def play(self, vm: VM, data: bytes) -> None:
+        vm.sys_state_set("k", data)
+        vm.sys_call("S", "h", data)
+        vm.sys_call_with_deadline("S", "h", data, 1000)
+        vm.sys_send("S", "h", data)
+        vm.sys_complete_awakeable("sign_1abc", data)
+        vm.sys_complete_signal("inv", "s", data)
+        vm.sys_complete_promise("p", data)
+        vm.propose_run_completion(self.executing(vm), data)
+        vm.sys_write_output(data)
+
+    def executing(self, vm: VM) -> int:
+        """A run that is to be executed."""
+        handle = vm.sys_run("r").handle
+        self.assertEqual(vm.do_await(handle), ExecuteRun(handle))
+        return handle
 
 
 class Version(unittest.TestCase):

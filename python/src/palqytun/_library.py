@@ -45,15 +45,17 @@ class Room:
     def __len__(self) -> int:
         return len(self._kept)
 
-    def written(self, call: Callable[[Buffer, int], Told]) -> tuple[int, bytes]:
-        """The status of a call that writes into a buffer, and what it wrote."""
+    def written(self, call: Callable[..., Told], *arguments: object, large: Callable[..., Told] | None = None) -> tuple[int, bytes]:
+        """The status of a call that writes into a buffer, its last argument but for its size, and what it wrote. `large` is made in its place if
+        the buffer isn't kept."""
         room = self._kept
-        told = call(room, len(room))
+        told = call(*arguments, room, len(room))
         while told.status == _abi.NO_ROOM:
-            room = buffer(told.len if told.len > KEPT else min(KEPT, 2 * told.len))
-            told = call(room, len(room))
-            if len(room) <= KEPT:
-                self._kept = room
+            if told.len > KEPT:
+                room, call = buffer(told.len), large or call
+            else:
+                self._kept = room = buffer(min(KEPT, 2 * told.len))
+            told = call(*arguments, room, len(room))
         return told.status, front(room, told.len)
 
 
@@ -96,9 +98,14 @@ def _bound(it: _Of, functions: dict[str, Any], prefix: str = "") -> _Of:
     return it
 
 
+_COPYING = ("feed", "take_output", "part", "state_set", "call", "call_with_deadline", "send", "propose", "write_output")
+_COMPLETING = ("complete_awakeable", "complete_signal", "complete_promise")
+
+
 class Library:
     """The functions. None of them blocks, so they keep the interpreter's lock. A typed call is under its name in `calls`, a function of a
-    stored journal under its own in `journals`, and one on frames in `frames`."""
+    stored journal under its own in `journals`, and one on frames in `frames`. Those that copy payloads are also in `released`: they let other threads
+    run meanwhile, for payloads above `KEPT`."""
 
     open: Callable[[Any], int]
     line: Callable[[Handle, bytes, int], Told]
@@ -124,10 +131,14 @@ class Library:
                 found = "no number" if abi is None else f"the number {abi()}"
                 raise ImportError(f"{path}: its interface has {found}, and this package wants {_abi.ABI}: {_abi.HOW_TO_MAKE_IT}")
             functions = {name: getattr(library, f"palqytun_{name}") for name in _abi.FUNCTIONS}
+            beside = ctypes.CDLL(path)
+            self.released: dict[str, Callable[..., Any]] = {name: getattr(beside, f"palqytun_{name}") for name in (*_COPYING, *_COMPLETING)}
         except (OSError, AttributeError) as error:
             raise ImportError(f"{error}: {_abi.HOW_TO_MAKE_IT}; {_abi.ANOTHER}") from error
         for name, (arguments, result) in _abi.FUNCTIONS.items():
-            functions[name].argtypes, functions[name].restype = arguments, result
+            for it in (functions[name], self.released.get(name)):
+                if it is not None:
+                    it.argtypes, it.restype = arguments, result
         self.build, self.version = functions["build"]().decode(), functions["version"]().decode()
         self.is_proved = functions["is_proved"]()
         self.journals = _bound(Journals(), functions, "journal_")

@@ -3,7 +3,6 @@
 from __future__ import annotations
 
 from collections.abc import Callable
-from functools import partial
 
 from palqytun import _abi, _library
 from palqytun._answers import pairs
@@ -17,13 +16,13 @@ class Parts:
     """The parts of a session's last reply."""
 
     def __init__(self, library: Library, session: Handle, room: Room) -> None:
-        self._part = library.part
+        self._part, self._large_part = library.part, library.released["part"]
         self._session = session
         self._room = room
 
     def data(self, at: int) -> bytes | None:
         """A part, if there is one."""
-        status, found = self._room.written(partial(self._part, self._session, at))
+        status, found = self._room.written(self._part, self._session, at, large=self._large_part)
         if status == _abi.NO_PART:
             return None
         if status:

@@ -35,8 +35,7 @@ The shared object is in this package; `./bindings/build` puts it there. It is lo
 from __future__ import annotations
 
 import ctypes
-from collections.abc import Iterable
-from functools import partial
+from collections.abc import Callable, Iterable
 from types import TracebackType
 from typing import Literal, Never, Self, cast
 
@@ -248,7 +247,7 @@ class VM:
         told = self._library.line(self._session, words, len(words))
         if told.status:
             self._check(told.status)
-        status, reply = self._room.written(partial(self._library.answer, self._session))
+        status, reply = self._room.written(self._library.answer, self._session)
         if status:
             self._check(status)
         return reply.decode("ascii")
@@ -269,6 +268,11 @@ class VM:
         if kind == "none":
             raise RuntimeError("there is no VM")
         raise BadLine(f"the VM can't read this line: {line[:200]}")
+
+    def _copying(self, name: str, payload: object) -> Callable[..., Replied]:
+        """A call that copies a payload. If that is large, other threads run meanwhile."""
+        is_large = isinstance(payload, (bytes, bytearray, memoryview)) and len(payload) > _library.KEPT
+        return (self._library.released if is_large else self._calls)[name]
 
     def _made(self, replied: Replied) -> Replied:
         """What a typed call returns; an error is raised."""
@@ -315,7 +319,8 @@ class VM:
     def notify_input(self, data: Data) -> None:
         """The next bytes of the attempt, cut anywhere. What they spell may fail the VM, which the next call raises."""
         data = octets("data", data)
-        self._check(self._library.feed(self._session, data, len(data)))
+        is_large = len(data) > _library.KEPT
+        self._check(self._library.released["feed"](self._session, data, len(data)) if is_large else self._library.feed(self._session, data, len(data)))
 
     def notify_input_closed(self) -> None:
         """No more bytes come."""
@@ -350,7 +355,7 @@ class VM:
         >>> vm.take_output()
         b''
         """
-        status, output = self._room.written(partial(self._library.take_output, self._session))
+        status, output = self._room.written(self._library.take_output, self._session, large=self._library.released["take_output"])
         self._check(status)
         return output
 
@@ -471,7 +476,7 @@ class VM:
         TypeError: value must be bytes, not int
         """
         given = lent_text("key", key), lent_data("value", value), lent_name(name), truth("unstable", unstable)
-        self._made(self._calls["state_set"](self._session, *given))
+        self._made(self._copying("state_set", value)(self._session, *given))
 
     def sys_state_clear(self, key: str, *, name: str | None = None) -> None:
         """Takes a state key's value away."""
@@ -502,7 +507,7 @@ class VM:
         """
         target = lent_target(service, handler, key, idempotency_key, scope, limit_key, headers)
         given = lent_data("value", value), lent_name(name), truth("unstable", unstable)
-        replied = self._made(self._calls["call"](self._session, target, *given))
+        replied = self._made(self._copying("call", value)(self._session, target, *given))
         return replied.first, replied.second
 
     def sys_call_with_deadline(
@@ -529,7 +534,7 @@ class VM:
         """
         target = lent_target(service, handler, key, idempotency_key, scope, limit_key, headers)
         given = lent_data("value", value), integer("wake_up_time", wake_up_time), lent_name(name), truth("unstable", unstable)
-        replied = self._made(self._calls["call_with_deadline"](self._session, target, *given))
+        replied = self._made(self._copying("call_with_deadline", value)(self._session, target, *given))
         return replied.first, replied.second, replied.third
 
     def sys_send(
@@ -555,7 +560,7 @@ class VM:
         target = lent_target(service, handler, key, idempotency_key, scope, limit_key, headers)
         time = 0 if at is None else integer("at", at)
         given = lent_data("value", value), time, lent_name(name), truth("unstable", unstable)
-        return self._made(self._calls["send"](self._session, target, *given)).first
+        return self._made(self._copying("send", value)(self._session, target, *given)).first
 
     def sys_awakeable(self) -> Awakeable:
         """Makes an awakeable.
@@ -572,12 +577,12 @@ class VM:
     def sys_complete_awakeable(self, id: str, value: Data | Failure, *, unstable: bool = False) -> None:
         """Gives the awakeable of this id its result, bytes or a `Failure`."""
         given = lent_text("id", id), lent_value("value", value), truth("unstable", unstable)
-        self._made(self._calls["complete_awakeable"](self._session, *given))
+        self._made(self._copying("complete_awakeable", value)(self._session, *given))
 
     def sys_complete_signal(self, invocation_id: str, name: str, value: Data | Failure) -> None:
         """Sends a named signal to another invocation."""
         given = lent_text("invocation_id", invocation_id), lent_text("name", name), lent_value("value", value)
-        self._made(self._calls["complete_signal"](self._session, *given))
+        self._made(self._copying("complete_signal", value)(self._session, *given))
 
     def sys_run(self, name: str) -> Run:
         """Calls a run, a side effect whose result is kept; an await says when to execute it.
@@ -608,7 +613,7 @@ class VM:
             after = integer("result.duration", result.duration)
             self._made(self._calls["propose_retryable"](self._session, of, after, lent_retryable("result", result), under))
         else:
-            self._made(self._calls["propose"](self._session, of, lent_value("result", result), under))
+            self._made(self._copying("propose", result)(self._session, of, lent_value("result", result), under))
 
     def sys_cancel_invocation(self, invocation_id: str) -> None:
         """Sends the built-in cancel signal to another invocation."""
@@ -625,7 +630,7 @@ class VM:
     def sys_complete_promise(self, key: str, value: Data | Failure, *, unstable: bool = False) -> int:
         """Completes a promise of the workflow; returns the handle of `VOID`, or of a `Failure` if it had been completed before."""
         given = lent_text("key", key), lent_value("value", value), truth("unstable", unstable)
-        return self._made(self._calls["complete_promise"](self._session, *given)).first
+        return self._made(self._copying("complete_promise", value)(self._session, *given)).first
 
     def sys_attach_invocation(self, target: Target) -> int:
         """Attaches to another invocation, an `InvocationId`, `WorkflowId` or `IdempotencyId`; returns the handle of its result.
@@ -641,7 +646,7 @@ class VM:
 
     def sys_write_output(self, value: Data | Failure, *, unstable: bool = False) -> None:
         """The handler's result, bytes or a `Failure`."""
-        self._made(self._calls["write_output"](self._session, lent_value("value", value), truth("unstable", unstable)))
+        self._made(self._copying("write_output", value)(self._session, lent_value("value", value), truth("unstable", unstable)))
 
     def sys_end(self) -> None:
         """The handler ends; its last call.

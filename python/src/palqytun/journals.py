@@ -4,7 +4,6 @@ from __future__ import annotations
 
 import ctypes
 from collections.abc import Callable, Iterable
-from functools import partial
 from types import TracebackType
 from typing import NamedTuple, Self
 
@@ -154,7 +153,7 @@ class Journal:
 
     def _written(self, call: Callable[..., _abi.Told], *arguments: int) -> bytes:
         """What a call writes."""
-        status, written = self._room.written(partial(call, self._handle, *arguments))
+        status, written = self._room.written(call, self._handle, *arguments)
         if status:
             self._check(status)
         return written
