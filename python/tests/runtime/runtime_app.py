@@ -264,6 +264,8 @@ async def few(ctx: Context, it):
         global few_run
         few_run += 1
         seen.append(few_run)
+        while len(seen) < 2:  # another one is at work beside it
+            await asyncio.sleep(0.01)
         await asyncio.sleep(0.05)
         few_run -= 1
 

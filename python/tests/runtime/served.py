@@ -3,6 +3,7 @@
 import asyncio
 import http.client
 import json
+import time
 
 import support
 from palqytun.runtime.engine import Engine
@@ -10,15 +11,15 @@ from palqytun.runtime.serving import Http, Settings
 
 
 class Served:
-    """`limit=0` as an option of the worker runs no handler."""
+    """`limit=0` as an option of the worker runs no handler. `ends`: seconds in which requests that have begun may end when it stops."""
 
-    def __init__(self, app, url, settings=Settings(), *, connections=1000, **worker):
+    def __init__(self, app, url, settings=Settings(), *, connections=1000, ends=1.0, **worker):
         self.engine = Engine(app, url, **{"idle": support.IDLE, "poll": 0.2, **worker})
-        self.http = Http(self.engine, settings, "127.0.0.1", 0, connections=connections, grace=1.0)
+        self.http = Http(self.engine, settings, "127.0.0.1", 0, connections=connections, grace=ends)
 
     async def __aenter__(self):
         self.running = asyncio.create_task(self.engine.run())
-        await asyncio.wait_for(self.engine.is_open(), 60)
+        await asyncio.wait_for(self.engine.is_open(), support.LONG)
         self.address = await self.http.start()
         self.port = int(self.address.rpartition(":")[2])
         return self
@@ -34,6 +35,11 @@ class Served:
         """How many connections the server has."""
         return len(self.http._server.server_state.connections)
 
+    @property
+    def requests(self):
+        """How many requests are in work: those whose head has come."""
+        return len(self.http._server.server_state.tasks)
+
     async def rows(self, sql, *values):
         return await self.engine.transact(lambda db: db.rows(sql, values))
 
@@ -42,7 +48,7 @@ class Served:
         return await asyncio.to_thread(self._asked, path, body, method, {name.replace("_", "-"): it for name, it in headers.items()})
 
     def _asked(self, path, body, method, headers):
-        connection = http.client.HTTPConnection("127.0.0.1", self.port, timeout=60)
+        connection = http.client.HTTPConnection("127.0.0.1", self.port, timeout=support.LONG)
         try:
             connection.request(method, path, json.dumps(body).encode() if not isinstance(body, (bytes, type(None))) else body, headers)
             reply = connection.getresponse()
@@ -62,14 +68,14 @@ class Served:
             await writer.drain()
             await asyncio.sleep(0.02)
         try:
-            return await asyncio.wait_for(reader.read(), 30)
+            return await asyncio.wait_for(reader.read(), support.LONG)
         finally:
             writer.close()
 
-    async def until(self, found, seconds=30):
+    async def until(self, found):
         """Waits until it is so."""
-        for _ in range(int(seconds / 0.02)):
-            if found():
-                return
+        until = time.monotonic() + support.LONG
+        while not found():
+            if time.monotonic() > until:
+                raise AssertionError("it isn't so")
             await asyncio.sleep(0.02)
-        raise AssertionError("it isn't so")

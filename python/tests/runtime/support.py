@@ -12,6 +12,7 @@ import pathlib
 import shutil
 import sys
 import tempfile
+import time
 import unittest
 
 PYTHON = pathlib.Path(__file__).parent.parent.parent
@@ -27,6 +28,7 @@ from palqytun.runtime.engine import Engine  # noqa: E402
 from palqytun.runtime.invocations import New  # noqa: E402
 
 IDLE = float(os.environ.get("PALQYTUN_TEST_IDLE", 0))
+LONG = 300.0  # seconds after which a test that waits has failed, however busy its host is
 
 
 def emptied(kind, folder):
@@ -94,7 +96,7 @@ class Runtime:
 
     async def __aenter__(self):
         self.task = asyncio.create_task(self.engine.run())
-        await asyncio.wait_for(self.engine.is_open(), 60)
+        await asyncio.wait_for(self.engine.is_open(), LONG)
         return self
 
     async def __aexit__(self, *error):
@@ -106,7 +108,7 @@ class Runtime:
         data = b"" if argument is None else json.dumps(argument).encode()
         return await self.engine.submit(New(name, handler, key, data, **options))
 
-    async def result(self, id, wait=60):
+    async def result(self, id, wait=LONG):
         kind, it = journal.answer(await self.engine.result(id, wait))
         return (json.loads(it) if it else None) if kind == "value" else it
 
@@ -120,9 +122,9 @@ class Runtime:
         return (await self.rows("SELECT status, error FROM invocations WHERE id=?", id))[0]
 
     async def until(self, id, status):
-        for _ in range(3000):
-            found = await self.status(id)
-            if found[0] == status:
-                return found
+        until = time.monotonic() + LONG
+        while (found := await self.status(id))[0] != status:
+            if time.monotonic() > until:
+                raise AssertionError(found)
             await asyncio.sleep(0.02)
-        raise AssertionError(found)
+        return found

@@ -140,7 +140,7 @@ def with_worker(test=None, **options):
         async def go():
             seen.clear()
             async with Runtime(app, self.url, **options) as runtime:
-                await asyncio.wait_for(test(self, runtime), 100)
+                await asyncio.wait_for(test(self, runtime), support.LONG)
 
         asyncio.run(go())
 

@@ -82,7 +82,7 @@ class Clients(support.OnADatabase):
                 async with Client(app, self.url) as client:
                     await test(client, "by itself")
 
-        asyncio.run(asyncio.wait_for(go(), 120))
+        asyncio.run(asyncio.wait_for(go(), support.LONG))
 
     def test_calls(self):
         async def go(client, way):
@@ -159,7 +159,7 @@ class Clients(support.OnADatabase):
 
         if self.kind == "sqlite":
             with self.assertRaises(InUse):
-                asyncio.run(asyncio.wait_for(go(), 60))
+                asyncio.run(asyncio.wait_for(go(), support.LONG))
 
 
 class Several(support.OnADatabase, unittest.TestCase):
@@ -181,7 +181,7 @@ class Several(support.OnADatabase, unittest.TestCase):
                         self.assertEqual(await client.call("Visa/main", "ann", key="v"), "ann")
                 self.assertIn("404 there is no handler Stock/take", await one.client.call(asks, "Stock/take"))
 
-        asyncio.run(asyncio.wait_for(go(), 120))
+        asyncio.run(asyncio.wait_for(go(), support.LONG))
 
     def test_a_client_whose_connection_is_lost(self):
         async def go():
@@ -202,7 +202,7 @@ class Several(support.OnADatabase, unittest.TestCase):
                     await sent.result()
                 self.assertEqual(raised.exception.code, 409)
 
-        asyncio.run(asyncio.wait_for(go(), 120))
+        asyncio.run(asyncio.wait_for(go(), support.LONG))
 
 
 if __name__ == "__main__":

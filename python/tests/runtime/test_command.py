@@ -32,7 +32,7 @@ def environment(**more):
 
 
 def palqytun(*words, folder=None, **more):
-    done = subprocess.run([sys.executable, "-m", "palqytun", *words], env=environment(**more), cwd=folder, capture_output=True, text=True, timeout=180)
+    done = subprocess.run([sys.executable, "-m", "palqytun", *words], env=environment(**more), cwd=folder, capture_output=True, text=True, timeout=support.LONG)
     return done.returncode, done.stdout, done.stderr
 
 
@@ -50,7 +50,7 @@ class Server:
         request = urllib.request.Request(self.address + path, data, {key.replace("_", "-"): it for key, it in headers.items()}, method=method)
         for _ in range(1000):
             try:
-                with urllib.request.urlopen(request, timeout=120) as reply:
+                with urllib.request.urlopen(request, timeout=support.LONG) as reply:
                     status, body = reply.status, reply.read()
             except urllib.error.HTTPError as error:
                 status, body = error.code, error.read()
@@ -59,9 +59,14 @@ class Server:
             time.sleep(0.05)
         raise AssertionError("the worker has no database")
 
+    def until_suspended(self, made):
+        """Until an invocation waits that was sent."""
+        while self.ask(f"/-/invocations/{made['invocation']}")[1]["status"] != "suspended":
+            time.sleep(0.05)
+
     def end(self, number):
         self.process.send_signal(number)
-        self.process.wait(120)
+        self.process.wait(support.LONG)
         self.process.stdout.close()
 
 
@@ -110,23 +115,25 @@ class Serving(support.OnADatabase):
             assert it.ask("/Approval/a/ask/send?delay=x", "?")[0] == 400
             status, made = it.ask("/Approval/a/ask?wait=0.3", "red?")
             assert (status, made["status"]) == (202, "pending")
-            assert it.ask("/Approval/a/question", method="POST") == (200, "red?")
+            while (asked := it.ask("/Approval/a/question", method="POST")) == (200, None):
+                time.sleep(0.05)  # it hasn't begun yet
+            assert asked == (200, "red?")
             assert it.ask("/Approval/a/answer", "blue") == (200, None)
-            assert it.ask(f"/-/invocations/{made['invocation']}/result?wait=10") == (200, "blue")
+            assert it.ask(f"/-/invocations/{made['invocation']}/result?wait=600") == (200, "blue")
             _, listed = it.ask("/-/invocations?service=Approval&status=done")
             assert {row["handler"] for row in listed} == {"ask", "question", "answer"}
             status, lines = it.ask(f"/-/invocations/{made['invocation']}/journal")
             assert lines[0] == "Input headers=() value=b'\"red?\"'" and any(line.startswith("GetPromise") for line in lines) and lines[-1].startswith("Output")
             _, made = it.ask("/Approval/b/ask/send", "green?")
             assert it.ask(f"/-/invocations/{made['invocation']}/cancel", method="POST") == (200, {"done": True, "said": "cancelled"})
-            assert it.ask(f"/-/invocations/{made['invocation']}/result?wait=10") == (409, {"code": 409, "message": "cancelled"})
+            assert it.ask(f"/-/invocations/{made['invocation']}/result?wait=600") == (409, {"code": 409, "message": "cancelled"})
             assert it.ask(f"/-/invocations/{made['invocation']}/resume", method="POST")[0] == 409
 
     def test_the_command(self):
         with server(self.url, self.folder) as it:
             it.ask("/Shop/order", ORDER)
             _, waits = it.ask("/Approval/a/ask/send", "red?")
-            time.sleep(1)
+            it.until_suspended(waits)
             status, listed, _ = palqytun("invocations", "list", "--db", self.url)
             assert status == 0 and "done" in listed and "suspended  Approval/a/ask" in listed
             status, shown, _ = palqytun("invocations", "inspect", waits["invocation"], "--db", self.url)
@@ -178,7 +185,7 @@ class Commands(support.InAFolder, unittest.TestCase):
         with server(self.url, self.folder) as it:
             _, made = it.ask("/Approval/a/ask/send", "red?")
             it.ask("/Stock/pen/take", 1)
-            time.sleep(1)
+            it.until_suspended(made)
         changed = self.written("changed.py", SHOP.read_text().replace('    ctx.set("question", question)\n', '    await ctx.sleep(1)\n    ctx.set("question", question)\n'))
         status, said, _ = palqytun("replay", changed, "--db", self.url)
         assert status == 1 and said.splitlines()[3:] == ["1 journals are replayed, 1 differ", PROVES]
@@ -259,7 +266,7 @@ class Commands(support.InAFolder, unittest.TestCase):
                 self.assertIn(name, said)
                 self.assertIn(f"pip install 'palqytun[{extra}]'", said)
         code = "import sys, palqytun.runtime.command as it; sys.exit(any(name in sys.modules for name in ('starlette', 'jinja2', 'psycopg')))"
-        self.assertEqual(subprocess.run([sys.executable, "-c", code], env=environment(), timeout=60).returncode, 0)
+        self.assertEqual(subprocess.run([sys.executable, "-c", code], env=environment(), timeout=support.LONG).returncode, 0)
 
     def test_where_it_may_listen(self):
         app = self.written("one.py", f"{APP}app = App(words)\n")
@@ -290,9 +297,9 @@ class Stopping(support.OnADatabase):
                 time.sleep(0.05)
             it.process.send_signal(signal.SIGTERM)
             for one in asked:
-                status, said = one.result(60)
+                status, said = one.result(support.LONG)
                 self.assertEqual((status, said["status"]), (202, "pending"))
-            self.assertEqual(it.process.wait(60), 0)
+            self.assertEqual(it.process.wait(support.LONG), 0)
             it.process.stdout.close()
         with server(self.url, self.folder) as it:
             self.assertEqual(it.ask("/Approval/a/answer", "blue"), (200, None))

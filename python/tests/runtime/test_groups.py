@@ -92,7 +92,7 @@ class Groups(support.OnADatabase):
                 for n in range(20):
                     await to.submit(inserted(f"{n:02d}"))
                 self.assertFalse(late.done())
-                await asyncio.wait_for(late, 60)
+                await asyncio.wait_for(late, support.LONG)
 
         self.with_committer(test)
         self.assertEqual((len(tries), len(self.names())), (40, 21))
@@ -118,7 +118,7 @@ class Groups(support.OnADatabase):
                 slow = to.submit(waits)
                 while not to._working:
                     await asyncio.sleep(0)
-                await asyncio.wait_for(to.submit(inserted("next")), 60)
+                await asyncio.wait_for(to.submit(inserted("next")), support.LONG)
 
         self.with_committer(test)
         self.assertEqual(self.names(), ["next", "slow"])
@@ -143,8 +143,8 @@ class Groups(support.OnADatabase):
                 slow = to.submit(waits)
                 while not to._working:
                     await asyncio.sleep(0)
-                await asyncio.wait_for(to.submit(inserted("next")), 60)
-                await asyncio.wait_for(slow, 60)
+                await asyncio.wait_for(to.submit(inserted("next")), support.LONG)
+                await asyncio.wait_for(slow, support.LONG)
 
         self.with_committer(test)
 
@@ -154,7 +154,7 @@ class Groups(support.OnADatabase):
         async def test(to):
             with mock.patch.object(to, "_free", side_effect=ValueError("a fault")), self.assertLogs("palqytun", "ERROR"):
                 with self.assertRaisesRegex(committer.Stopped, "a fault"):
-                    await asyncio.wait_for(to.submit(inserted("never")), 60)
+                    await asyncio.wait_for(to.submit(inserted("never")), support.LONG)
             self.assertTrue(to.is_lost.is_set())
 
         self.with_committer(test)
@@ -216,15 +216,14 @@ class AFileThatIsLocked(support.OnADatabase, unittest.TestCase):
                 self.assertEqual(await runtime.call("S/echo", 1), 1)
                 other = sqlite3.connect(self.url, isolation_level=None)
                 other.execute("BEGIN IMMEDIATE")
-                waits, longest, last = asyncio.create_task(runtime.call("S/echo", 2)), 0.0, time.monotonic()
-                end = last + 3
-                while time.monotonic() < end:
+                waits, made = asyncio.create_task(runtime.call("S/echo", 2)), runtime.engine._committer
+                self.assertEqual(made.db._connection.execute("PRAGMA busy_timeout").fetchall(), [(0,)])  # it isn't waited for in SQLite, but in the loop
+                before = made.counts["conflicts"]
+                while made.counts["conflicts"] < before + 20:
                     await asyncio.sleep(0.01)
-                    longest, last = max(longest, time.monotonic() - last), time.monotonic()
                 self.assertFalse(waits.done())
                 other.execute("ROLLBACK")
-                self.assertEqual(await asyncio.wait_for(waits, 20), 2)
-                self.assertLess(longest, 1.0)
+                self.assertEqual(await asyncio.wait_for(waits, support.LONG), 2)
                 other.close()
 
         asyncio.run(go())

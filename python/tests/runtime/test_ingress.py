@@ -5,6 +5,7 @@ import base64
 import resource
 import socket
 import struct
+import threading
 import time
 import unittest
 from unittest import mock
@@ -205,7 +206,7 @@ class Clients(support.OnADatabase, unittest.TestCase):
         begun = time.monotonic()
         status, said, _ = await served.ask("/S/waits")
         self.assertEqual((status, said["status"]), (202, "pending"))
-        self.assertTrue(0.3 <= time.monotonic() - begun < 20)
+        self.assertGreaterEqual(time.monotonic() - begun, 0.3)
         self.assertEqual((await served.ask(f"/-/invocations/{said['invocation']}/result", method="GET"))[:2], (202, said))
         self.assertEqual((await served.ask(f"/-/invocations/{said['invocation']}/result?wait=0", method="GET"))[:2], (202, said))
 
@@ -228,9 +229,8 @@ class Clients(support.OnADatabase, unittest.TestCase):
             with mock.patch("resource.getrlimit", return_value=(soft, soft)):
                 self.assertEqual(connections_at_most(1000), most)
 
-    @with_ingress(Settings(patience=0.5), limit=0)
+    @with_ingress(Settings(patience=1.0), limit=0)
     async def test_clients_that_are_slow(self, served):
-        begun = time.monotonic()
         self.assertEqual(await served.raw(), b"")
         for pieces, text in [
             ((b"POST /S/ec",), b"the request hasn't come in time"),
@@ -239,7 +239,6 @@ class Clients(support.OnADatabase, unittest.TestCase):
         ]:
             said = await served.raw(*pieces)
             self.assertTrue(said.startswith(b"HTTP/1.1 408 ") and text in said, said)
-        self.assertLess(time.monotonic() - begun, 20)
         self.assertEqual(await served.rows("SELECT 1 FROM invocations"), [])
 
     @with_ingress(Settings(patience=0.5))
@@ -254,21 +253,20 @@ class Clients(support.OnADatabase, unittest.TestCase):
 
 @support.on_each_database
 class Stops(support.OnADatabase):
-    @with_ingress()
+    @with_ingress(ends=support.LONG)
     async def test_what_waits_is_told(self, served):
         waiting = [asyncio.create_task(served.ask("/S/waits")) for _ in range(5)]
         await served.until(lambda: len(served.engine._results) == 5)
         reader, writer = await served.client()
         writer.write(b"POST /S/echo HTTP/1.1\r\nhost: localhost\r\ncontent-length: 1\r\n\r\n")
-        await served.until(lambda: served.connections == 6)
-        await asyncio.sleep(0.2)
+        await served.until(lambda: served.requests == 6)
         served.http.stop()
         answers = await asyncio.gather(*waiting)
         stored = {row[0] for row in await served.rows("SELECT id FROM invocations")}
         self.assertEqual({said["invocation"] for _, said, _ in answers}, stored)
         self.assertEqual({(status, said["status"]) for status, said, _ in answers}, {(202, "pending")})
         writer.write(b"1")  # a request that has begun, and comes to its end while the worker stops
-        said = await asyncio.wait_for(reader.read(), 30)
+        said = await asyncio.wait_for(reader.read(), support.LONG)
         self.assertTrue(said.startswith(b"HTTP/1.1 503 ") and b"retry-after: 1" in said, said)
         self.assertEqual(await served.rows("SELECT COUNT(*) FROM invocations"), [(5,)])
 
@@ -307,6 +305,7 @@ def id_of(invocation, number):
 
 approvals = Service("A")
 begun: list = []
+in_replay, gate, replays = threading.Event(), threading.Event(), []
 
 
 @approvals.handler()
@@ -326,10 +325,20 @@ async def changes(ctx: Context, _: None) -> bool:
 
 @approvals.handler()
 async def slowly(ctx: Context, seconds: float) -> bool:
-    """Its own code takes some time, in each attempt and in each replay."""
+    """Its own code takes some time in a replay: until it may go on."""
     id, is_good = ctx.awakeable(bool)
     await ctx.run("tell", lambda: begun.append(id))
-    time.sleep(seconds)
+    if in_replay.is_set():
+        replays.append(gate.wait(seconds))
+    return await is_good
+
+
+@approvals.handler()
+async def grows(ctx: Context, count: int) -> bool:
+    id, is_good = ctx.awakeable(bool)
+    begun.append(id)
+    for _ in range(count):
+        await ctx.run("step", lambda: None)
     return await is_good
 
 
@@ -378,20 +387,21 @@ class Awakeables(support.OnADatabase):
 
     def test_a_check_does_not_hold_the_loop(self):
         """Of a suspended invocation the stored journal is replayed beside the loop."""
-        begun.clear()
+        for it in (begun, replays, in_replay, gate):
+            it.clear()
 
         async def go():
             async with Served(App(approvals), self.url) as served:
-                await served.ask("/A/slowly/send", 1.5)
+                await served.ask("/A/slowly/send", 20)
                 while await served.rows("SELECT status FROM invocations") != [("suspended",)]:
                     await asyncio.sleep(0.02)
-                asked, held, last = asyncio.create_task(self.resolved(served, begun[0], "yes")), 0.0, time.monotonic()
-                while not asked.done():
-                    await asyncio.sleep(0.005)
-                    now = time.monotonic()
-                    held, last = max(held, now - last), now
+                in_replay.set()
+                asked = asyncio.create_task(self.resolved(served, begun[0], "yes"))
+                await served.ask("/-/health", method="GET")
+                gate.set()  # by the loop, which a replay in it would hold
                 self.assertEqual((await asked)[0], 400)
-                self.assertLess(held, 1.2)
+                self.assertEqual(replays, [True])
+                in_replay.clear()
 
         asyncio.run(go())
 
@@ -421,6 +431,27 @@ class Awakeables(support.OnADatabase):
                 while await served.rows("SELECT status FROM invocations") != [("paused",)]:
                     await asyncio.sleep(0.02)
                 self.assertEqual((await self.resolved(served, begun[0], "yes"))[0], 200)
+
+        asyncio.run(go())
+
+
+class OfAnotherWorker(support.OnADatabase, unittest.TestCase):
+    kind = "postgres"
+
+    def test_an_awakeable_whose_journal_grows(self):
+        """Another worker executes it, so this one reads what is stored, again and again while more is."""
+        begun.clear()
+
+        async def go():
+            async with Served(App(approvals), self.url, limit=0) as served, support.Runtime(App(approvals), self.url) as other:
+                id, said = await other.send("A/grows", 40), set()
+                await served.until(lambda: begun)
+                path = f"/-/awakeables/{begun[0]}/resolve"
+                while (await other.rows("SELECT COUNT(*) FROM journal WHERE invocation=?", id))[0][0] < 81:
+                    said.add((await served.ask(path, "yes"))[0])
+                self.assertEqual(said, {400})
+                self.assertEqual((await served.ask(path, True))[0], 200)
+                self.assertEqual(await other.result(id), True)
 
         asyncio.run(go())
 

@@ -78,7 +78,7 @@ class Timers(support.OnADatabase):
             async with Runtime(app, self.url, idle=idle) as runtime:
                 await test(runtime)
 
-        asyncio.run(asyncio.wait_for(go(), 120))
+        asyncio.run(asyncio.wait_for(go(), support.LONG))
 
     def test_those_of_sleeps_that_have_lost_are_deleted(self):
         async def test(runtime):
@@ -113,7 +113,7 @@ class States(support.OnADatabase):
                 seen = ["small", "small", large, large, "again", "again", None, None, large, large, ["value"], None]
                 self.assertEqual(await runtime.call("Large/changes", key="k"), seen)
 
-        asyncio.run(asyncio.wait_for(go(), 120))
+        asyncio.run(asyncio.wait_for(go(), support.LONG))
 
     def test_a_large_value_is_not_handed_out(self):
         """What each attempt of its key is fed is as small as that of another key."""
@@ -132,7 +132,7 @@ class States(support.OnADatabase):
                 self.assertEqual(await runtime.result(id), 1)
 
         with mock.patch.object(Attempt, "_begun", counted):
-            asyncio.run(asyncio.wait_for(go(), 120))
+            asyncio.run(asyncio.wait_for(go(), support.LONG))
         self.assertEqual([handler for handler, _ in fed], ["put", "waits", "waits"])
         self.assertLess(max(size for _, size in fed), 1000)
 

@@ -9,11 +9,12 @@ import io
 import pathlib
 import sqlite3
 import sys
+import time
 import unittest
 from unittest import mock
 
 import support  # isort: skip
-from support import Runtime
+from support import LONG, Runtime
 
 from palqytun.runtime import command, inbox, journal
 from palqytun.runtime.database import connect, schema
@@ -124,11 +125,10 @@ class Migrations(support.OnADatabase):
             self.assertEqual(await runtime.result(asks), ["asked", "ben paid"])
             await runtime.call("Visa/stamp", "stamped", "v")
             self.assertEqual(await runtime.result(await runtime.send("Visa/main", "cleo", "v")), "stamped")
-            for _ in range(600):
-                if not (left := await runtime.rows("SELECT id, handler, status, error FROM invocations WHERE status<>'done'")):
-                    break
+            until = time.monotonic() + LONG
+            while left := await runtime.rows("SELECT id, handler, status, error FROM invocations WHERE status<>'done'"):
+                self.assertLess(time.monotonic(), until, left)
                 await asyncio.sleep(0.02)
-            self.assertEqual(left, [])
             self.assertEqual([await runtime.call("Seat/taken", key=key) for key in ("a", "late")], [10, 1])
 
     def test_invocations_in_flight_go_on(self):

@@ -5,7 +5,6 @@ import contextlib
 import logging
 import pathlib
 import signal
-import socket
 import subprocess
 import sys
 import threading
@@ -40,7 +39,7 @@ class Mounted(support.OnADatabase):
             async with site.router.lifespan_context(site), httpx.AsyncClient(app=site, base_url="http://localhost") as client:
                 return [await client.request(*it[:2], **(it[2] if len(it) > 2 else {})) for it in requests]
 
-        return asyncio.run(asyncio.wait_for(go(), 60))
+        return asyncio.run(asyncio.wait_for(go(), support.LONG))
 
     def test_handlers_and_the_page(self):
         own, called, keyed, listed, none = self.asked(
@@ -93,43 +92,44 @@ class Served(support.OnADatabase, unittest.TestCase):
             self.assertEqual((await said.get())["type"], "lifespan.shutdown.complete")
             await serving
 
-        asyncio.run(asyncio.wait_for(go(), 60))
+        asyncio.run(asyncio.wait_for(go(), support.LONG))
 
 
 PROGRAM = """
-import sys
+import socket, sys
 sys.path[:0] = {path!r}
 import runtime_app, uvicorn
 from starlette.applications import Starlette
 from starlette.routing import Mount
-durable = runtime_app.app.asgi(sys.argv[1], poll=0.2)
+durable = runtime_app.app.asgi(sys.argv[1], poll=0.2, idle=600)
 site = Starlette(routes=[Mount("/durable", durable)], lifespan=durable.lifespan)
-uvicorn.run(site, port=int(sys.argv[2]), log_level="error")
+listens = socket.create_server(("127.0.0.1", 0))
+print(listens.getsockname()[1], flush=True)
+uvicorn.Server(uvicorn.Config(site, log_level="error")).run([listens])
 """
 
 
 class Stopped(support.OnADatabase, unittest.TestCase):
     def test_a_server_that_begins_to_stop(self):
         """A user's own uvicorn is told to stop while a request waits: it is answered at once, and the process ends."""
-        with socket.create_server(("127.0.0.1", 0)) as free:
-            port = free.getsockname()[1]
         path = [str(support.PYTHON / "src"), str(pathlib.Path(runtime_app.__file__).parent)]
         for number in (signal.SIGTERM, signal.SIGINT):
-            server = subprocess.Popen([sys.executable, "-c", PROGRAM.format(path=path), self.url, str(port)], stderr=subprocess.DEVNULL)
+            words = [sys.executable, "-c", PROGRAM.format(path=path), self.url]
+            server = self.enterContext(subprocess.Popen(words, stdout=subprocess.PIPE, stderr=subprocess.DEVNULL, text=True))
             self.addCleanup(server.kill)
-            at = f"http://127.0.0.1:{port}/durable"
+            at = f"http://127.0.0.1:{server.stdout.readline().strip()}/durable"
             self.until(lambda: httpx.get(f"{at}/-/health").status_code == 200)
             answers = []
-            waits = threading.Thread(target=lambda: answers.append(httpx.post(f"{at}/S/waits", timeout=60)))
+            waits = threading.Thread(target=lambda: answers.append(httpx.post(f"{at}/S/waits", timeout=support.LONG)))
             waits.start()
             self.until(lambda: '"running"' in httpx.get(f"{at}/-/invocations").text)
             server.send_signal(number)
-            waits.join(10)
+            waits.join(support.LONG)
             self.assertEqual([it.status_code for it in answers], [202])
-            self.assertEqual(server.wait(20), 0)
+            self.assertEqual(server.wait(support.LONG), 0)
 
-    def until(self, holds, seconds=60):
-        until = time.monotonic() + seconds
+    def until(self, holds):
+        until = time.monotonic() + support.LONG
         while time.monotonic() < until:
             with contextlib.suppress(httpx.HTTPError):
                 if holds():
@@ -154,7 +154,7 @@ class Unproved(support.OnADatabase, unittest.TestCase):
             library = types.SimpleNamespace(is_proved=is_proved, build="some build")
             with mock.patch.object(process, "library", return_value=library), self.assertLogs("palqytun", "WARNING") as logged:
                 logging.getLogger("palqytun").warning("the first")
-                asyncio.run(asyncio.wait_for(main(), 60))
+                asyncio.run(asyncio.wait_for(main(), support.LONG))
             self.assertEqual(len(logged.output), 1 + lines, logged.output)
 
 
@@ -172,7 +172,7 @@ class Broken(support.InAFolder, unittest.TestCase):
                     async with second.lifespan():
                         self.fail("it began")
 
-        asyncio.run(asyncio.wait_for(go(), 60))
+        asyncio.run(asyncio.wait_for(go(), support.LONG))
 
 
 if __name__ == "__main__":

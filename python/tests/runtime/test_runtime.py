@@ -108,7 +108,7 @@ class Handlers(support.OnADatabase):
         assert await runtime.call("S/later") == 28
         while await runtime.call("O/look", key="later") == [None, None, []]:
             await asyncio.sleep(0.01)
-        assert 0.1 < time.time() - begun < 60
+        assert time.time() - begun > 0.1
 
     @with_runtime
     async def test_workflows_and_promises(self, runtime):
@@ -203,7 +203,8 @@ class Handlers(support.OnADatabase):
                 await runtime.engine.notify(id, journal.named_signal("go", journal.value(b"1")))  # it isn't awake by this
                 [row] = await runtime.rows(f"SELECT {invocations.CLAIMED} FROM invocations WHERE id=?", id)
                 [first] = await runtime.engine.transact(lambda db: invocations.claim(db, "dead", [invocations.Claimable(*row)]))
-                await asyncio.sleep(0.5)  # the worker sees that `dead` has no lease
+                while (await runtime.rows("SELECT epoch FROM invocations WHERE id=?", id))[0][0] == first.lease.epoch:  # `dead` has no lease
+                    await asyncio.sleep(0.02)
                 sleep = bytes.fromhex("0012" "0000000000000014") + bytes(8) + (1).to_bytes(4, "big") + bytes(8)
                 with self.assertRaises(Fenced):
                     await runtime.engine.transact(lambda db: storing.store(db, runtime.engine.app, first, sleep, 0))
@@ -219,7 +220,7 @@ class Handlers(support.OnADatabase):
                 while len(seen) < 3:
                     await asyncio.sleep(0.01)
 
-        asyncio.run(asyncio.wait_for(go(), 60))
+        asyncio.run(asyncio.wait_for(go(), support.LONG))
         assert set(seen) == {"tick"}
 
     @with_runtime
@@ -236,7 +237,7 @@ class Handlers(support.OnADatabase):
                     await asyncio.sleep(0.05)
                 assert await runtime.rows("SELECT 1 FROM invocations") == []
 
-        asyncio.run(asyncio.wait_for(go(), 60))
+        asyncio.run(asyncio.wait_for(go(), support.LONG))
 
     @with_runtime
     async def test_stored_journals_are_replayed_by_changed_code(self, runtime):

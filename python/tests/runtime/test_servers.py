@@ -86,9 +86,10 @@ class OnAServer(support.OnADatabase, unittest.TestCase):
             return "done"
 
         async def go():
-            to = Committer(await connect(with_settings(self.url, {"statement_timeout": "200ms"})))
-            self.assertEqual(await asyncio.wait_for(to.submit(slow), 60), "done")
-            self.assertEqual((len(tries), to.lost), (3, None))
+            to = Committer(await connect(with_settings(self.url, {"statement_timeout": "1s"})))
+            self.assertEqual(await asyncio.wait_for(to.submit(slow), support.LONG), "done")
+            self.assertGreaterEqual(len(tries), 3)
+            self.assertIsNone(to.lost)
             await to.close()
 
         asyncio.run(go())
@@ -107,14 +108,15 @@ class OnAServer(support.OnADatabase, unittest.TestCase):
                     beside = [submit(lambda db, n=n: db.change("INSERT INTO state VALUES ('S', 'k', ?, '1')", (f"beside {n}",))) for n in range(5)]
                     many = [submit(lambda db: db.change("UPDATE state SET value='2' WHERE name='locked'")) for _ in range(8)]
                     waits = asyncio.gather(*many)
-                    await asyncio.wait_for(asyncio.gather(*beside), 20)
+                    await asyncio.wait_for(asyncio.gather(*beside), support.LONG)
                     end = time.monotonic() + 4
                     while time.monotonic() < end:
-                        self.assertEqual(await asyncio.wait_for(runtime.call("S/echo", 1), 20), 1)
-                    is_alive = f"SELECT COUNT(*) FROM workers WHERE lease>{outside.clock}"
-                    self.assertEqual((await runtime.rows(is_alive), waits.done()), ([(1,)], False))
+                        self.assertEqual(await runtime.call("S/echo", 1), 1)
+                    while await runtime.rows(f"SELECT COUNT(*) FROM workers WHERE lease>{outside.clock}") != [(1,)]:
+                        await asyncio.sleep(0.1)
+                    self.assertFalse(waits.done())
                     await outside.rollback()
-                    self.assertEqual(await asyncio.wait_for(waits, 20), [1] * 8)
+                    self.assertEqual(await asyncio.wait_for(waits, support.LONG), [1] * 8)
                     self.assertEqual(runtime.engine.counts["sessions"], 1)
 
         asyncio.run(go())
@@ -133,7 +135,7 @@ class OnAServer(support.OnADatabase, unittest.TestCase):
                 waits = runtime.engine._committer.submit(slow, is_slow=True)
                 while not (used and asyncio.get_running_loop().remove_reader(used[0])):
                     await asyncio.sleep(0.001)
-                self.assertEqual((await asyncio.wait_for(waits, 60))[0][1], 7)
+                self.assertEqual((await asyncio.wait_for(waits, support.LONG))[0][1], 7)
                 self.assertEqual(await runtime.call("S/echo", 1), 1)
                 self.assertEqual(runtime.engine.counts["sessions"], 1)
 
@@ -159,12 +161,18 @@ class OnAServer(support.OnADatabase, unittest.TestCase):
         asyncio.run(go())
 
     def test_a_slow_statement_stops_nobody(self):
+        async def slow(db):
+            await db.change("SET LOCAL lock_timeout=0")
+            await db.rows("SELECT pg_advisory_xact_lock(7)")
+
         async def go():
-            async with Runtime(runtime_app.app, self.url) as runtime:
-                slow = runtime.engine._committer.submit(lambda db: db.rows("SELECT pg_sleep(12)"), is_slow=True)
-                self.assertEqual(await runtime.call("S/echo", 1), 1)
-                self.assertFalse(slow.done())
-                await slow
+            async with two(self.url) as (outside, _), Runtime(runtime_app.app, self.url) as runtime:
+                await outside.rows("SELECT pg_advisory_lock(7)")
+                waits = runtime.engine._committer.submit(slow, is_slow=True)
+                self.assertEqual([await runtime.call("S/echo", n) for n in range(3)], [0, 1, 2])
+                self.assertFalse(waits.done())
+                await outside.rows("SELECT pg_advisory_unlock(7)")
+                await asyncio.wait_for(waits, support.LONG)
 
         asyncio.run(go())
 
@@ -174,10 +182,14 @@ class OnAServer(support.OnADatabase, unittest.TestCase):
             db.many("INSERT INTO workers VALUES (?, 0)", [("a",), ("b",)])
             db.change("SELECT 1")
 
+        have = set()
+
         def both(first, second):
             async def operation(db):
                 await db.change("UPDATE workers SET lease=lease+1 WHERE id=?", (first,))
-                await asyncio.sleep(0.3)
+                have.add(first)
+                while len(have) < 2:
+                    await asyncio.sleep(0.01)
                 await db.change("UPDATE workers SET lease=lease+1 WHERE id=?", (second,))
 
             return operation
@@ -185,7 +197,7 @@ class OnAServer(support.OnADatabase, unittest.TestCase):
         async def go():
             url = with_settings(self.url, {"deadlock_timeout": "100ms"})
             one, other = Committer(await connect(url)), Committer(await connect(url))
-            await asyncio.wait_for(asyncio.gather(one.submit(both("a", "b")), other.submit(both("b", "a"))), 60)
+            await asyncio.wait_for(asyncio.gather(one.submit(both("a", "b")), other.submit(both("b", "a"))), support.LONG)
             self.assertEqual(await one.submit(lambda db: db.rows("SELECT id, lease FROM workers ORDER BY id")), [("a", 2.0), ("b", 2.0)])
             self.assertGreater(one.counts["conflicts"] + other.counts["conflicts"], 0)
             await one.close()
@@ -199,7 +211,7 @@ class OnAServer(support.OnADatabase, unittest.TestCase):
                 words = []
                 end = await one.listen("listener", words.append)
                 await other.rows("SELECT pg_terminate_backend(pid) FROM pg_stat_activity WHERE query LIKE 'LISTEN%' AND pid<>pg_backend_pid()")
-                until = time.monotonic() + 30
+                until = time.monotonic() + support.LONG
                 while "ready" not in words and time.monotonic() < until:
                     await asyncio.sleep(0.05)
                 await other.begin()
@@ -217,9 +229,11 @@ class OnAServer(support.OnADatabase, unittest.TestCase):
 
         async def go():
             async with Runtime(runtime_app.app, self.url, lease=2) as runtime:
-                time.sleep(5)
-                [(left,)] = await runtime.rows("SELECT MAX(lease) - extract(epoch from clock_timestamp())::float8 FROM workers")
-                self.assertGreater(left, 0)
+                beats, begun, beat = runtime.engine._beats, time.monotonic(), set()
+                while len(beat) < 4 and time.monotonic() < begun + support.LONG:
+                    time.sleep(0.1)
+                    beat.add(beats.last)
+                self.assertEqual(len(beat), 4)
                 [worker] = {it for it, in await runtime.rows("SELECT id FROM workers")}
                 await runtime.rows("SELECT 1 FROM workers FOR UPDATE")
                 await runtime.engine.transact(lambda db: db.change("DELETE FROM workers"))  # it was thought dead
@@ -239,7 +253,7 @@ class OwnCluster(unittest.TestCase):
         self.cluster = self.enterContext(postgres.cluster({"restart_after_crash": "on"}))
 
     async def ended(self, runtime, count):
-        until = time.monotonic() + 120
+        until = time.monotonic() + support.LONG
         while time.monotonic() < until:
             with contextlib.suppress(Exception):  # the database is away
                 if (await runtime.rows("SELECT COUNT(*) FROM invocations WHERE status='done'")) == [(count,)]:
@@ -256,7 +270,7 @@ class OwnCluster(unittest.TestCase):
                     await runtime.send("Servers/steps", 30)
                 for mode in ("fast", "immediate"):
                     await asyncio.to_thread(self.cluster.restart, mode)
-                    await asyncio.wait_for(runtime.engine.is_open(), 60)
+                    await asyncio.wait_for(runtime.engine.is_open(), support.LONG)
                 self.assertEqual(await self.ended(runtime, 10), [(10 * (2 + 2 * 30),)])
                 self.assertGreater(runtime.engine.counts["sessions"], 1)
 
@@ -274,12 +288,13 @@ class OwnCluster(unittest.TestCase):
             async with Runtime(runtime_app.app, self.cluster.url) as runtime:
                 self.assertEqual(await runtime.call("S/echo", 1), 1)
                 await asyncio.to_thread(only_reads, "on")
-                await asyncio.sleep(0.3)
+                while await runtime.rows("SELECT current_setting('transaction_read_only')") != [("on",)]:
+                    await asyncio.sleep(0.05)
                 waits = asyncio.create_task(runtime.call("S/echo", 2))
                 await asyncio.sleep(1.5)
                 self.assertFalse(waits.done())
                 await asyncio.to_thread(only_reads, "off")
-                self.assertEqual(await asyncio.wait_for(waits, 60), 2)
+                self.assertEqual(await asyncio.wait_for(waits, support.LONG), 2)
                 self.assertEqual(runtime.engine.counts["sessions"], 1)
 
         asyncio.run(go())
@@ -308,13 +323,13 @@ class OwnCluster(unittest.TestCase):
                 ids = [await runtime.engine.submit(New("Servers", "steps", argument=b"20")) for _ in range(5)]
                 fill()
                 sent = [asyncio.create_task(runtime.engine.submit(New("Servers", "steps", argument=b"300"))) for _ in range(10)]
-                until = time.monotonic() + 60
+                until = time.monotonic() + support.LONG
                 while not (conflicts := runtime.engine._committer.counts["conflicts"]) and time.monotonic() < until:
                     await asyncio.sleep(0.05)
                 self.assertGreater(conflicts, 0)
                 filler.unlink()
-                for id in [*ids, *await asyncio.wait_for(asyncio.gather(*sent), 60)]:
-                    self.assertIn(await runtime.result(id, 60), (20, 300))
+                for id in [*ids, *await asyncio.wait_for(asyncio.gather(*sent), support.LONG)]:
+                    self.assertIn(await runtime.result(id), (20, 300))
                 self.assertEqual(runtime.engine.counts["sessions"], 1)
 
         asyncio.run(go())
@@ -382,17 +397,17 @@ class Networks(support.OnADatabase, unittest.TestCase):
                     await asyncio.sleep(0.02)
                 async with Runtime(app, self.url, lease=1.5, idle=60) as near:
                     wire.stop()
-                    self.assertEqual(await near.result(id, 60), 40)
+                    self.assertEqual(await near.result(id), 40)
                     self.assertGreater(time.monotonic() - begun, 1.5)
                     [(epoch,)] = await near.rows("SELECT epoch FROM invocations WHERE id=?", id)
-                    self.assertEqual(epoch, 2)
+                    self.assertGreaterEqual(epoch, 2)
                     [(commands, completions)] = await near.rows("SELECT COUNT(*) FILTER (WHERE completes IS NULL), COUNT(completes) FROM journal WHERE invocation=?", id)
                     self.assertEqual((commands, completions), (42, 40))  # with the input and the output
                     wire.go()
-                    self.assertEqual(await asyncio.wait_for(far.call("Servers/slowly", 2), 60), 2)
+                    self.assertEqual(await asyncio.wait_for(far.call("Servers/slowly", 2), support.LONG), 2)
             wire.end()
 
-        asyncio.run(asyncio.wait_for(go(), 120))
+        asyncio.run(asyncio.wait_for(go(), 2 * support.LONG))
 
 
 class Pipelines(support.OnADatabase, unittest.TestCase):
@@ -463,9 +478,20 @@ class Pipelines(support.OnADatabase, unittest.TestCase):
 
         async def go():
             to = Committer(await connect(self.url))
-            with mock.patch.object(to.db, "another", side_effect=Conflict("too many")), self.assertLogs("palqytun") as said:
-                slow = to.submit(lambda db: db.rows("SELECT pg_sleep(0.5)"))
-                await asyncio.sleep(0.05)
+            tried = asyncio.Event()
+
+            async def another():
+                tried.set()
+                raise Conflict("too many")
+
+            async def waits(db):
+                await tried.wait()
+                await db.rows("SELECT pg_sleep(0.2)")
+
+            with mock.patch.object(to.db, "another", another), self.assertLogs("palqytun") as said:
+                slow = to.submit(waits)
+                while not to._working:
+                    await asyncio.sleep(0)
                 self.assertEqual(await to.submit(lambda db: db.rows("SELECT 1")), [(1,)])
                 self.assertTrue(slow.done())
             self.assertIn("too many", said.output[0])

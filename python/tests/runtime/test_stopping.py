@@ -9,6 +9,7 @@ import textwrap
 import threading
 import time
 import unittest
+from unittest import mock
 
 import support  # isort: skip
 from palqytun.runtime import App, Context, Service, gather
@@ -18,7 +19,9 @@ from support import Runtime
 
 service = Service("S")
 begun: list = []
+logged: list = []
 hung = threading.Event()
+HELD = "the event loop is held"
 
 
 @service.handler()
@@ -49,13 +52,14 @@ async def waits(ctx: Context, _: None) -> str:
 async def hangs(ctx: Context, _: None) -> str:
     begun.append("hangs")
     if len(begun) == 1:
-        await ctx.run("hangs", hung.wait, 30)
+        await ctx.run("hangs", hung.wait, 3600)
     return "free"
 
 
 @service.handler()
 async def blocks(ctx: Context, seconds: float) -> None:
-    time.sleep(seconds)
+    while not any(HELD in it for it in logged):
+        time.sleep(seconds)
 
 
 app = App(service)
@@ -69,7 +73,7 @@ class Stopping(support.OnADatabase):
 
     def test_runs_end_within_the_grace_and_are_executed_once(self):
         async def go():
-            async with Runtime(app, self.url, grace=20, idle=5) as runtime:
+            async with Runtime(app, self.url, grace=support.LONG, idle=5) as runtime:
                 id = await runtime.send("S/slow", 0.5)
                 while len(begun) < 2:
                     await asyncio.sleep(0.01)
@@ -105,17 +109,15 @@ class Stopping(support.OnADatabase):
                 id = await runtime.send("S/hangs")
                 while not begun:
                     await asyncio.sleep(0.01)
-                before = time.monotonic()
-            assert time.monotonic() - before < 10
             async with Runtime(app, self.url, lease=60) as runtime:  # nobody's lease has to run out
                 assert await runtime.result(id) == "free"
             hung.set()
 
-        asyncio.run(go())
+        asyncio.run(asyncio.wait_for(go(), support.LONG))
 
     def test_what_has_no_attempt_is_taken_back(self):
         async def go():
-            async with Runtime(app, self.url, idle=60, lease=0.6) as runtime:
+            async with Runtime(app, self.url, idle=600, lease=3) as runtime:
                 id = await runtime.send("S/waits")
                 await runtime.until(id, "running")
                 while id not in runtime.engine.live:
@@ -125,51 +127,52 @@ class Stopping(support.OnADatabase):
                     await asyncio.sleep(0.01)
                 assert (await runtime.rows("SELECT how FROM attempts WHERE invocation=?", id)) == [("lost",)]
 
-        with self.assertLogs("palqytun", "WARNING") as logged:
-            asyncio.run(asyncio.wait_for(go(), 60))
-        assert any("has no attempt, and is tried again" in it for it in logged.output)
+        with self.assertLogs("palqytun", "WARNING") as said:
+            asyncio.run(asyncio.wait_for(go(), support.LONG))
+        assert any("has no attempt, and is tried again" in it for it in said.output)
 
     def test_who_holds_the_loop_is_said(self):
         async def go():
             async with Runtime(app, self.url) as runtime:
-                await runtime.call("S/blocks", 2.8)
-                await asyncio.sleep(0.5)
+                await runtime.call("S/blocks", 0.3)
 
-        with self.assertLogs("palqytun", "WARNING") as logged:
+        with self.assertLogs("palqytun", "WARNING") as watched, mock.patch.object(sys.modules[__name__], "logged", watched.output):
             asyncio.run(go())
-        said = [it for it in logged.output if "the event loop is held" in it]
-        assert said and "S/blocks of inv_" in said[0] and f"{__file__}:" in said[0] and said[0].endswith(": time.sleep(seconds)"), logged.output
+        said = [it for it in watched.output if HELD in it]
+        assert said and "S/blocks of inv_" in said[0] and f"{__file__}:" in said[0], watched.output
+        assert said[0].endswith((": time.sleep(seconds)", ": while not any(HELD in it for it in logged):")), watched.output
 
 
-def ended(program, *signals):
-    """How a program ends: its status, what it said, and for how many seconds it ran after the first signal."""
+def ended(program, *signals, again=False):
+    """How a program ends: its status, and what it said. `again`: the last signal is sent until it has ended."""
     environment = {**os.environ, "PYTHONPATH": str(support.PYTHON / "src")}
     how = {"env": environment, "stdout": subprocess.PIPE, "stderr": subprocess.STDOUT, "text": True}
     with subprocess.Popen([sys.executable, "-c", textwrap.dedent(program)], **how) as it:
         if signals:
             it.stdout.readline()
-        before = time.monotonic()
         for number in signals:
             it.send_signal(number)
-            time.sleep(0.5)
-        said, _ = it.communicate(timeout=60)
-        return it.returncode, said, time.monotonic() - before
+        while again and it.poll() is None:
+            time.sleep(0.2)
+            it.send_signal(number)
+        said, _ = it.communicate(timeout=support.LONG)
+        return it.returncode, said
 
 
 class Processes(unittest.TestCase):
     def test_a_loop_that_doesnt_answer_ends_its_process(self):
-        status, said, _ = ended("""
+        status, said = ended("""
             import asyncio, time
             from palqytun.runtime.watchdog import Watchdog
             async def main():
                 Watchdog(asyncio.get_running_loop(), stuck=1.0)
-                time.sleep(30)
+                time.sleep(3600)
             asyncio.run(main())
         """)
         assert status == 70 and "didn't reply for 1 s, so this worker ends" in said, (status, said)
 
     def test_tasks_cant_end_the_loop(self):
-        status, said, _ = ended("""
+        status, said = ended("""
             import asyncio
             from palqytun.runtime import process
             async def exits():
@@ -192,7 +195,7 @@ class Processes(unittest.TestCase):
         assert status == 0 and "the end" in said and "SystemExit of a task would have ended the worker" in said, (status, said)
 
     def test_a_thread_that_stays_is_left(self):
-        status, said, _ = ended("""
+        status, said = ended("""
             import threading
             from palqytun.runtime import process
             threading.Thread(target=threading.Event().wait).start()
@@ -205,16 +208,17 @@ class Processes(unittest.TestCase):
             import asyncio, time
             from palqytun.runtime.process import Signals
             async def main():
-                Signals(asyncio.get_running_loop(), lambda: print("stops"), 30)
+                stops = asyncio.Event()
+                Signals(asyncio.get_running_loop(), lambda: print("stops") or stops.set(), 3600)
                 print("begun", flush=True)
-                time.sleep(3)
-                await asyncio.sleep(0.1)
+                time.sleep(SECONDS)
+                await stops.wait()
             asyncio.run(main())
         """
-        status, said, _ = ended(program, signal.SIGTERM)
+        status, said = ended(program.replace("SECONDS", "1"), signal.SIGTERM)
         assert status == 0 and "stops" in said, (status, said)
-        status, said, took = ended(program, signal.SIGTERM, signal.SIGTERM)
-        assert status == 128 + signal.SIGTERM and took < 2.5, (status, said, took)
+        status, said = ended(program.replace("SECONDS", "3600"), signal.SIGTERM, again=True)
+        assert status == 128 + signal.SIGTERM, (status, said)
 
 
 class Executed(unittest.IsolatedAsyncioTestCase):
@@ -238,7 +242,7 @@ class Executed(unittest.IsolatedAsyncioTestCase):
         await asyncio.sleep(0)
         await asyncio.sleep(0)
         assert sum(it.done() for it in tasks) == 5
-        await asyncio.wait_for(slots.take("other"), 1)
+        await asyncio.wait_for(slots.take("other"), support.LONG)
         tasks[7].cancel()
         slots.give("many")
         await asyncio.sleep(0)
@@ -255,18 +259,19 @@ class Executed(unittest.IsolatedAsyncioTestCase):
         slots.give("first")  # the second one has it, and doesn't know yet
         task.cancel()
         await asyncio.gather(task, return_exceptions=True)
-        await asyncio.wait_for(slots.take("third"), 1)
+        await asyncio.wait_for(slots.take("third"), support.LONG)
 
     async def test_a_threads_slot_is_free_once_it_has_ended(self):
-        executions, free = Executions(1, 1), threading.Event()
-        first = asyncio.create_task(executions.execute("first", free.wait, (30,)))
-        await asyncio.sleep(0.1)
+        executions, has_begun, free = Executions(1, 1), threading.Event(), threading.Event()
+        first = asyncio.create_task(executions.execute("first", lambda: has_begun.set() or free.wait(support.LONG), ()))
+        while not has_begun.is_set():
+            await asyncio.sleep(0.01)
         first.cancel()
         second = asyncio.create_task(executions.execute("second", lambda: 2, ()))
         done, _ = await asyncio.wait([second], timeout=0.3)
         assert not done
         free.set()
-        assert (await asyncio.wait_for(second, 10)).value == 2
+        assert (await asyncio.wait_for(second, support.LONG)).value == 2
         executions.end()
 
 

@@ -93,7 +93,7 @@ class Kit(unittest.TestCase):
                 await it.skip(3600)
                 await it.call(stamp, "stamped", key="soon")
                 self.assertEqual(await sent.result(), "stamped")
-            self.assertLess(time.monotonic() - begun, 60)
+            self.assertLess(time.monotonic() - begun, 1800)
 
         asyncio.run(go())
 

@@ -65,9 +65,10 @@ class Versions(support.OnADatabase):
         ids = [await runtime.send("Shop/order", 1) for _ in range(count)]
         for id in ids:
             await runtime.until(id, "suspended")
-        while await runtime.rows("SELECT 1 FROM invocations WHERE handler='take' AND status<>'done'"):
+        sleep = bytes.fromhex("0012")  # which each begins once it has the result of its first call
+        slept = "SELECT COUNT(*) FROM journal JOIN invocations ON id=invocation WHERE substr(frame, 1, 2)=? AND status='suspended'"
+        while (await runtime.rows(f"{slept} AND id IN ({','.join('?' * count)})", sleep, *ids))[0][0] < count:
             await asyncio.sleep(0.01)
-        await asyncio.sleep(0.1)  # the answers of the first calls have come
         return ids
 
     async def _go(self, runtime, *ids):

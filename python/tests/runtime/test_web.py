@@ -36,7 +36,7 @@ class Web(support.OnADatabase):
                     self.assertEqual((refused.status_code, refused.json()), (400, {"detail": "a parcel needs a name"}))
                     self.assertEqual((await client.get("/parcels/inv_none")).status_code, 404)
 
-        asyncio.run(asyncio.wait_for(go(), 120))
+        asyncio.run(asyncio.wait_for(go(), support.LONG))
 
 
 if __name__ == "__main__":

@@ -77,8 +77,8 @@ async def stored(db: Database, it: Claimable) -> Stored:
 
 
 async def stored_of(db: Database, invocation: str) -> Stored | None:
-    """The same of the invocation with this id, if there is one."""
-    rows = await db.rows(f"SELECT {CLAIMED} FROM invocations WHERE id=?", (invocation,))
+    """The same of the invocation with this id, if there is one, at one moment: nothing is stored of it until the commit."""
+    rows = await db.rows(f"SELECT {CLAIMED} FROM invocations WHERE id=?{db.lock}", (invocation,))
     return await stored(db, Claimable(*rows[0])) if rows else None
 
 
