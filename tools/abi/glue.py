@@ -12,7 +12,7 @@ from tools.kit.exports import Prototype
 from . import loading
 from .header import Header
 
-FOLDERS = ("bindings/node/src",)
+FOLDERS = ("bindings/node/src", "bindings/ruby/ext/palqytun")
 PREFIX = "palqytun_"
 NUMBERS = {"bool": "bool", "uint16_t": "u16", "uint32_t": "u32", "uint64_t": "u64", "size_t": "size"}
 PLAIN = {"open", "journal_open", "close", "journal_close", "abi", "version", "build", "is_proved", "line", "answer"}

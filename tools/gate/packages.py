@@ -41,6 +41,8 @@ class Tool:
                 return all(_runs(it) for it in self.names)
             case "version":
                 return all(bool(shutil.which(it)) and _succeeds([it, "version"]) for it in self.names)
+            case "mkmf":
+                return all(_succeeds([it, "-e", "require 'mkmf'"]) for it in self.names)
             case "header":
                 return all(_succeeds(["cc", "-fsyntax-only", "-include", it, "-x", "c", os.devnull]) for it in self.names)
             case "library":
@@ -66,7 +68,7 @@ def read(path: Path = TABLE) -> dict[str, Tool]:
             continue
         cells = [it.strip() for it in line.split("|")]
         kind, *names = cells[1].split() if len(cells) == 4 else ("",)
-        if kind not in ("command", "version", "header", "library", "server", "module", "sanitizer") or not names or not all(cells):
+        if kind not in ("command", "version", "header", "mkmf", "library", "server", "module", "sanitizer") or not names or not all(cells):
             raise BadTable(f"{path.name}:{number}: a row is NAME | FOUND BY | PACKAGES | SKIPPED, not: {line}")
         found[cells[0]] = Tool(cells[0], kind, tuple(names), tuple(cells[2].split()), cells[3])
     return found

@@ -21,7 +21,8 @@ WRITTEN = (
     *("bindings/rust/src/sys.rs", "bindings/go/abi.go", "bindings/go/palqytun_abi.c", "bindings/go/palqytun_abi.h"),
     *("bindings/node/lib/abi.d.ts", "bindings/node/lib/abi.js", "bindings/node/src/calls.c"),
     *("bindings/node/src/palqytun_abi.c", "bindings/node/src/palqytun_abi.h"),
-    *("docs/API.md", "docs/guarantees/", "python/src/palqytun/_abi.py"),
+    *("bindings/ruby/ext/palqytun/calls.c", "bindings/ruby/ext/palqytun/palqytun_abi.c", "bindings/ruby/ext/palqytun/palqytun_abi.h"),
+    *("bindings/ruby/lib/palqytun/abi.rb", "docs/API.md", "docs/guarantees/", "python/src/palqytun/_abi.py"),
 )
 OWN = ("tools/survey/", "tools/benchmarks/original/", *WRITTEN)
 DATA = ("rows", "runs", "stdin", "stdout", "args", "data")
@@ -38,7 +39,7 @@ class Group:
 # After the crates, in this order. A path belongs to the first group that it begins with.
 GROUPS = (
     Group("C: the header and what is built with it", ("bindings/palqytun.h", "bindings/palqytun.map", "bindings/packaging/", "bindings/build")),
-    Group("Rust, Go and Node: the crate and the packages", ("bindings/rust/", "bindings/go/", "bindings/node/")),
+    Group("Rust, Go, Node and Ruby: the crate and the packages", ("bindings/rust/", "bindings/go/", "bindings/node/", "bindings/ruby/")),
     Group("C, Java and Python: examples and their output", ("bindings/",)),
     Group("Python: the package", ("python/src/",)),
     Group("Python: tests, examples, benches", ("python/tests/", "python/examples/", "python/bench/")),

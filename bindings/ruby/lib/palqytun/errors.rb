@@ -1,0 +1,57 @@
+# frozen_string_literal: true
+
+module Palqytun
+  # What a call fails by. An argument of the wrong type is a TypeError, and one out of its bounds an ArgumentError; both name it.
+  class Error < StandardError; end
+
+  # The shared object, or the extension, can't be used. The text names the path, and says what to do.
+  class LoadError < Error
+    attr_reader :path
+
+    def initialize(path, said)
+      super(said)
+      @path = path
+    end
+  end
+
+  # A call wasn't made, and this is why: `status` is a symbol, as `:busy`.
+  class StatusError < Error
+    attr_reader :status
+
+    def initialize(number)
+      @status, said = ABI::STATUSES.fetch(number)
+      super("#{@status}: #{said}")
+    end
+  end
+
+  # A command that an error relates to: its index, the type of its message as a symbol, and its name.
+  Related = Struct.new(:index, :type, :name)
+
+  # The VM refused a call. It has failed, or is suspended or closed, and raises the same from each later call.
+  class VMError < Error
+    attr_reader :code, :text, :stacktrace, :related
+
+    def initialize(code, text, stacktrace, related)
+      more = related && " (command #{related.index}: #{related.type} #{related.name.inspect})"
+      super("#{code} #{text}#{more}")
+      @code, @text, @stacktrace, @related = code, text, stacktrace, related
+    end
+
+    def self.of(code, *rest) = CLASSES.fetch(code, VMError).new(code, *rest)
+  end
+
+  # The invocation is suspended: what is awaited can't come in this attempt.
+  class Suspended < VMError; end
+
+  # The handler has ended, so no call comes after.
+  class Closed < VMError; end
+
+  # The handler makes another call than the journal has recorded.
+  class JournalMismatch < VMError; end
+
+  VMError::CLASSES = {
+    ABI::CODE_SUSPENDED => Suspended,
+    ABI::CODE_CLOSED => Closed,
+    ABI::CODE_JOURNAL_MISMATCH => JournalMismatch,
+  }.freeze
+end

@@ -1,0 +1,146 @@
+# frozen_string_literal: true
+
+# What a caller may do wrong is an error, and the VM goes on.
+require_relative "common"
+
+class TestMisuse < Minitest::Test
+  include Common
+
+  def status(name, &block) = assert_equal(name, assert_raises(StatusError, &block).status)
+
+  def test_what_was_closed
+    vm = begun
+    2.times { vm.close }
+    refused(StatusError, "no_session: the VM was closed") { vm.sys_sleep(1) }
+    status(:no_session) { vm.notify_input("x") }
+    status(:no_session) { vm.take_output }
+    journal = Journal.new
+    2.times { journal.close }
+    status(:no_journal) { journal.keep }
+    status(:no_session) { VM.open(Palqytun.content_type(7)) { |it| it }.state }
+  end
+
+  def test_objects_of_another_kind
+    assert_raises(NoMethodError) { VM.allocate.sys_end }
+    assert_raises(TypeError) { Marshal.dump(begun) }
+    assert_raises(TypeError) { Palqytun::Ext.pq_state(7) }
+    assert_raises(TypeError) { Palqytun::Ext.pq_state(Object.new) }
+    assert_equal ABI::BAD_HANDLE, Palqytun::Ext.pq_state(Palqytun::Ext.pq_journal_open).first
+    assert_equal ABI::BAD_HANDLE, Palqytun::Ext.pq_journal_keep(Palqytun::Ext.pq_open)
+    assert_raises(ArgumentError) { Palqytun::Ext.pq_state }
+    copy = begun.tap(&:dup).dup
+    copy.close
+    status(:no_session) { copy.state }
+  end
+
+  def test_arguments_of_the_wrong_type_are_named
+    vm = begun
+    refused(TypeError, "wake_up_millis must be an Integer, not String") { vm.sys_sleep("x") }
+    refused(TypeError, "value must be a String, not Integer") { vm.sys_state_set("key", 7) }
+    refused(TypeError, "key must be a String, not Integer") { vm.sys_state_set(7, "value") }
+    refused(TypeError, "each of headers must be a pair of Strings, not Array") { vm.sys_call("S", "h", "", headers: [["a"]]) }
+    refused(TypeError, "value.message must be a String, not NilClass") { vm.sys_write_output(Failure.new(code: 7)) }
+    refused(TypeError, "target must be an InvocationID, a WorkflowID or an IdempotencyID, not String") { vm.sys_attach_invocation("x") }
+    refused(TypeError, "each child must be a handle or a Future, not Hash") { Future.all_completed(17, {}) }
+    refused(ArgumentError, /wake_up_millis must be from 0 to 18446744073709551615, not -1/) { vm.sys_sleep(-1) }
+    refused(ArgumentError, /value.code must be from 0 to 65535, not 65536/) { vm.sys_write_output(Failure.new(code: 65_536, message: "")) }
+    refused(ArgumentError, "name isn't valid UTF-8") { vm.create_signal_handle("\xff") }
+    refused(ArgumentError, /VM has no option wait; its options are implicit_cancellation, /) { VM.new("x", wait: :never) }
+    refused(ArgumentError, "journal_replay must be one of :enabled, :disabled, not :never") { VM.new("x", journal_replay: :never) }
+    assert_equal 0, vm.last_command_index
+  end
+
+  def test_threads_share_a_vm
+    vm = begun
+    threads = Array.new(8) do
+      Thread.new do
+        200.times do
+          vm.sys_sleep(1000, name: "nap")
+          raise "no id" unless vm.sys_awakeable.id.start_with?("sign_")
+          vm.take_output
+        end
+      end
+    end
+    threads.each(&:join)
+    assert_equal 1600, vm.last_command_index
+  end
+
+  def test_large_copies
+    vm = begun
+    large = "x" * 3_000_000
+    vm.sys_state_set("key", large)
+    status(:no_room) { vm.take_large_output(10) }
+    output = vm.take_large_output(4_000_000)
+    assert_operator output.bytesize, :>, large.bytesize
+    assert_equal "", vm.take_output
+    other = VM.new(Palqytun.content_type(7))
+    other.notify_input(Frames.frame_of('Start id="abc" debug_id="abc" known_entries=1'))
+    other.notify_input(Frames.input_frame(Frames.frame_of('Input value=""'), large))
+    assert_equal large, other.sys_input.input
+  end
+
+  def test_a_handle_of_another_vm
+    one, other = begun, begun
+    handle = Array.new(5) { one.create_signal_handle("go") }.last
+    refute other.completed?(handle)
+    assert_nil other.take_notification(handle)
+    assert_equal Waiting.new(true, false), other.do_await(handle)
+  end
+
+  def test_what_names_no_case
+    vm = begun
+    run = vm.sys_run("charge")
+    policy = RetryPolicy.new(kind: :exponential, initial_millis: 1, factor: [3, 0])
+    status(:bad_number) { vm.propose_retryable_failure(run.handle, 1, HandlerError.new(code: 503, message: "later"), policy: policy) }
+    assert_equal true, vm.do_await(Future.all_completed)
+    assert_equal :processing, vm.state
+  end
+
+  def test_errors_have_all_their_fields
+    vm = fed('Start id="a" debug_id="a" known_entries=2', 'Input value=""', 'Sleep wake_up_time=1000 result_completion_id=1 name="nap"')
+    vm.sys_input
+    error = assert_raises(JournalMismatch) { vm.sys_call("Greeter", "greet", "Ada", name: "call") }
+    assert_equal [570, 1, "call"], [error.code, error.related.index, error.related.name]
+    own = begun
+    own.notify_error(HandlerError.new(code: 418, message: "no tea", stacktrace: "at 1"), related: :last)
+    error = assert_raises(VMError) { own.sys_end }
+    assert_equal [418, "no tea", "at 1"], [error.code, error.text, error.stacktrace]
+  end
+
+  def test_a_suspension_and_an_end
+    vm = begun
+    slept = vm.sys_sleep(2**63)
+    vm.notify_input_closed
+    assert_raises(Suspended) { vm.do_await(Future.first_completed(slept, CANCEL_HANDLE)) }
+    other = begun
+    other.sys_write_output("done")
+    other.sys_end
+    assert_raises(Closed) { other.sys_sleep(1) }
+  end
+
+  def test_a_journal_and_its_effects
+    journal = Journal.new([Frames.frame_of('Input value="Till"'), Frames.frame_of("Sleep wake_up_time=1000 result_completion_id=1")])
+    slept = Frames.frame_of("Notification id=completion(1) result=void")
+    assert_equal 1, journal.arrive(slept).completes
+    journal.keep
+    status(:second_completion) { journal.arrive(slept) }
+    stored = journal.store(7, Frames.frame_of('Run name="a" result_completion_id=2') + Frames.frame_of('ProposeRunCompletion id=2 result=value("x")'))
+    assert_equal [nil, 2], stored.rows.map(&:completes)
+    refute_empty stored.feed
+    effect = stored.rows.first.effect
+    assert_equal [:run_command, 2, "a"], [effect.type, effect.id, effect.text(0)]
+    journal.undo
+    assert_equal 3, journal.entries
+    status(:bad_number) { journal.store(4, "") }
+  end
+
+  def test_frames
+    completed = Frames.completion(3, Frames.frame_of('Output result=value("Till")'))
+    assert_equal 'Notification id=completion(3) result=value("Till")', Frames.line_of(completed)
+    suspension = Frames.frame_of("Suspension future=(kind=FirstCompleted completions=[3])")
+    assert_equal [false, true], [Frames.awake?(suspension, ""), Frames.awake?(suspension, completed)]
+    assert_match(/name\("go"\)/, Frames.line_of(Frames.named_signal("go", Frames.value_frame("x" * 100_000))))
+    status(:not_a_frame) { Frames.line_of("x") }
+    status(:bad_line) { Frames.frame_of("Sleep soundly") }
+  end
+end
