@@ -46,7 +46,7 @@ class Room:
         return len(self._kept)
 
     def written(self, call: Callable[..., Told], *arguments: object, large: Callable[..., Told] | None = None) -> tuple[int, bytes]:
-        """The status of a call that writes into a buffer, its last argument but for its size, and what it wrote. `large` is made in its place if
+        """The status of a call that writes into a buffer, and what it wrote; the buffer and its size are its last arguments. `large` is made instead if
         the buffer isn't kept."""
         room = self._kept
         told = call(*arguments, room, len(room))
