@@ -27,7 +27,7 @@ from scenarios import LEASE, Report, Workers, emptied, logged_without_errors, un
 SETTINGS = {"wal_log_hints": "on", "wal_keep_size": "256MB"}  # so that a server that was a primary can follow the next
 EACH = 7  # workflows, one of each kind, are submitted before each fault
 SPLIT = 5.0  # seconds for which two servers are primaries
-_STEP = 120.0  # seconds that one step of the servers may take
+_STEP = 600.0  # seconds that one step of the servers may take
 _FOLLOWERS = "SELECT COUNT(*) FROM pg_stat_replication"
 _FOLLOWS = f"{_FOLLOWERS} WHERE state='streaming'"
 _IN_STEP = f"{_FOLLOWS} AND sync_state='sync'"
@@ -205,7 +205,7 @@ def failovers(
     workers: int = 2,
     seed: int = 1,
     reference: Found | None = None,
-    seconds: float = 240,
+    seconds: float = 600,
 ) -> Failovers:
     """The primary stops so often under load, and begins again as the standby. A synchronous standby is cut off and promoted before every other time;
     an asynchronous one is cut off before each, and promoted after it."""

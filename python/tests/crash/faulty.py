@@ -104,11 +104,11 @@ def until_all_ended(
         engine = Engine(app, path, grouped=is_grouped, idle=idle, poll=0.1, lease=lease, connect=connect, version=version)
         task = asyncio.create_task(engine.run())
         await engine.is_open()
-        last = time.monotonic()
+        last, looks = time.monotonic(), 0
         while not task.done() and await _count(engine, _UNFINISHED):
             if any(it.claim.service != "Ticks" for it in engine.live.values()) or await _count(engine, _TO_DO, time.time() + _SOON):
-                last = time.monotonic()
-            elif time.monotonic() - last > _PATIENCE:
+                last, looks = time.monotonic(), 0
+            elif (looks := looks + 1) > 40 and time.monotonic() - last > _PATIENCE:  # also if the host was busy with other things
                 os._exit(STUCK)
             await asyncio.sleep(0.02)
         engine.stop()

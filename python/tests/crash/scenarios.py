@@ -40,7 +40,7 @@ from palqytun.runtime.database.schema import TABLES  # noqa: E402
 
 _FORK = multiprocessing.get_context("fork")  # this process has no threads, and has imported what workers need
 COUNT = 7  # workflows, one of each kind
-_LONG = 240.0  # seconds that a worker may take, which needs some two, on a host that is busy with other things
+_LONG = 600.0  # seconds that a worker may take, which needs some two, on a host that is busy with other things
 LEASE = 3.0  # seconds; on a host that is busy with other things a shorter one ends by itself
 
 
@@ -372,23 +372,35 @@ def full_disk(room: Room, seed: int, is_mounted: bool) -> Report:
         arguments = (f"{folder}.log", str(path), str(effects))
         process = _FORK.Process(target=_logged, args=arguments, kwargs={"seed": seed, "is_grouped": True, "is_checkpointed": True})
         process.start()
-        disk = _Filled(folder) if is_mounted else _Limited(process.pid, path)
+        disk, log = _Filled(folder) if is_mounted else _Limited(process.pid, path), pathlib.Path(f"{folder}.log")
+        _joined(process, lambda: effects.stat().st_size > 0)  # it is at work
         for _ in range(20):
             process.join(chance.uniform(0.02, 0.2))
             disk.fill()
             process.join(chance.uniform(0.02, 0.2))
+            _joined(process, lambda: _full(log) > 0)  # the first time until it is met
             disk.empty()
         process.join(_LONG)
         status = process.exitcode
         if status is None:
             process.kill()
             process.join()
-        log = pathlib.Path(f"{folder}.log").read_text()
         if status:
-            raise Wrong(f"the worker on a full disk ended with {status}: {log[-2000:]}")
-        found = room.checked(path, effects, room.reference)
-        found_full = log.count("the database's disk is full") + log.count("the database is lost")  # beyond a limit, a write is an error of the file
-        return Report.of(found, full_disks=1, lost=found_full)
+            raise Wrong(f"the worker on a full disk ended with {status}: {log.read_text()[-2000:]}")
+        return Report.of(room.checked(path, effects, room.reference), full_disks=1, lost=_full(log))
+
+
+def _joined(process: Any, holds: Callable[[], bool]) -> None:
+    """Waits until it is so, or the process has ended, or for long."""
+    until = time.monotonic() + _LONG
+    while process.exitcode is None and not holds() and time.monotonic() < until:
+        process.join(0.01)
+
+
+def _full(log: pathlib.Path) -> int:
+    """How often a worker has met the full disk. Beyond a limit, a write is an error of the file."""
+    text = log.read_text() if log.exists() else ""
+    return text.count("the database's disk is full") + text.count("the database is lost")
 
 
 # ---- workers in processes of their own, killed at random
@@ -415,7 +427,7 @@ class Workers:
         """SIGTERM, within whose grace each effect ends. A worker that has just begun, and doesn't listen for signals yet, ends by this one: it
         has claimed nothing."""
         self.all[at].terminate()
-        status = self.all[at].wait(60)
+        status = self.all[at].wait(_LONG)
         if status not in (0, -signal.SIGTERM):
             raise Wrong(f"a worker that was told to stop ended with {status}")
         self.all[at] = self.start()
@@ -430,7 +442,7 @@ class Workers:
             worker.terminate()
         for worker in self.all:
             try:
-                worker.wait(20)
+                worker.wait(60)
             except subprocess.TimeoutExpired:
                 worker.kill()
                 worker.wait()
@@ -448,7 +460,7 @@ def _disconnect(db: Plain) -> None:
     rows(db, "SELECT pg_terminate_backend(pid) FROM pg_stat_activity WHERE datname=current_database() AND pid<>pg_backend_pid()")
 
 
-def until_work(db: Plain, since: float, seconds: float = 30) -> None:
+def until_work(db: Plain, since: float, seconds: float = _LONG) -> None:
     """Until an attempt has begun since this time, so that the next fault meets a worker at work; or until all have ended."""
     until = time.monotonic() + seconds
     while time.monotonic() < until and left(db) and (rows(db, "SELECT MAX(begun) FROM invocations WHERE service<>'Ticks'")[0][0] or 0) < since:
@@ -477,7 +489,7 @@ def kills(
     stops: bool = False,
     reference: Found | None = None,
     wrong: str = "",
-    seconds: float = 240,
+    seconds: float = _LONG,
 ) -> Report:
     """Workflows are submitted, `each` before each fault, while workers die; or with `stops` while they are told to stop, and no effect is executed
     twice."""
@@ -518,7 +530,7 @@ def kills(
         return report + Report.of(check(db, faults * each, folder / "effects", reference, is_exact=stops))
 
 
-def undisturbed(url: str, folder: pathlib.Path, count: int, seconds: float = 240) -> Found:
+def undisturbed(url: str, folder: pathlib.Path, count: int, seconds: float = _LONG) -> Found:
     """What a run of so many workflows leaves without faults."""
     folder.mkdir(parents=True, exist_ok=True)
     (folder / "effects").touch()

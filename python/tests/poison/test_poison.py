@@ -4,9 +4,10 @@ After each of them the worker lives, says so, and the healthy one ends in its us
 last SIGTERM ends the worker within its grace."""
 
 import contextlib
+import http.client
 import pathlib
+import signal
 import socket
-import subprocess
 import sys
 import time
 import unittest
@@ -16,9 +17,9 @@ HERE = pathlib.Path(__file__).parent
 sys.path[:0] = [str(HERE), str(HERE.parent), str(HERE.parent / "runtime")]
 import support  # noqa: E402
 import poison_app  # noqa: E402
-from worker import Worker  # noqa: E402
+from worker import LONG, Worker  # noqa: E402
 
-LONG = "k" * 12_000
+LONG_KEY = "k" * 12_000
 ARGUMENTS = {
     "nothing": b"",
     "no JSON": b"{",
@@ -36,7 +37,7 @@ ARGUMENTS = {
 }
 PATHS = {
     "an empty key": "/O//add",
-    "a key of 12,000 characters": f"/O/{LONG}/add",
+    "a key of 12,000 characters": f"/O/{LONG_KEY}/add",
     "a key with NUL": "/O/a%00b/add",
     "a key that is no UTF-8": "/O/%ff/add",
     "a handler with NUL": "/P/a%00b",
@@ -45,7 +46,7 @@ PATHS = {
     "a delay that is no number": "/P/healthy/send?delay=nan",
 }
 HEADERS = {
-    "an idempotency key of 12,000 characters": LONG,
+    "an idempotency key of 12,000 characters": LONG_KEY,
     "an empty idempotency key": "",
 }
 CLIENTS = {
@@ -132,7 +133,7 @@ class Poison(support.OnADatabase):
         self.each("an argument", ARGUMENTS, self._argument)
         self.each("a name", [*PATHS, *HEADERS], self._named)
         self.each("a client", CLIENTS, lambda kind: self.worker.raw(*CLIENTS[kind]))
-        crowd = [socket.create_connection(self.worker.at, timeout=10) for _ in range(200)]
+        crowd = [socket.create_connection(self.worker.at, timeout=LONG) for _ in range(200)]
         for it in crowd:
             it.sendall(b"POST /P/healthy HTTP/1.1\r\n")
         self.worker.is_well()
@@ -156,7 +157,7 @@ class Poison(support.OnADatabase):
         """It is paused after some deaths, and the last worker is well."""
         id = self.worker.send("dies", "")
         deaths = 0
-        while self.died():
+        while self.died(id):
             deaths += 1
             self.worker.kill()
             self.worker = Worker(self.url, self.folder, is_checked=False)
@@ -164,22 +165,25 @@ class Poison(support.OnADatabase):
         self.worker.is_well()
         assert self.worker.status(id)["status"] == "paused" and deaths == 5, deaths
 
-    def died(self):
-        """Whether the worker dies in the next moment."""
-        with contextlib.suppress(subprocess.TimeoutExpired):
-            self.worker.process.wait(6)
-            return True
-        return False
+    def died(self, id):
+        """Whether the worker dies, and not before the invocation is paused."""
+        until = time.monotonic() + LONG
+        while self.worker.process.poll() is None:
+            with contextlib.suppress(OSError, http.client.HTTPException):  # it dies meanwhile
+                if self.worker.status(id)["status"] == "paused":
+                    return False
+            self.assertLess(time.monotonic(), until, "the worker neither dies nor pauses it")
+            time.sleep(0.05)
+        return True
 
     def test_the_second_signal_ends_at_once(self):
+        """With its own status, and not with that of a shutdown, which waits for the run until the grace is over."""
         self.worker.send("hangs", "a plain run")
         self.worker.is_well()
-        self.worker.process.terminate()
-        time.sleep(0.3)
-        begun = time.monotonic()
-        self.worker.process.terminate()
-        self.worker.process.wait(10)
-        self.assertLess(time.monotonic() - begun, 1.5)
+        while self.worker.process.poll() is None:
+            self.worker.process.terminate()
+            time.sleep(0.2)
+        self.assertEqual(self.worker.process.returncode, 128 + signal.SIGTERM)
 
 
 if __name__ == "__main__":

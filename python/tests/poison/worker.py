@@ -20,9 +20,9 @@ from typing import Any
 HERE = pathlib.Path(__file__).parent
 SOURCES = HERE.parent.parent / "src"
 GRACE = 2.0  # seconds
-_ENDS = GRACE + 10.0  # seconds after SIGTERM; parts of a shutdown beside the grace have limits of their own
+LONG = 300.0  # seconds after which a test that waits has failed, however busy its host is
 _KEYS = itertools.count()  # of the healthy ones
-_SLOWEST = 8.0  # seconds that the healthy one may take on a host that is busy, whatever it takes usually
+_SLOWEST = 60.0  # seconds that the healthy one may take on a host that is busy, whatever it takes usually
 
 
 @dataclass(frozen=True)
@@ -55,7 +55,7 @@ class Worker:
     def log(self) -> str:
         return self.log_file.read_text(errors="replace")
 
-    def ask(self, method: str, path: str, body: bytes = b"", wait: float = 30.0, **headers: str) -> Reply:
+    def ask(self, method: str, path: str, body: bytes = b"", wait: float = LONG, **headers: str) -> Reply:
         """A request; it is asked again while the worker has no database."""
         until = time.monotonic() + wait
         while True:
@@ -82,7 +82,7 @@ class Worker:
         found: dict[str, Any] = self.ask("GET", f"/-/invocations/{id}").value
         return found
 
-    def until_ended(self, id: str, seconds: float = 20.0) -> str:
+    def until_ended(self, id: str, seconds: float = LONG) -> str:
         """Until an invocation has ended or is paused: which of both."""
         until = time.monotonic() + seconds
         while (found := self.status(id))["status"] not in ("done", "failed", "paused"):
@@ -109,25 +109,23 @@ class Worker:
 
     def raw(self, data: bytes, seconds: float = 0.0) -> None:
         """Sends bytes, and goes away after some seconds."""
-        with socket.create_connection(self.at, timeout=10) as it:
+        with socket.create_connection(self.at, timeout=LONG) as it:
             try:
                 it.sendall(data)
             except ConnectionError:
                 return
             time.sleep(seconds)
 
-    def ends(self) -> float:
-        """SIGTERM ends it within the grace and what its parts may take beside: for how many seconds."""
-        begun = time.monotonic()
+    def ends(self) -> None:
+        """SIGTERM ends it in an orderly way. A worker whose shutdown takes longer than its grace, by far, ends itself with another status."""
         self.process.send_signal(signal.SIGTERM)
         try:
-            status = self.process.wait(_ENDS)
+            status = self.process.wait(LONG)
         except subprocess.TimeoutExpired:
-            raise AssertionError(f"SIGTERM didn't end it in {_ENDS} s\n{self.log[-3000:]}") from None
+            raise AssertionError(f"SIGTERM didn't end it in {LONG} s\n{self.log[-3000:]}") from None
         finally:
             self.kill()
         assert status == 0, (status, self.log[-3000:])
-        return time.monotonic() - begun
 
     def kill(self) -> None:
         self.process.kill()

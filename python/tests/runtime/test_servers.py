@@ -12,7 +12,7 @@ import support  # isort: skip
 import needs
 import postgres
 import runtime_app
-from palqytun.runtime import App, Context, Service, committer
+from palqytun.runtime import App, Context, Service, Transaction, committer, transactions
 from palqytun.runtime.committer import Committer
 from palqytun.runtime.database import Conflict, Full, Lost, StatementFailed, connect
 from palqytun.runtime.database.plain import Plain
@@ -157,6 +157,39 @@ class OnAServer(support.OnADatabase, unittest.TestCase):
                         self.assertEqual(await runtime.call("S/echo", n), n)
                         await slow
                 self.assertEqual(runtime.engine.counts["sessions"], 1)
+
+        asyncio.run(go())
+
+    def test_a_transaction_that_takes_too_long(self):
+        """Its statement is ended, and nobody else is: the session goes on, and what runs beside it is executed once."""
+        handlers, tries, beside = Service("Long"), [], []
+
+        async def slow(to: Transaction) -> int:
+            tries.append(1)
+            await to.rows("SELECT pg_sleep(?)", 3600.0 if len(tries) < 3 else 0.0)
+            return len(tries)
+
+        @handlers.handler()
+        async def stores(ctx: Context, it: object) -> int:
+            return await ctx.transaction("slow", slow)
+
+        async def effect() -> None:
+            beside.append(1)
+            while len(tries) < 3:
+                await asyncio.sleep(0.01)
+
+        @handlers.handler()
+        async def runs(ctx: Context, it: object) -> None:
+            await ctx.run("effect", effect)
+
+        async def go():
+            async with Runtime(App(handlers), self.url, idle=600) as runtime:
+                self.enterContext(mock.patch("palqytun.runtime.database.pipeline._DRAINING", support.LONG))
+                with mock.patch.object(transactions, "LASTS", 0.5):
+                    ids = [await runtime.send("Long/runs"), await runtime.send("Long/stores")]
+                    self.assertGreaterEqual(await runtime.result(ids[1]), 3)
+                    self.assertIsNone(await runtime.result(ids[0]))
+                self.assertEqual((runtime.engine.counts["sessions"], len(beside)), (1, 1))
 
         asyncio.run(go())
 
@@ -461,17 +494,33 @@ class Pipelines(support.OnADatabase, unittest.TestCase):
         asyncio.run(go())
 
     def test_a_statement_that_is_given_up(self):
-        """The connection can't be used then, and says so."""
+        """The server ends it, and the connection is as before: also if statements were prepared beside it, or it was all that was sent."""
 
         async def go():
-            db = await connect(self.url)
-            with self.assertRaises(asyncio.TimeoutError):
-                await asyncio.wait_for(db.rows("SELECT pg_sleep(5)"), 0.2)
-            with self.assertRaises(Lost):
-                await db.rows("SELECT 1")
-            db.close()
+            async with two(self.url) as (db, other):
+                for n in range(5):
+                    await db.begin()
+                    db.put("INSERT INTO workers VALUES (?, 0)", (f"{n}",))
+                    with self.assertRaises(asyncio.TimeoutError):
+                        await asyncio.wait_for(db.rows("SELECT pg_sleep(3600)"), 0.2)
+                    await db.rollback()
+                    self.assertEqual(await db.rows("SELECT COUNT(*) FROM workers"), [(0,)])
+                self.assertEqual(await other.rows("SELECT pid FROM pg_stat_activity WHERE query LIKE '%pg_sleep(3600)%' AND state='active' AND pid<>pg_backend_pid()"), [])
 
-        asyncio.run(go())
+        asyncio.run(asyncio.wait_for(go(), support.LONG))
+
+    def test_a_server_that_does_not_end_what_is_given_up(self):
+        async def go():
+            async with two(self.url) as (db, _):
+                with self.assertRaises(asyncio.TimeoutError):
+                    await asyncio.wait_for(db.rows("SELECT pg_sleep(5)"), 0.2)
+                from palqytun.runtime.database import pipeline  # where psycopg is missing, this is skipped
+
+                no_cancel = mock.patch.object(pipeline, "_apart", lambda cancel: asyncio.sleep(0))
+                with no_cancel, mock.patch.object(pipeline, "_DRAINING", 0.2), self.assertRaises(Lost):
+                    await db.rows("SELECT 1")
+
+        asyncio.run(asyncio.wait_for(go(), support.LONG))
 
     def test_no_further_connection(self):
         """The server has no room for one: what there is goes on."""

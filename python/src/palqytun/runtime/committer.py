@@ -330,6 +330,8 @@ class Committer:
                 db.hurry()
             results = await self._made(db, operations)
             await db.commit()
+        except asyncio.CancelledError:
+            raise  # the connection is closed
         except BaseException:
             await self._rollback(db)
             raise

@@ -8,8 +8,10 @@ from __future__ import annotations
 import asyncio
 import contextlib
 import functools
+import itertools
 import re
 import struct
+import threading
 from collections import Counter
 from collections.abc import Callable, Iterator, Sequence
 from typing import Any, NamedTuple
@@ -28,6 +30,7 @@ _IN_THE_WAY = frozenset(("40001", "40P01", "55P03", "57014", "25006", "58030"))
 _FULL = "53100"
 _TOO_LARGE = "53200"  # of class 53, insufficient resources, this one is for want of memory: by the statement's own size
 _READ = 200  # rows that are read in one step
+_DRAINING = 10.0  # seconds that statements which were given up may take to end
 _LOOK = 1.0  # seconds between two looks at a socket of which nothing is heard
 _NONE_FOUND = b"22012"  # a division by zero
 _BROKEN = (ExecStatus.FATAL_ERROR, ExecStatus.PIPELINE_ABORTED)
@@ -147,7 +150,9 @@ class Pipeline:
         self.process = self._pg.backend_pid
         self._counts: Counter[tuple[bytes, Types]] = Counter()
         self._names: dict[tuple[bytes, Types], bytes] = {}
-        self._is_stuck = False  # the results of what was sent before weren't read
+        self._numbers = itertools.count()  # of prepared statements
+        self._is_used = False  # by somebody who waits for results
+        self._is_left = self._is_synced = False  # statements were given up: their results weren't read; and whether all were sent
 
     async def made(self, statements: Sequence[Statement]) -> PGresult:
         """Makes statements in one round trip; returns the last one's result. An error in one of them is raised, and those after it aren't made."""
@@ -155,17 +160,24 @@ class Pipeline:
 
     async def all_made(self, statements: Sequence[Statement]) -> list[PGresult]:
         """Makes statements in one round trip; returns their results."""
-        if self._is_stuck or self._pg.status != ConnStatus.OK:
+        if self._is_used or self._pg.status != ConnStatus.OK:
             raise Lost("the connection has ended")
-        self._is_stuck = True
-        with named():
-            new, expected, turn = dict[tuple[bytes, Types], bytes](), list[bytes | None](), Turn()
-            for it in statements:
-                expected += self._sent(it, new)
-                await turn.end()
-            self._pg.pipeline_sync()
-            results = await self._results()
-        self._is_stuck = False
+        self._is_used = True
+        try:
+            with named():
+                if self._is_left:
+                    await self._drained()
+                self._is_left, self._is_synced = True, False
+                new, expected, turn = dict[tuple[bytes, Types], bytes](), list[bytes | None](), Turn()
+                for it in statements:
+                    expected += self._sent(it, new)
+                    await turn.end()
+                self._pg.pipeline_sync()
+                self._is_synced = True
+                results = await self._results()
+                self._is_left = False
+        finally:
+            self._is_used = False
         self._names |= {key: key_name for key, key_name in new.items() if self._is_prepared(key_name, expected, results)}
         for at, result in enumerate(results):
             if result.status in _BROKEN:
@@ -180,7 +192,7 @@ class Pipeline:
             self._counts[key] += 1
             if self._counts[key] >= _OFTEN:
                 del self._counts[key]
-                name = new[key] = b"p%d" % (len(self._names) + len(new))
+                name = new[key] = b"p%d" % next(self._numbers)
                 self._pg.send_prepare(name, it.sql, it.types)
                 yield name
         if name is not None:
@@ -193,6 +205,18 @@ class Pipeline:
     def _is_prepared(name: bytes, expected: list[bytes | None], results: list[PGresult]) -> bool:
         at = expected.index(name)
         return at < len(results) and results[at].status == ExecStatus.COMMAND_OK
+
+    async def _drained(self) -> None:
+        """Ends statements that were given up, and reads what is left of their results. `Lost` if that takes long."""
+        try:
+            async with asyncio.timeout(_DRAINING):
+                await _apart(self._pg.get_cancel().cancel)
+                if not self._is_synced:
+                    self._pg.pipeline_sync()
+                    self._is_synced = True
+                await self._results()
+        except TimeoutError:
+            raise Lost(f"a statement that was given up hasn't ended in {_DRAINING:g} seconds") from None
 
     async def _results(self) -> list[PGresult]:
         """What the server says of each statement up to the synchronisation. Meanwhile what the socket didn't take is sent."""
@@ -233,6 +257,20 @@ class Pipeline:
 
     def close(self) -> None:
         self._pg.finish()
+
+
+async def _apart(call: Callable[[], object]) -> None:
+    """Calls what blocks, in a thread which the end of the program doesn't wait for. Its errors are dropped."""
+    loop, done = asyncio.get_running_loop(), asyncio.Event()
+
+    def called() -> None:
+        with contextlib.suppress(psycopg.Error):
+            call()
+        with contextlib.suppress(RuntimeError):  # the loop has ended
+            loop.call_soon_threadsafe(done.set)
+
+    threading.Thread(target=called, name="palqytun-cancel", daemon=True).start()
+    await done.wait()
 
 
 async def _moved(number: int, writes: bool) -> None:
