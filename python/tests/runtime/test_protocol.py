@@ -88,6 +88,9 @@ class Page(support.OnADatabase, unittest.TestCase):
             for name, some in third.statements().items():
                 for sql in some:
                     with self.subTest(name):
+                        if name == "session":
+                            db.execute(sql)
+                            continue
                         db.execute("PREPARE it AS " + _VALUE.sub("NULL", sql))
                         db.execute("DEALLOCATE it")
 

@@ -57,12 +57,13 @@ class Store:
     def __init__(self, url: str):
         self.db = psycopg.connect(url, autocommit=True)
         self.statements = statements()
+        self.made("session")
 
     def made(self, name: str, /, **values: Any) -> list[Any]:
         """Makes the statements of a block; returns the last one's rows, or one for each row that it changed."""
         for it in self.statements[name]:
             cursor = self.db.execute(it, values)
-        return cursor.fetchall() if cursor.description else [()] * cursor.rowcount
+        return cursor.fetchall() if cursor.description else [()] * max(0, cursor.rowcount)
 
     def now(self) -> float:
         return float(self.made("now")[0][0])
