@@ -1,10 +1,10 @@
-"""A newsletter: limits of time, a digest by the clock, and subscriptions that go on for years.
+"""A newsletter: a queue, limits of time, a digest by the clock, and subscriptions that go on for years.
 
     palqytun run python/examples/newsletter.py --db letters.db
     curl localhost:8080/Mail/send -d '"ann"'
 """
 
-from palqytun.runtime import App, Schedule, Service, ServiceContext, Workflow, WorkflowContext
+from palqytun.runtime import App, Queue, Schedule, Service, ServiceContext, Workflow, WorkflowContext
 
 mail, subscription = Service("Mail"), Workflow("Subscription")
 
@@ -14,7 +14,11 @@ def smtp(key: str, to: str) -> str:
     return f"sent to {to}"
 
 
-@mail.handler(queue_timeout=600, attempt_timeout=20)
+# At most ten letters at once, two of them to one domain, and a hundred a minute.
+LETTERS = Queue("letters", concurrency=10, per_key=2, rate=(100, 60))
+
+
+@mail.handler(queue=LETTERS, queue_timeout=600, attempt_timeout=20)
 async def send(ctx: ServiceContext, to: str) -> str:
     return await ctx.run("smtp", smtp, ctx.uuid(), to)
 
@@ -23,7 +27,7 @@ async def send(ctx: ServiceContext, to: str) -> str:
 async def confirm(ctx: ServiceContext, to: str) -> str:
     """Waits until the address is confirmed by whoever gets the mail with this id."""
     id, confirmed = ctx.awakeable(str)
-    await ctx.call(send, f"{to}: {id}")
+    await ctx.call(send, f"{to}: {id}", priority=5)
     return await confirmed
 
 
@@ -31,7 +35,7 @@ async def confirm(ctx: ServiceContext, to: str) -> str:
 async def digest(ctx: ServiceContext, to: str) -> str:
     """The letter of a day."""
     assert ctx.scheduled is not None
-    return await ctx.call(send, f"{to}, on {ctx.scheduled:%Y-%m-%d}")
+    return await ctx.call(send, f"{to}, on {ctx.scheduled:%Y-%m-%d}", queue_key=to.partition("@")[2])
 
 
 @subscription.main()

@@ -264,14 +264,26 @@ class Testing:
         """Whether all that can be done is done, since no attempt runs and nothing is due; and when something is due next."""
         if self.engine.live:
             return False, None
+        held = await self._held()
+        is_held = f"(epoch=0 AND COALESCE(queue, '') IN ({','.join('?' * len(held))}))"
         sql = (
-            "SELECT EXISTS (SELECT 1 FROM timers WHERE due<=?) OR EXISTS (SELECT 1 FROM invocations WHERE status='running' OR (status='ready' AND due<=?))"
+            "SELECT EXISTS (SELECT 1 FROM timers WHERE due<=?)"
+            f" OR EXISTS (SELECT 1 FROM invocations WHERE status='running' OR (status='ready' AND due<=? AND NOT {is_held}))"
             " OR EXISTS (SELECT 1 FROM inbox JOIN invocations ON id=invocation WHERE fresh=1 AND status='suspended')"
             f" OR EXISTS (SELECT 1 FROM invocations WHERE deadline<=? AND status<>'done') OR {_CALLS}, {_NEXT.format('')}"
         )
         now = self.now
-        [(is_due, due)] = await self._asked(sql, *[now] * 5)
-        return not is_due and not self.engine.live, None if due is None else float(due)
+        [(is_due, due)] = await self._asked(sql, now, now, *held, now, now, now)
+        return not is_due and not self.engine.live, min([float(it) for it in (due, *held.values()) if it is not None], default=None)
+
+    async def _held(self) -> dict[str, float]:
+        """The queues whose rates are used up, while some wait to begin: when the next one may."""
+        held = {}
+        for name, count, seconds in [(it.name, *it.rate) for it in self.engine.app.queues.values() if it.rate is not None]:
+            [(many, first)] = await self._asked("SELECT COUNT(*), MIN(at) FROM starts WHERE queue=? AND at>?", name, self.now - seconds)
+            if many >= count and await self._asked("SELECT 1 FROM invocations WHERE queue=? AND status='ready' AND epoch=0 LIMIT 1", name):
+                held[name] = float(first) + seconds
+        return held
 
     async def is_settled(self) -> bool:
         """Whether all that can be done is done: no attempt runs, and nothing is due."""
@@ -287,7 +299,7 @@ class Testing:
 
     async def _next(self, beside: str = "") -> float | None:
         [(due,)] = await self._asked(f"SELECT {_NEXT.format(beside)}", self.now)
-        return None if due is None else float(due)
+        return min([float(it) for it in (due, *(await self._held()).values()) if it is not None], default=None)
 
     async def _to(self, at: float) -> None:
         self._memory.move(max(0.0, at - self.now))

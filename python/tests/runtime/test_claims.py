@@ -9,7 +9,7 @@ from unittest import mock
 
 import support  # isort: skip
 import runtime_app
-from palqytun.runtime import App, Context, Retry, Service, TerminalError, VirtualObject, Workflow, acts, gather, inbox, invocations, journal, operate
+from palqytun.runtime import App, Context, Queue, Retry, Service, TerminalError, VirtualObject, Workflow, acts, gather, inbox, invocations, journal, operate
 from palqytun.runtime.claiming import Claimer
 from palqytun.runtime.database import connect
 from palqytun.runtime.database.plain import Plain
@@ -55,6 +55,10 @@ async def waits(ctx: Context, id: str) -> object:
 @flow.main()
 async def asks(ctx: Context, _: None) -> object:
     return await ctx.promise("said").value()
+
+
+@plain.handler(queue=Queue("asked", concurrency=5, per_worker=4, per_key=3, rate=(100, 1)))
+async def queued(ctx: Context, it: object) -> None: ...
 
 
 app = App(plain, thing, flow)
@@ -412,7 +416,7 @@ class Plans(OnOne):
         async def told(db):
             await inbox.deliver(db, Outcome(), next(iter(ids)), journal.named_signal("go", journal.void()))
 
-        ids = [self.create("Claims", "echoes", argument=b"1")]
+        ids = [self.create("Claims", "echoes", argument=b"1"), self.create("Claims", "queued", argument=b"1")]
         operations = [
             worker.enter,
             told,

@@ -293,7 +293,7 @@ class ActsOnSchedules(OnAConnection):
     def setUp(self):
         super().setUp()
         self.app = App(mail, box, schedules=[Schedule("often", send, {"to": "ann"}, every=60), Schedule("a/b", clean, key="k", cron="0 3 * * *")])
-        self.done(Claimer("one", self.app, 10).enter)
+        self.done(Claimer("one", self.app, 1000).enter)
 
     def act(self, what, name="often", since="", until=""):
         """Without the app, as the command does it."""

@@ -87,7 +87,7 @@ class Store:
         assert found is not None, (service, handler)
         seed = int.from_bytes(hashlib.blake2b(id.encode(), digest_size=7).digest(), "big")
         row = {"id": id, "service": service, "handler": handler, "key": key, "exclusive": int(found["handlers"][handler]), "seed": seed, "due": due}
-        if self.made("create", **row, idem=None, now=now, parent=parent, trace=trace, deadline=None, expires=None):
+        if self.made("create", **row, idem=None, now=now, parent=parent, trace=trace, deadline=None, expires=None, queue=None, queue_key=None, priority=0):
             self.made("input", id=id, frame=input_frame(frame_of("Input"), payload), now=now)
             self.notify("ready")
 

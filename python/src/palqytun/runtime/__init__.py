@@ -10,6 +10,7 @@ from .contexts import ObjectContext, Promise, ServiceContext, SharedObjectContex
 from .desk import Unavailable
 from .durable import Durable, NotDurable, gather, select, wait_any
 from .engine import Engine
+from .queues import Queue
 from .schedules import Schedule
 from .services import App, Cancelled, Handler, Retry, Service, TerminalError, TimedOut, VirtualObject, Workflow
 from .steps import Step, step
@@ -30,6 +31,7 @@ __all__ = [
     "NotDurable",
     "ObjectContext",
     "Promise",
+    "Queue",
     "Retry",
     "Schedule",
     "Service",

@@ -19,6 +19,7 @@ class Target:
     exclusive: bool
     timeout: float | None = None
     queue_timeout: float | None = None
+    queue: str | None = None
 
     def until(self, begins: float) -> tuple[float | None, float | None]:
         """Until when an invocation that is due then has to have ended, and to have begun."""
@@ -30,12 +31,14 @@ _ALIVE = "serving JOIN workers ON workers.id=serving.worker"
 
 def _said(app: App) -> str:
     """What an app serves, as JSON: of each service whether it has keys and is a workflow, its handlers with whether they are exclusive, and the
-    limits of time of those that have some."""
+    limits of time and the queues of those that have some."""
     found: dict[str, Any] = {}
     for it in app.services.values():
         times = {name: (one.timeout, one.queue_timeout) for name, one in it.handlers.items() if one.timeout or one.queue_timeout}
         handlers = {name: one.exclusive for name, one in it.handlers.items()}
-        found[it.name] = {"keyed": it.keyed, "workflow": it.workflow, "handlers": handlers, **({"times": times} if times else {})}
+        queues = {name: one.queue.name for name, one in it.handlers.items() if one.queue is not None}
+        more = {name: some for name, some in (("times", times), ("queues", queues)) if some}
+        found[it.name] = {"keyed": it.keyed, "workflow": it.workflow, "handlers": handlers, **more}
     return json.dumps(found)
 
 
@@ -59,7 +62,8 @@ def own(app: App, service: str, handler: str) -> Target | None:
     it = app.known(service, handler)
     if it is None:
         return None
-    return Target(it.path, it.service.keyed, it.service.workflow, it.exclusive, it.timeout, it.queue_timeout)
+    queue = None if it.queue is None else it.queue.name
+    return Target(it.path, it.service.keyed, it.service.workflow, it.exclusive, it.timeout, it.queue_timeout, queue)
 
 
 async def find(db: Database, app: App, service: str, handler: str) -> Target:
@@ -70,8 +74,9 @@ async def find(db: Database, app: App, service: str, handler: str) -> Target:
     for said in await _services(db):
         if handler in said.get(service, {}).get("handlers", ()):
             it = said[service]
-            times = it.get("times", {}).get(handler, (None, None))
-            return Target(f"{service}/{handler}", it["keyed"], it["workflow"], it["handlers"][handler], *times)
+            timeout, queue_timeout = it.get("times", {}).get(handler, (None, None))
+            named = {"timeout": timeout, "queue_timeout": queue_timeout, "queue": it.get("queues", {}).get(handler)}
+            return Target(f"{service}/{handler}", it["keyed"], it["workflow"], it["handlers"][handler], **named)
     raise TerminalError(f"there is no handler {service}/{handler}, of this app or of a worker that is alive", 404)
 
 

@@ -8,10 +8,11 @@ from collections.abc import AsyncIterator, Collection
 from dataclasses import dataclass, field
 from typing import Any
 
-from . import acts, announced, deadlines, inbox, invocations, journal, schedules
+from . import acts, announced, deadlines, inbox, invocations, journal, queueing, schedules
 from .database import Asked, Database
 from .invocations import CLAIMED, MOST_LOST, SUSPECT, Claim, Claimable
 from .outcome import Outcome
+from .queues import Queue
 from .services import App
 from .turns import Turn
 
@@ -22,6 +23,14 @@ _FRESH = 5000
 _AT_ONCE = 500  # leases that one statement takes
 _FEWEST = 20  # ready invocations that a claim may take, however many workers there are
 _SHARE = f"SELECT CASE WHEN many<2 OR ?<={_FEWEST} THEN ? WHEN ?/many<{_FEWEST} THEN {_FEWEST} ELSE ?/many END FROM alive"
+
+# If nobody has a key's lock, only its first call is free, so the calls of a key begin in their order, however many workers claim.
+_IS_FREE = (
+    "(exclusive=0 OR CASE (SELECT holder FROM locks WHERE locks.service=it.service AND locks.key=it.key) WHEN it.id THEN 1=1"
+    " ELSE NOT EXISTS (SELECT 1 FROM locks WHERE locks.service=it.service AND locks.key=it.key) AND it.seq=("
+    "SELECT seq FROM invocations AS first WHERE first.service=it.service AND first.key=it.key AND first.exclusive=1 AND first.status='ready'"
+    " ORDER BY first.due, first.seq LIMIT 1) END)"
+)
 
 
 def _looked() -> Asked:
@@ -44,6 +53,7 @@ class Claims:
     out: Outcome = field(default_factory=Outcome)
     has_more: bool = False
     next_due: float | None = None
+    later: float | None = None  # when the rate of a queue lets the next one begin, by the database's time
 
 
 @dataclass(frozen=True)
@@ -96,6 +106,7 @@ class Claimer:
         await db.change(f"DELETE FROM workers WHERE lease < {db.clock}-3600")
         await announced.enter(db, self.app, self.worker, self.code)
         await schedules.enter(db, self.app, self.app.services)
+        await queueing.enter(db, self.app)
         limited = [(it.path,) for it in self.app.limited()]
         db.many("INSERT INTO limits(path) VALUES (?) ON CONFLICT(path) DO NOTHING", limited)
 
@@ -125,10 +136,11 @@ class Claimer:
         free = await self._without_suspects(db, [it for it in rows if it.id not in live])
         for first in range(0, len(free), _AT_ONCE):
             found.claims += await invocations.claim(db, self.worker, free[first : first + _AT_ONCE], found.out, self.code)
+        queueing.begun(db, self.app, found.claims)
         if len(free) < sum(it.id not in live for it in rows):
             found.has_more = False  # who is left out is looked for by and by
         has_more = len(due) == _TIMERS or any(len(it) == deadlines.MOST for it in late)
-        times = (now if has_more else next_due, await schedules.next_due(db, self.app, now))
+        times = (now if has_more else next_due, found.later, await schedules.next_due(db, self.app, now))
         found.next_due = min((float(it) - db.now() + time.time() for it in times if it is not None), default=None)
         return found
 
@@ -177,9 +189,28 @@ class Claimer:
             found = [*(await self._woken(db, awake[0]) if awake else ()), *(row[:-1] for row in ready)]
             claims.has_more |= len(found) > most
             rows += found[:most]
+        for queue in self.app.queues.values():
+            if len(rows) < room:
+                rows += await self._queued(db, claims, queue, now, room - len(rows), has_fresh)
         rows += orphaned[: room - len(rows)]
         claims.has_more |= len(rows) == room
         return rows
+
+    async def _queued(self, db: Database, claims: Claims, queue: Queue, now: float, most: int, has_fresh: bool) -> list[Any]:
+        """Invocations of a queue that can go on."""
+        it = await queueing.room(db, queue, self.worker, most, now)
+        rows: list[Any] = []
+        if has_fresh and it.free > 0:
+            share = Share(f"queue=? AND {self.own.where}", (queue.name, *self.own.values), it.free)
+            [awake] = await db.several([self._awake(db, share, it.free)])
+            rows = await queueing.taken(db, it, await self._woken(db, awake))
+        where, values = f"{self.own.where} AND {_IS_FREE}", self.own.values
+        rows += await queueing.again(db, it, where, values, now)
+        found = await queueing.first(db, it, where, values, now)
+        claims.has_more |= found.has_more
+        if it.later is not None:
+            claims.later = it.later if claims.later is None else min(claims.later, it.later)
+        return rows + found.rows
 
     async def _shares(self, db: Database) -> AsyncIterator[Share]:
         """The handlers without a limit, and then each that has one. The rows of the limits are kept until the commit, so two workers don't count
@@ -187,7 +218,7 @@ class Claimer:
         limited, own = self.app.limited(), self.own
         is_free = "".join(" AND NOT (service=? AND handler=?)" for _ in limited)
         named = tuple(name for it in limited for name in (it.service.name, it.name))
-        yield Share(f"{own.where}{is_free}", (*own.values, *named), 1_000_000)
+        yield Share(f"queue IS NULL AND {own.where}{is_free}", (*own.values, *named), 1_000_000)
         for it in limited:
             await db.rows(f"SELECT path FROM limits WHERE path=?{db.lock}", (it.path,))
             names = (it.service.name, it.name)
@@ -214,16 +245,9 @@ class Claimer:
     @staticmethod
     def _ready(db: Database, share: Share, now: float, most: int) -> Asked:
         """Reads ready ones, each with how many there may be: a claim takes a share by the number of workers, so that others get theirs."""
-        # If nobody has a key's lock, only its first call is free, so the calls of a key begin in their order, however many workers claim.
-        is_free = (
-            "(exclusive=0 OR CASE (SELECT holder FROM locks WHERE locks.service=it.service AND locks.key=it.key) WHEN it.id THEN 1=1"
-            " ELSE NOT EXISTS (SELECT 1 FROM locks WHERE locks.service=it.service AND locks.key=it.key) AND it.seq=("
-            "SELECT seq FROM invocations AS first WHERE first.service=it.service AND first.key=it.key AND first.exclusive=1 AND first.status='ready'"
-            " ORDER BY first.due, first.seq LIMIT 1) END)"
-        )
         sql = (
             f"WITH alive(many) AS (SELECT COUNT(*) FROM workers WHERE lease>={db.clock}), own(most) AS ({_SHARE})"
-            f" SELECT {CLAIMED}, (SELECT most FROM own) FROM invocations AS it WHERE {share.where} AND status='ready' AND due<=? AND {is_free}"
+            f" SELECT {CLAIMED}, (SELECT most FROM own) FROM invocations AS it WHERE {share.where} AND status='ready' AND due<=? AND {_IS_FREE}"
             f" ORDER BY due, seq LIMIT (SELECT most FROM own){db.skip}"
         )
         return sql, (most, most, most, most, *share.values, now)

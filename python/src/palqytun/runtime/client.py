@@ -6,7 +6,7 @@ import time
 from dataclasses import dataclass
 from typing import Any, Generic, TypeVar, overload
 
-from . import journal
+from . import journal, queues
 from .codec import BadValue, decoded, encoded
 from .desk import Desk, RemoteDesk
 from .effects import awakeable_of
@@ -65,12 +65,12 @@ class Client:
     @overload
     async def call(
         self, target: Handler[I, O], argument: I = ..., *, key: str = "", idempotency_key: str | None = None,
-        headers: dict[str, str] | None = None, wait: float | None = None,
+        headers: dict[str, str] | None = None, priority: int = 0, queue_key: str | None = None, wait: float | None = None,
     ) -> O: ...  # fmt: skip
     @overload
     async def call(
         self, target: str, argument: object = None, *, key: str = "", idempotency_key: str | None = None,
-        headers: dict[str, str] | None = None, wait: float | None = None,
+        headers: dict[str, str] | None = None, priority: int = 0, queue_key: str | None = None, wait: float | None = None,
     ) -> Any: ...  # fmt: skip
     async def call(self, target: Handler[Any, Any] | str, argument: object = None, *, wait: float | None = None, **named: Any) -> Any:
         """Calls a handler, and waits for its result. `TimeoutError` if it hasn't ended after `wait` seconds; it goes on then."""
@@ -80,12 +80,12 @@ class Client:
     @overload
     async def send(
         self, target: Handler[I, O], argument: I = ..., *, key: str = "", delay: float = 0, idempotency_key: str | None = None,
-        headers: dict[str, str] | None = None,
+        headers: dict[str, str] | None = None, priority: int = 0, queue_key: str | None = None,
     ) -> Invocation[O]: ...  # fmt: skip
     @overload
     async def send(
         self, target: str, argument: object = None, *, key: str = "", delay: float = 0, idempotency_key: str | None = None,
-        headers: dict[str, str] | None = None,
+        headers: dict[str, str] | None = None, priority: int = 0, queue_key: str | None = None,
     ) -> Invocation[Any]: ...  # fmt: skip
     async def send(
         self,
@@ -96,9 +96,12 @@ class Client:
         delay: float = 0,
         idempotency_key: str | None = None,
         headers: dict[str, str] | None = None,
+        priority: int = 0,
+        queue_key: str | None = None,
     ) -> Invocation[Any]:
         """Calls a handler, at once or after a delay in seconds, and doesn't wait for it. It is stored when this returns. With the same idempotency key
-        the same call is made once. `TerminalError` with code 404 if nobody serves the handler, and 400 if the key or the argument isn't allowed."""
+        the same call is made once. `priority` and `queue_key` are for the handler's `Queue`, if it has one. `TerminalError` with code 404 if nobody serves the
+        handler, and 400 if the key or the argument isn't allowed."""
         app, gives = self._desk.app, Any
         service, name = (target.service.name, target.name) if isinstance(target, Handler) else target.partition("/")[::2]
         handler = target if isinstance(target, Handler) else app.services[service].handlers.get(name) if service in app.services else None
@@ -109,7 +112,8 @@ class Client:
                 decoded(app.codec, data, handler.takes)
             except BadValue as error:
                 raise TerminalError(f"the argument of {handler.path}: {error}", 400) from error
-        new = New(service, name, key, data, to_text_headers(headers), idempotency_key, time.time() + delay if delay else 0)
+        told = to_text_headers(queues.headers(headers, priority, queue_key))
+        new = New(service, name, key, data, told, idempotency_key, time.time() + delay if delay else 0)
         return Invocation(self, await self._desk.submit(new), gives)
 
     def invocation(self, id: str, gives: Any = Any) -> Invocation[Any]:

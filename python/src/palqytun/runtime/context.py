@@ -22,6 +22,7 @@ from types import TracebackType
 from typing import TYPE_CHECKING, Any, Concatenate, NoReturn, ParamSpec, TypeVar, cast, overload
 
 from .. import core
+from . import queues
 from .codec import BadValue, Codec, decoded, encoded
 from .durable import ContinuedAsNew, Durable, Leaf, Task, Timer, select
 from .journal import CONTINUED, PATCHED
@@ -566,12 +567,15 @@ class Context:
         key: str | None = None,
         idempotency_key: str | None = None,
         headers: dict[str, str] | None = None,
+        priority: int = 0,
+        queue_key: str | None = None,
     ) -> Call[O]:
-        """Calls a handler, or `"Service/handler"`. Awaited, it gives the handler's result."""
+        """Calls a handler, or `"Service/handler"`. Awaited, it gives the handler's result. `priority` and `queue_key` are for its `Queue`, if it has one."""
         service, name, gives = self._target(target)
         check_name("the key", key or "")
         check_name("the idempotency key", idempotency_key or "")
-        options = {"key": key, "idempotency_key": idempotency_key, "headers": to_text_headers(headers)}
+        told = to_text_headers(queues.headers(headers, priority, queue_key))
+        options = {"key": key, "idempotency_key": idempotency_key, "headers": told}
         id, handle = self._vm_call("sys_call", service, name, encoded(self._codec, argument), **options)
         return Call(id, handle, self._result(gives))
 
@@ -584,12 +588,16 @@ class Context:
         delay: float = 0,
         idempotency_key: str | None = None,
         headers: dict[str, str] | None = None,
+        priority: int = 0,
+        queue_key: str | None = None,
     ) -> Durable[str]:
-        """Calls a handler, at once or after a delay in seconds, and doesn't wait for it. Awaited, it gives the invocation's id."""
+        """Calls a handler, at once or after a delay in seconds, and doesn't wait for it. Awaited, it gives the invocation's id. `priority` and
+        `queue_key` are for its `Queue`, if it has one."""
         service, name, _ = self._target(target)
         check_name("the key", key or "")
         check_name("the idempotency key", idempotency_key or "")
-        options = {"key": key, "idempotency_key": idempotency_key, "headers": to_text_headers(headers)}
+        told = to_text_headers(queues.headers(headers, priority, queue_key))
+        options = {"key": key, "idempotency_key": idempotency_key, "headers": told}
         at = _ms(time.time() + delay) if delay else None
         return Leaf(self._vm_call("sys_send", service, name, encoded(self._codec, argument), at=at, **options), lambda came: str(came.id))
 

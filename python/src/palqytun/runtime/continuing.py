@@ -22,7 +22,7 @@ from .outcome import Outcome
 from .services import App
 from .turns import Turn
 
-_TAKEN_OVER = "service, handler, key, exclusive, parent, trace"
+_TAKEN_OVER = "service, handler, key, exclusive, parent, trace, queue, queue_key, priority"
 
 
 async def go_on(db: Database, app: App, out: Outcome, claim: Claim, growth: Growth, argument: Result) -> None:

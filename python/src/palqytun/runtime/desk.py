@@ -71,7 +71,8 @@ class Desk:
         if self._committer is None:
             raise Unavailable("the database can't be used now: there is no connection")
         try:
-            return await asyncio.wait_for(self._committer.submit(operation, is_slow), _ANSWERED)
+            async with asyncio.timeout(_ANSWERED):  # `wait_for` drops a cancellation that comes with the result
+                return await self._committer.submit(operation, is_slow)
         except asyncio.TimeoutError:
             raise Unavailable(f"something has been in the way in the database for {_ANSWERED:g} seconds") from None
         except Stopped as error:

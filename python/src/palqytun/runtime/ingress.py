@@ -1,7 +1,7 @@
 """The ingress: handlers by HTTP, and what an operator asks. It is an ASGI application, of Starlette.
 
     POST /{service}/{handler}            or /{service}/{key}/{handler}: calls it with the body, and returns its result
-    POST /{service}/../{handler}/send    only makes the invocation (202); `?delay=SECONDS`
+    POST /{service}/../{handler}/send    only makes the invocation (202); `?delay=SECONDS`, and `?priority=NUMBER&queue-key=KEY` for its queue
     GET  /-/health
     GET  /-/metrics                      for Prometheus
     GET  /-/schedules                    each with its next time
@@ -38,7 +38,7 @@ from starlette.responses import JSONResponse, Response
 from starlette.routing import Route
 from starlette.types import ASGIApp, Receive, Scope, Send
 
-from . import acts, announced, audit, awakeables, invocations, journal, keyed, metrics, operate, restarting, scheduling, timeline, traces
+from . import acts, announced, audit, awakeables, invocations, journal, keyed, metrics, operate, queues, restarting, scheduling, timeline, traces
 from .codec import BadValue, decoded
 from .door import Door
 from .desk import Unavailable
@@ -243,7 +243,10 @@ class Ingress:
         delay = _number(request, "delay", _LONGEST_DELAY)
         key, once = names[0] if keyed else "", request.headers.get("idempotency-key")
         trace = traces.checked(request.headers.get(traces.HEADER))
-        new = New(service, names[-1], key, b"", (), once, time.time() + delay if delay else 0, trace=trace)
+        told = ((queues.PRIORITY, request.query_params.get("priority")), (queues.KEY, request.query_params.get("queue-key")))
+        headers = tuple((name, it) for name, it in told if it is not None)
+        queues.asked(headers, key)
+        new = New(service, names[-1], key, b"", headers, once, time.time() + delay if delay else 0, trace=trace)
         invocations.check(new, await self.engine.target(service, new.handler))
         return new, is_sent
 

@@ -9,7 +9,7 @@ from collections.abc import Iterable, Mapping, Sequence
 from dataclasses import dataclass, field, fields
 from typing import Any
 
-from . import announced, inbox, journal, notes, places
+from . import announced, inbox, journal, notes, places, queues
 from .announced import Target
 from .database import Asked, Database, StatementFailed
 from .journal import Begin, Journal, Result
@@ -70,11 +70,13 @@ async def create(db: Database, app: App, out: Outcome, new: New) -> tuple[str, b
     id = new.id or f"inv_{secrets.token_hex(12)}"
     # What begins at once is due when the server makes this statement: so calls of a key are in their order, whichever worker stores them.
     sql = (
-        "INSERT INTO invocations(id, service, handler, key, exclusive, version, idem, seed, status, due, entries, created, parent, trace, deadline, expires)"
-        f" VALUES (?,?,?,?,?,?,?,?,'ready',COALESCE(?,{db.clock}),1,?,?,?,?,?)"
+        "INSERT INTO invocations(id, service, handler, key, exclusive, version, idem, seed, status, due, entries, created, parent, trace,"
+        " deadline, expires, queue, queue_key, priority)"
+        f" VALUES (?,?,?,?,?,?,?,?,'ready',COALESCE(?,{db.clock}),1,?,?,?,?,?,?,?,?)"
     )
-    times = target.until(now if due is None else due)
-    row = (id, new.service, new.handler, new.key, int(target.exclusive), VERSION, idem, seed_of(new.id), due, now, new.parent, new.trace, *times)
+    times, (priority, queue_key) = target.until(now if due is None else due), queues.asked(new.headers, new.key)
+    queued = (target.queue, None if target.queue is None else queue_key, priority)
+    row = (id, new.service, new.handler, new.key, int(target.exclusive), VERSION, idem, seed_of(new.id), due, now, new.parent, new.trace, *times, *queued)
     if idem is None:  # no other has its name
         db.put(sql, row)
     elif not await db.change(f"{sql} ON CONFLICT DO NOTHING", row):

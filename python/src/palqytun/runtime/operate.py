@@ -11,7 +11,7 @@ from .filters import Filter
 
 _COLUMNS = (
     *("id", "service", "handler", "key", "status", "created", "ended", "due", "entries", "epoch", "retries", "worker", "failed", "error"),
-    *("cancelled", "parent", "origin", "trace", "seq", "deadline", "expires", "continued", "chain"),
+    *("cancelled", "parent", "origin", "trace", "seq", "deadline", "expires", "continued", "chain", "queue", "queue_key", "priority"),
 )
 
 

@@ -21,7 +21,7 @@ from .replay import Stored, replayed
 from .services import App, TerminalError
 from .traces import Trace
 
-_COPIED = ("service", "handler", "key", "exclusive", "version", "seed", "idem", "trace")
+_COPIED = ("service", "handler", "key", "exclusive", "version", "seed", "idem", "trace", "queue", "queue_key", "priority")
 
 
 async def restart(db: Database, app: App | None, out: Outcome, id: str, who: str, step: int = 0) -> str:

@@ -64,15 +64,14 @@ async def backfill(db: Database, app: App | None, out: Outcome, name: str, who: 
     end, times = now if until is None else until, times_of(it.rule)
     if not since < end <= now:
         raise TerminalError("a backfill is of times that have passed: `since` is before `until`, and `until` isn't later than now", 400)
-    made, at = 0, times.after(since - 1e-6)
-    for count in range(MOST + 1):
-        if at >= end:
-            break
-        if count == MOST:
+    asked, at = list[float](), times.after(since - 1e-6)
+    while at < end:
+        if len(asked) == MOST:
             raise TerminalError(f"there are more than {MOST} times between these, and one backfill makes so many calls at most: take a part", 400)
-        made += (await _made(db, app, out, it, at))[1]
+        asked.append(at)
         at = times.after(at)
-    said = f"{made} calls are made" + (f", and {count - made} were there" if count > made else "")
+    made = sum([(await _made(db, app, out, it, at))[1] for at in asked])
+    said = f"{made} calls are made" + (f", and {len(asked) - made} were there" if len(asked) > made else "")
     audit.record(db, who, "backfill schedule", name=name, detail=f"{said}, for {_shown(since)} to {_shown(end)}")
     return said
 

@@ -19,6 +19,7 @@ from .texts import plain, said
 
 if TYPE_CHECKING:
     from .contexts import ObjectContext, ServiceContext, SharedObjectContext, SharedWorkflowContext, WorkflowContext
+    from .queues import Queue
     from .schedules import Schedule
     from .serving import Mountable
 
@@ -119,7 +120,7 @@ ATTEMPTS = Retry(attempts=50, pause=True)  # of a handler that says nothing else
 @dataclass
 class Handler(Generic[I, O]):
     """A handler of a service. `exclusive` ones of a key run one at a time and may change its state. `limit` is how many of its attempts may run
-    at once, over all workers. These are times in seconds: `timeout`, within which an invocation has to end after it was due to begin;
+    at once, over all workers; a `queue` limits more, also for several handlers. These are times in seconds: `timeout`, within which an invocation has to end after it was due to begin;
     `queue_timeout`, within which its first attempt has to begin; and `attempt_timeout`, which an attempt may take."""
 
     service: "Service"
@@ -128,6 +129,7 @@ class Handler(Generic[I, O]):
     exclusive: bool = False
     retry: Retry = ATTEMPTS
     limit: int | None = None
+    queue: Queue | None = None
     timeout: float | None = None
     queue_timeout: float | None = None
     attempt_timeout: float | None = None
@@ -137,6 +139,8 @@ class Handler(Generic[I, O]):
     def __post_init__(self) -> None:
         if self.limit is not None and self.limit < 1:
             raise ValueError(f"{self.path} has the limit {self.limit}, so it would never run")
+        if self.limit is not None and self.queue is not None:
+            raise ValueError(f"{self.path} has a limit and a queue: give the queue the concurrency {self.limit}")
         for name in ("timeout", "queue_timeout", "attempt_timeout"):
             seconds = getattr(self, name)
             if seconds is not None and not 0 < seconds < math.inf:
@@ -192,7 +196,7 @@ class Service:
 
     def handler(self, **options: Any) -> Callable[[Callable[[ServiceContext, I], Awaitable[O]]], Handler[I, O]]:
         """Registers a handler under its function's name. `retry` says when its attempts are tried again, and `limit` how many of them may run
-        at once. An invocation that hasn't ended `timeout` seconds after it was due, or hasn't begun within `queue_timeout`, ends with code 408, and its
+        at once; `queue` is a `Queue`, with limits of more kinds. An invocation that hasn't ended `timeout` seconds after it was due, or hasn't begun within `queue_timeout`, ends with code 408, and its
         calls are cancelled. An attempt that takes longer than `attempt_timeout` has failed, and is tried again."""
         return self._add(self.keyed and not self.workflow, **options)
 
@@ -234,6 +238,7 @@ class App:
             if it.name in self.services:
                 raise ValueError(f"there are two services with the name {it.name}")
             self.services[it.name] = it
+        self.queues = self._queues()
         self.codec: Codec = JsonCodec() if codec is None else codec
         self.schedules: dict[str, Schedule] = {}
         self.scheduled: dict[str, bytes] = {}  # the arguments of the schedules
@@ -243,6 +248,14 @@ class App:
             if self.services.get(one.target.service.name) is not one.target.service:
                 raise ValueError(f"the schedule {one.name} calls {one.target.path}, which isn't of this app")
             self.schedules[one.name], self.scheduled[one.name] = one, self._argument(one)
+
+    def _queues(self) -> dict[str, Queue]:
+        """The queues of the handlers, by name."""
+        found: dict[str, Queue] = {}
+        for it in (handler.queue for service in self.services.values() for handler in service.handlers.values()):
+            if it is not None and found.setdefault(it.name, it) != it:
+                raise ValueError(f"there are two queues with the name {it.name}: {found[it.name]} and {it}")
+        return found
 
     def _argument(self, it: Schedule) -> bytes:
         """A schedule's argument as it is stored, which its handler has to understand."""
@@ -277,7 +290,7 @@ class App:
 
     def has_limit(self, service: str, handler: str) -> bool:
         known = self.known(service, handler)
-        return known is not None and known.limit is not None
+        return known is not None and (known.limit is not None or known.queue is not None)
 
     def retry_of(self, service: str, handler: str) -> Retry:
         """When attempts of a handler are tried again, even if there is no such handler any more."""

@@ -138,7 +138,8 @@ CREATE TABLE transactions(invocation TEXT NOT NULL, run BIGINT NOT NULL, result 
 
 # Times until which an invocation has to have ended, and to have begun. Of a schedule what it does while its last call is open, its call's key and
 # argument, by which others than its app's workers can make the call, and a time whose call waits for the end of the one before. `continued` is the
-# invocation that goes on in the place of this one, and `chain` the first of all that go on one after the other; that one has it too.
+# invocation that goes on in the place of this one, and `chain` the first of all that go on one after the other; that one has it too. An invocation's queue, its key there, and its priority; of a queue the key of which it
+# took one last, and when invocations have begun, as far as its rate needs that.
 _NINTH = """
 ALTER TABLE invocations ADD COLUMN deadline {float};
 ALTER TABLE invocations ADD COLUMN expires {float};
@@ -150,7 +151,17 @@ ALTER TABLE schedules ADD COLUMN argument {blob};
 ALTER TABLE schedules ADD COLUMN queued {float};
 ALTER TABLE invocations ADD COLUMN chain TEXT;
 ALTER TABLE invocations ADD COLUMN continued TEXT;
-CREATE INDEX invocations_chain ON invocations(chain, seq) WHERE chain IS NOT NULL
+CREATE INDEX invocations_chain ON invocations(chain, seq) WHERE chain IS NOT NULL;
+ALTER TABLE invocations ADD COLUMN queue TEXT;
+ALTER TABLE invocations ADD COLUMN queue_key TEXT;
+ALTER TABLE invocations ADD COLUMN priority INTEGER NOT NULL DEFAULT 0;
+CREATE INDEX invocations_queued ON invocations(queue, queue_key, priority DESC, due, seq) WHERE status='ready' AND queue IS NOT NULL;
+CREATE INDEX invocations_again ON invocations(queue, due, seq) WHERE status='ready' AND queue IS NOT NULL AND epoch>0;
+CREATE INDEX invocations_free ON invocations(due, seq) WHERE status='ready' AND queue IS NULL;
+CREATE INDEX invocations_working ON invocations(queue, queue_key) WHERE status='running' AND queue IS NOT NULL;
+CREATE TABLE queues(name TEXT PRIMARY KEY, last TEXT){plain};
+CREATE TABLE starts(queue TEXT NOT NULL, at {float} NOT NULL);
+CREATE INDEX starts_of ON starts(queue, at)
 """
 
 MIGRATIONS = [_FIRST, _SECOND, _THIRD, _FOURTH, _FIFTH, _SIXTH, _SEVENTH, _EIGHTH, _NINTH]
@@ -160,7 +171,7 @@ VERSIONS = "CREATE TABLE IF NOT EXISTS schema_versions(version INTEGER PRIMARY K
 
 TABLES = (
     *("invocations", "journal", "inbox", "timers", "waiters", "state", "promises", "promise_waiters"),
-    *("locks", "workers", "attempts", "schedules", "limits", "audit", "serving", "transactions"),
+    *("locks", "workers", "attempts", "schedules", "limits", "audit", "serving", "transactions", "queues", "starts"),
 )
 
 
