@@ -1,6 +1,6 @@
 """Poisoned handlers, effects, arguments, keys, headers, codecs and clients, each beside an invocation that is healthy.
 
-After each of them the worker lives, says so, and the healthy one ends in its usual time; the poisoned one ends in a retry, a pause or a result. At
+After each of them the worker lives, says so, and the healthy one ends; the poisoned one ends in a retry, a pause or a result. At
 last SIGTERM ends the worker within its grace."""
 
 import contextlib
