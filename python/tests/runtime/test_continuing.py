@@ -7,8 +7,7 @@ import support  # isort: skip
 from support import Runtime
 
 from palqytun.runtime import App, Cancelled, Context, ObjectContext, Retry, Service, VirtualObject, Workflow, WorkflowContext, replay, restarting, step
-from palqytun.runtime.codec import BadValue as BadValue
-from palqytun.runtime.journal import named_signal, value
+from palqytun.runtime.journal import cancellation, named_signal, value
 from palqytun.runtime.outcome import Outcome
 from palqytun.testing import Fake, Testing, crash_everywhere, faked
 
@@ -186,7 +185,7 @@ class Continuing(support.OnADatabase):
                 first = await runtime.send("Loops/waits", "first", due=4e9)
                 if frame is None:
                     await runtime.engine.transact(lambda db: db.change("UPDATE invocations SET epoch=1 WHERE id=?", (first,)))
-                    await runtime.engine.transact(lambda db: db.change("INSERT INTO inbox(invocation, frame, fresh) VALUES (?,?,0)", (first, self.cancellation())))
+                    await runtime.engine.transact(lambda db: db.change("INSERT INTO inbox(invocation, frame, fresh) VALUES (?,?,0)", (first, cancellation())))
                 else:
                     self.assertTrue(await runtime.engine.notify(first, frame))
                 await runtime.engine.transact(lambda db: db.change("UPDATE invocations SET due=1 WHERE id=?", (first,)))
@@ -194,11 +193,6 @@ class Continuing(support.OnADatabase):
                 self.assertIn(await runtime.result(first), (ends, "cancelled") if frame is None else (ends,))
 
         self.runs(test)
-
-    def cancellation(self):
-        from palqytun.runtime.journal import cancellation
-
-        return cancellation()
 
     def test_what_is_wrong(self):
         async def test(runtime):
