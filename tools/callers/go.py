@@ -30,6 +30,7 @@ def go(it: Bindings) -> None:
     plays(it, "Go", [f"{made}conform"])
     loads(it, "Go", [f"{made}about"])
     it.checks.prints("the example of bindings/go/README.md", [f"{made}example"], printed, it.env())
+    it.checks.build("the bench in Go", [f"{made}bench", "1"], env)
     it.checks.build("go vet of bindings/go", ["go", "vet", "./..."], env, folder)
     ran = ended(["go", "test", "-v", "-vet=off", "."], env, folder, SECONDS)
     ends = TEST.findall(ran.output)

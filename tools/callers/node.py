@@ -28,6 +28,7 @@ def node(it: Bindings) -> None:
     example = Path(folder, "example.mjs")
     example.write_text(code, encoding="utf-8")
     it.checks.prints("the example of bindings/node/README.md", ["node", str(example)], printed, env, folder)
+    it.checks.build("the bench for Node", ["node", f"{folder}/examples/bench.js", "1"], env)
     ran = ended(["node", "--test", *TESTS], env, folder, SECONDS)
     said = {word: int(count) for word, count in COUNT.findall(ran.output)}
     passed = said.pop("pass", 0)

@@ -33,6 +33,7 @@ def ruby(it: Bindings) -> None:
     example = Path(folder, "example.rb")
     example.write_text(code, encoding="utf-8")
     it.checks.prints("the example of bindings/ruby/README.md", [*command, str(example)], printed, env, folder)
+    it.checks.build("the bench for Ruby", [*command, f"{folder}/examples/bench.rb", "1"], env)
     found = counting.Counts()
     for test in TESTS:
         ran = ended([*command, test], env, folder, SECONDS)

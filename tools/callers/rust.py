@@ -19,6 +19,7 @@ def rust(it: Bindings) -> None:
         return
     plays(it, "Rust", [f"{target}/debug/examples/conform"])
     loads(it, "Rust", [f"{target}/debug/examples/about"])
+    it.checks.build("the bench in Rust", [f"{target}/debug/examples/bench", "1"], env)
     ran = ended(["cargo", "test"], env, folder, SECONDS)
     found = counting.Counts()
     for it_ran in counting.TESTS.findall(ran.output):

@@ -1,0 +1,101 @@
+"""`tools/bench languages`: what a call of the VM takes from each language that is installed, in nanoseconds of the processor.
+
+Each program makes 1,000 calls on a VM that has its input, round after round, and says what a call took in the best round. A sleep, a state that is set
+and a call are new commands; an await waits for input."""
+
+from __future__ import annotations
+
+import argparse
+import os
+import shutil
+import subprocess
+import sys
+import tempfile
+from collections.abc import Callable
+from pathlib import Path
+
+from tools.kit.errors import Refused
+
+from . import core
+
+CASES = ("sleep", "state", "call", "await")
+HERE = Path(__file__).resolve().parent / "callers"
+BINDINGS = Path(__file__).resolve().parents[2] / "bindings"
+Words = list[str]
+
+
+def add(parser: argparse.ArgumentParser) -> None:
+    parser.add_argument("--library", type=Path, default=core.LIBRARY, metavar="FILE", help="Palqytun's library (bindings/out/libpalqytun.so)")
+    parser.add_argument("--rounds", type=int, default=1000, metavar="N", help="how many rounds (1000)")
+    parser.add_argument("--only", default="", metavar="NAME,..", help="these languages alone")
+
+
+def _run(words: Words, cwd: Path, **env: str) -> str:
+    ran = subprocess.run(words, cwd=cwd, env={**os.environ, **env}, capture_output=True, text=True)
+    if ran.returncode != 0:
+        raise Refused(f"{' '.join(words)}: {ran.stderr[-1000:]}")
+    return ran.stdout
+
+
+def c(room: Path, library: Path) -> Words:
+    words = ["cc", "-std=c11", "-O2", f"-I{BINDINGS}", "-o", f"{room}/bench", f"{HERE}/bench.c", f"{library}", f"-Wl,-rpath,{library.parent}"]
+    _run(words, room)
+    return [f"{room}/bench"]
+
+
+def rust(room: Path, library: Path) -> Words:
+    _run(["cargo", "build", "--release", "--offline", "--example", "bench"], BINDINGS / "rust", CARGO_TARGET_DIR=f"{room}/target")
+    return [f"{room}/target/release/examples/bench"]
+
+
+def go(room: Path, library: Path) -> Words:
+    _run(["go", "build", "-o", f"{room}/go-bench", "./cmd/bench"], BINDINGS / "go", GOFLAGS="-mod=mod", GOPROXY="off")
+    return [f"{room}/go-bench"]
+
+
+def node(room: Path, library: Path) -> Words:
+    shutil.copytree(BINDINGS / "node", room / "node")
+    _run(["node", "build.js"], room / "node")
+    return ["node", f"{room}/node/examples/bench.js"]
+
+
+def ruby(room: Path, library: Path) -> Words:
+    shutil.copytree(BINDINGS / "ruby", room / "ruby")
+    ext = room / "ruby/ext/palqytun"
+    for words in (["ruby", "extconf.rb"], ["make"]):
+        _run(words, ext)
+    shutil.copyfile(ext / "palqytun_ext.so", room / "ruby/lib/palqytun/palqytun_ext.so")
+    return ["ruby", "-I", f"{room}/ruby/lib", f"{room}/ruby/examples/bench.rb"]
+
+
+def python(room: Path, library: Path) -> Words:
+    return [sys.executable, f"{HERE}/bench.py"]
+
+
+LANGUAGES: dict[str, tuple[str, Callable[[Path, Path], Words]]] = {
+    "C": ("cc", c),
+    "Rust": ("cargo", rust),
+    "Go": ("go", go),
+    "JavaScript": ("node", node),
+    "Ruby": ("ruby", ruby),
+    "Python": ("python3", python),
+}
+"""The command that each language needs, and what builds its program."""
+
+
+def chosen(only: str) -> list[str]:
+    names = only.split(",") if only else [name for name, (tool, _) in LANGUAGES.items() if shutil.which(tool)]
+    if unknown := [it for it in names if it not in LANGUAGES]:
+        raise Refused(f"there is no language {unknown[0]}: they are {', '.join(LANGUAGES)}")
+    return names
+
+
+def measure(options: argparse.Namespace) -> None:
+    library = options.library.resolve()
+    env = {"PALQYTUN_LIBRARY": str(library), "PYTHONPATH": str(BINDINGS.parent / "python/src"), "PYTHONDONTWRITEBYTECODE": "1"}
+    print(f"| | {' | '.join(f'`{it}`' for it in CASES)} |\n|---|{'---|' * len(CASES)}")
+    for name in chosen(options.only):
+        with tempfile.TemporaryDirectory(prefix="bench-") as made:
+            words = LANGUAGES[name][1](Path(made), library)
+            rows = dict(line.split() for line in _run([*words, str(options.rounds)], Path(made), **env).splitlines())
+        print(f"| {name} | {' | '.join(f'{float(rows[it]):,.0f}' for it in CASES)} |", flush=True)
