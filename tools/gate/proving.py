@@ -1,4 +1,4 @@
-"""./prove: proves everything, and then tries what no proof covers over the proved builds."""
+"""./prove: proves every crate except those of tests, and then tries what no proof covers over the proved builds."""
 
 from __future__ import annotations
 
