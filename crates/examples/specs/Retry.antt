@@ -6,7 +6,7 @@ use Rattle.handler_flows.specs.Calls.{call, sleep}
 use Rattle.handler_flows.specs.Code.{Code, Give, ◌>>=◌}
 use Rattle.handler_flows.specs.Steps.{set}
 
--- what a receipt gives: it is kept, but for "busy", which is none
+-- what a receipt gives: it is kept, except "busy", which is none
 unfoldable pub kept : List ℕ → Code (Option (List ℕ))
 kept receipt =
     if bytes_eq receipt (codes "busy") then Give None

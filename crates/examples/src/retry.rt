@@ -10,7 +10,7 @@ use std::time::Duration;
 #[derive(Drop)]
 pub struct Retry;
 
-/// What a receipt gives: it is kept, but for "busy", which is none.
+/// What a receipt gives: it is kept, except "busy", which is none.
 #[tactic(auto, using(handler_flows::specs::Code::goes_on), unfolding(crate::specs::Retry::kept))]
 fn kept(ctx: &mut Context<'_>, receipt: Bytes) -> Result<Option<Bytes>, Exit>
     ensures { Follows (kept receipt) ctx.old result ctx.new }
