@@ -83,7 +83,7 @@ async def attempt(handler, stream):
 
 
 def start(known_entries):
-    """The frame that begins an attempt: the invocation `abc`, whose whole state is that `visits` is 7, and so many entries."""
+    """The frame that begins an attempt: the invocation `abc`, whose whole state is that `visits` is 7, and this many entries."""
     text = lambda it: struct.pack(">Q", len(it)) + it
     state = struct.pack(">Q", 1) + text(b"visits") + text(b"7")
     body = text(b"abc") * 2 + text(b"") + struct.pack(">I", known_entries) + state + bytes(1 + 4 + 8 + 8 + 3)

@@ -30,7 +30,7 @@ typedef struct {
 
 void lend_end(lent_arrays *arrays);
 
-/* An array of so many items of this size. NULL is one without items. */
+/* An array of items of this size. NULL is one without items. */
 const void *lend_items(uint32_t *status, const void *at, size_t len, size_t size);
 /* Room to write to. NULL has no room. */
 uint8_t *lend_room(uint32_t *status, uint8_t *at, size_t len);

@@ -12,7 +12,7 @@ static union {
     palqytun_node node;
 } nothing;
 
-/* Whether so many items of this size can be at a place. */
+/* Whether this many items of this size can be at a place. */
 static bool may_be(const void *at, size_t len, size_t size)
 {
     return len == 0 || (at != NULL && len <= PTRDIFF_MAX / size);

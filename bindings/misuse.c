@@ -1,5 +1,5 @@
 /* A test: what a caller may not do is answered by a status, and nothing is corrupted. Then each two calls race, on two to eight threads.
-   usage: misuse ROUNDS [stack]: so many rounds of each race; and on a thread with so little stack as the header says.
+   usage: misuse ROUNDS [stack]: this many rounds of each race; and on a thread with as little stack as the header says.
    It is run under valgrind and with sanitizers too, and these need more stack. */
 #define _POSIX_C_SOURCE 200809L
 #include "palqytun.h"

@@ -3,8 +3,15 @@
 pip calls the functions that begin with `build_` (PEP 517 and PEP 660). They use Python's library alone, so no build needs a network. What the
 package is called, and all that is said of it, stands in `pyproject.toml`.
 
+The shared object is the file that the setting `library` names, else the one in the package, else the one that the environment variable
+`PALQYTUN_LIBRARY` names. An archive of the sources has none.
+
+With the shared object comes a module in C, which `build_extension.py` builds, if there are a C compiler and Python's headers. Then the wheel is for each
+CPython from 3.11 on. Otherwise it is for any Python, which calls the shared object by ctypes. The setting `implementation` demands one of both:
+`c` or `ctypes`.
+
 A wheel is for the host on which it is made. With the setting `platform=manylinux_2_17` it is for each Linux of this processor whose C library is
-glibc 2.17 or newer, if the shared object needs no newer one: that is looked up by objdump, of binutils.
+glibc 2.17 or newer, if what is in it needs no newer one: that is looked up by objdump, of binutils.
 """
 
 from __future__ import annotations
@@ -12,6 +19,7 @@ from __future__ import annotations
 import base64
 import hashlib
 import io
+import os
 import pathlib
 import platform
 import re
@@ -19,16 +27,20 @@ import subprocess
 import sys
 import sysconfig
 import tarfile
+import tempfile
 import tomllib
 import zipfile
 from collections.abc import Iterator, Mapping
 from typing import Any
+
+import build_extension
 
 HERE = pathlib.Path(__file__).resolve().parent
 LIBRARY = "libpalqytun.so"
 HOW_TO_MAKE_IT = "at the top of the repository, `./bindings/build --unproved` makes it in some minutes, and `./bindings/build` makes one that is proved"
 LICENCES = ("LICENSE", "NOTICE")
 PORTABLE, GLIBC = "manylinux_2_17", (2, 17)
+ANY, LIMITED = "py3-none", "cp311-abi3"
 NEEDED = re.compile(r"^ *NEEDED +(\S+)$", re.MULTILINE)
 SYMBOL = re.compile(r"\(?GLIBC_([\w.]+)\)? +(\w+)$", re.MULTILINE)
 Settings = Mapping[str, str | list[str]]
@@ -46,17 +58,28 @@ def stem() -> str:
     return f"{project()['name']}-{project()['version']}"
 
 
-def tag(settings: Settings | None) -> str:
-    """For which hosts the wheel is: any Python 3, on the system and processor of this one, or on each Linux as `PORTABLE` says."""
-    asked = (settings or {}).get("platform")
-    if asked is None:
-        return f"py3-none-{sysconfig.get_platform().replace('-', '_').replace('.', '_')}"
-    if asked != PORTABLE:
-        sys.exit(f"the setting platform is {PORTABLE}, and not {asked}")
-    why = unportable(HERE / "src/palqytun" / LIBRARY)
-    if why is not None:
-        sys.exit(f"python/src/palqytun/{LIBRARY} is no library for {PORTABLE}: {why}; without that setting the wheel is for this host")
-    return f"py3-none-{PORTABLE}_{platform.machine()}"
+def setting(settings: Settings | None, name: str, *known: str) -> str | None:
+    """A setting, which is one of these words if there are some."""
+    found = (settings or {}).get(name)
+    if found is None:
+        return None
+    if not isinstance(found, str) or (known and found not in known):
+        sys.exit(f"the setting {name} is {' or '.join(known) or 'one word'}, and not {found}")
+    return found
+
+
+def tag(pythons: str, settings: Settings | None, binaries: Mapping[str, bytes]) -> str:
+    """For which hosts the wheel is: these Pythons, on the system and processor of this one, or on each Linux as `PORTABLE` says."""
+    if setting(settings, "platform", PORTABLE) is None:
+        return f"{pythons}-{sysconfig.get_platform().replace('-', '_').replace('.', '_')}"
+    for name, data in binaries.items():
+        with tempfile.NamedTemporaryFile() as file:
+            file.write(data)
+            file.flush()
+            why = unportable(pathlib.Path(file.name))
+        if why is not None:
+            sys.exit(f"{name} is no library for {PORTABLE}: {why}; without that setting the wheel is for this host")
+    return f"{pythons}-{PORTABLE}_{platform.machine()}"
 
 
 def unportable(library: pathlib.Path) -> str | None:
@@ -104,13 +127,35 @@ def entry_points() -> str:
 
 
 def sources() -> Iterator[tuple[str, bytes]]:
-    """The files of the package, by their names in a wheel, with the shared object."""
-    if not (HERE / "src/palqytun" / LIBRARY).is_file():
-        # An exit prints this line alone, and pip shows it; of an exception pip would show the traceback.
-        sys.exit(f"python/src/palqytun/{LIBRARY} isn't there: {HOW_TO_MAKE_IT}")
+    """The files of the package, by their names in a wheel, without what is built."""
     for file in sorted((HERE / "src").rglob("*")):
-        if file.suffix in (".py", ".typed", ".so", ".html", ".svg"):
+        if file.suffix in (".py", ".pyi", ".typed", ".html", ".svg"):
             yield str(file.relative_to(HERE / "src")), file.read_bytes()
+
+
+def library(settings: Settings | None) -> bytes:
+    """The shared object."""
+    named = setting(settings, "library")
+    beside, other = HERE / "src/palqytun" / LIBRARY, os.environ.get("PALQYTUN_LIBRARY")
+    path = pathlib.Path(named) if named else pathlib.Path(other) if other and not beside.is_file() else beside
+    if not path.is_file():
+        # An exit prints this line alone, and pip shows it; of an exception pip would show the traceback.
+        sys.exit(f"{path} isn't there: {HOW_TO_MAKE_IT}; the setting library or PALQYTUN_LIBRARY may name another")
+    return path.read_bytes()
+
+
+def extension(settings: Settings | None) -> bytes | None:
+    """The module in C, if it can be built and isn't refused."""
+    asked = setting(settings, "implementation", "c", "ctypes")
+    if asked == "ctypes":
+        return None
+    try:
+        return build_extension.build()
+    except build_extension.Unbuilt as error:
+        if asked == "c":
+            sys.exit(f"the module in C can't be built: {error}")
+        print(f"palqytun: without the module in C, since {error}; calls are made by ctypes, which is slower", file=sys.stderr)
+        return None
 
 
 def below(folder: pathlib.Path) -> Iterator[pathlib.Path]:
@@ -118,9 +163,9 @@ def below(folder: pathlib.Path) -> Iterator[pathlib.Path]:
     return (it for it in sorted(folder.rglob("*")) if it.suffix in (".py", ".sql", ".json"))
 
 
-def write_wheel(folder: str, files: Iterator[tuple[str, bytes]], settings: Settings | None) -> str:
-    """Writes a wheel of these files, with what describes them, and returns its name."""
-    data_of, hosts = list(files), tag(settings)
+def write_wheel(folder: str, files: Iterator[tuple[str, bytes]], hosts: str) -> str:
+    """Writes a wheel of these files for these hosts, with what describes them, and returns its name."""
+    data_of = list(files)
     info, name = f"{stem()}.dist-info", f"{stem()}-{hosts}.whl"
     about = f"Wheel-Version: 1.0\nGenerator: {__name__}\nRoot-Is-Purelib: false\nTag: {hosts}\n"
     record = ""
@@ -144,21 +189,31 @@ def _add(wheel: zipfile.ZipFile, at: str, data: bytes) -> None:
 
 
 def build_wheel(wheel_directory: str, config_settings: Settings | None = None, metadata_directory: str | None = None) -> str:
-    return write_wheel(wheel_directory, sources(), config_settings)
+    binaries = {f"palqytun/{LIBRARY}": library(config_settings)}
+    module = extension(config_settings)
+    if module is not None:
+        binaries[f"palqytun/{build_extension.NAME}"] = module
+    hosts = tag(ANY if module is None else LIMITED, config_settings, binaries)
+    return write_wheel(wheel_directory, iter(sorted([*sources(), *binaries.items()])), hosts)
 
 
 def build_editable(wheel_directory: str, config_settings: Settings | None = None, metadata_directory: str | None = None) -> str:
-    return write_wheel(wheel_directory, iter([("palqytun.pth", f"{HERE / 'src'}\n".encode())]), None)
+    module = extension(config_settings)
+    if module is not None:
+        build_extension.put(module, HERE / "src/palqytun" / build_extension.NAME)
+    files = iter([("palqytun.pth", f"{HERE / 'src'}\n".encode())])
+    return write_wheel(wheel_directory, files, tag(ANY, None, {}))
 
 
 def build_sdist(sdist_directory: str, config_settings: Settings | None = None) -> str:
-    """An archive that makes the same wheel: the package with the shared object in it, its tests and examples. The sources of the shared object
-    are the repository's."""
+    """An archive of the sources of the package and of its module in C, its tests and examples. The sources of the shared object are the
+    repository's: a wheel that is made of the archive takes the shared object that is named."""
     name = f"{stem()}.tar.gz"
-    files = [(it, (HERE / it).read_bytes()) for it in ("pyproject.toml", "README.md", "build_wheel.py")]
+    files = [(it, (HERE / it).read_bytes()) for it in ("pyproject.toml", "README.md", "build_wheel.py", "build_extension.py")]
     files += [(it, licence(it)) for it in LICENCES]
     files += [(f"src/{at}", data) for at, data in sources()]
     files += [(str(it.relative_to(HERE)), it.read_bytes()) for folder in ("tests", "examples") for it in below(HERE / folder)]
+    files += [(str(it.relative_to(HERE)), it.read_bytes()) for it in sorted((HERE / "extension").glob("*.[ch]"))]
     with tarfile.open(pathlib.Path(sdist_directory) / name, "w:gz") as archive:
         for at, data in [*files, ("PKG-INFO", metadata().encode())]:
             entry = tarfile.TarInfo(f"{stem()}/{at}")

@@ -394,7 +394,7 @@ func (vm *VM) ProposeRunCompletion(handle Handle, value Given, policy RetryPolic
 	return vm.told(func(it *C.palqytun_replied) { C.pq_propose(vm.handle, C.uint32_t(handle), given, under, it) }, nil)
 }
 
-// ProposeRetryableFailure says that a try of a run failed after so many milliseconds, and may be made again. The policy says whether the
+// ProposeRetryableFailure says that a try of a run failed after this many milliseconds, and may be made again. The policy says whether the
 // invocation fails to be tried again, pauses, or has the error as the run's result.
 func (vm *VM) ProposeRetryableFailure(handle Handle, tookMillis uint64, of HandlerError, policy RetryPolicy) error {
 	var lent room

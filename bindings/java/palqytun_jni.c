@@ -24,7 +24,7 @@ static palqytun_vm *session_at(JNIEnv *env, jlong vm)
     return (palqytun_vm *)(intptr_t)vm;
 }
 
-/* Reads the last answer, or takes the output, of so many bytes. No array of Java has more than INT32_MAX. */
+/* Reads the last answer, or takes the output, of this many bytes. No array of Java has more than INT32_MAX. */
 static jbyteArray read(JNIEnv *env, palqytun_vm *vm, size_t len, palqytun_told (*by)(palqytun_vm *, uint8_t *, size_t))
 {
     if (len > INT32_MAX) {

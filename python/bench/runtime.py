@@ -21,7 +21,7 @@ import subprocess
 import sys
 import tempfile
 import time
-from collections.abc import Awaitable, Callable, Iterable, Sequence
+from collections.abc import Awaitable, Callable, Iterator
 from typing import Any
 
 sys.path.insert(0, str(pathlib.Path(__file__).parent.parent / "src"))
@@ -91,51 +91,31 @@ RUNS = {
 GO = journal.named_signal("go", journal.value(b"1"))
 
 
+_SAID = {"begin", "commit", "rollback", "rows", "several", "change", "put", "must", "many", "each"}
+_SAID |= {"hurry", "notify", "notify_holder", "ready", "pass_on"}
+
+
 class Recorded:
     """A connection that writes down its statements."""
 
     def __init__(self, db: Database):
         self._db, self.said = db, list[tuple[str, tuple[Any, ...]]]()
-        self.is_shared, self.is_remote, self.skip, self.lock, self.clock = db.is_shared, db.is_remote, db.skip, db.lock, db.clock
-        self.listen, self.close, self.now, self.told, self.beats = db.listen, db.close, db.now, db.told, db.beats
 
-    def _make(self, name: str, *words: Any) -> Any:
-        self.said.append((name, words))
-        return getattr(self._db, name)(*words)
+    def __getattr__(self, name: str) -> Any:
+        found = getattr(self._db, name)
+        if name not in _SAID:
+            return found
 
-    async def begin(self, reads: bool = False) -> None:
-        await self._make("begin", reads)
+        def made(*words: Any, **named: Any) -> Any:
+            kept = tuple(list(it) if isinstance(it, Iterator) else it for it in (*words, *named.values()))
+            self.said.append((name, kept))
+            return found(*kept)
+
+        return made
 
     async def another(self) -> Database | None:
         """What is written down is made by one connection."""
         return None
-
-    def hurry(self) -> None:
-        self._make("hurry")
-
-    async def commit(self) -> None:
-        await self._make("commit")
-
-    async def rollback(self) -> None:
-        await self._make("rollback")
-
-    async def rows(self, sql: str, values: Sequence[object] = ()) -> list[Any]:
-        return await self._make("rows", sql, tuple(values))  # type: ignore[no-any-return]
-
-    async def change(self, sql: str, values: Sequence[object] = ()) -> int:
-        return await self._make("change", sql, tuple(values))  # type: ignore[no-any-return]
-
-    def put(self, sql: str, values: Sequence[object] = ()) -> None:
-        self._make("put", sql, tuple(values))
-
-    def many(self, sql: str, values: Iterable[Sequence[object]]) -> None:
-        self._make("many", sql, list(values))
-
-    def notify(self, word: str) -> None:
-        self._make("notify", word)
-
-    def notify_holder(self, invocation: str) -> None:
-        self._make("notify_holder", invocation)
 
 
 def emptied(url: str) -> None:

@@ -4,7 +4,9 @@
     curl localhost:8080/Mail/send -d '"ann"'
 """
 
-from palqytun.runtime import App, Queue, Schedule, Service, ServiceContext, Workflow, WorkflowContext
+import time
+
+from palqytun.runtime import App, Queue, Schedule, Service, ServiceContext, Workflow, WorkflowContext, heartbeat, last_progress, step
 
 mail, subscription = Service("Mail"), Workflow("Subscription")
 
@@ -40,12 +42,28 @@ async def digest(ctx: ServiceContext, to: str) -> str:
 
 @subscription.main()
 async def goes_on(ctx: WorkflowContext, months: int) -> str:
-    """A letter a month, for so many months. The last two go out at once. The journal is that of one month."""
+    """A letter a month, for some months. The last two go out at once. The journal is that of one month."""
+    ctx.set_attribute("reader", ctx.key)
+    ctx.set_attribute("months", months)
     if months == 0:
         return f"the subscription of {ctx.key} has ended"
     await ctx.call(send, f"{ctx.key}, {months} to go")
     await ctx.sleep(30 * 86400 if months > 2 else 1)
     ctx.continue_as_new(months - 1)
+
+
+@step(heartbeat=10)
+def taken_in(names: list[str]) -> int:
+    """Takes in a list of readers. An execution after a crash goes on where the one before was."""
+    for number in range(last_progress(int) or 0, len(names)):
+        time.sleep(1)
+        heartbeat(number + 1)
+    return len(names)
+
+
+@mail.handler()
+async def takes_in(ctx: ServiceContext, names: list[str]) -> int:
+    return await ctx.run(taken_in, names)
 
 
 DAILY = Schedule("daily", digest, "ann", cron="0 3 * * *", zone="Europe/Berlin", overlap="skip")

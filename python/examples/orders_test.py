@@ -1,4 +1,4 @@
-"""Tests of patched.py: no server, no file, and no waiting. `python3 -m unittest orders_test` in this folder, or pytest."""
+"""Tests of patched.py: no server, no file, and no waiting. `python3 -m unittest orders_test` in this folder."""
 
 import unittest
 from unittest import mock

@@ -16,7 +16,7 @@ def text(data: bytes) -> bytes:
 
 
 def start(known_entries: int = 1) -> bytes:
-    """The Start of an attempt: so many entries are known, and the state is whole and empty."""
+    """The Start of an attempt: this many entries are known, and the state is whole and empty."""
     return frame(1, text(b"abc") * 2 + text(b"") + struct.pack(">IQ", known_entries, 0) + bytes(1 + 4 + 8 + 8 + 3))
 
 

@@ -1,9 +1,6 @@
 """What the tests of the durable runtime need beside Python's library, and how a Debian host gets it. What isn't there skips tests, which say so.
 
-usage: needs.py    prints the interpreter that runs the tests
-
-Packages of Debian belong to its own interpreter, which need not be the `python3` of the PATH. So the tests are run by that interpreter which has
-the most of what they need, and start programs by the same one (`sys.executable`). The table of packages is tools/packages.
+The table of packages is tools/packages. Tests start programs by the Python that runs them (`sys.executable`), which tools/gate/packages.py chooses.
 """
 
 from __future__ import annotations
@@ -22,31 +19,20 @@ SERVER = ("starlette", "uvicorn", "jinja2", "prometheus_client", "croniter")  # 
 _BROWSERS = ("chromium", "chromium-browser", "google-chrome")
 
 
-def interpreter() -> str:
-    """The interpreter for the tests, as ./test chooses it: that which PALQYTUN_PYTHON names; or else this one, that of the PATH or the system's,
-    by what they have.
-
-    Raises SystemExit if it can't run the tests."""
-    tools = packages.read()
-    path = packages.chosen_python(tools)
-    if packages.missing_modules(path, ["unittest"]):
-        raise SystemExit(f"{path} is no Python 3.11 or newer: apt-get install python3")
-    return path
-
-
-def lacking(path: str) -> str:
-    """What an interpreter lacks of what the tests use, and how it is installed; empty if it has all."""
-    lacks = [it for it in packages.not_found(packages.read(), path) if it.kind == "module"]
-    install = " ".join(package for it in lacks for package in it.packages)
-    return f"{path} lacks {' and '.join(it.name for it in lacks)}: apt-get install {install}" if lacks else ""
-
-
 def lacks_module(name: str) -> str:
     """Why a test is skipped that needs a module; empty if it is there."""
     if importlib.util.find_spec(name) is not None:
         return ""
     install = " ".join(package for it in packages.read().values() if name in it.names for package in it.packages)
     return f"{sys.executable} has no {name}: apt-get install {install}, for Debian's own python3"
+
+
+def lacks_command(name: str) -> str:
+    """Why a test is skipped that needs a command; empty if it is there."""
+    if shutil.which(name) is not None:
+        return ""
+    install = " ".join(package for it in packages.read().values() if name in it.names for package in it.packages)
+    return f"there is no {name}: apt-get install {install}"
 
 
 def lacks_server() -> str:
@@ -80,7 +66,3 @@ def lacks_browser() -> str:
     if not browser() or not driver():
         return "no browser, or no driver of it: apt-get install chromium chromium-driver"
     return lacks_module("selenium")
-
-
-if __name__ == "__main__":
-    print(interpreter())

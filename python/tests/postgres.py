@@ -37,6 +37,7 @@ _USERS = ("postgres", "nobody")  # who run the server for root
 _LONGEST_PATH = 107  # bytes of a Unix socket's path
 _SECONDS = 120  # that the server may take to start, on a host that is busy with other things
 _OWNER = "palqytun"  # the database's superuser
+_KEPT = pathlib.Path(__file__).resolve().parents[2] / "out/postgres"  # new clusters, of which others are copies
 
 
 class NoServer(Exception):
@@ -51,7 +52,7 @@ def _version(folder: pathlib.Path) -> tuple[int, ...]:
     if not all(os.access(folder / it, os.X_OK) for it in _PROGRAMS):
         return ()
     try:
-        said = subprocess.run([folder / "postgres", "--version"], capture_output=True, text=True, timeout=20).stdout
+        said = subprocess.run([folder / "postgres", "--version"], capture_output=True, text=True, timeout=_SECONDS).stdout
     except (OSError, subprocess.TimeoutExpired):
         return ()
     found = re.search(r"\d+(?:\.\d+)*", said)
@@ -175,6 +176,16 @@ class Cluster:
         _ran(words, _user(), self.folder)
         self.start()
 
+    def base(self) -> pathlib.Path:
+        """A base backup, made while the server goes on."""
+        made = self.folder / "base"
+        _ran([programs() / "pg_basebackup", "-d", self.url, "-D", made, "-c", "fast", "--no-sync"], _user(), self.folder)
+        return made
+
+    def program(self, name: str, *words: str | pathlib.Path) -> None:
+        """Runs a program of the server's package on its database, as its user and in its folder."""
+        _ran([programs() / name, *words, "-d", self.url], _user(), self.folder)
+
     def restart(self, mode: str) -> None:
         """Ends the server and starts it again. `mode` is pg_ctl's: `fast` ends the sessions, `immediate` is like a crash."""
         words = [programs() / "pg_ctl", "restart", "-w", "-t", str(_SECONDS), "-D", self.folder / "data", "-l", self.folder / "log", "-m", mode]
@@ -197,11 +208,30 @@ def _room(user: str | None) -> pathlib.Path:
     return folder
 
 
+def _initialised(data: pathlib.Path, user: str | None) -> None:
+    """Makes the folder of a new cluster. It is a copy of one that `initdb` has made for all tests of this host, which takes it some seconds."""
+    number = ".".join(map(str, _version(programs())))
+    kept = _KEPT / f"{number}-{user or os.geteuid()}"
+    if not kept.is_dir():
+        words = [programs() / "initdb", "-D", data, "-U", _OWNER, "-A", "trust", "-E", "UTF8", "--locale=C", "--no-sync", "--no-instructions"]
+        _ran(words, user, data.parent)
+        _KEPT.mkdir(parents=True, exist_ok=True)
+        made = pathlib.Path(tempfile.mkdtemp(dir=_KEPT))
+        shutil.copytree(data, made / "data")
+        with contextlib.suppress(OSError):  # another process was the first
+            (made / "data").rename(kept)
+        shutil.rmtree(made)
+        return
+    shutil.copytree(kept, data)
+    if user is not None:
+        for it in (data, *data.rglob("*")):
+            shutil.chown(it, user, pwd.getpwnam(user).pw_gid)
+
+
 def _made(folder: pathlib.Path, user: str | None, settings: Mapping[str, str]) -> Cluster:
     """Makes a cluster in a folder, and starts its server."""
     data = folder / "data"
-    words = [programs() / "initdb", "-D", data, "-U", _OWNER, "-A", "trust", "-E", "UTF8", "--locale=C", "--no-sync", "--no-instructions"]
-    _ran(words, user, folder)
+    _initialised(data, user)
     with (data / "postgresql.conf").open("a") as file:
         for name, value in settings.items():
             quoted = value.replace("'", "''")
@@ -279,6 +309,27 @@ def cluster(settings: Mapping[str, str] | None = None) -> contextlib.AbstractCon
 def standby(primary: Cluster) -> contextlib.AbstractContextManager[Cluster]:
     """A standby that follows a cluster, which is removed at the end."""
     return _kept(lambda folder, user: _copied(folder, user, primary))
+
+
+ARCHIVES = {"archive_mode": "on", "archive_command": "mkdir -p ../archive && cp %p ../archive/%f"}  # beside the folder of the data
+
+
+def recovered(base: pathlib.Path, point: str) -> contextlib.AbstractContextManager[Cluster]:
+    """A cluster of a base backup, with what the archive beside it has up to a restore point. It is removed at the end."""
+    settings = {"restore_command": f"cp {shlex.quote(str(base.parent / 'archive'))}/%f %p", "recovery_target_name": point, "recovery_target_action": "promote"}
+    return _kept(lambda folder, user: _brought_forward(folder, user, base, {**settings, "archive_mode": "off"}))
+
+
+def _brought_forward(folder: pathlib.Path, user: str | None, base: pathlib.Path, settings: Mapping[str, str]) -> Cluster:
+    data = folder / "data"
+    _ran(["cp", "-r", base, data], user, folder)
+    data.chmod(0o700)
+    (data / "recovery.signal").touch()
+    with (data / "postgresql.auto.conf").open("a") as file:
+        file.writelines("{} = '{}'\n".format(name, value.replace("'", "''")) for name, value in settings.items())
+    found = Cluster(folder, Place.of(folder))
+    found.start()
+    return found
 
 
 _open = contextlib.ExitStack()

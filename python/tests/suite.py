@@ -1,10 +1,11 @@
-"""Runs the tests of a folder: suite.py [--only DATABASE | --but DATABASE] FOLDER. A line for each, with its seconds; then what failed and why, the slowest, and what
-was skipped. The last line is 'N passed, M failed, K skipped'. With --only just the tests on this database are run, sqlite or postgres, and with
---but all others, also those on none."""
+"""Runs the tests of a folder: suite.py [--only DATABASE | --but DATABASE] [--files NAME,..] FOLDER. A line for each, with its seconds, and those of a
+processor; then what failed and why, the slowest, and what was skipped. The last line is 'N passed, M failed, K skipped'. With --only just the tests on
+this database are run, sqlite or postgres, and with --but all others, also those on none. With --files just those of these files are run."""
 
 from __future__ import annotations
 
 import argparse
+import os
 import pathlib
 import sys
 import time
@@ -18,6 +19,11 @@ MOST = 10  # of them
 DATABASES = ("sqlite", "postgres")
 
 
+def used() -> float:
+    """The seconds of a processor that this process has taken, with those that it has started and waited for."""
+    return sum(os.times()[:4])
+
+
 class Result(unittest.TestResult):
     """Says each test with its seconds as soon as it has ended."""
 
@@ -25,7 +31,7 @@ class Result(unittest.TestResult):
         super().__init__()
         self.seconds: dict[str, float] = {}
         self.counts: Counter[str] = Counter(passed=0, failed=0, skipped=0)
-        self._begun, self._before = 0.0, (0, 0)
+        self._begun, self._used, self._before = 0.0, 0.0, (0, 0)
         self._is_running = False
 
     def _found(self) -> tuple[int, int]:
@@ -34,7 +40,7 @@ class Result(unittest.TestResult):
 
     def startTest(self, test: unittest.TestCase) -> None:
         super().startTest(test)
-        self._begun, self._before, self._is_running = time.monotonic(), self._found(), True
+        self._begun, self._used, self._before, self._is_running = time.monotonic(), used(), self._found(), True
 
     def stopTest(self, test: unittest.TestCase) -> None:
         super().stopTest(test)
@@ -43,7 +49,7 @@ class Result(unittest.TestResult):
         self.counts[how] += 1
         self.seconds[str(test)] = took = time.monotonic() - self._begun
         self._is_running = False
-        print(f"{how:<7} {took:6.1f} s  {test}", flush=True)
+        print(f"{how:<7} {took:6.1f} s {used() - self._used:6.1f} s  {test}", flush=True)
 
     def addError(self, test: unittest.TestCase, err: tuple[type[BaseException], BaseException, TracebackType] | tuple[None, None, None]) -> None:
         super().addError(test, err)
@@ -67,16 +73,16 @@ class Result(unittest.TestResult):
         print(f"{self.counts['passed']} passed, {self.counts['failed']} failed, {self.counts['skipped']} skipped", flush=True)
 
 
-def tests_of(suite: unittest.TestSuite, only: str | None = None, but: str | None = None) -> Iterator[unittest.TestCase]:
-    """The tests of a suite; with `only` those on one database, and with `but` all others. One that couldn't be loaded is run, and fails."""
+def tests_of(suite: unittest.TestSuite, options: argparse.Namespace) -> Iterator[unittest.TestCase]:
+    """The tests of a suite that the options want. One that couldn't be loaded is run, and fails."""
     for it in suite:
         if isinstance(it, unittest.TestSuite):
-            yield from tests_of(it, only, but)
+            yield from tests_of(it, options)
         elif type(it).__name__ == "_FailedTest":
             yield it
         else:
-            kind = getattr(it, "kind", None)
-            if (only is None or kind == only) and (but is None or kind != but):
+            kind, is_wanted = getattr(it, "kind", None), not options.files or type(it).__module__ in options.files
+            if is_wanted and options.only in (None, kind) and (options.but is None or kind != options.but):
                 yield it
 
 
@@ -86,14 +92,17 @@ def main() -> int:
     which = parser.add_mutually_exclusive_group()
     which.add_argument("--only", choices=DATABASES, help="only the tests on this database")
     which.add_argument("--but", choices=DATABASES, help="all tests but those on this database")
+    parser.add_argument("--files", type=lambda it: it.split(","), default=[], metavar="NAME,..", help="only the tests of these files")
     options = parser.parse_args()
     if not options.folder.is_dir():
         parser.error(f"there is no folder {options.folder}")
     folder = options.folder.resolve()
+    if unknown := [it for it in options.files if not (folder / f"{it}.py").is_file()]:
+        parser.error(f"{folder.name} has no file {unknown[0]}.py")
     sys.path.insert(0, str(folder.parent))
     found = unittest.TestLoader().discover(str(folder))
     result = Result()
-    unittest.TestSuite(tests_of(found, options.only, options.but)).run(result)
+    unittest.TestSuite(tests_of(found, options)).run(result)
     result.say()
     return 1 if result.counts["failed"] else 0
 

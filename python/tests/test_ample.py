@@ -359,7 +359,7 @@ class Ample(unittest.TestCase):
     """Each test fails if a call raises `MemoryError`."""
 
     def test_ample_has_each_method(self) -> None:
-        methods = {name for name, _ in inspect.getmembers(VM, inspect.isfunction) if not name.startswith("_")}
+        methods = {name for name, _ in inspect.getmembers(VM, inspect.isroutine) if not name.startswith("_")}
         # Only `free` isn't a call of the VM.
         self.assertEqual(set(CALLS), methods - {"free"})
 

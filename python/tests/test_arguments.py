@@ -1,10 +1,10 @@
 """Arguments are checked where they are given: each wrong one is refused by its name, and nothing was done."""
 
-import inspect
 import unittest
 
 import palqytun
 from attempt import CONTENT_TYPE, begun
+from methods import parameters
 from palqytun import VM, BadLine, Failure, IdempotencyId, InvocationId, Retryable, WorkflowId
 from palqytun import first_completed, retry_exponential, retry_fixed
 from palqytun._words import text
@@ -22,7 +22,7 @@ SAMPLES = {
     "Data | Failure": b"",
     "Data | Failure | Retryable": b"",
     "Behaviour": "retry",
-    "int | Future": 17,
+    "int | Future | AnyOf": 17,
     "Iterable[tuple[str, str]]": (),
     "RetryPolicy": retry_fixed(5),
     "Target": InvocationId("inv_1"),
@@ -119,6 +119,19 @@ WRONG_VALUES = [
 ]
 
 
+# Calls with arguments that fit no parameter.
+WRONG_CALLS = [
+    (lambda vm: vm.sys_sleep(), "VM.sys_sleep() missing 1 required positional argument: 'wake_up_time'"),
+    (lambda vm: vm.sys_sleep(1, "nap"), "VM.sys_sleep() takes 2 positional arguments but 3 were given"),
+    (lambda vm: vm.sys_sleep(1, nam="nap"), "VM.sys_sleep() got an unexpected keyword argument 'nam'"),
+    (lambda vm: vm.sys_sleep(1, wake_up_time=1), "VM.sys_sleep() got multiple values for argument 'wake_up_time'"),
+    (lambda vm: vm.state(1), "VM.state() takes 1 positional argument but 2 were given"),
+    (lambda vm: vm.sys_state_set("k"), "VM.sys_state_set() missing 1 required positional argument: 'value'"),
+    (lambda vm: vm.sys_state_set(**{"key": "k", "value": b"", "": 1}), "VM.sys_state_set() got an unexpected keyword argument ''"),
+    (lambda vm: vm.sys_call("s", "h", value=b"", hedaers=()), "VM.sys_call() got an unexpected keyword argument 'hedaers'"),
+]
+
+
 class Arguments(unittest.TestCase):
     def test_wrong_types(self) -> None:
         with begun() as vm:
@@ -131,14 +144,19 @@ class Arguments(unittest.TestCase):
     def test_each_parameter_of_each_method(self) -> None:
         """One of a type that no parameter has is refused by the parameter's name."""
         with begun() as vm:
-            for name, method in vars(VM).items():
-                if not inspect.isfunction(method) or name.startswith("_"):
-                    continue
-                _, *parameters = inspect.signature(method).parameters.values()
-                for wrong in parameters:
-                    given = {it.name: object() if it is wrong else SAMPLES[it.annotation] for it in parameters}
-                    with self.subTest(f"{name}: {wrong.name}"), self.assertRaisesRegex(TypeError, f"^{wrong.name} must be .*, not object$"):
+            for name, taken in parameters().items():
+                for wrong in taken:
+                    given = {it: object() if it == wrong else SAMPLES[kind] for it, kind in taken.items()}
+                    with self.subTest(f"{name}: {wrong}"), self.assertRaisesRegex(TypeError, f"^{wrong} must be .*, not object$"):
                         getattr(vm, name)(**given)
+            self.assert_untouched(vm)
+
+    def test_arguments_that_fit_no_parameter(self) -> None:
+        with begun() as vm:
+            for call, says in WRONG_CALLS:
+                with self.subTest(says), self.assertRaises(TypeError) as raised:
+                    call(vm)
+                self.assertEqual(str(raised.exception), says)
             self.assert_untouched(vm)
 
     def test_wrong_values(self) -> None:

@@ -1,16 +1,19 @@
 """Errors have all their fields, errors and values can be copied and pickled, and large buffers are given back."""
 
+import contextlib
 import copy
+import gc
 import pathlib
 import pickle
+import threading
+import time
 import tomllib
+import tracemalloc
 import unittest
 from collections.abc import Callable
-from typing import Any
-from unittest import mock
 
 import palqytun
-from attempt import begun, fed, input_frame, sleep_frame, start
+from attempt import begun, completion, fed, input_frame, sleep_frame, start
 from palqytun import VM, VOID, Awakeable, BadLine, Cancelled, ExecuteRun, Failure, Fault, Future, Input, InvocationId, Journal, JournalFault
 from palqytun import JournalMismatch, Related, Retryable, RetryPolicy, Run, Suspended, VMError, Waiting, WorkflowId, all_completed, first_completed
 from palqytun import retry_fixed, retry_never
@@ -108,29 +111,50 @@ class Trees(unittest.TestCase):
 
 
 class Buffers(unittest.TestCase):
+    """What a large payload took is given back while the VM, or the journal, goes on."""
+
+    def setUp(self) -> None:
+        vm = begun()  # what is made once is there before it is counted
+        vm.sys_state_set("k", b"x")
+        self.assertGreater(len(vm.take_output()), 1)
+        self.assertEqual(vm.line("state"), "ok Processing")
+        tracemalloc.start()
+        self.addCleanup(tracemalloc.stop)
+
+    def assert_given_back(self) -> None:
+        """At most one buffer stays, and it isn't large."""
+        gc.collect()
+        self.assertLess(tracemalloc.get_traced_memory()[0], KEPT + 50_000)
+
     def test_those_of_a_vm(self) -> None:
         vm = begun()
         vm.sys_state_set("k", b"x" * LARGE)
         self.assertGreater(len(vm.take_output()), LARGE)
         vm.sys_state_set("k", b"x" * 3000)
         vm.take_output()
-        self.assertGreater(len(vm.line("state")), 0)
-        self.assertLessEqual(len(vm._room), KEPT)
+        self.assertEqual(vm.line("state"), "ok Processing")
+        self.assertGreater(tracemalloc.get_traced_memory()[1], LARGE)
+        self.assert_given_back()
+        vm.free()
 
     def test_a_large_part(self) -> None:
-        vm = begun()
-        vm.notify_error(418, "no tea " * LARGE)
+        vm, text = begun(), "no tea " * LARGE
+        vm.notify_error(418, text)
         with self.assertRaises(VMError) as raised:
             vm.sys_sleep(1000)
-        self.assertEqual(raised.exception.text, "no tea " * LARGE)
-        self.assertLessEqual(len(vm._room), KEPT)
+        self.assertEqual(raised.exception.text, text)
+        del raised, text
+        self.assert_given_back()
+        vm.free()
 
     def test_those_of_a_journal(self) -> None:
         journal, vm = Journal([input_with(frame_of("Input"), b"x" * LARGE)]), begun()
         vm.sys_state_set("k", b"x" * LARGE)
         [row] = journal.store(vm.take_output()).rows
         self.assertGreater(len(row.frame), LARGE)
-        self.assertLessEqual(len(journal._room), KEPT)
+        del row
+        self.assert_given_back()
+        journal.free()
 
     def test_a_part_that_is_gone(self) -> None:
         vm = begun()
@@ -140,50 +164,84 @@ class Buffers(unittest.TestCase):
             vm._parts.text(0)
 
 
+Called = Callable[[VM, bytes], object]
+
+COPYING: dict[str, Called] = {
+    "notify_input": lambda vm, data: vm.notify_input(completion(2**31, value_of(data))),
+    "take_output": lambda vm, data: [vm.sys_state_set("k", data), vm.take_output()],
+    "sys_state_set": lambda vm, data: vm.sys_state_set("k", data),
+    "sys_call": lambda vm, data: vm.sys_call("S", "h", data),
+    "sys_call with headers": lambda vm, data: vm.sys_call("S", "h", data, headers=[("a", "b")]),
+    "sys_call_with_deadline": lambda vm, data: vm.sys_call_with_deadline("S", "h", data, 1000),
+    "sys_send": lambda vm, data: vm.sys_send("S", "h", data),
+    "sys_complete_awakeable": lambda vm, data: vm.sys_complete_awakeable("sign_1abc", data),
+    "sys_complete_signal": lambda vm, data: vm.sys_complete_signal("inv", "s", data),
+    "sys_complete_promise": lambda vm, data: vm.sys_complete_promise("p", data),
+    "a bytearray": lambda vm, data: vm.sys_state_set("k", bytearray(data)),
+}
+"""Calls that copy a payload, and leave the VM such that they can be made again."""
+
+
+def value_of(data: bytes) -> bytes:
+    return b"\1" + len(data).to_bytes(8, "big") + data
+
+
 class Locks(unittest.TestCase):
-    """Calls that copy a large payload let other threads run, and others keep the interpreter's lock."""
+    """Calls that copy a large payload let other threads run, and others keep the interpreter's lock. A second thread's call finds the VM busy only
+    while the lock is free."""
+
+    LIMIT = 120  # seconds
+
+    def is_found_busy(self, call: Called, data: bytes, rounds: int) -> bool:
+        """Whether another thread's call comes into one of the calls."""
+        vm, found, ended = begun(), threading.Event(), threading.Event()
+
+        def ask() -> None:
+            while not ended.is_set() and not found.is_set():
+                try:
+                    vm.last_command_index()
+                except RuntimeError as error:
+                    self.assertIn("has not ended", str(error))
+                    found.set()
+
+        other = threading.Thread(target=ask)
+        other.start()
+        until = time.monotonic() + self.LIMIT
+        try:
+            for _ in range(rounds):
+                if found.is_set() or time.monotonic() > until:
+                    break
+                with contextlib.suppress(RuntimeError):  # this call may find the other's
+                    call(vm, data)
+                    vm.take_output()
+        finally:
+            ended.set()
+            other.join()
+        return found.is_set()
 
     def test_large_payloads(self) -> None:
-        vm, made = begun(), list[str]()
-        released = {name: self.noted(made, name, call) for name, call in vm._library.released.items()}
-        with mock.patch.dict(vm._library.released, released):
-            for size in (1, LARGE):
-                self.play(vm, b"x" * size)
-                vm.take_output()
-        self.assertEqual(sorted(made), sorted(released.keys() - {"part", "feed"}))
+        data = b"x" * LARGE
+        for name, call in COPYING.items():
+            with self.subTest(name):
+                self.assertTrue(self.is_found_busy(call, data, 100_000))
 
-    def test_large_input(self) -> None:
-        made = list[str]()
-        released = palqytun.core._library.library().released
-        with mock.patch.dict(released, {name: self.noted(made, name, call) for name, call in released.items()}):
-            vm = fed(start(), input_frame(b"x" * LARGE))
-            self.assertEqual(len(vm.sys_input().value), LARGE)
-        self.assertEqual(made, ["feed", "part"])
+    def test_small_payloads(self) -> None:
+        for name, call in COPYING.items():
+            with self.subTest(name):
+                self.assertFalse(self.is_found_busy(call, b"x" * 100, 300))
 
-    def noted(self, made: list[str], name: str, call: Callable[..., Any]) -> Callable[..., Any]:
-        def noting(*arguments: Any) -> Any:
-            told = call(*arguments)
-            made.append(name)
-            return told
-
-        return noting
-
-    def play(self, vm: VM, data: bytes) -> None:
+    def test_the_results_are_whole(self) -> None:
+        """Each call that lets other threads run gives what it gives without them."""
+        data, vm = bytes(range(256)) * (LARGE // 256), begun()
         vm.sys_state_set("k", data)
-        vm.sys_call("S", "h", data)
-        vm.sys_call_with_deadline("S", "h", data, 1000)
-        vm.sys_send("S", "h", data)
-        vm.sys_complete_awakeable("sign_1abc", data)
-        vm.sys_complete_signal("inv", "s", data)
-        vm.sys_complete_promise("p", data)
-        vm.propose_run_completion(self.executing(vm), data)
+        self.assertEqual(vm.take_notification(vm.sys_state_get("k")), data)
+        self.assertEqual(vm.take_output().count(data), 2)  # it was set, and the read has it too
+        run = vm.sys_run("r").handle
+        self.assertEqual(vm.do_await(run), ExecuteRun(run))
+        vm.propose_run_completion(run, data)
         vm.sys_write_output(data)
-
-    def executing(self, vm: VM) -> int:
-        """A run that is to be executed."""
-        handle = vm.sys_run("r").handle
-        self.assertEqual(vm.do_await(handle), ExecuteRun(handle))
-        return handle
+        self.assertEqual(vm.take_output().count(data), 2)
+        self.assertEqual(fed(start(), input_frame(data)).sys_input().value, data)
 
 
 class Version(unittest.TestCase):

@@ -9,6 +9,7 @@ import unittest
 from attempt import CONTENT_TYPE, input_frame, start
 from palqytun import _abi
 from palqytun._library import library
+from palqytun._structs import FUNCTIONS
 
 HEADER = pathlib.Path(__file__).resolve().parents[2] / "bindings/palqytun_flat.h"
 DECLARED = re.compile(r"^uint32_t (palqytun_flat_\w+)\((.*)\);$", re.M)
@@ -34,13 +35,13 @@ class Flat(unittest.TestCase):
         self.functions = {name: it for name, (it, _) in flat_functions().items()}
 
     def test_each_call_with_a_struct_has_a_flat_form(self) -> None:
-        by_value = {name for name, (taken, result) in _abi.FUNCTIONS.items() if any(is_struct(it) for it in (*taken, result))}
+        by_value = {name for name, (taken, result) in FUNCTIONS.items() if any(is_struct(it) for it in (*taken, result))}
         self.assertEqual(self.functions.keys(), by_value)
 
     def test_nothing_gets_the_same_status(self) -> None:
         plain = ctypes.CDLL(library().path)
         for name, function in self.functions.items():
-            taken, result = _abi.FUNCTIONS[name]
+            taken, result = FUNCTIONS[name]
             other = getattr(plain, f"palqytun_{name}")
             other.argtypes, other.restype = taken, result
             given = [it() if is_struct(it) else 0 if it in NUMBERS.values() else None for it in taken]
@@ -49,18 +50,18 @@ class Flat(unittest.TestCase):
             self.assertEqual(function(*[0 if it in NUMBERS.values() else None for it in function.argtypes]), status, name)
 
     def test_an_attempt(self) -> None:
-        vm, out, plain = ctypes.c_void_p(), ctypes.create_string_buffer(REPLIED.size), library()
-        self.assertEqual(plain.open(ctypes.byref(vm)), _abi.DONE)
+        vm, out, plain = ctypes.c_void_p(), ctypes.create_string_buffer(REPLIED.size), ctypes.CDLL(library().path)
+        self.assertEqual(plain.palqytun_open(ctypes.byref(vm)), _abi.DONE)
         name = CONTENT_TYPE.encode()
         self.assertEqual(self.functions["make"](vm, name, len(name), None, out), _abi.DONE)
         self.assertEqual(REPLIED.unpack(out.raw)[:3], (_abi.DONE, _abi.VERSION, 7))
         fed = start(1) + input_frame()
-        self.assertEqual(plain.feed(vm, fed, len(fed)), _abi.DONE)
+        self.assertEqual(plain.palqytun_feed(vm, fed, ctypes.c_size_t(len(fed))), _abi.DONE)
         self.assertEqual(self.functions["input"](vm, None), _abi.DONE)
         self.assertEqual(self.functions["sleep"](vm, b"rest", 4, 1000, out), _abi.DONE)
         self.assertEqual(REPLIED.unpack(out.raw)[:3], (_abi.DONE, _abi.HANDLE, 17))
         self.assertEqual(self.functions["state_get"](vm, b"\xff", 1, None, 0, out), _abi.BAD_TEXT)
-        self.assertEqual(plain.close(vm), _abi.DONE)
+        self.assertEqual(plain.palqytun_close(vm), _abi.DONE)
         self.assertEqual(self.functions["sleep"](vm, b"rest", 4, 1000, out), _abi.NO_SESSION)
 
 

@@ -5,6 +5,7 @@ import os
 import pathlib
 import subprocess
 import sys
+import tempfile
 import unittest
 
 import palqytun
@@ -152,10 +153,21 @@ class Loading(unittest.TestCase):
         self.assertRegex(ran.stderr.splitlines()[-1], "^ImportError: .*: its interface has no number, and this package wants [0-9]+: ./bindings/build")
 
     def test_a_library_with_another_interface(self) -> None:
-        raised = f"from palqytun import _abi; _abi.ABI = {_abi.ABI + 1}; import palqytun; palqytun.VM(None)"
-        ran = self.run_python(raised, os.environ.get("PALQYTUN_LIBRARY", ""))
-        wanted = f"^ImportError: .*: its interface has the number {_abi.ABI}, and this package wants {_abi.ABI + 1}: ./bindings/build"
+        with tempfile.TemporaryDirectory() as room:
+            source, made = pathlib.Path(room, "other.c"), pathlib.Path(room, "other.so")
+            source.write_text(f"unsigned palqytun_abi(void) {{ return {_abi.ABI + 1}; }}\n", encoding="utf-8")
+            subprocess.run(["cc", "-shared", "-fPIC", str(source), "-o", str(made)], check=True)
+            ran = self.run_python("import palqytun; palqytun.VM(None)", str(made))
+        wanted = f"^ImportError: {made}: its interface has the number {_abi.ABI + 1}, and this package wants {_abi.ABI}: ./bindings/build"
         self.assertRegex(ran.stderr.splitlines()[-1], wanted)
+
+    def test_a_library_that_lacks_a_function(self) -> None:
+        with tempfile.TemporaryDirectory() as room:
+            source, made = pathlib.Path(room, "other.c"), pathlib.Path(room, "other.so")
+            source.write_text(f"unsigned palqytun_abi(void) {{ return {_abi.ABI}; }}\n", encoding="utf-8")
+            subprocess.run(["cc", "-shared", "-fPIC", str(source), "-o", str(made)], check=True)
+            ran = self.run_python("import palqytun; palqytun.VM(None)", str(made))
+        self.assertRegex(ran.stderr.splitlines()[-1], f"^ImportError: {made}: .*palqytun_.*: ./bindings/build makes it")
 
     def test_arguments_are_checked_first(self) -> None:
         ran = self.run_python("import palqytun; palqytun.VM(None, wait='x')", "/nowhere.so")

@@ -3,20 +3,38 @@ and made. Each function of the header is there as `call_NAME`: it reads its argu
 
 `glue.h` has: `it_value`, a value; `CALL(name)` and `BEGIN(count)`, the head and the first lines of a function; `ARG(i)`; `field(lent, value, name)`;
 `read_X(lent, value)` for bytes, optional, pairs, nodes, handle, bool, u16, u32, u64 and size; `is_read(lent)`, whether all was read;
-`give_X(lent, ..)` for status, replied and bytes, and `give_row(lent, names, values, count)` for other structs; `MAKES(name)` for the table."""
+`give_X(lent, ..)` for status, replied and bytes, and `give_row(lent, names, values, count)` for other structs; `MAKES(name)` for the table.
+Where the interpreter has a lock, `UNLOCKED(size, call)` makes a call that copies about so many bytes."""
 
 from __future__ import annotations
+
+from dataclasses import dataclass
 
 from tools.kit.exports import Prototype
 
 from . import loading
 from .header import Header
 
-FOLDERS = ("bindings/node/src", "bindings/ruby/ext/palqytun")
 PREFIX = "palqytun_"
 NUMBERS = {"bool": "bool", "uint16_t": "u16", "uint32_t": "u32", "uint64_t": "u64", "size_t": "size"}
-PLAIN = {"open", "journal_open", "close", "journal_close", "abi", "version", "build", "is_proved", "line", "answer"}
-"""What a binding has in its own way, or not at all."""
+OWN = frozenset({"open", "journal_open", "close", "journal_close", "abi", "version", "build", "is_proved"})
+"""What a binding has in its own way."""
+LINES = frozenset({"line", "answer"})
+
+
+@dataclass(frozen=True)
+class Folder:
+    """How a call is made, and which calls `calls.c` lacks."""
+
+    how: str = "{call}"
+    lacks: frozenset[str] = OWN | LINES
+
+
+FOLDERS = {
+    "bindings/node/src": Folder(),
+    "bindings/ruby/ext/palqytun": Folder(),
+    "python/extension": Folder("UNLOCKED({size}, {call})", OWN),
+}
 GIVEN = ("options", "target", "value", "error", "command", "invocation", "policy")
 OUT = [("uint8_t *", "out"), ("size_t", "out_len"), ("palqytun_told *", "returned")]
 
@@ -68,7 +86,7 @@ def _read(parameters: list[tuple[str, str]]) -> tuple[list[str], list[str]]:
     return rows, passed
 
 
-def _call(it: Prototype, header: Header) -> str:
+def _call(it: Prototype, header: Header, how: str) -> str:
     name, parameters = it.name.removeprefix(PREFIX), loading.passed(it)[1]
     writes = parameters[-3:] == OUT
     returns = parameters[-1][0].removesuffix(" *") if parameters[-1][1] == "returned" else ""
@@ -79,13 +97,16 @@ def _call(it: Prototype, header: Header) -> str:
     made = [f"CALL({name})", "{", f"    BEGIN({len(rows)});", *rows]
     given = ", ".join(passed)
     if writes:
-        made += ["    struct out out = {0};", "    do", "        if (is_read(&lent))", f"            pq_{name}({given}{given and ', '}out_at(&out), out_len(&out), &out.told);"]
+        call = how.format(size="lent.size + out_len(&out)", call=f"pq_{name}({given}{given and ', '}out_at(&out), out_len(&out), &out.told)")
+        made += ["    struct out out = {0};", "    do", "        if (is_read(&lent))", f"            {call};"]
         made += ["    while (is_short(&out));", "    return give_bytes(&lent, &out);"]
     elif returns:
-        made += [f"    {returns} returned = {{0}};", "    if (is_read(&lent))", f"        pq_{name}({given}, &returned);"]
+        call = how.format(size="lent.size", call=f"pq_{name}({given}, &returned)")
+        made += [f"    {returns} returned = {{0}};", "    if (is_read(&lent))", f"        {call};"]
         made.append("    return give_replied(&lent, &returned);" if returns == "palqytun_replied" else _row(returns, header))
     else:
-        made += [f"    uint32_t status = is_read(&lent) ? pq_{name}({given}) : 0;", "    return give_status(&lent, status);"]
+        call = how.format(size="lent.size", call=f"status = pq_{name}({given})")
+        made += ["    uint32_t status = 0;", "    if (is_read(&lent))", f"        {call};", "    return give_status(&lent, status);"]
     return "\n".join([*made, "}", ""])
 
 
@@ -97,11 +118,11 @@ def _row(struct: str, header: Header) -> str:
     return "\n".join([*lines, f"    return give_row(&lent, names, values, {len(names)});"])
 
 
-def calls_of(header: Header) -> str:
+def calls_of(header: Header, folder: Folder) -> str:
     """The text of the file."""
-    functions = [it for it in header.functions.values() if it.name.removeprefix(PREFIX) not in PLAIN]
+    functions = [it for it in header.functions.values() if it.name.removeprefix(PREFIX) not in folder.lacks]
     parts = [HEAD.format(said=loading.SAID)]
     parts += [_reader(f"{PREFIX}{it}", header.structs[f"{PREFIX}{it}"]) for it in GIVEN]
-    parts += [_call(it, header) for it in functions]
+    parts += [_call(it, header, folder.how) for it in functions]
     rows = [f"    MAKES({it.name.removeprefix(PREFIX)})" for it in functions]
     return "\n".join([*parts, "const struct made CALLS[] = {", *rows, "    {0},", "};", ""])

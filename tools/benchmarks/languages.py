@@ -79,8 +79,30 @@ LANGUAGES: dict[str, tuple[str, Callable[[Path, Path], Words]]] = {
     "JavaScript": ("node", node),
     "Ruby": ("ruby", ruby),
     "Python": ("python3", python),
+    "Python by ctypes": ("python3", python),
 }
 """The command that each language needs, and what builds its program."""
+IMPLEMENTATIONS = {"Python": "c", "Python by ctypes": "ctypes"}
+
+
+def build_module() -> None:
+    """Builds the module by which Python makes calls in C."""
+    made = BINDINGS.parent / "python/src/palqytun/_c.abi3.so"
+    _run([sys.executable, str(BINDINGS.parent / "python/build_extension.py"), str(made)], BINDINGS.parent)
+
+
+def environment(name: str, library: Path) -> dict[str, str]:
+    """The environment of a language's program."""
+    env = {"PALQYTUN_LIBRARY": str(library), "PYTHONPATH": str(BINDINGS.parent / "python/src"), "PYTHONDONTWRITEBYTECODE": "1"}
+    return {**env, "PALQYTUN_IMPLEMENTATION": IMPLEMENTATIONS[name]} if name in IMPLEMENTATIONS else env
+
+
+def rows_of(name: str, library: Path, rounds: int) -> dict[str, float]:
+    """Nanoseconds of each case in a language."""
+    with tempfile.TemporaryDirectory(prefix="bench-") as made:
+        words = LANGUAGES[name][1](Path(made), library)
+        said = _run([*words, str(rounds)], Path(made), **environment(name, library))
+    return {case: float(ns) for case, ns in (line.split() for line in said.splitlines())}
 
 
 def chosen(only: str) -> list[str]:
@@ -92,10 +114,10 @@ def chosen(only: str) -> list[str]:
 
 def measure(options: argparse.Namespace) -> None:
     library = options.library.resolve()
-    env = {"PALQYTUN_LIBRARY": str(library), "PYTHONPATH": str(BINDINGS.parent / "python/src"), "PYTHONDONTWRITEBYTECODE": "1"}
+    names = chosen(options.only)
+    if IMPLEMENTATIONS.keys() & set(names):
+        build_module()
     print(f"| | {' | '.join(f'`{it}`' for it in CASES)} |\n|---|{'---|' * len(CASES)}")
-    for name in chosen(options.only):
-        with tempfile.TemporaryDirectory(prefix="bench-") as made:
-            words = LANGUAGES[name][1](Path(made), library)
-            rows = dict(line.split() for line in _run([*words, str(options.rounds)], Path(made), **env).splitlines())
-        print(f"| {name} | {' | '.join(f'{float(rows[it]):,.0f}' for it in CASES)} |", flush=True)
+    for name in names:
+        rows = rows_of(name, library, options.rounds)
+        print(f"| {name} | {' | '.join(f'{rows[it]:,.0f}' for it in CASES)} |", flush=True)

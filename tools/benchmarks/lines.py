@@ -21,7 +21,7 @@ REFUSED = re.compile(r"^(bad|err|fault)", re.M)
 
 
 def hexed(value: int, width: int) -> str:
-    """A number in so many bytes."""
+    """A number in this many bytes."""
     return value.to_bytes(width, "big").hex()
 
 
@@ -175,7 +175,7 @@ CASES: dict[Callable[[int], Iterator[str]], str] = {
 
 
 def script(case: Callable[[int], Iterator[str]], n: int) -> str:
-    """The script of a case with so many entries."""
+    """The script of a case with this many entries."""
     after = [] if case in ROUNDS else ["end", "output"]
     return "\n".join([*case(n), *after]) + "\n"
 

@@ -138,7 +138,7 @@ def heap(preloaded: Path) -> Callable[[list[Player], Point], Row]:
 
 
 def clock(runs: int) -> Callable[[list[Player], Point], Row]:
-    """The least nanoseconds of so many runs for an entry. The sides' runs alternate, so that other work of the machine meets both."""
+    """The least nanoseconds of these runs for an entry. The sides' runs alternate, so that other work of the machine meets both."""
 
     def measure(players: list[Player], point: Point) -> Row:
         row = Row(point)

@@ -1,83 +1,74 @@
-"""`tools/bench python`: what a call of the VM takes from Python, in microseconds of the processor, by typed calls and by lines."""
+"""`tools/bench python`: what a call of the VM takes from Python, in C and by ctypes, beside the same call from C: nanoseconds of the processor, and with
+--instructions what a call executes.
+
+A call is made 1,000 times a round on a VM that has its input. The programs are run in turn, and the best round of each counts, so that what else the
+machine does counts least. `whole` is a sleep that is sent, completed, awaited and taken: five calls."""
 
 from __future__ import annotations
 
 import argparse
 import os
+import subprocess
 import sys
-import time
-from collections.abc import Callable
+from functools import cache
 from pathlib import Path
-from typing import TYPE_CHECKING
 
-from . import building, core, lines
+from tools.kit.errors import Refused
 
-if TYPE_CHECKING:
-    from palqytun import VM
+from . import building, core, languages
+from .measuring import read_counted
 
-CONTENT_TYPE = "application/vnd.restate.invocation.v7"
-MEBIBYTE = 2**20
+CASES = ("state_of", "is_completed", "take", "await", "sleep", "state", "call", "whole")
+NAMES = {"state_of": "`state`", "is_completed": "`is_completed`", "take": "`take_notification`", "await": "`do_await`, which waits"}
+NAMES |= {"sleep": "`sys_sleep`", "state": "`sys_state_set`", "call": "`sys_call`", "whole": "a whole sleep"}
+WAYS = ("C", "Python", "Python by ctypes")
+COUNTED = 2000  # calls
 
 
 def add(parser: argparse.ArgumentParser) -> None:
     parser.add_argument("--library", type=Path, default=core.LIBRARY, metavar="FILE", help="Palqytun's library (bindings/out/libpalqytun.so)")
-    parser.add_argument("--calls", type=int, default=100_000, metavar="N", help="how often each call is made (100000)")
+    parser.add_argument("--rounds", type=int, default=20, metavar="N", help="rounds of a case in a turn (20)")
+    parser.add_argument("--turns", type=int, default=5, metavar="N", help="how often each program is run (5)")
+    parser.add_argument("--instructions", action="store_true", help="count instructions too, by callgrind, which takes minutes")
 
 
-def attempt(is_partial: int) -> VM:
-    """A VM whose input was read."""
-    from palqytun import VM
-
-    vm = VM(CONTENT_TYPE)
-    vm.notify_input(bytes.fromhex(lines.opening(1, is_partial)))
-    vm.sys_input()
-    return vm
-
-
-def whole_sleep(vm: VM) -> Callable[[], None]:
-    """A sleep that is sent, completed, awaited and taken."""
-    last = 0
-
-    def call() -> None:
-        nonlocal last
-        last += 1
-        handle = vm.sys_sleep(1000)
-        vm.take_output()
-        vm.notify_input(bytes.fromhex(lines.completion(last)))
-        vm.do_await(handle)
-        vm.take_notification(handle)
-
-    return call
+def nanoseconds(library: Path, rounds: int, turns: int) -> dict[str, dict[str, float]]:
+    """The least of each case, by way."""
+    found: dict[str, dict[str, float]] = {way: {} for way in WAYS}
+    for _ in range(turns):
+        for way in WAYS:
+            for case, ns in languages.rows_of(way, library, rounds).items():
+                found[way][case] = min(ns, found[way].get(case, ns))
+    return found
 
 
-def microseconds(call: Callable[[], object], calls: int) -> float:
-    begun = time.process_time()
-    for _ in range(calls):
-        call()
-    return (time.process_time() - begun) / calls * 1e6
+@cache
+def executed(way: str, library: Path, case: str, calls: int) -> int:
+    """The instructions of a process in Python that makes so many calls."""
+    program = [sys.executable, "-B", str(languages.HERE / "bench.py"), case, str(calls)]
+    words = ["valgrind", "--tool=callgrind", "--callgrind-out-file=/dev/null", *program]
+    env = {**os.environ, **languages.environment(way, library), "PYTHONHASHSEED": "0"}
+    ran = subprocess.run(words, env=env, stdin=subprocess.DEVNULL, capture_output=True, text=True)
+    if ran.returncode != 0:
+        raise Refused(f"{' '.join(program)}: {ran.stderr[-1000:]}")
+    return read_counted(ran.stderr)
+
+
+def instructions(way: str, library: Path, case: str) -> int:
+    """What a call from Python executes: in a process, without what one executes that makes no call."""
+    return (executed(way, library, case, COUNTED) - executed(way, library, CASES[0], 0)) // COUNTED
 
 
 def measure(options: argparse.Namespace) -> None:
-    os.environ["PALQYTUN_LIBRARY"] = str(options.library.resolve())
-    sys.path.insert(0, str(building.TOP / "python/src"))
-    print(f"{building.about(options.library)}; Python {sys.version.split()[0]}; microseconds a call")
-    vm = attempt(0)
-    handle = vm.sys_sleep(1000)
-    calls: dict[str, Callable[[], object]] = {
-        "state": vm.state,
-        "do_await": lambda: vm.do_await(handle),
-        "is_completed": lambda: vm.is_completed(handle),
-        "take_notification": lambda: vm.take_notification(handle),
-        "sys_sleep": lambda: vm.sys_sleep(1000),
-        "sys_state_set": lambda: vm.sys_state_set("key", b"value"),
-        "a line: state": lambda: vm.call("state"),
-        "a line: set": lambda: vm.call('set "key" 0x76616c7565'),
-        "a whole sleep": whole_sleep(attempt(1)),
-    }
-    for name, call in calls.items():
-        print(f"{name:<20} {microseconds(call, options.calls):>8.2f}", flush=True)
-    value, large = bytes(range(256)) * (MEBIBYTE // 256), attempt(0)
-    put = lambda: large.sys_state_set("key", value)  # noqa: E731
-    get = lambda: large.take_notification(large.sys_state_get("key"))  # noqa: E731
-    print(f"{'1 MiB is set':<20} {microseconds(put, 1):>8.0f}")
-    print(f"{'1 MiB is got':<20} {microseconds(get, 1):>8.0f}")
+    library = options.library.resolve()
+    languages.build_module()
+    print(f"{building.about(library)}; Python {sys.version.split()[0]}\n")
+    found = nanoseconds(library, options.rounds, options.turns)
+    more = ["instructions", "by ctypes"] if options.instructions else []
+    heads = ["ns", "C", "Python", "to C", "by ctypes", "to Python", *more]
+    print(f"| {' | '.join(heads)} |\n|{'---|' * len(heads)}", flush=True)
+    for case in CASES:
+        c, python, ctypes = (found[way][case] for way in WAYS)
+        cells = [NAMES[case], f"{c:,.0f}", f"{python:,.0f}", f"{python / c:.1f}", f"{ctypes:,.0f}", f"{ctypes / python:.1f}"]
+        cells += [f"{instructions(way, library, case):,}" for way in WAYS[1:]] if options.instructions else []
+        print(f"| {' | '.join(cells)} |", flush=True)

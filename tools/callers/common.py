@@ -42,9 +42,9 @@ class Bindings(Protocol):
     def counted(self, name: str, words: list[str]) -> None: ...
 
 
-def copied(it: Bindings, language: str) -> str:
+def copied(it: Bindings, language: str, into: str = "") -> str:
     """The folder of a binding's copy, so that nothing is made within the repository."""
-    folder = f"{it.room}/{language}"
+    folder = into or f"{it.room}/{language}"
     shutil.copytree(f"bindings/{language}", folder, ignore=shutil.ignore_patterns("target", "build", "node_modules", "__pycache__", "*.so", "*.node"))
     return folder
 

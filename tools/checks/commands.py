@@ -15,7 +15,7 @@ NAMED = re.compile(r"(?<![\w./-])(?:\./)?((?:tools|\.ci)/[\w-]+|bindings/build|\
 OPTION = re.compile(r"^(--[a-z][\w-]*)")
 IMPORTED = re.compile(r"^from tools\.(\w+)", re.MULTILINE)
 # Words with which a line begins that is a command, and no text that a command prints.
-BEGINS = re.compile(r"(?:\w+=\S+ )*(?:\./\w|tools/|bindings/|palqytun |rt |python3 |curl |vmrun |vmrounds |vmscript |frames )")
+BEGINS = re.compile(r"(?:\w+=\S+ )*(?:\./\w|tools/|bindings/|palqytun |rt |python3 |curl |vmrun |vmrounds |vmengine |vmscript |frames )")
 
 
 @cache

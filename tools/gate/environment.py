@@ -6,6 +6,7 @@ import os
 import re
 import shutil
 import sys
+from collections.abc import Mapping
 from pathlib import Path
 
 from . import packages
@@ -21,11 +22,17 @@ def write_program(path: Path, text: str) -> None:
     path.chmod(0o755)
 
 
+def with_bytecode(env: Mapping[str, str]) -> dict[str, str]:
+    """An environment in which Python keeps what it compiles in out/: a worker of the tests starts in half the time by that. Nothing is written
+    beside the sources."""
+    return {**{name: it for name, it in env.items() if name != "PYTHONDONTWRITEBYTECODE"}, "PYTHONPYCACHEPREFIX": str(TOP / "out/pycache")}
+
+
 def environment(folder: Path) -> dict[str, str]:
     """The environment of all jobs: `python3` is this Python for them, by a file in this folder, whichever is the first on the path."""
     write_program(folder / "python3", f'#!/bin/sh\nexec "{sys.executable}" "$@"\n')
     path = f"{folder}{os.pathsep}{os.environ['PATH']}"
-    return {**os.environ, "PATH": path, "PALQYTUN_PYTHON": sys.executable, "PYTHONDONTWRITEBYTECODE": "1"}
+    return with_bytecode({**os.environ, "PATH": path, "PALQYTUN_PYTHON": sys.executable})
 
 
 def start_anew(command: str, words: list[str]) -> None:

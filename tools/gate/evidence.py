@@ -67,7 +67,9 @@ def page(today: datetime.date | None = None) -> Path:
 
 
 def add(it: Evidence, to: Path) -> None:
-    """Adds a row to a page, which is made if it isn't there."""
+    """Adds a row to the table of a page, which is made if it isn't there. What stands below the table stays there."""
     to.parent.mkdir(parents=True, exist_ok=True)
     text = to.read_text(encoding="utf-8") if to.is_file() else HEAD.format(date=to.stem)
-    to.write_text(text + row(it), encoding="utf-8")
+    lines = text.splitlines(keepends=True)
+    last = max(at for at, line in enumerate(lines) if line.startswith("|"))
+    to.write_text("".join([*lines[: last + 1], row(it), *lines[last + 1 :]]), encoding="utf-8")

@@ -85,6 +85,11 @@ def simulate(it: Options) -> Job:
     return replace(those, env={"VMROUNDS": it.program("vmrounds")}, counts=counts.of_status)
 
 
+def simulate_engines(it: Options) -> Job:
+    those = job("simulate-engines", "tools/simulate-engines", str(it.seed), f"{it.minutes:g}")
+    return replace(those, env={"VMENGINE": it.program("vmengine")}, counts=counts.of_status)
+
+
 def kills(name: str, database: str, it: Options) -> Job:
     words = ("tools/chaos", "--kills", str(it.kills), "--seed", str(it.seed), "--db", database)
     return replace(job(name, *words), env={"PALQYTUN_LIBRARY": it.library}, counts=counts.of_status)
@@ -139,6 +144,7 @@ PARTS = [
         line_before_counts,
     ),
     Part("simulate", "random rounds of random handlers for an hour", simulate, minutes_of, last_line),
+    Part("simulate-engines", "random invocations that call each other for an hour", simulate_engines, minutes_of, last_line),
     Part("kills-sqlite", "1,000 kills of the durable runtime on SQLite", kills_sqlite, kills_of, last_line),
     Part("kills-postgres", "the same on PostgreSQL", kills_postgres, kills_of, last_line),
     Part("failovers", "PostgreSQL fails over to a synchronous standby, and to an asynchronous one", failovers, failovers_of, last_line),

@@ -18,7 +18,10 @@ from pathlib import Path
 TABLE = Path(__file__).resolve().parents[1] / "packages"
 SERVERS = "/usr/lib/postgresql/*/bin"
 SYSTEM = "/usr/bin/python3"  # the Python that Debian's packages are for
+KINDS = ("command", "version", "header", "mkmf", "library", "server", "module", "modules", "include", "sanitizer")
+INCLUDES = "import pathlib, sys, sysconfig; sys.exit(not pathlib.Path(sysconfig.get_path('include'), sys.argv[1]).is_file())"
 SECONDS = 60  # for one tool to say its version
+NODE_MODULES = "/usr/share/nodejs", "/usr/local/share/nodejs"  # Debian's of Node, and those that another Node than Debian's is given
 
 
 class BadTable(Exception):
@@ -49,8 +52,13 @@ class Tool:
                 return all(_succeeds(["pkg-config", "--exists", it]) for it in self.names)
             case "server":
                 return all(_runs(it) or glob.glob(f"{SERVERS}/{it}") for it in self.names)
+            case "modules":
+                env = {**os.environ, "NODE_PATH": node_path()}
+                return bool(shutil.which("node")) and all(_succeeds(["node", "-e", f"require({it!r})"], env) for it in self.names)
             case "module":
                 return not missing_modules(python, list(self.names))
+            case "include":
+                return all(_succeeds([python, "-c", INCLUDES, it]) for it in self.names)
             case _:
                 return all(_sanitizes(it) for it in self.names)
 
@@ -68,7 +76,7 @@ def read(path: Path = TABLE) -> dict[str, Tool]:
             continue
         cells = [it.strip() for it in line.split("|")]
         kind, *names = cells[1].split() if len(cells) == 4 else ("",)
-        if kind not in ("command", "version", "header", "mkmf", "library", "server", "module", "sanitizer") or not names or not all(cells):
+        if kind not in KINDS or not names or not all(cells):
             raise BadTable(f"{path.name}:{number}: a row is NAME | FOUND BY | PACKAGES | SKIPPED, not: {line}")
         found[cells[0]] = Tool(cells[0], kind, tuple(names), tuple(cells[2].split()), cells[3])
     return found
@@ -79,9 +87,14 @@ def _runs(command: str) -> bool:
     return _succeeds([command, "--version"]) if shutil.which(command) else False
 
 
-def _succeeds(words: list[str]) -> bool:
+def node_path() -> str:
+    """Where Node looks for modules, beside its own folders. Debian's Node looks into Debian's folder by itself, and another one doesn't."""
+    return os.pathsep.join([*filter(None, [os.environ.get("NODE_PATH", "")]), *NODE_MODULES])
+
+
+def _succeeds(words: list[str], env: dict[str, str] | None = None) -> bool:
     try:
-        return subprocess.run(words, stdin=subprocess.DEVNULL, capture_output=True, timeout=SECONDS).returncode == 0
+        return subprocess.run(words, stdin=subprocess.DEVNULL, capture_output=True, timeout=SECONDS, env=env).returncode == 0
     except (OSError, subprocess.TimeoutExpired):
         return False
 
@@ -107,12 +120,27 @@ def missing_modules(python: str, modules: list[str]) -> list[str]:
 
 def chosen_python(tools: dict[str, Tool]) -> str:
     """The Python of the tests: that of PALQYTUN_PYTHON, else that on the path, unless the system's own has more of the modules that tests
-    use. Debian's packages are for the system's own, which needn't be the first on the path."""
-    if named := os.environ.get("PALQYTUN_PYTHON"):
-        return named
-    modules = [name for it in tools.values() if it.kind == "module" for name in it.names]
+    use. Debian's packages are for the system's own, which needn't be the first on the path.
+
+    Raises SystemExit if it can't run the tests."""
+    modules = _modules(tools)
     candidates = [it for it in (shutil.which("python3"), sys.executable, SYSTEM) if it and os.access(it, os.X_OK)]
-    return min(candidates, key=lambda it: len(missing_modules(it, modules)))
+    path = os.environ.get("PALQYTUN_PYTHON") or min(candidates, key=lambda it: len(missing_modules(it, modules)))
+    if missing_modules(path, ["unittest"]):
+        raise SystemExit(f"{path} is no Python 3.11 or newer: apt-get install python3")
+    return path
+
+
+def lacking(tools: dict[str, Tool], python: str) -> str:
+    """What a Python lacks of the modules that tests use, and how it is installed; empty if it has all."""
+    modules = set(missing_modules(python, _modules(tools)))
+    lacks = [it for it in tools.values() if it.kind == "module" and modules & set(it.names)]
+    install = " ".join(package for it in lacks for package in it.packages)
+    return f"{python} lacks {' and '.join(it.name for it in lacks)}: apt-get install {install}" if lacks else ""
+
+
+def _modules(tools: dict[str, Tool]) -> list[str]:
+    return [name for it in tools.values() if it.kind == "module" for name in it.names]
 
 
 def missing() -> list[Tool]:
@@ -136,7 +164,28 @@ def to_install(tools: dict[str, Tool], python: str) -> list[Tool]:
 
 
 def installed(tools: list[Tool]) -> int:
-    """Installs Debian's packages of these tools, and returns the status of what failed."""
+    """Installs Debian's packages of these tools, and returns the status of what failed. Debian's modules of Node want Debian's Node: beside another one
+    they are unpacked."""
+    modules = [it for it in tools if it.kind == "modules"]
+    status = _installed([it for it in tools if it.kind != "modules"])
+    return _installed(modules) and unpacked(modules) or status if modules else status
+
+
+def unpacked(tools: list[Tool], into: str = NODE_MODULES[1]) -> int:
+    """Puts the modules of Debian's packages of these tools into a folder, and returns the status of what failed."""
+    names = [package for it in tools for package in it.packages]
+    with tempfile.TemporaryDirectory() as room:
+        how = {"stdin": subprocess.DEVNULL, "cwd": room}
+        if status := subprocess.run(["apt-get", "-o", "APT::Sandbox::User=root", "download", "-q", *names], **how).returncode:
+            return status
+        for it in sorted(Path(room).glob("*.deb")):
+            if status := subprocess.run(["dpkg-deb", "-x", it.name, "unpacked"], **how).returncode:
+                return status
+        shutil.copytree(f"{room}/unpacked{NODE_MODULES[0]}", into, dirs_exist_ok=True)
+    return 0
+
+
+def _installed(tools: list[Tool]) -> int:
     names = sorted({package for it in tools for package in it.packages})
     if not names:
         return 0

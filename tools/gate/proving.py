@@ -47,7 +47,7 @@ PARTS = [
     Part("library", "the static library, built from what is proved"),
     Part(BUILDS, "what was built is put into crates/NAME/out"),
     Part("refused", "each program on each of its inputs, once without each allocation in turn, as both compilers build it"),
-    Part("rows", "the rows of vmscript and vmrounds, by both builds of each"),
+    Part("rows", "the rows of vmscript, vmrounds and vmengine, by both builds of each"),
     Part("bindings", "the examples in C and Python over the proved library, the header, and each allocation refused in turn"),
 ]
 

@@ -15,11 +15,11 @@ from .exports import PREFIX, read_prototypes
 from .lowering import TARGET
 from .toolchain import Kit
 
-# As `rattle build` has its clang compile, at -O2 in the place of -O3.
+# As `rattle build` has its clang compile, except for the level, which is -O3 there.
 CLANG = (
     f"--target={TARGET} -march=x86-64 -mllvm -no-trap-after-noreturn -ffunction-sections -fdata-sections -mllvm -trap-unreachable"
     " -mllvm -no-x86-call-frame-opt -mllvm -disable-machine-licm -mllvm -disable-postra-machine-licm -mllvm -sink-common-insts=false"
-    " --no-default-config -no-canonical-prefixes -fintegrated-cc1 -fno-crash-diagnostics -c -x ir -O2 -fno-vectorize -fno-slp-vectorize"
+    " --no-default-config -no-canonical-prefixes -fintegrated-cc1 -fno-crash-diagnostics -c -x ir -fno-vectorize -fno-slp-vectorize"
 ).split()
 CC = ["cc", "-std=c11", "-O1", "-fPIC", "-fvisibility=default"]
 SHARED = ["-shared", "-Wl,--no-undefined", "-Wl,-z,noexecstack", "-Wl,--gc-sections"]
@@ -35,12 +35,12 @@ def need(*tools: str) -> None:
         raise Refused(f"{' and '.join(lacking)} not found on the path: Debian's packages gcc, binutils and libc6-dev have them")
 
 
-def compile_module(kit: Kit, module: str, made: Path, *flags: str) -> None:
-    """Compiles a module to an object."""
+def compile_module(kit: Kit, module: str, made: Path, *flags: str, level: int = 2) -> None:
+    """Compiles a module to an object, which LLVM optimises by this level."""
     with tempfile.TemporaryDirectory(prefix="unproved-") as room:
         text = Path(room, "module.ll")
         text.write_text(module, encoding="utf-8")
-        clang: list[Word] = [f"{kit.part('toolchain/bin/clang')}", f"--sysroot={kit.part('toolchain')}", *CLANG, *flags]
+        clang: list[Word] = [f"{kit.part('toolchain/bin/clang')}", f"--sysroot={kit.part('toolchain')}", *CLANG, f"-O{level}", *flags]
         run([*clang, text, "-o", made], f"compiling {made.name}")
 
 
@@ -48,9 +48,9 @@ def compile_c(source: Path, made: Path, *flags: Word) -> None:
     run([*CC, *flags, "-c", source, "-o", made], f"compiling {source.name}")
 
 
-def link_program(kit: Kit, compiled: Path, made: Path) -> None:
+def link_program(kit: Kit, made: Path, *compiled: Path) -> None:
     words: list[Word] = [kit.part("bin/rattle-link"), "--target", TARGET, "--toolchain", kit.part("toolchain"), "-o", made]
-    run([*words, compiled, kit.part("c/libos_c.a"), kit.part("c/liblibc_c.a")], f"linking {made.name}")
+    run([*words, *compiled, kit.part("c/libos_c.a"), kit.part("c/liblibc_c.a")], f"linking {made.name}")
 
 
 def soname(top: Path) -> str:

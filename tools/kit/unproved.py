@@ -13,6 +13,8 @@ from .errors import Refused
 from .exports import compare, read_exports, read_prototypes
 from .linking import compile_c, compile_module, link_archive, link_program, link_shared, need
 from .lowering import module_of
+from .merging import CRATE as ALL
+from .merging import main_of, uses_of, with_starts, write_programs
 from .progress import Progress
 from .stamps import Stamp
 from .toolchain import Kit, kit
@@ -86,6 +88,33 @@ def build_program(name: str, made: Path, progress: Progress) -> bool:
         module = module_of(crates, its_kit, name, crate.folder, crate.uses)
         progress.step(f"LLVM compiles {name}: about a minute")
         compile_module(its_kit, module, compiled, "-fPIE")
-        link_program(its_kit, compiled, made)
+        link_program(its_kit, made, compiled)
     stamp.keep()
     return True
+
+
+def build_programs(folder: Path, progress: Progress) -> bool:
+    """Makes all programs of the repository in a folder, for tests: they are lowered once, and LLVM doesn't optimise them. Returns whether the
+    sources were compiled."""
+    crates, its_kit = Crates(TOP), kit()
+    programs = [crates[it] for it in crates.programs()]
+    uses = uses_of(programs)
+    folder.mkdir(parents=True, exist_ok=True)
+    compiled = folder / f"{ALL}.o"
+    stamp = Stamp(TOP, compiled, _parts(its_kit, [*crates.below(uses), *programs]))
+    is_current = stamp.is_current()
+    with tempfile.TemporaryDirectory(prefix="unproved-") as made_in:
+        room = Path(made_in)
+        if not is_current:
+            stamp.forget()
+            write_programs(programs, room / ALL)
+            progress.step("the programs are lowered to LLVM: a minute or two")
+            module = with_starts(module_of(crates, its_kit, ALL, room / ALL, uses), [it.name for it in programs])
+            progress.step("LLVM compiles them: half a minute")
+            compile_module(its_kit, module, compiled, "-fPIE", level=0)
+            stamp.keep()
+        for it in programs:
+            start = room / f"{it.name}.o"
+            compile_module(its_kit, main_of(it.name), start, "-fPIE", level=0)
+            link_program(its_kit, folder / it.name, start, compiled)
+    return not is_current

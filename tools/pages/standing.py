@@ -4,12 +4,20 @@ from __future__ import annotations
 
 from pathlib import Path
 
-# Stands for rt: a program that was built is run as it is. It has the real one in REAL, and the repository in BUILT, or the programs in PROGRAMS.
+from tools.kit.linking import soname
+
+# Stands for rt: a program that was built is run as it is, and tests are tried without a second process that checks them. It has the real one in REAL,
+# the copy of the repository in COPY, and the repository in BUILT, or the programs in PROGRAMS.
 RT = r"""#!/usr/bin/env bash
 name=$(basename "$PWD") verb=${1:-} cases=
 program=${PROGRAMS:-$BUILT/crates/$name/out}/$name
 [[ $verb == check ]] && exit 0
-if [[ $verb == try || $verb == run ]] && [[ " $* " != *" --test "* && -x $program ]]; then
+if [[ $verb == try && " $* " == *" --test "* ]]; then
+    set -o pipefail
+    "$PYTHON" "$COPY/tools/unproved" tests "$name" | grep '^test'
+    exit
+fi
+if [[ $verb == try || $verb == run ]] && [[ -x $program ]]; then
     shift
     while (($# > 0)); do
         case $1 in
@@ -56,7 +64,7 @@ BUILD = r"""#!/usr/bin/env bash
 set -eu
 cd "$(dirname "$0")/.."
 mkdir -p bindings/out
-for name in bindings/out/libpalqytun.so bindings/out/libpalqytun.so.0 python/src/palqytun/libpalqytun.so; do
+for name in bindings/out/libpalqytun.so bindings/out/SONAME python/src/palqytun/libpalqytun.so; do
     cp "$LIBRARY" "$name"
 done
 echo "bindings/out/libpalqytun.so: 0.1.0 commit $(printf %012d 0) logic $(printf %016d 0) unproved, in 0 seconds"
@@ -66,7 +74,8 @@ echo "bindings/out/libpalqytun.so: 0.1.0 commit $(printf %012d 0) logic $(printf
 def write(folder: Path, copy: Path) -> None:
     """Writes the commands that stand in into a folder, and into the copy of the repository."""
     folder.mkdir()
-    files = {folder / "rt": RT, folder / "palqytun": PALQYTUN, folder / "python3": PYTHON, folder / "pip": PIP, copy / "bindings" / "build": BUILD}
+    build = BUILD.replace("SONAME", soname(copy))
+    files = {folder / "rt": RT, folder / "palqytun": PALQYTUN, folder / "python3": PYTHON, folder / "pip": PIP, copy / "bindings" / "build": build}
     for file, text in files.items():
         file.write_text(text, encoding="utf-8")
         file.chmod(0o755)

@@ -10,7 +10,8 @@ from . import round_rules, script_rules
 from .row_files import Group, Names, groups
 
 KIND = "application/vnd.restate.invocation.v"
-PROGRAMS = {"vmscript": script_rules.RULES, "vmrounds": round_rules.RULES}
+PROGRAMS = {"vmscript": script_rules.RULES, "vmrounds": round_rules.RULES, "vmengine": ()}
+"""The programs that have rows, and the rules that make more of them."""
 
 
 @dataclass(frozen=True)
@@ -64,7 +65,18 @@ def answered(group: Group, names: Names) -> Iterator[Play]:
             yield Answered(place, f"version {version} {options}".rstrip() if version else "", script, (), (*made, *said))
 
 
-def whole(group: Group, names: Names, is_rounds: bool) -> Iterator[Play]:
+def arguments_of(program: str, group: Group, version: int) -> tuple[str, ...]:
+    """The arguments by which a program plays a row under a version."""
+    match program:
+        case "vmrounds":
+            return (f"{KIND}{version}", *group.words["handler"].split())
+        case "vmengine":
+            return (f"{KIND}{version}",)
+        case _:
+            return ()
+
+
+def whole(group: Group, names: Names, program: str) -> Iterator[Play]:
     """Yields the plays of rows that have a whole output."""
     ends = "ends" in group.parts
     lines = names.all_lines(group.part("ends" if ends else "report"))
@@ -80,14 +92,14 @@ def whole(group: Group, names: Names, is_rounds: bool) -> Iterator[Play]:
             if given is None:
                 given = "".join(f"{it}\n" for it in [*world, *(it.text for it in script)]).encode()
             for version in group.versions() or [7]:
-                arguments = (f"{KIND}{version}", *group.words["handler"].split()) if is_rounds else ()
-                under = f"version {version} {options}".rstrip() if is_rounds else ""
+                arguments = arguments_of(program, group, version)
+                under = f"version {version} {options}".rstrip() if arguments else ""
                 yield Whole(place, under, given, arguments, output, ends, status, said, hint)
 
 
-def plays(group: Group, names: Names, is_rounds: bool) -> Iterator[Play]:
-    if is_rounds or "script" in group.words:
-        yield from whole(group, names, is_rounds)
+def plays(group: Group, names: Names, program: str) -> Iterator[Play]:
+    if program != "vmscript" or "script" in group.words:
+        yield from whole(group, names, program)
     else:
         yield from answered(group, names)
 
@@ -101,5 +113,4 @@ def texts(program: str) -> dict[str, str]:
 def all_plays(program: str) -> tuple[Names, dict[str, list[Play]]]:
     """The names that rows of a program may use, and the plays of each of its files and rules."""
     names = Names.read(Path(f"crates/{program}/rows"))
-    is_rounds = program == "vmrounds"
-    return names, {name: [it for group in groups(name, text) for it in plays(group, names, is_rounds)] for name, text in texts(program).items()}
+    return names, {name: [it for group in groups(name, text) for it in plays(group, names, program)] for name, text in texts(program).items()}

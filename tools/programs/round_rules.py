@@ -22,7 +22,7 @@ class Stopped:
     versions: str
     # the lines of the round that is stopped
     first: tuple[str, ...]
-    # after so many of them what the handler awaits is stored
+    # after this many of them what the handler awaits is stored
     stored: int
     # the round to the end, in which it comes
     brings: str
@@ -200,7 +200,7 @@ Output result=failure(code=409 message="cancelled")
 """
 
 def arrived(at: int) -> int:
-    """How many of the three have arrived if the round is stopped after so many lines."""
+    """How many of the three have arrived if the round is stopped after this many lines."""
     return min(max(at - len(BEFORE), 0), len(ARRIVALS))
 
 

@@ -1,8 +1,8 @@
 """The inputs of programs in crates/NAME/runs, and what a program has to do with them.
 
 An input is CASE.in, with its arguments in CASE.args, one word a line. If CASE.out and CASE.status stand beside it, the ordinary run must
-write the one and end with the other. A program that writes text has CASE.lines in the place of CASE.out, vmscript CASE.transcript, and
-vmrounds CASE.report."""
+write the one and end with the other. A program that writes text has CASE.lines in the place of CASE.out, vmscript CASE.transcript,
+vmrounds CASE.report, and vmengine CASE.engine."""
 
 from __future__ import annotations
 
@@ -12,7 +12,7 @@ from pathlib import Path
 
 from .refusing import Run
 
-TEXTS = (".report", ".transcript", ".lines")
+TEXTS = (".report", ".transcript", ".engine", ".lines")
 
 
 def types(output: bytes) -> list[int] | None:

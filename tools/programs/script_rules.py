@@ -19,12 +19,12 @@ CLEAR_ALL_N = "0011000000000000000900000000000000016e"
 
 
 def start(known: int) -> str:
-    """Start, in hex, of an invocation with so many known entries and a part of the state, which is empty."""
+    """Start, in hex, of an invocation with this many known entries and a part of the state, which is empty."""
     return f"000100000000000000420000000000000003616263000000000000000361626300000000000000000000{known:04x}" + "0" * 17 + "1" + "0" * 46
 
 
 def recorded(entries: str, count: int) -> str:
-    """The lines up to a call, with an input and so many further known entries, which are these, in hex."""
+    """The lines up to a call, with an input and `known` further known entries, which are these, in hex."""
     return f"input 0x{start(count + 1)} => ok\ninput {INPUT} => ok\ninput 0x{entries} => ok\n@read\n"
 
 

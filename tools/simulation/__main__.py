@@ -16,7 +16,7 @@ from .program import Bad, Program
 from .rounds import Played, random_rounds
 
 
-EACH = 300  # after so many seconds it says how far it is
+EACH = 300  # seconds after which it says how far it is
 
 
 @dataclass

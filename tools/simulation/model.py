@@ -202,8 +202,9 @@ class Attempt:
         else:
             return False
         for it in ids:
-            invocation = str(it).removeprefix('invocation_id(').removesuffix(")")
-            if not self.command(f"SendSignal target_invocation_id={invocation} signal=index(1) result=void"):
+            invocation = str(it).removeprefix("invocation_id(").removesuffix(")")
+            target = "" if invocation == '""' else f" target_invocation_id={invocation}"
+            if not self.command(f"SendSignal{target} signal=index(1) result=void"):
                 return False
         self.seen = at
         self.tracked = []

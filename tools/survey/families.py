@@ -32,12 +32,12 @@ FAMILIES = (
         "vm",
         "The VM",
         "One attempt of a handler: bytes and calls go in, results and bytes come out. With what is proved of it.",
-        ("vm_retries", "vm_runs", "invocation_vm"),
+        ("vm_retries", "vm_runs", "invocation_vm", "run_laws", "attempt_laws"),
         ("vm_*",),
     ),
     Family("store", "Stored journals", "What is stored of what an attempt wrote, and what may arrive.", ("journal_store",)),
     Family("world", "Worlds", "Many attempts over one journal, stopped anywhere.", ("world_rounds",), ("world_*",)),
-    Family("engine", "The engine", "Many invocations that call each other.", ("engine_effects", "engine_inboxes", "engines")),
+    Family("engine", "The engine", "Many invocations that call each other.", ("engine_effects", "engine_inboxes", "engines", "engine_fences")),
     Family(
         "handler",
         "Handlers",
@@ -48,8 +48,8 @@ FAMILIES = (
     Family(
         "line",
         "Lines and scripts",
-        "What people read and write: frames, calls and rounds as lines of text.",
-        ("lines", "hints", "call_lines", "call_scripts", "world_scripts", "handler_plans"),
+        "What people read and write: frames, calls, rounds and many invocations as lines of text.",
+        ("lines", "hints", "call_lines", "call_scripts", "world_scripts", "handler_plans", "engine_lines", "engine_scripts"),
         ("line_*", "frame_*"),
     ),
     Family(
@@ -60,7 +60,13 @@ FAMILIES = (
         ("c_*",),
     ),
     Family("ffi", "The library for C", "The functions that callers of C and Python call: by values, and by lines.", ("ffi",)),
-    Family("program", "Programs", "The four programs: thin, each over a library.", ("program_vmrun", "vmrun", "vmscript", "vmrounds", "frames"), ("program_*",)),
+    Family(
+        "program",
+        "Programs",
+        "The five programs: thin, each over a library.",
+        ("program_vmrun", "vmrun", "vmscript", "vmrounds", "vmengine", "frames"),
+        ("program_*",),
+    ),
     Family(
         "test",
         "Tests",

@@ -16,7 +16,7 @@ from .places import Place, crates_of, places
 from .rust import Function, functions
 from .spellings import Name
 from .tree import House
-from .ways import chain, ways
+from .ways import chain, standing, ways
 
 MOST_FUNCTIONS, MOST_LINES = 100, 40
 # A command as it is there already: a new one of its kind touches the same files.
@@ -88,9 +88,9 @@ class Survey:
 
     def of_chains(self) -> Iterable[Figure]:
         found = ways(self.house.crates)
-        engines = sum(found[it] for it in found if family_of(it).name == "engine" or it == "test_engine")
+        engines = sum(found[it] for it in standing(self.house.crates, [it for it in found if family_of(it).name == "engine"]))
         yield Figure("ways", sum(found.values()), "down through crates.txt, each from each crate")
-        yield Figure("ways without the engine's", sum(found.values()) - engines)
+        yield Figure("ways without the engine's", sum(found.values()) - engines, "from crates that are not of the engine and don't depend on it")
         longest = chain(self.house.crates, lambda _: 1)
         yield Figure("longest chain", len(longest), " ".join(longest))
         heaviest = chain(self.house.crates, self.lines.__getitem__)

@@ -22,7 +22,8 @@ WRITTEN = (
     *("bindings/node/lib/abi.d.ts", "bindings/node/lib/abi.js", "bindings/node/src/calls.c"),
     *("bindings/node/src/palqytun_abi.c", "bindings/node/src/palqytun_abi.h"),
     *("bindings/ruby/ext/palqytun/calls.c", "bindings/ruby/ext/palqytun/palqytun_abi.c", "bindings/ruby/ext/palqytun/palqytun_abi.h"),
-    *("bindings/ruby/lib/palqytun/abi.rb", "docs/API.md", "docs/guarantees/", "python/src/palqytun/_abi.py"),
+    *("bindings/ruby/lib/palqytun/abi.rb", "docs/API.md", "docs/guarantees/", "python/src/palqytun/_abi.py", "python/src/palqytun/_structs.py"),
+    *("python/extension/calls.c", "python/extension/palqytun_abi.c", "python/extension/palqytun_abi.h"),
 )
 OWN = ("tools/survey/", "tools/benchmarks/original/", *WRITTEN)
 DATA = ("rows", "runs", "stdin", "stdout", "args", "data")
@@ -41,7 +42,7 @@ GROUPS = (
     Group("C: the header and what is built with it", ("bindings/palqytun.h", "bindings/palqytun.map", "bindings/packaging/", "bindings/build")),
     Group("Rust, Go, Node and Ruby: the crate and the packages", ("bindings/rust/", "bindings/go/", "bindings/node/", "bindings/ruby/")),
     Group("C, Java and Python: examples and their output", ("bindings/",)),
-    Group("Python: the package", ("python/src/",)),
+    Group("Python: the package", ("python/src/", "python/extension/")),
     Group("Python: tests, examples, benches", ("python/tests/", "python/examples/", "python/bench/")),
     Group("the simulation", ("tools/simulation/", "tools/simulate")),
     Group("rules and checks, and the commands of tools", (".ci/", "tools/")),

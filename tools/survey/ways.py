@@ -2,7 +2,7 @@
 
 from __future__ import annotations
 
-from collections.abc import Callable, Mapping
+from collections.abc import Callable, Iterable, Mapping
 
 from .tree import Crate
 
@@ -13,6 +13,15 @@ def ways(crates: Mapping[str, Crate]) -> dict[str, int]:
     found: dict[str, int] = {}
     for name, crate in crates.items():
         found[name] = 1 + sum(found[it] for it in crate.below)
+    return found
+
+
+def standing(crates: Mapping[str, Crate], on: Iterable[str]) -> set[str]:
+    """Returns these crates, and those that depend on one of them. The crates come bottom up."""
+    found = set(on)
+    for name, crate in crates.items():
+        if not found.isdisjoint(crate.below):
+            found.add(name)
     return found
 
 

@@ -1,4 +1,4 @@
-// Prints what a call takes, in nanoseconds of the processor: the best of so many rounds, of 1,000 calls each. usage: bench.js ROUNDS
+// Prints what a call takes, in nanoseconds of the processor: the best of some rounds, of 1,000 calls each. usage: bench.js ROUNDS
 'use strict';
 
 const { VM, frames } = require('..');

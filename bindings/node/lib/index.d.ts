@@ -224,7 +224,7 @@ export class VM {
   sysCompletePromise(key: string, value: Given, how?: Payload): Handle;
   sysRun(name: string): { handle: Handle; replayed: boolean };
   proposeRunCompletion(handle: Handle, value: Given, policy?: RetryPolicy): void;
-  /** A try of a run failed after so many milliseconds, and may be made again. */
+  /** A try of a run failed after this many milliseconds, and may be made again. */
   proposeRetryableFailure(handle: Handle, tookMillis: Millis, error: HandlerError, policy?: RetryPolicy): void;
   sysWriteOutput(value: Given, how?: Payload): void;
   sysEnd(): void;

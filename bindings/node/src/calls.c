@@ -94,7 +94,9 @@ CALL(feed)
     BEGIN(2);
     uintptr_t vm = read_handle(&lent, ARG(0));
     palqytun_bytes bytes = read_bytes(&lent, ARG(1));
-    uint32_t status = is_read(&lent) ? pq_feed(vm, bytes.at, bytes.len) : 0;
+    uint32_t status = 0;
+    if (is_read(&lent))
+        status = pq_feed(vm, bytes.at, bytes.len);
     return give_status(&lent, status);
 }
 
@@ -669,7 +671,9 @@ CALL(journal_keep)
 {
     BEGIN(1);
     uintptr_t journal = read_handle(&lent, ARG(0));
-    uint32_t status = is_read(&lent) ? pq_journal_keep(journal) : 0;
+    uint32_t status = 0;
+    if (is_read(&lent))
+        status = pq_journal_keep(journal);
     return give_status(&lent, status);
 }
 
@@ -677,7 +681,9 @@ CALL(journal_undo)
 {
     BEGIN(1);
     uintptr_t journal = read_handle(&lent, ARG(0));
-    uint32_t status = is_read(&lent) ? pq_journal_undo(journal) : 0;
+    uint32_t status = 0;
+    if (is_read(&lent))
+        status = pq_journal_undo(journal);
     return give_status(&lent, status);
 }
 

@@ -1,6 +1,6 @@
 # frozen_string_literal: true
 
-# Prints what a call takes, in nanoseconds of the processor: the best of so many rounds, of 1,000 calls each. usage: bench.rb ROUNDS
+# Prints what a call takes, in nanoseconds of the processor: the best of some rounds, of 1,000 calls each. usage: bench.rb ROUNDS
 require "palqytun"
 
 CALLS = 1000

@@ -1,4 +1,4 @@
-//! What a call takes, in nanoseconds of the processor: the best of so many rounds, of 1,000 calls each. usage: bench ROUNDS
+//! What a call takes, in nanoseconds of the processor: the best of some rounds, of 1,000 calls each. usage: bench ROUNDS
 
 use palqytun::{frames, NotificationHandle, Options, PayloadOptions, Result, Target, Vm};
 use std::os::raw::{c_int, c_long};

@@ -10,7 +10,7 @@ use std::alloc::Global;
 use vm_types::{Call, Step};
 
 /// The step that a line says. `Malformed` if it says none.
-fn step_of(alloc: Global, line: &str) -> Result<Step, Fault>
+pub fn step_of(alloc: Global, line: &str) -> Result<Step, Fault>
     ensures { IfOk result (SaysStep line.now) }
 {
     let mut words = Vec::new(alloc);

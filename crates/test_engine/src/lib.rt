@@ -1,4 +1,4 @@
-//! Engines of plans: a parent that calls a child and sleeps, crashed at each point.
+//! Engines of plans: a parent that calls a child and sleeps, crashed at each point, and taken over by another attempt at each point.
 #![tactic(auto)]
 
 #[cfg(test)]

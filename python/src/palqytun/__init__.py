@@ -10,10 +10,14 @@ commit, the sum of the kit's logic, and `proved` or `unproved`. Both load it.
 >>> import palqytun
 >>> palqytun.build.endswith(" proved") == palqytun.is_proved
 True
+
+`palqytun.implementation` says how the shared object is called: `c`, by the module in C that was built with the package, or `ctypes`, which is slower.
+The environment variable `PALQYTUN_IMPLEMENTATION` demands one of both.
 """
 
 from typing import TYPE_CHECKING
 
+from palqytun._library import implementation as implementation
 from palqytun._library import library as _library_of
 from palqytun.core import *
 from palqytun.core import __all__ as __all__

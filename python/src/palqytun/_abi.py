@@ -1,9 +1,9 @@
-"""The numbers, structs and functions of the library for C, for ctypes. `tools/header --write` writes this file, from `palqytun.h`."""
+"""The numbers of the library for C, and what its calls take and return. `tools/header --write` writes this file, from `palqytun.h`."""
 
 from __future__ import annotations
 
-import ctypes
-from typing import Any, Final
+from dataclasses import dataclass
+from typing import Final, Protocol
 
 ABI: Final = 1
 STACK: Final = 32768
@@ -227,101 +227,14 @@ TEXTS: Final = {
 HOW_TO_MAKE_IT: Final = "./bindings/build makes it, at the top of the repository, or, in some minutes and without a proof, ./bindings/build --unproved"
 ANOTHER: Final = "PALQYTUN_LIBRARY may name another"
 
-
-class Told(ctypes.Structure):
-    """palqytun_told."""
-
-    _fields_ = [
-        ("status", ctypes.c_uint32),
-        ("len", ctypes.c_size_t),
-    ]
-    status: int
-    len: int
+Octets = bytes
+Pairs = tuple[tuple[Octets, Octets], ...]
 
 
-class Bytes(ctypes.Structure):
-    """palqytun_bytes."""
-
-    _fields_ = [
-        ("at", ctypes.c_char_p),
-        ("len", ctypes.c_size_t),
-    ]
-    len: int
-
-
-class Optional(ctypes.Structure):
-    """palqytun_optional."""
-
-    _fields_ = [
-        ("is_given", ctypes.c_bool),
-        ("bytes", Bytes),
-    ]
-    is_given: bool
-
-
-class Pair(ctypes.Structure):
-    """palqytun_pair."""
-
-    _fields_ = [
-        ("key", Bytes),
-        ("value", Bytes),
-    ]
-
-
-class Value(ctypes.Structure):
-    """palqytun_value."""
-
-    _fields_ = [
-        ("is_failure", ctypes.c_bool),
-        ("code", ctypes.c_uint16),
-        ("bytes", Bytes),
-        ("metadata", ctypes.POINTER(Pair)),
-        ("metadata_len", ctypes.c_size_t),
-    ]
-    is_failure: bool
-    code: int
-    metadata_len: int
-
-
-class Target(ctypes.Structure):
-    """palqytun_target."""
-
-    _fields_ = [
-        ("service", Bytes),
-        ("handler", Bytes),
-        ("key", Optional),
-        ("idempotency_key", Optional),
-        ("scope", Optional),
-        ("limit_key", Optional),
-        ("headers", ctypes.POINTER(Pair)),
-        ("headers_len", ctypes.c_size_t),
-    ]
-    headers_len: int
-
-
-class Node(ctypes.Structure):
-    """palqytun_node."""
-
-    _fields_ = [
-        ("kind", ctypes.c_uint32),
-        ("number", ctypes.c_uint32),
-    ]
-    kind: int
-    number: int
-
-
-class Options(ctypes.Structure):
+@dataclass(slots=True)
+class Options:
     """palqytun_options."""
 
-    _fields_ = [
-        ("cancellation", ctypes.c_uint32),
-        ("checks", ctypes.c_uint32),
-        ("awaiting", ctypes.c_uint32),
-        ("mismatch", ctypes.c_uint32),
-        ("replay", ctypes.c_uint32),
-        ("delivery", ctypes.c_uint32),
-        ("seed", ctypes.c_uint64),
-    ]
     cancellation: int
     checks: int
     awaiting: int
@@ -331,67 +244,67 @@ class Options(ctypes.Structure):
     seed: int
 
 
-class Error(ctypes.Structure):
+@dataclass(slots=True)
+class Target:
+    """palqytun_target."""
+
+    service: Octets
+    handler: Octets
+    key: Octets | None
+    idempotency_key: Octets | None
+    scope: Octets | None
+    limit_key: Octets | None
+    headers: Pairs
+
+
+@dataclass(slots=True)
+class Value:
+    """palqytun_value."""
+
+    is_failure: bool
+    code: int
+    bytes: Octets
+    metadata: Pairs
+
+
+@dataclass(slots=True)
+class Error:
     """palqytun_error."""
 
-    _fields_ = [
-        ("code", ctypes.c_uint16),
-        ("behavior", ctypes.c_uint32),
-        ("message", Bytes),
-        ("stacktrace", Bytes),
-        ("has_delay", ctypes.c_bool),
-        ("delay_millis", ctypes.c_uint64),
-    ]
     code: int
     behavior: int
+    message: Octets
+    stacktrace: Octets
     has_delay: bool
     delay_millis: int
 
 
-class Command(ctypes.Structure):
+@dataclass(slots=True)
+class Command:
     """palqytun_command."""
 
-    _fields_ = [
-        ("kind", ctypes.c_uint32),
-        ("index", ctypes.c_uint32),
-        ("type", ctypes.c_uint32),
-        ("name", Optional),
-    ]
     kind: int
     index: int
     type: int
+    name: Octets | None
 
 
-class Invocation(ctypes.Structure):
+@dataclass(slots=True)
+class Invocation:
     """palqytun_invocation."""
 
-    _fields_ = [
-        ("kind", ctypes.c_uint32),
-        ("name", Bytes),
-        ("key", Bytes),
-        ("handler", Bytes),
-        ("service_key", Optional),
-        ("scope", Optional),
-    ]
     kind: int
+    name: Octets
+    key: Octets
+    handler: Octets
+    service_key: Octets | None
+    scope: Octets | None
 
 
-class Policy(ctypes.Structure):
+@dataclass(slots=True)
+class Policy:
     """palqytun_policy."""
 
-    _fields_ = [
-        ("kind", ctypes.c_uint32),
-        ("initial_millis", ctypes.c_uint64),
-        ("numerator", ctypes.c_uint32),
-        ("denominator", ctypes.c_uint32),
-        ("has_interval", ctypes.c_bool),
-        ("interval_millis", ctypes.c_uint64),
-        ("has_attempts", ctypes.c_bool),
-        ("attempts", ctypes.c_uint32),
-        ("has_duration", ctypes.c_bool),
-        ("duration_millis", ctypes.c_uint64),
-        ("pauses", ctypes.c_bool),
-    ]
     kind: int
     initial_millis: int
     numerator: int
@@ -405,162 +318,87 @@ class Policy(ctypes.Structure):
     pauses: bool
 
 
-class Replied(ctypes.Structure):
+class Told(Protocol):
+    """palqytun_told."""
+
+    @property
+    def status(self) -> int: ...
+    @property
+    def len(self) -> int: ...
+
+
+class Replied(Protocol):
     """palqytun_replied."""
 
-    _fields_ = [
-        ("status", ctypes.c_uint32),
-        ("kind", ctypes.c_uint32),
-        ("first", ctypes.c_uint32),
-        ("second", ctypes.c_uint32),
-        ("third", ctypes.c_uint32),
-        ("number", ctypes.c_uint64),
-        ("rows", ctypes.c_size_t),
-        ("len", ctypes.c_size_t),
-    ]
-    status: int
-    kind: int
-    first: int
-    second: int
-    third: int
-    number: int
-    rows: int
-    len: int
+    @property
+    def status(self) -> int: ...
+    @property
+    def kind(self) -> int: ...
+    @property
+    def first(self) -> int: ...
+    @property
+    def second(self) -> int: ...
+    @property
+    def third(self) -> int: ...
+    @property
+    def number(self) -> int: ...
+    @property
+    def rows(self) -> int: ...
+    @property
+    def len(self) -> int: ...
 
 
-class Row(ctypes.Structure):
+class Row(Protocol):
     """palqytun_row."""
 
-    _fields_ = [
-        ("status", ctypes.c_uint32),
-        ("type", ctypes.c_uint32),
-        ("is_completion", ctypes.c_bool),
-        ("completes", ctypes.c_uint32),
-        ("len", ctypes.c_size_t),
-    ]
-    status: int
-    type: int
-    is_completion: bool
-    completes: int
-    len: int
+    @property
+    def status(self) -> int: ...
+    @property
+    def type(self) -> int: ...
+    @property
+    def is_completion(self) -> bool: ...
+    @property
+    def completes(self) -> int: ...
+    @property
+    def len(self) -> int: ...
 
 
-class Stored(ctypes.Structure):
+class Stored(Protocol):
     """palqytun_stored."""
 
-    _fields_ = [
-        ("status", ctypes.c_uint32),
-        ("rows", ctypes.c_size_t),
-        ("feed", ctypes.c_size_t),
-    ]
-    status: int
-    rows: int
-    feed: int
+    @property
+    def status(self) -> int: ...
+    @property
+    def rows(self) -> int: ...
+    @property
+    def feed(self) -> int: ...
 
 
-class Judged(ctypes.Structure):
+class Judged(Protocol):
     """palqytun_judged."""
 
-    _fields_ = [
-        ("status", ctypes.c_uint32),
-        ("is_awake", ctypes.c_bool),
-    ]
-    status: int
-    is_awake: bool
+    @property
+    def status(self) -> int: ...
+    @property
+    def is_awake(self) -> bool: ...
 
 
-class FrameRow(ctypes.Structure):
+class FrameRow(Protocol):
     """palqytun_frame_row."""
 
-    _fields_ = [
-        ("status", ctypes.c_uint32),
-        ("type", ctypes.c_uint32),
-        ("kind", ctypes.c_uint32),
-        ("result", ctypes.c_uint32),
-        ("id", ctypes.c_uint32),
-        ("second", ctypes.c_uint32),
-        ("number", ctypes.c_uint64),
-        ("rows", ctypes.c_size_t),
-    ]
-    status: int
-    type: int
-    kind: int
-    result: int
-    id: int
-    second: int
-    number: int
-    rows: int
-
-
-FUNCTIONS: dict[str, tuple[list[Any], Any]] = {
-    "open": ([ctypes.POINTER(ctypes.c_void_p)], ctypes.c_uint32),
-    "line": ([ctypes.c_void_p, ctypes.c_char_p, ctypes.c_size_t], Told),
-    "answer": ([ctypes.c_void_p, ctypes.c_char_p, ctypes.c_size_t], Told),
-    "feed": ([ctypes.c_void_p, ctypes.c_char_p, ctypes.c_size_t], ctypes.c_uint32),
-    "take_output": ([ctypes.c_void_p, ctypes.c_char_p, ctypes.c_size_t], Told),
-    "close": ([ctypes.c_void_p], ctypes.c_uint32),
-    "part": ([ctypes.c_void_p, ctypes.c_size_t, ctypes.c_char_p, ctypes.c_size_t], Told),
-    "make": ([ctypes.c_void_p, Optional, ctypes.POINTER(Options)], Replied),
-    "is_ready": ([ctypes.c_void_p], Replied),
-    "head": ([ctypes.c_void_p], Replied),
-    "close_input": ([ctypes.c_void_p], Replied),
-    "output": ([ctypes.c_void_p], Replied),
-    "state": ([ctypes.c_void_p], Replied),
-    "last_command_index": ([ctypes.c_void_p], Replied),
-    "report_error": ([ctypes.c_void_p, ctypes.POINTER(Error), ctypes.POINTER(Command)], Replied),
-    "input": ([ctypes.c_void_p], Replied),
-    "await": ([ctypes.c_void_p, ctypes.c_uint32], Replied),
-    "await_tree": ([ctypes.c_void_p, ctypes.POINTER(Node), ctypes.c_size_t], Replied),
-    "take": ([ctypes.c_void_p, ctypes.c_uint32], Replied),
-    "is_completed": ([ctypes.c_void_p, ctypes.c_uint32], Replied),
-    "sleep": ([ctypes.c_void_p, Bytes, ctypes.c_uint64], Replied),
-    "state_get": ([ctypes.c_void_p, Bytes, Bytes], Replied),
-    "state_get_keys": ([ctypes.c_void_p, Bytes], Replied),
-    "state_set": ([ctypes.c_void_p, Bytes, Bytes, Bytes, ctypes.c_bool], Replied),
-    "state_clear": ([ctypes.c_void_p, Bytes, Bytes], Replied),
-    "state_clear_all": ([ctypes.c_void_p, Bytes], Replied),
-    "ephemeral_state_get": ([ctypes.c_void_p, Bytes], Replied),
-    "take_ephemeral": ([ctypes.c_void_p, ctypes.c_uint32], Replied),
-    "call": ([ctypes.c_void_p, ctypes.POINTER(Target), Bytes, Bytes, ctypes.c_bool], Replied),
-    "call_with_deadline": ([ctypes.c_void_p, ctypes.POINTER(Target), Bytes, ctypes.c_uint64, Bytes, ctypes.c_bool], Replied),
-    "send": ([ctypes.c_void_p, ctypes.POINTER(Target), Bytes, ctypes.c_uint64, Bytes, ctypes.c_bool], Replied),
-    "cancel_invocation": ([ctypes.c_void_p, Bytes], Replied),
-    "attach": ([ctypes.c_void_p, ctypes.POINTER(Invocation)], Replied),
-    "get_output": ([ctypes.c_void_p, ctypes.POINTER(Invocation)], Replied),
-    "awakeable": ([ctypes.c_void_p], Replied),
-    "complete_awakeable": ([ctypes.c_void_p, Bytes, ctypes.POINTER(Value), ctypes.c_bool], Replied),
-    "signal": ([ctypes.c_void_p, Bytes], Replied),
-    "complete_signal": ([ctypes.c_void_p, Bytes, Bytes, ctypes.POINTER(Value)], Replied),
-    "get_promise": ([ctypes.c_void_p, Bytes], Replied),
-    "peek_promise": ([ctypes.c_void_p, Bytes], Replied),
-    "complete_promise": ([ctypes.c_void_p, Bytes, ctypes.POINTER(Value), ctypes.c_bool], Replied),
-    "run": ([ctypes.c_void_p, Bytes], Replied),
-    "propose": ([ctypes.c_void_p, ctypes.c_uint32, ctypes.POINTER(Value), ctypes.POINTER(Policy)], Replied),
-    "propose_retryable": ([ctypes.c_void_p, ctypes.c_uint32, ctypes.c_uint64, ctypes.POINTER(Error), ctypes.POINTER(Policy)], Replied),
-    "write_output": ([ctypes.c_void_p, ctypes.POINTER(Value), ctypes.c_bool], Replied),
-    "end": ([ctypes.c_void_p], Replied),
-    "journal_open": ([ctypes.POINTER(ctypes.c_void_p)], ctypes.c_uint32),
-    "journal_close": ([ctypes.c_void_p], ctypes.c_uint32),
-    "journal_entries": ([ctypes.c_void_p], Told),
-    "journal_entry": ([ctypes.c_void_p, ctypes.c_char_p, ctypes.c_size_t], Row),
-    "journal_arrive": ([ctypes.c_void_p, ctypes.c_char_p, ctypes.c_size_t], Row),
-    "journal_store": ([ctypes.c_void_p, ctypes.c_uint32, ctypes.c_char_p, ctypes.c_size_t], Stored),
-    "journal_row": ([ctypes.c_void_p, ctypes.c_size_t], Row),
-    "journal_frame": ([ctypes.c_void_p, ctypes.c_size_t, ctypes.c_char_p, ctypes.c_size_t], Told),
-    "journal_answer": ([ctypes.c_void_p, ctypes.c_char_p, ctypes.c_size_t], Told),
-    "journal_keep": ([ctypes.c_void_p], ctypes.c_uint32),
-    "journal_undo": ([ctypes.c_void_p], ctypes.c_uint32),
-    "frame_line": ([ctypes.c_char_p, ctypes.c_size_t, ctypes.c_char_p, ctypes.c_size_t], Told),
-    "line_frame": ([ctypes.c_char_p, ctypes.c_size_t, ctypes.c_char_p, ctypes.c_size_t], Told),
-    "notification": ([ctypes.c_uint32, ctypes.c_uint32, ctypes.c_char_p, ctypes.c_size_t, ctypes.c_char_p, ctypes.c_size_t, ctypes.c_char_p, ctypes.c_size_t], Told),
-    "is_awake": ([ctypes.c_char_p, ctypes.c_size_t, ctypes.c_char_p, ctypes.c_size_t], Judged),
-    "frame_read": ([ctypes.c_char_p, ctypes.c_size_t], FrameRow),
-    "frame_part": ([ctypes.c_char_p, ctypes.c_size_t, ctypes.c_size_t, ctypes.c_char_p, ctypes.c_size_t], Told),
-    "value_frame": ([ctypes.c_char_p, ctypes.c_size_t, ctypes.c_char_p, ctypes.c_size_t], Told),
-    "input_frame": ([ctypes.c_char_p, ctypes.c_size_t, ctypes.c_char_p, ctypes.c_size_t, ctypes.c_char_p, ctypes.c_size_t], Told),
-    "abi": ([], ctypes.c_uint32),
-    "version": ([], ctypes.c_char_p),
-    "build": ([], ctypes.c_char_p),
-    "is_proved": ([], ctypes.c_bool),
-}
-"""What each function takes and returns, by its name without `palqytun_`."""
+    @property
+    def status(self) -> int: ...
+    @property
+    def type(self) -> int: ...
+    @property
+    def kind(self) -> int: ...
+    @property
+    def result(self) -> int: ...
+    @property
+    def id(self) -> int: ...
+    @property
+    def second(self) -> int: ...
+    @property
+    def number(self) -> int: ...
+    @property
+    def rows(self) -> int: ...

@@ -4,10 +4,11 @@ from __future__ import annotations
 
 from collections.abc import Callable
 
+from typing import Any
+
 from palqytun import _abi, _library
-from palqytun._answers import pairs
 from palqytun._abi import Replied
-from palqytun._library import Handle, Library, Room
+from palqytun._answers import pairs
 from palqytun.errors import Related
 from palqytun.values import VOID, EphemeralReady, ExecuteRun, Failure, Input, InvocationId, Result, Waiting
 
@@ -15,19 +16,17 @@ from palqytun.values import VOID, EphemeralReady, ExecuteRun, Failure, Input, In
 class Parts:
     """The parts of a session's last reply."""
 
-    def __init__(self, library: Library, session: Handle, room: Room) -> None:
-        self._part, self._large_part = library.part, library.released["part"]
-        self._session = session
-        self._room = room
+    def __init__(self, part: Callable[[Any, int], bytes | int], session: object) -> None:
+        self._part, self._session = part, session
 
     def data(self, at: int) -> bytes | None:
         """A part, if there is one."""
-        status, found = self._room.written(self._part, self._session, at, large=self._large_part)
-        if status == _abi.NO_PART:
+        found = self._part(self._session, at)
+        if isinstance(found, bytes):
+            return found
+        if found == _abi.NO_PART:
             return None
-        if status:
-            raise RuntimeError(_library.why(status))
-        return found
+        raise RuntimeError(_library.why(found))
 
     def bytes(self, at: int) -> bytes:
         """A part that is there. Only another thread's call takes it away."""
@@ -55,13 +54,14 @@ def related_of(replied: Replied, parts: Parts) -> Related | None:
     return Related(replied.second, replied.third, parts.text(2)) if replied.first else None
 
 
-_WAITS = [[Waiting(input=bool(first), run=bool(second)) for second in (0, 1)] for first in (0, 1)]
+WAITS = tuple(tuple(Waiting(input=bool(first), run=bool(second)) for second in (0, 1)) for first in (0, 1))
+"""What an await returns that waits: for input or not, and for a run or not."""
 
 
 def awaited_of(replied: Replied) -> ExecuteRun | EphemeralReady | Waiting:
     """What an await returns that isn't done."""
     if replied.kind == _abi.WAITING:
-        return _WAITS[replied.first][replied.second]
+        return WAITS[replied.first][replied.second]
     return ExecuteRun(replied.first) if replied.kind == _abi.EXECUTE_RUN else EphemeralReady(replied.first)
 
 

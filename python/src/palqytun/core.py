@@ -34,30 +34,26 @@ The shared object is in this package; `./bindings/build` puts it there. It is lo
 
 from __future__ import annotations
 
-import ctypes
-from collections.abc import Callable, Iterable
+from collections.abc import Iterable
 from types import TracebackType
 from typing import Literal, Never, Self, cast
 
 from palqytun import _abi, _library
 from palqytun._answers import shown
 from palqytun._arguments import (
-    NO_TEXT,
     lent_command,
     lent_content_type,
-    lent_data,
     lent_error,
     lent_invocation,
     lent_name,
-    lent_nodes,
     lent_options,
     lent_policy,
     lent_retryable,
     lent_target,
-    lent_text,
     lent_value,
 )
 from palqytun._abi import Replied
+from palqytun._hastened import hastened
 from palqytun._replies import Parts, awaited_of, input_of, related_of, result_of
 from palqytun._words import HANDLE, integer, octets, truth, utf8
 from palqytun.errors import BadLine, Cancelled, Closed, Code, Fault, JournalFault, JournalMismatch, Related, Suspended, VMError, error_of
@@ -157,6 +153,7 @@ _OPTIONS = {
 _STATES: tuple[State, ...] = ("WaitingPreFlight", "Replaying", "Processing", "Closed")
 
 
+@hastened(_STATES)
 class VM:
     """One VM, for one attempt of an invocation. It may stand in a `with`, whose end frees it.
 
@@ -204,13 +201,13 @@ class VM:
         words = lent_options({name: (word, _OPTIONS[name]) for name, word in options.items()}, seed)
         asked = lent_content_type(content_type)
         self._library = _library.library()
-        self._session = _library.Handle()
         self._calls = self._library.calls
-        self._room = _library.Room()
-        self._parts = Parts(self._library, self._session, self._room)
-        self._is_begun = False
-        if self._library.open(ctypes.byref(self._session)) != _abi.DONE:
+        session = self._calls["open"]()
+        if isinstance(session, int):
             raise MemoryError("no memory for a VM")
+        self._session = session
+        self._parts = Parts(self._calls["part"], session)
+        self._is_begun = False
         self.version = f"V{self._made(self._calls['make'](self._session, asked, words)).first}"
 
     def __enter__(self) -> Self:
@@ -219,15 +216,10 @@ class VM:
     def __exit__(self, kind: type[BaseException] | None, error: BaseException | None, trace: TracebackType | None) -> None:
         self.free()
 
-    def __del__(self) -> None:
-        session = getattr(self, "_session", None)
-        if session is not None and session.value:
-            self._library.close(session)
-
     def free(self) -> None:
         """Lets the VM go, with its memory; each later call is a `RuntimeError`. It is done by itself if the VM is garbage. A `RuntimeError`
         says that a call of another thread has not ended: then it stays."""
-        status = self._library.close(self._session)
+        status = self._calls["close"](self._session)
         if status not in (_abi.DONE, _abi.NO_SESSION):
             self._check(status)
 
@@ -243,14 +235,18 @@ class VM:
         >>> vm.line("await 17")
         'ok wait true false'
         """
-        words = utf8("line", line)
-        told = self._library.line(self._session, words, len(words))
+        told: _abi.Told = self._calls["line"](self._session, utf8("line", line))
         if told.status:
             self._check(told.status)
-        status, reply = self._room.written(self._library.answer, self._session)
-        if status:
-            self._check(status)
-        return reply.decode("ascii")
+        return self._written("answer").decode("ascii")
+
+    def _written(self, name: str) -> bytes:
+        """What a call writes."""
+        written = self._calls[name](self._session)
+        if not isinstance(written, bytes):
+            self._check(written)
+            raise RuntimeError(_library.why(written))
+        return written
 
     def call(self, line: str) -> str:
         """Performs a line that is a call, and returns what stands after `ok`; an error is raised.
@@ -269,7 +265,7 @@ class VM:
             raise RuntimeError("there is no VM")
         raise BadLine(f"the VM can't read this line: {line[:200]}")
 
-    def _copying(self, name: str, payload: object) -> Callable[..., Replied]:
+    def _copying(self, name: str, payload: object) -> _library.Call:
         """A call that copies a payload. If that is large, other threads run meanwhile."""
         is_large = isinstance(payload, (bytes, bytearray, memoryview)) and len(payload) > _library.KEPT
         return (self._library.released if is_large else self._calls)[name]
@@ -319,8 +315,8 @@ class VM:
     def notify_input(self, data: Data) -> None:
         """The next bytes of the attempt, cut anywhere. What they spell may fail the VM, which the next call raises."""
         data = octets("data", data)
-        is_large = len(data) > _library.KEPT
-        self._check(self._library.released["feed"](self._session, data, len(data)) if is_large else self._library.feed(self._session, data, len(data)))
+        calls = self._library.released if len(data) > _library.KEPT else self._calls
+        self._check(calls["feed"](self._session, data))
 
     def notify_input_closed(self) -> None:
         """No more bytes come."""
@@ -355,9 +351,7 @@ class VM:
         >>> vm.take_output()
         b''
         """
-        status, output = self._room.written(self._library.take_output, self._session, large=self._library.released["take_output"])
-        self._check(status)
-        return output
+        return self._written("take_output")
 
     def is_ready_to_execute(self) -> bool:
         """Whether the handler may begin: all known entries were fed.
@@ -389,12 +383,11 @@ class VM:
         >>> vm.do_await(run.handle)
         Waiting(input=True, run=True)
         """
-        if isinstance(future, Future):
-            replied = self._made(self._calls["await_tree"](self._session, lent_nodes(future), len(future.nodes)))
-        elif isinstance(future, AnyOf):
-            replied = self._made(self._calls["await_tree"](self._session, *future.lent()))
-        else:
-            replied = self._made(self._calls["await"](self._session, handle_of("future", future)))
+        if isinstance(future, (Future, AnyOf)):
+            return self._awaited(self._made(self._calls["await_tree"](self._session, future.lent())))
+        return self._awaited(self._made(self._calls["await"](self._session, handle_of("future", future))))
+
+    def _awaited(self, replied: Replied) -> Literal[True] | ExecuteRun | EphemeralReady | Waiting:
         if replied.kind == _abi.AWAKE:
             return True
         if replied.kind == _abi.CANCELLED:
@@ -408,12 +401,14 @@ class VM:
         >>> vm.take_notification(read), vm.take_notification(read)
         (VOID, None)
         """
-        replied = self._made(self._calls["take"](self._session, integer("handle", handle, HANDLE)))
+        return self._taken(self._made(self._calls["take"](self._session, integer("handle", handle, HANDLE))))
+
+    def _taken(self, replied: Replied) -> Result | None:
         return result_of(replied, self._parts)
 
     def sys_input(self) -> Input:
         """What the handler was called with; its first call."""
-        replied = self._calls["input"](self._session)
+        replied: Replied = self._calls["input"](self._session)
         self._check_made(replied, is_first=True)
         found = input_of(replied, self._parts)
         self._is_begun = True
@@ -428,7 +423,7 @@ class VM:
         Traceback (most recent call last):
         TypeError: wake_up_time must be an int, not str
         """
-        called = lent_text("name", name) if name != "" else NO_TEXT
+        called = utf8("name", name)
         if now is not None:
             integer("now", now)
         return self._made(self._calls["sleep"](self._session, called, integer("wake_up_time", wake_up_time))).first
@@ -441,7 +436,7 @@ class VM:
         b'7'
         """
         truth("unstable", unstable)
-        return self._made(self._calls["state_get"](self._session, lent_text("key", key), lent_name(name))).first
+        return self._made(self._calls["state_get"](self._session, utf8("key", key), lent_name(name))).first
 
     def sys_state_get_keys(self, *, name: str | None = None) -> int:
         """Reads the keys that have a value; returns a handle, whose result is a list.
@@ -461,7 +456,7 @@ class VM:
         Traceback (most recent call last):
         palqytun.errors.VMError: 573 UnsupportedFeatureForNegotiatedVersion
         """
-        return self._made(self._calls["ephemeral_state_get"](self._session, lent_text("key", key))).first
+        return self._made(self._calls["ephemeral_state_get"](self._session, utf8("key", key))).first
 
     def take_ephemeral_notification(self, id: int) -> bytes | Void | None:
         """Takes the value of an ephemeral read: `bytes`, or `VOID` if the key has none; `None` if it isn't there."""
@@ -475,12 +470,12 @@ class VM:
         Traceback (most recent call last):
         TypeError: value must be bytes, not int
         """
-        given = lent_text("key", key), lent_data("value", value), lent_name(name), truth("unstable", unstable)
+        given = utf8("key", key), octets("value", value), lent_name(name), truth("unstable", unstable)
         self._made(self._copying("state_set", value)(self._session, *given))
 
     def sys_state_clear(self, key: str, *, name: str | None = None) -> None:
         """Takes a state key's value away."""
-        self._made(self._calls["state_clear"](self._session, lent_text("key", key), lent_name(name)))
+        self._made(self._calls["state_clear"](self._session, utf8("key", key), lent_name(name)))
 
     def sys_state_clear_all(self, *, name: str | None = None) -> None:
         """Takes each state key's value away."""
@@ -506,7 +501,7 @@ class VM:
         (17, 18)
         """
         target = lent_target(service, handler, key, idempotency_key, scope, limit_key, headers)
-        given = lent_data("value", value), lent_name(name), truth("unstable", unstable)
+        given = octets("value", value), lent_name(name), truth("unstable", unstable)
         replied = self._made(self._copying("call", value)(self._session, target, *given))
         return replied.first, replied.second
 
@@ -533,7 +528,7 @@ class VM:
         Waiting(input=True, run=False)
         """
         target = lent_target(service, handler, key, idempotency_key, scope, limit_key, headers)
-        given = lent_data("value", value), integer("wake_up_time", wake_up_time), lent_name(name), truth("unstable", unstable)
+        given = octets("value", value), integer("wake_up_time", wake_up_time), lent_name(name), truth("unstable", unstable)
         replied = self._made(self._copying("call_with_deadline", value)(self._session, target, *given))
         return replied.first, replied.second, replied.third
 
@@ -559,7 +554,7 @@ class VM:
         """
         target = lent_target(service, handler, key, idempotency_key, scope, limit_key, headers)
         time = 0 if at is None else integer("at", at)
-        given = lent_data("value", value), time, lent_name(name), truth("unstable", unstable)
+        given = octets("value", value), time, lent_name(name), truth("unstable", unstable)
         return self._made(self._copying("send", value)(self._session, target, *given)).first
 
     def sys_awakeable(self) -> Awakeable:
@@ -572,16 +567,16 @@ class VM:
 
     def create_signal_handle(self, name: str) -> int:
         """A handle for the signal of this name."""
-        return self._made(self._calls["signal"](self._session, lent_text("name", name))).first
+        return self._made(self._calls["signal"](self._session, utf8("name", name))).first
 
     def sys_complete_awakeable(self, id: str, value: Data | Failure, *, unstable: bool = False) -> None:
         """Gives the awakeable of this id its result, bytes or a `Failure`."""
-        given = lent_text("id", id), lent_value("value", value), truth("unstable", unstable)
+        given = utf8("id", id), lent_value("value", value), truth("unstable", unstable)
         self._made(self._copying("complete_awakeable", value)(self._session, *given))
 
     def sys_complete_signal(self, invocation_id: str, name: str, value: Data | Failure) -> None:
         """Sends a named signal to another invocation."""
-        given = lent_text("invocation_id", invocation_id), lent_text("name", name), lent_value("value", value)
+        given = utf8("invocation_id", invocation_id), utf8("name", name), lent_value("value", value)
         self._made(self._copying("complete_signal", value)(self._session, *given))
 
     def sys_run(self, name: str) -> Run:
@@ -594,7 +589,7 @@ class VM:
         ExecuteRun(handle=17)
         >>> vm.propose_run_completion(run.handle, b"paid")
         """
-        replied = self._made(self._calls["run"](self._session, lent_text("name", name)))
+        replied = self._made(self._calls["run"](self._session, utf8("name", name)))
         return Run(replied.first, replied.second == 1)
 
     def propose_run_completion(self, handle: int, result: Data | Failure | Retryable, *, policy: RetryPolicy = retry_forever()) -> None:
@@ -617,19 +612,19 @@ class VM:
 
     def sys_cancel_invocation(self, invocation_id: str) -> None:
         """Sends the built-in cancel signal to another invocation."""
-        self._made(self._calls["cancel_invocation"](self._session, lent_text("invocation_id", invocation_id)))
+        self._made(self._calls["cancel_invocation"](self._session, utf8("invocation_id", invocation_id)))
 
     def sys_get_promise(self, key: str) -> int:
         """Awaits a promise of the workflow; returns the handle of its value."""
-        return self._made(self._calls["get_promise"](self._session, lent_text("key", key))).first
+        return self._made(self._calls["get_promise"](self._session, utf8("key", key))).first
 
     def sys_peek_promise(self, key: str) -> int:
         """Looks whether a promise of the workflow is completed; returns the handle of its value, or of `VOID`."""
-        return self._made(self._calls["peek_promise"](self._session, lent_text("key", key))).first
+        return self._made(self._calls["peek_promise"](self._session, utf8("key", key))).first
 
     def sys_complete_promise(self, key: str, value: Data | Failure, *, unstable: bool = False) -> int:
         """Completes a promise of the workflow; returns the handle of `VOID`, or of a `Failure` if it had been completed before."""
-        given = lent_text("key", key), lent_value("value", value), truth("unstable", unstable)
+        given = utf8("key", key), lent_value("value", value), truth("unstable", unstable)
         return self._made(self._copying("complete_promise", value)(self._session, *given)).first
 
     def sys_attach_invocation(self, target: Target) -> int:

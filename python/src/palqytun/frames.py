@@ -14,8 +14,9 @@ Nothing here knows how a frame is laid out: the core reads and writes them.
 
 from __future__ import annotations
 
-import threading
-from collections.abc import Callable, Iterable
+from collections.abc import Iterable
+
+from typing import cast
 
 from palqytun import _abi, _library
 from palqytun._words import COUNT, encoded, integer, octets, utf8
@@ -25,16 +26,6 @@ from palqytun.values import Data
 __all__ = ["Message", "completion", "frame_of", "input_frame", "is_awake", "line_of", "named_signal", "signal", "value_frame"]
 
 _COMPLETION, _SIGNAL, _NAMED = range(3)
-
-
-class _Own(threading.local):
-    """Where the core writes for a thread."""
-
-    def __init__(self) -> None:
-        self.room = _library.Room(1024)
-
-
-_own = _Own()
 
 
 class _NoPart(Exception):
@@ -51,12 +42,12 @@ def _refuse(status: int) -> None:
     raise BadFrame(_abi.TEXTS[status])
 
 
-def _written(call: Callable[[_library.Buffer, int], _abi.Told]) -> bytes:
+def _written(name: str, *arguments: object) -> bytes:
     """What a call writes."""
-    status, written = _own.room.written(call)
-    if status:
-        _refuse(status)
-    return written
+    written = _library.library().calls[name](*arguments)
+    if not isinstance(written, bytes):
+        _refuse(written)
+    return cast(bytes, written)
 
 
 def line_of(frame: Data) -> str:
@@ -68,8 +59,7 @@ def line_of(frame: Data) -> str:
     Traceback (most recent call last):
     palqytun.errors.BadFrame: it isn't one whole frame
     """
-    data, call = octets("frame", frame), _library.library().frames.frame_line
-    return _written(lambda room, size: call(data, len(data), room, size)).decode("ascii")
+    return _written("frame_line", octets("frame", frame)).decode("ascii")
 
 
 def frame_of(line: str) -> bytes:
@@ -81,13 +71,11 @@ def frame_of(line: str) -> bytes:
     Traceback (most recent call last):
     palqytun.errors.BadLine: the line has no meaning
     """
-    data, call = encoded("line", line), _library.library().frames.line_frame
-    return _written(lambda room, size: call(data, len(data), room, size))
+    return _written("line_frame", encoded("line", line))
 
 
 def _notification(kind: int, id: int, name: bytes, frame: Data) -> bytes:
-    data, call = octets("frame", frame), _library.library().frames.notification
-    return _written(lambda room, size: call(kind, id, name, len(name), data, len(data), room, size))
+    return _written("notification", kind, id, name, octets("frame", frame))
 
 
 def completion(id: int, frame: Data) -> bytes:
@@ -140,7 +128,7 @@ class Message:
 
     def __init__(self, frame: Data) -> None:
         self._frame = octets("frame", frame)
-        row = _library.library().frames.frame_read(self._frame, len(self._frame))
+        row: _abi.FrameRow = _library.library().calls["frame_read"](self._frame)
         if row.status:
             _refuse(row.status)
         self.type, self.kind, self.result = row.type, row.kind, row.result
@@ -152,9 +140,8 @@ class Message:
         >>> Message(frame_of('SetState key="k" value="v"')).part(1)
         b'v'
         """
-        frame, call = self._frame, _library.library().frames.frame_part
         try:
-            return _written(lambda room, size: call(frame, len(frame), at, room, size))
+            return _written("frame_part", self._frame, at)
         except _NoPart:
             return None
 
@@ -163,7 +150,7 @@ class Message:
         return (self.part(at) or b"").decode()
 
     def texts(self, at: int, count: int) -> tuple[str, ...]:
-        """The texts at so many places."""
+        """The texts at `count` places, from `at` on."""
         return tuple(self.text(place) for place in range(at, at + count))
 
     def pairs(self, at: int) -> tuple[tuple[str, str], ...]:
@@ -178,8 +165,7 @@ def value_frame(value: Data) -> bytes:
     >>> line_of(value_frame(b"Till"))
     'Notification id=completion(0) result=value("Till")'
     """
-    data, call = octets("value", value), _library.library().frames.value_frame
-    return _written(lambda room, size: call(data, len(data), room, size))
+    return _written("value_frame", octets("value", value))
 
 
 def input_frame(frame: Data, value: Data) -> bytes:
@@ -188,8 +174,7 @@ def input_frame(frame: Data, value: Data) -> bytes:
     >>> line_of(input_frame(frame_of('Input headers=[("a" "b")]'), b"Till"))
     'Input headers=[("a" "b")] value="Till"'
     """
-    whole, data, call = octets("frame", frame), octets("value", value), _library.library().frames.input_frame
-    return _written(lambda room, size: call(whole, len(whole), data, len(data), room, size))
+    return _written("input_frame", octets("frame", frame), octets("value", value))
 
 
 def is_awake(suspension: Data, notifications: Iterable[Data]) -> bool:
@@ -202,7 +187,7 @@ def is_awake(suspension: Data, notifications: Iterable[Data]) -> bool:
     (False, True, False)
     """
     whole, stream = octets("suspension", suspension), b"".join(octets("notification", it) for it in notifications)
-    judged = _library.library().frames.is_awake(whole, len(whole), stream, len(stream))
+    judged: _abi.Judged = _library.library().calls["is_awake"](whole, stream)
     if judged.status:
         _refuse(judged.status)
-    return judged.is_awake
+    return bool(judged.is_awake)

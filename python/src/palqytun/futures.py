@@ -2,9 +2,9 @@
 
 from __future__ import annotations
 
-import ctypes
-from collections.abc import Iterator, Sequence
-from palqytun._abi import Node
+from array import array
+from collections.abc import Iterable, Iterator, Sequence
+
 from palqytun._words import HANDLE, integer
 
 __all__ = ["AnyOf", "Future", "all_completed", "all_succeeded_or_first_failed", "first_completed", "first_succeeded_or_all_failed", "unknown"]
@@ -15,6 +15,10 @@ Nodes = tuple[tuple[int, int], ...]
 _WORDS = ("", "fc", "ac", "fsaf", "asff", "un")  # of the kinds, in a line
 
 
+def _row(nodes: Iterable[tuple[int, int]]) -> array[int]:
+    return array("I", [number for node in nodes for number in node])
+
+
 class Future:
     """A node over handles and futures. The five functions of this module make them. As a text it is what a line writes.
 
@@ -22,13 +26,18 @@ class Future:
     'fc(17,ac(18,19))'
     """
 
-    __slots__ = ("lent", "nodes")
+    __slots__ = ("_lent", "nodes")
     nodes: Nodes
-    lent: object
-    """The nodes as a typed call takes them, once it was made: a tree is often asked again."""
 
     def __init__(self, nodes: Nodes) -> None:
-        self.nodes, self.lent = nodes, None
+        self.nodes = nodes
+        self._lent: array[int] | None = None
+
+    def lent(self) -> array[int]:
+        """The nodes as a typed call takes them. They are made once, since a tree is often asked again."""
+        if self._lent is None:
+            self._lent = _row(self.nodes)
+        return self._lent
 
     def __str__(self) -> str:
         below = list[str]()
@@ -108,58 +117,38 @@ class AnyOf:
     """
 
     def __init__(self) -> None:
-        self._order: list[int] = []
         self._places: dict[int, int] = {}
-        self._room: ctypes.Array[Node] | None = None  # the handles' nodes, in their order, once they were awaited
+        self._row = array("I")  # the handles' nodes
         self._trees: Sequence[int | Future] = ()
 
     def __len__(self) -> int:
-        return len(self._order)
+        return len(self._places)
 
     def __iter__(self) -> Iterator[int]:
-        return iter(self._order)
+        return iter(self._row[1::2])
 
     def add(self, handle: int) -> None:
         """One handle more; nothing if it is there."""
         if handle not in self._places:
-            self._places[handle] = at = len(self._order)
-            self._order.append(handle_of("handle", handle))
-            if self._room is not None:
-                self._fit(at + 1)[at] = Node(0, handle)
+            node = (0, handle_of("handle", handle))
+            self._places[handle] = len(self._places)
+            self._row.extend(node)
 
     def discard(self, handle: int) -> None:
         """One handle less; nothing if it isn't there."""
         at = self._places.pop(handle, None)
         if at is None:
             return
-        moved = self._order.pop()
+        moved = self._row[-1]
+        del self._row[-2:]
         if moved != handle:
-            self._order[at], self._places[moved] = moved, at
-            if self._room is not None:
-                self._room[at] = Node(0, moved)
+            self._row[2 * at + 1], self._places[moved] = moved, at
 
     def beside(self, trees: Sequence[int | Future]) -> None:
         """These trees, in place of those before, are awaited beside the handles."""
         self._trees = trees
 
-    def lent(self) -> tuple[ctypes.Array[Node], int]:
-        """The nodes, and how many they are."""
+    def lent(self) -> array[int]:
+        """The nodes."""
         below = [node for it in self._trees for node in (it.nodes if isinstance(it, Future) else ((0, it),))]
-        count = len(self._order)
-        room = self._fit(count + len(below) + 1)
-        for at, node in enumerate([*below, (1, count + len(self._trees))], count):
-            room[at] = Node(*node)
-        return room, count + len(below) + 1
-
-    def _fit(self, count: int) -> ctypes.Array[Node]:
-        """The room, with places for as many nodes."""
-        room = self._room
-        if room is None:
-            self._room = room = (Node * (2 * count))()
-            for at, handle in enumerate(self._order):
-                room[at] = Node(0, handle)
-        elif count > len(room):
-            before, self._room = room, (Node * (2 * count))()
-            room = self._room
-            ctypes.memmove(room, before, ctypes.sizeof(before))
-        return room
+        return self._row + _row([*below, (1, len(self._places) + len(self._trees))])

@@ -2,8 +2,7 @@
 
 from __future__ import annotations
 
-import ctypes
-from collections.abc import Callable, Iterable
+from collections.abc import Iterable
 from types import TracebackType
 from typing import NamedTuple, Self
 
@@ -65,11 +64,11 @@ class Journal:
         Traceback (most recent call last):
         palqytun.errors.JournalFault: NO_SUCH_ID: no stored command has the completion id
         """
-        self._handle = _library.Handle()
-        self._calls = _library.library().journals
-        self._room = _library.Room()
-        if self._calls.open(ctypes.byref(self._handle)):
+        self._calls = _library.library().calls
+        handle = self._calls["journal_open"]()
+        if isinstance(handle, int):
             raise MemoryError("no memory for a journal")
+        self._handle = handle
         loaded = False
         for entry in entries:
             self.entry(entry)
@@ -83,14 +82,9 @@ class Journal:
     def __exit__(self, kind: type[BaseException] | None, error: BaseException | None, trace: TracebackType | None) -> None:
         self.free()
 
-    def __del__(self) -> None:
-        handle = getattr(self, "_handle", None)
-        if handle is not None and handle.value:
-            self._calls.close(handle)
-
     def free(self) -> None:
         """Lets the journal go, with its memory; each later call is a `RuntimeError`. It is done by itself if the journal is garbage."""
-        status = self._calls.close(self._handle)
+        status = self._calls["journal_close"](self._handle)
         if status not in (_abi.DONE, _abi.NO_JOURNAL):
             self._check(status)
 
@@ -107,7 +101,7 @@ class Journal:
     @property
     def entries(self) -> int:
         """How many entries it has, those that aren't committed too."""
-        told = self._calls.entries(self._handle)
+        told: _abi.Told = self._calls["journal_entries"](self._handle)
         if told.status:
             self._check(told.status)
         return told.len
@@ -120,12 +114,12 @@ class Journal:
     def entry(self, frame: Data) -> Row:
         """The next entry of a journal that is loaded."""
         frame = octets("frame", frame)
-        return self._entered(self._calls.entry(self._handle, frame, len(frame)), frame)
+        return self._entered(self._calls["journal_entry"](self._handle, frame), frame)
 
     def arrive(self, notification: Data) -> Row:
         """The entry that a notification is. The attempt is fed its bytes after the commit."""
         frame = octets("notification", notification)
-        return self._entered(self._calls.arrive(self._handle, frame, len(frame)), frame)
+        return self._entered(self._calls["journal_arrive"](self._handle, frame), frame)
 
     def store(self, output: Data, version: int = DEFAULT_VERSION) -> Stored:
         """What is stored of what an attempt wrote since the last `store`, as `VM.take_output` gave it: its commands, and the completions
@@ -140,32 +134,33 @@ class Journal:
         '0006000000000000000400000002'
         """
         output = octets("output", output)
-        told = self._calls.store(self._handle, integer("version", version, _VERSIONS[1], _VERSIONS[0]), output, len(output))
+        told: _abi.Stored = self._calls["journal_store"](self._handle, integer("version", version, _VERSIONS[1], _VERSIONS[0]), output)
         if told.status:
             self._check(told.status)
-        return Stored([self._row(at) for at in range(told.rows)], self._written(self._calls.answer) if told.feed else b"")
+        return Stored([self._row(at) for at in range(told.rows)], self._written("journal_answer") if told.feed else b"")
 
     def _row(self, at: int) -> Row:
-        row = self._calls.row(self._handle, at)
+        row: _abi.Row = self._calls["journal_row"](self._handle, at)
         if row.status:
             self._check(row.status)
-        return Row(row.type, row.completes if row.is_completion else None, self._written(self._calls.frame, at))
+        return Row(row.type, row.completes if row.is_completion else None, self._written("journal_frame", at))
 
-    def _written(self, call: Callable[..., _abi.Told], *arguments: int) -> bytes:
+    def _written(self, name: str, *arguments: int) -> bytes:
         """What a call writes."""
-        status, written = self._room.written(call, self._handle, *arguments)
-        if status:
-            self._check(status)
+        written = self._calls[name](self._handle, *arguments)
+        if not isinstance(written, bytes):
+            self._check(written)
+            raise RuntimeError(_library.why(written))
         return written
 
     def keep(self) -> None:
         """What came since the last `keep` is committed. After a `MemoryError` the journal is dropped, and has to be loaded again."""
-        status = self._calls.keep(self._handle)
+        status = self._calls["journal_keep"](self._handle)
         if status:
             self._check(status)
 
     def undo(self) -> None:
         """What came since the last `keep` isn't committed: the journal is again as it was then."""
-        status = self._calls.undo(self._handle)
+        status = self._calls["journal_undo"](self._handle)
         if status:
             self._check(status)

@@ -63,7 +63,7 @@ class _Memory(SQLite):
         super().__init__(":memory:")
 
     def move(self, seconds: float) -> None:
-        """The clock moves on by so many seconds."""
+        """The clock moves on by `seconds`."""
         self.skipped += seconds
         self.clock = f"({SQLite.clock} + {self.skipped!r})"
 
@@ -245,7 +245,7 @@ class Testing:
         return self._memory.now()
 
     async def skip(self, seconds: float) -> None:
-        """The clock moves on by so many seconds, from timer to timer and from one time of a schedule to the next, and what is due is done before this
+        """The clock moves on by `seconds`, from timer to timer and from one time of a schedule to the next, and what is due is done before this
         returns."""
         until = self.now + seconds
         await self._settle()
@@ -272,8 +272,12 @@ class Testing:
             " OR EXISTS (SELECT 1 FROM inbox JOIN invocations ON id=invocation WHERE fresh=1 AND status='suspended')"
             f" OR EXISTS (SELECT 1 FROM invocations WHERE deadline<=? AND status<>'done') OR {_CALLS}, {_NEXT.format('')}"
         )
-        now = self.now
-        [(is_due, due)] = await self._asked(sql, now, now, *held, now, now, now)
+
+        async def asked(db: Database) -> list[Any]:
+            now = db.now()  # of this transaction: what one before it has made is due by then
+            return await db.rows(sql, (now, now, *held, now, now, now))
+
+        [(is_due, due)] = await self.engine.transact(asked)
         return not is_due and not self.engine.live, min([float(it) for it in (due, *held.values()) if it is not None], default=None)
 
     async def _held(self) -> dict[str, float]:
@@ -347,12 +351,17 @@ def _answer(given: Any) -> Callable[[Any, Any], Awaitable[Any]]:
 # ---- deaths
 
 
+_STATES = "SELECT service, key, name, value FROM state ORDER BY service, key, name"
+_ATTRIBUTES = "SELECT invocation, name, value FROM attributes ORDER BY invocation, name"
+
+
 @dataclass(frozen=True)
 class _Left:
-    """What an invocation leaves: its result, the state of all keys, and the effects by their keys."""
+    """What an invocation leaves: its result, the state of all keys, the attributes of each invocation, and the effects by their keys."""
 
     result: bytes
     state: list[Any]
+    attributes: list[Any]
     effects: list[dict[str | None, Called]]
 
 
@@ -360,10 +369,10 @@ async def crash_everywhere(
     app: App, target: Handler[I, Any], argument: I | Any = None, *, key: str = "", fakes: Iterable[Fake] = (), most: int = 500
 ) -> int:
     """Runs an invocation without a failure, and then again and again with a death of its worker: at its first commit, its second, and so on, each
-    once before the commit is stored and once after it. Returns the number of deaths; at most so many commits are tried.
+    once before the commit is stored and once after it. Returns the number of deaths; at most `most` commits are tried.
 
-    `AssertionError` says what differs from the execution without a failure: the result, the state of the keys, or an effect, by the
-    key of its run. An effect may be executed more than once with its key. A death here is a lost database: the attempts are dropped where they stand,
+    `AssertionError` says what differs from the execution without a failure: the result, the state of the keys, the attributes, or an effect, by
+    the key of its run. An effect may be executed more than once with its key. A death here is a lost database: the attempts are dropped where they stand,
     and a new worker claims what is stored. Sleeps take no time. The effects of the app have to be fakes, or harmless."""
     with _silent():
         return await _crashed(app, target, argument, key, list(fakes), most)
@@ -393,6 +402,7 @@ async def _crashed(app: App, target: Handler[Any, Any], argument: Any, key: str,
             where = f"with a death {'after' if is_stored else 'at'} commit {number}"
             assert found.result == expected.result, f"{where} the result is {found.result!r}, and without one {expected.result!r}"
             assert found.state == expected.state, f"{where} the state is {found.state}, and without one {expected.state}"
+            assert found.attributes == expected.attributes, f"{where} the attributes are {found.attributes}, and without one {expected.attributes}"
             assert found.effects == expected.effects, f"{where} the effects are {found.effects}, and without one {expected.effects}"
     return deaths
 
@@ -411,17 +421,18 @@ async def _left(
         result = await _until_ended(testing, id)
         has_died = bool(dies) and memory.commits >= memory.dies
         memory.dies = 0
-        state = await _state(testing)
-    return _Left(bytes(result), [(*row[:3], bytes(row[3])) for row in state], [it.by_key() for it in fakes]), has_died
+        state, attributes = [await _stored(testing, sql) for sql in (_STATES, _ATTRIBUTES)]
+    left = _Left(bytes(result), [(*row[:3], bytes(row[3])) for row in state], [tuple(row) for row in attributes], [it.by_key() for it in fakes])
+    return left, has_died
 
 
-async def _state(testing: Testing) -> list[Any]:
-    """The state of all keys. A death that began while the invocation ended is over first."""
+async def _stored(testing: Testing, sql: str) -> list[Any]:
+    """Rows of the database. A death that began while the invocation ended is over first."""
     async with asyncio.timeout(_SETTLES):
         while True:
             await testing.engine.is_open()
             with contextlib.suppress(Unavailable):
-                return await testing._asked("SELECT service, key, name, value FROM state ORDER BY service, key, name")
+                return await testing._asked(sql)
             await asyncio.sleep(0.001)
 
 

@@ -5,7 +5,8 @@ on SQLite they also die at commits, meet torn writes, clocks that jump, and a fu
 longer than their lease, and lose their connections. After each part all that is left is compared with a run without faults. Each round
 prints a line of figures, and the last line is that of all. A round takes about a minute, and the one that has begun is ended.
 
-With --kills there is one long round instead, of so many kills and no other fault. With --failovers there are two, on PostgreSQL servers of their
+With --kills there is one long round instead, of N kills and no other fault. With --sdk, the folder in which the SDK in TypeScript is built, each
+second worker is one in TypeScript, and the handlers of both languages call each other. With --failovers there are two, on PostgreSQL servers of their
 own: the primary's host stops so often, first with a synchronous standby, and then with an asynchronous one, which lacks the last commits.
 """
 
@@ -73,12 +74,14 @@ def rounds(url: str, folder: pathlib.Path, seed: int, seconds: float) -> Iterato
         seed += 1
 
 
-def one_of_kills(url: str, folder: pathlib.Path, seed: int, count: int) -> Iterator[Report]:
-    """One round, of kills alone; a workflow is submitted before each."""
+def one_of_kills(url: str, folder: pathlib.Path, seed: int, count: int, sdk: pathlib.Path | None = None) -> Iterator[Report]:
+    """One round, of kills alone; a workflow is submitted before each. With the SDK in TypeScript two of four workers are in Python."""
     is_shared, room = url != "sqlite", folder / "kills"
-    reference = scenarios.undisturbed(url if is_shared else str(folder / "reference.db"), folder / "reference", count, seconds=3600)
+    crew = {} if sdk is None else {"crew": functools.partial(scenarios.Mixed, sdk)}
+    first = {"seconds": 3600, **crew, "workers": 1 if sdk is None else 2}
+    reference = scenarios.undisturbed(url if is_shared else str(folder / "reference.db"), folder / "reference", count, **first)
     room.mkdir()
-    how = {"each": 1, "workers": 3 if is_shared else 1, "seed": seed, "reference": reference, "seconds": 3600}
+    how = {"each": 1, "workers": 4 if sdk else 3 if is_shared else 1, "seed": seed, "reference": reference, "seconds": 3600, **crew}
     yield scenarios.kills(url if is_shared else str(room / "db"), room, faults=count, **how)
 
 
@@ -114,9 +117,12 @@ def main() -> int:
     parser.add_argument("minutes", nargs="?", type=float, default=10.0)
     parser.add_argument("--db", default="sqlite", help="sqlite, postgres for a temporary cluster, or the URL of a PostgreSQL database, which is emptied")
     parser.add_argument("--seed", type=int, default=1, help="of the first round")
-    parser.add_argument("--kills", type=int, default=0, help="in place of rounds one run with so many kills")
-    parser.add_argument("--failovers", type=int, default=0, help="in place of rounds so many failovers of PostgreSQL with each kind of standby")
+    parser.add_argument("--kills", type=int, default=0, help="instead of rounds one run with this many kills")
+    parser.add_argument("--failovers", type=int, default=0, help="instead of rounds this many failovers of PostgreSQL with each kind of standby")
+    parser.add_argument("--sdk", type=pathlib.Path, help="with --kills on PostgreSQL: a folder in which the SDK in TypeScript is built, with its tests")
     options = parser.parse_args()
+    if options.sdk and not (options.kills and options.db != "sqlite"):
+        parser.error("--sdk goes with --kills, and with a database of PostgreSQL")
     if options.failovers and options.db != "postgres":
         parser.error("--failovers makes servers of its own: it goes with --db postgres")
     if options.db not in ("sqlite", "postgres") and not options.db.startswith(("postgres://", "postgresql://")):
@@ -129,7 +135,7 @@ def main() -> int:
         with postgres.cluster() if options.db == "postgres" else contextlib.nullcontext() as made:
             url = options.db if made is None else made.url
             if options.kills:
-                return played(folder, one_of_kills(url, folder, options.seed, options.kills))
+                return played(folder, one_of_kills(url, folder, options.seed, options.kills, options.sdk))
             return played(folder, rounds(url, folder, options.seed, 60 * options.minutes))
     except postgres.NoServer as error:
         print(f"chaos: {error}", file=sys.stderr)

@@ -10,8 +10,9 @@ from palqytun.runtime import App, Cancelled, Context, Retry, Schedule, Service, 
 from palqytun.runtime import gather, select, wait_any
 
 load, counter, gate, line, ticks = Service("Load"), VirtualObject("Counter"), Workflow("Gate"), VirtualObject("Line"), VirtualObject("Ticks")
+months = VirtualObject("Months")
 BIG = "x" * 100_000
-WIDE, PUSHED = 40, 5
+WIDE, PUSHED, LAST = 40, 5, 3
 
 
 class Outside:
@@ -185,6 +186,28 @@ async def fans(ctx: Context, n: int) -> list:
     return [done == keys, few]
 
 
+@load.handler()
+async def continues(ctx: Context, n: int) -> list:
+    """What it calls goes on as new invocations, with its key and its attributes, and gives the result of the last one."""
+    ctx.set_attribute("number", n)
+    done = await ctx.call(month, [n, 1], key=str(n))
+    ctx.set_attribute("months", len(done))
+    return done
+
+
+@months.handler()
+async def month(ctx: Context, it: list) -> list:
+    n, number = it
+    ctx.set_attribute("month", number)
+    await ctx.run("month", effect, ctx.uuid())
+    ctx.set("months", (await ctx.get("months") or []) + [number])
+    ctx.set_attribute("first", True if number == 1 else None)
+    await ctx.sleep(0.02)
+    if number < LAST:
+        ctx.continue_as_new([n, number + 1])
+    return await ctx.get("months")
+
+
 @load.handler(limit=2)
 async def limited(ctx: Context, n: int) -> int:
     await ctx.run("limited", effect, ctx.uuid())
@@ -218,5 +241,6 @@ KINDS = {
     "cancels": lambda n: "cancelled",
     "opens": lambda n: ["open", "opened"],
     "fans": lambda n: [True, [0, 1, 2]],
+    "continues": lambda n: [1, 2, 3],
 }
-app = App(load, counter, gate, line, ticks, schedules=[Schedule("tick", tick, key="clock", every=0.25)])
+app = App(load, counter, gate, line, ticks, months, schedules=[Schedule("tick", tick, key="clock", every=0.25)])

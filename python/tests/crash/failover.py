@@ -25,7 +25,7 @@ from palqytun.runtime.database.plain import Plain  # noqa: E402
 from scenarios import LEASE, Report, Workers, emptied, logged_without_errors, until_work  # noqa: E402
 
 SETTINGS = {"wal_log_hints": "on", "wal_keep_size": "256MB"}  # so that a server that was a primary can follow the next
-EACH = 7  # workflows, one of each kind, are submitted before each fault
+EACH = 8  # workflows, one of each kind, are submitted before each fault
 SPLIT = 5.0  # seconds for which two servers are primaries
 _STEP = 600.0  # seconds that one step of the servers may take
 _FOLLOWERS = "SELECT COUNT(*) FROM pg_stat_replication"
@@ -173,14 +173,19 @@ class Load:
                 submit(db, n, 1)
         return len(missing)
 
-    def ended(self, reference: Found | None, seconds: float) -> Report:
-        """Waits until all have ended, and looks at everything that is left."""
+    def end(self, seconds: float) -> Report:
+        """Waits until all have ended."""
         with Plain(self.servers.url) as db:
             resumed = wait(db, seconds)
             time.sleep(LEASE / 3 + 0.5)  # after the last beats
+            return Report(resumed=resumed)
+
+    def left(self, reference: Found | None) -> Report:
+        """Looks at everything that is left, once no worker runs."""
+        with Plain(self.servers.url) as db:
             log = logged_without_errors(self.folder)
             lost = rows(db, "SELECT COUNT(*) FROM attempts WHERE how='lost'")[0][0]
-            report = Report(resumed=resumed, lost_attempts=lost, lost=log.count("the database is lost"), fenced=log.count("fenced:"))
+            report = Report(lost_attempts=lost, lost=log.count("the database is lost"), fenced=log.count("fenced:"))
             return report + Report.of(check(db, self.submitted, self.folder / "effects", reference))
 
 
@@ -228,10 +233,10 @@ def failovers(
             found.report.missing += load.again() if not servers.is_synchronous else 0
             servers.come_back()
             logged_without_errors(folder)
-        found.report += load.ended(reference, seconds)
+        found.report += load.end(seconds)
     finally:
         running.end()
-    logged_without_errors(folder)
+    found.report += load.left(reference)
     return found
 
 

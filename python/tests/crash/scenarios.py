@@ -1,6 +1,7 @@
 """The crash tests. Each makes a database of workflows, lets workers meet a fault, and then looks at everything that is left.
 
     death_at_commit   a worker dies in place of one of its commits; the next does the rest (SQLite)
+    late_store        a worker stops before a store, and makes it when another has done the rest (PostgreSQL)
     torn_write        the log is cut at a random place, as after a loss of power; a new worker goes on (SQLite)
     clock_jumps       the worker's clock jumps by up to half an hour, forward and back (SQLite)
     full_disk         the disk is full again and again (SQLite; as root on a small file system, else by a limit of its files)
@@ -39,7 +40,7 @@ from palqytun.runtime.database.plain import Plain  # noqa: E402
 from palqytun.runtime.database.schema import TABLES  # noqa: E402
 
 _FORK = multiprocessing.get_context("fork")  # this process has no threads, and has imported what workers need
-COUNT = 7  # workflows, one of each kind
+COUNT = 8  # workflows, one of each kind
 _LONG = 600.0  # seconds that a worker may take, which needs some two, on a host that is busy with other things
 LEASE = 3.0  # seconds; on a host that is busy with other things a shorter one ends by itself
 
@@ -407,21 +408,24 @@ def _full(log: pathlib.Path) -> int:
 
 
 class Workers:
+    lease = LEASE
+
     def __init__(self, url: str, count: int, folder: pathlib.Path, *, idle: float, wrong: str = ""):
         program = [sys.executable, "-m", "palqytun"] if not wrong else [sys.executable, str(HERE / "wrong_worker.py"), wrong]
         self.command = [*program, "run", str(HERE / "crash_app.py"), "--db", url, "--port", "-1", "--idle", str(idle)]
-        self.command += ["--lease", str(LEASE)]
+        self.command += ["--lease", str(self.lease)]
         self.environment = {**os.environ, "PYTHONPATH": f"{SOURCES}:{HERE}", "CRASH_EFFECTS": str(folder / "effects")}
         self.log = (folder / "log").open("a")
-        self.all = [self.start() for _ in range(count)]
+        self.all = [self.start(at) for at in range(count)]
 
-    def start(self) -> subprocess.Popen[bytes]:
+    def start(self, at: int) -> subprocess.Popen[bytes]:
+        """The worker of a place."""
         return subprocess.Popen(self.command, env=self.environment, stdout=self.log, stderr=self.log)
 
     def kill(self, at: int) -> None:
         self.all[at].kill()
         self.all[at].wait()
-        self.all[at] = self.start()
+        self.all[at] = self.start(at)
 
     def stop(self, at: int) -> None:
         """SIGTERM, within whose grace each effect ends. A worker that has just begun, and doesn't listen for signals yet, ends by this one: it
@@ -430,7 +434,7 @@ class Workers:
         status = self.all[at].wait(_LONG)
         if status not in (0, -signal.SIGTERM):
             raise Wrong(f"a worker that was told to stop ended with {status}")
-        self.all[at] = self.start()
+        self.all[at] = self.start(at)
 
     def pause(self, at: int, seconds: float) -> None:
         self.all[at].send_signal(signal.SIGSTOP)
@@ -447,6 +451,43 @@ class Workers:
                 worker.kill()
                 worker.wait()
         self.log.close()
+
+
+class Mixed(Workers):
+    """A crew in which each second worker is one of the SDK in TypeScript. Its handlers and Python's call each other. A send to what no worker serves that is
+    alive is dropped, so one of each language has to be alive, and on a busy host a lease may not end by itself."""
+
+    lease = 12.0
+
+    def __init__(self, sdk: pathlib.Path, url: str, count: int, folder: pathlib.Path, *, idle: float, wrong: str = ""):
+        """`sdk` is the folder in which the SDK and its tests are built."""
+        own = {"CRASH_URL": url, "CRASH_IDLE": str(int(idle * 1000)), "CRASH_LEASE": str(int(self.lease * 1000))}
+        self._url, self._sdk, self._own, self._begun = url, sdk, own, [0, 0]
+        super().__init__(url, count, folder, idle=idle, wrong=wrong)
+        for at in (0, 1):
+            self._entered(at)
+
+    def start(self, at: int) -> subprocess.Popen[bytes]:
+        self._begun[at % 2] += 1
+        if at % 2:
+            command, environment = ["node", str(self._sdk / "out/test/crash_app.js")], {**self.environment, **self._own}
+        else:
+            command, environment = [it.replace("crash_app.py", "mixed_app.py") for it in self.command], self.environment
+        return subprocess.Popen(command, env=environment, stdout=self.log, stderr=self.log)
+
+    def kill(self, at: int) -> None:
+        self._entered(at)
+        super().kill(at)
+
+    def _entered(self, at: int) -> None:
+        """Waits until each worker of the same language has entered. What a killed one has announced stays in the table."""
+        sql = f"SELECT COUNT(*) FROM serving WHERE serves LIKE '%\"{('Ticks', 'Counter')[at % 2]}\"%'"
+        until = time.monotonic() + _LONG
+        with Plain(self._url) as db:
+            while rows(db, sql)[0][0] < self._begun[at % 2]:
+                if time.monotonic() > until:
+                    raise Wrong("a worker doesn't enter")
+                time.sleep(0.05)
 
 
 def emptied(url: str) -> None:
@@ -470,9 +511,44 @@ def until_work(db: Plain, since: float, seconds: float = _LONG) -> None:
 def logged_without_errors(folder: pathlib.Path) -> str:
     """The log of the workers; `Wrong` if one has raised an error."""
     log = (folder / "log").read_text()
-    if "Traceback" in log:
-        raise Wrong(f"a worker raised an error: {folder / 'log'}: {log[log.index('Traceback') :][:2000]}")
+    for sign in ("Traceback", "stopped; the invocation is paused", ", and the worker goes on"):
+        if sign in log:
+            raise Wrong(f"a worker raised an error: {folder / 'log'}: {log[log.index(sign) :][:2000]}")
     return log
+
+
+def _stopped(worker: subprocess.Popen[bytes]) -> None:
+    """Waits until a worker has stopped itself."""
+    until = time.monotonic() + _LONG
+    while os.waitid(os.P_PID, worker.pid, os.WSTOPPED | os.WNOHANG) is None:
+        if worker.poll() is not None or time.monotonic() > until:
+            raise Wrong(f"a worker that was to stop before a store hasn't, and has ended with {worker.returncode}")
+        time.sleep(0.02)
+
+
+def late_store(url: str, folder: pathlib.Path, reference: Found, fault: str = "late") -> None:
+    """A worker stops before a store. Another takes over what it had claimed, and ends all. Then the first one makes that store, and dies: it must
+    change nothing."""
+    folder.mkdir(parents=True, exist_ok=True)
+    (folder / "effects").touch()
+    emptied(url)
+    with Plain(url) as db:
+        submit(db, 0, COUNT)
+        late = Workers(url, 1, folder, idle=0.0, wrong=fault)
+        try:
+            _stopped(late.all[0])
+            other = Workers(url, 1, folder, idle=0.0)
+            try:
+                wait(db, _LONG)
+            finally:
+                other.end()
+            late.all[0].send_signal(signal.SIGCONT)
+            if (status := late.all[0].wait(_LONG)) != faulty.DIED:
+                raise Wrong(f"the worker that stopped before a store ended with {status}: {folder / 'log'}")
+        finally:
+            late.all[0].send_signal(signal.SIGCONT)
+            late.end()
+        check(db, COUNT, folder / "effects", reference)
 
 
 def kills(
@@ -490,6 +566,7 @@ def kills(
     reference: Found | None = None,
     wrong: str = "",
     seconds: float = _LONG,
+    crew: Callable[..., Workers] = Workers,
 ) -> Report:
     """Workflows are submitted, `each` before each fault, while workers die; or with `stops` while they are told to stop, and no effect is executed
     twice."""
@@ -498,7 +575,7 @@ def kills(
     emptied(url)
     chance, report = random.Random(seed), Report()
     with Plain(url) as db:
-        running = Workers(url, workers, folder, idle=idle, wrong=wrong)
+        running = crew(url, workers, folder, idle=idle, wrong=wrong)
         try:
             for fault in range(faults):
                 begun = time.time()
@@ -521,7 +598,7 @@ def kills(
                     report.kills += 1
                 logged_without_errors(folder)
             report.resumed = wait(db, seconds)
-            time.sleep(LEASE / 3 + 0.5)  # after the last beats
+            time.sleep(running.lease / 3 + 0.5)  # after the last beats
         finally:
             running.end()
         log = logged_without_errors(folder)
@@ -530,17 +607,17 @@ def kills(
         return report + Report.of(check(db, faults * each, folder / "effects", reference, is_exact=stops))
 
 
-def undisturbed(url: str, folder: pathlib.Path, count: int, seconds: float = _LONG) -> Found:
-    """What a run of so many workflows leaves without faults."""
+def undisturbed(url: str, folder: pathlib.Path, count: int, seconds: float = _LONG, crew: Callable[..., Workers] = Workers, workers: int = 1) -> Found:
+    """What a run of `count` workflows leaves without faults."""
     folder.mkdir(parents=True, exist_ok=True)
     (folder / "effects").touch()
     emptied(url)
     with Plain(url) as db:
-        submit(db, 0, count)
-        running = Workers(url, 1, folder, idle=0.5)
+        running = crew(url, workers, folder, idle=0.5)
         try:
+            submit(db, 0, count)
             wait(db, seconds)
-            time.sleep(LEASE / 3 + 0.5)
+            time.sleep(running.lease / 3 + 0.5)
         finally:
             running.end()
         return check(db, count, folder / "effects", None)

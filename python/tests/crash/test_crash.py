@@ -18,7 +18,7 @@ import scenarios  # noqa: E402
 from checked import Wrong  # noqa: E402
 
 IS_THOROUGH = os.environ.get("PALQYTUN_TEST_THOROUGH") == "1"
-STEP = 1 if IS_THOROUGH else 9  # a death at each so many commits
+STEP = 1 if IS_THOROUGH else 9  # from one death to the next, in commits
 COMMITS = range(1, 400, STEP)  # there are fewer; a test that goes so far has a fault
 
 
@@ -34,7 +34,7 @@ class InAFolder(unittest.TestCase):
 
 
 class Deaths(InAFolder):
-    """Seven workflows, one of each kind, and a worker that dies in place of a commit."""
+    """Eight workflows, one of each kind, and a worker that dies in place of a commit."""
 
     def setUp(self) -> None:
         super().setUp()
@@ -84,7 +84,6 @@ class Kills(InAFolder):
         self.assertEqual(report.kills, faults)
         self.assertGreater(report.open_at_faults, faults)
 
-
     def test_one_worker_on_sqlite_that_is_told_to_stop(self) -> None:
         faults = 20 if IS_THOROUGH else 4
         reference = scenarios.undisturbed(str(self.folder / "reference.db"), self.folder / "reference", 3 * faults)
@@ -93,10 +92,11 @@ class Kills(InAFolder):
         self.assertEqual(report.stops, faults)
 
 
-class KillsOfMany(InAFolder):
-    """Three workers on PostgreSQL."""
+class OnAServer(InAFolder):
+    """Workers on PostgreSQL."""
 
     kind = "postgres"
+    count = scenarios.COUNT
 
     @classmethod
     def setUpClass(cls) -> None:
@@ -104,13 +104,29 @@ class KillsOfMany(InAFolder):
             raise unittest.SkipTest(lacks)
         cls.url = postgres.url()
         with tempfile.TemporaryDirectory(prefix="palqytun-crash-") as folder:
-            cls.reference = scenarios.undisturbed(cls.url, pathlib.Path(folder), 90)
+            cls.reference = scenarios.undisturbed(cls.url, pathlib.Path(folder), cls.count)
+
+
+class OneByOne(OnAServer):
+    """Eight workflows, one of each kind, and one failure."""
 
     def test_deaths_at_commits(self) -> None:
         numbers = range(1, 200) if IS_THOROUGH else (3, 15)
-        reference = scenarios.undisturbed(self.url, self.folder / "reference", scenarios.COUNT)
-        report = scenarios.deaths_on_a_server(self.url, self.folder / "deaths", numbers, reference)
+        report = scenarios.deaths_on_a_server(self.url, self.folder / "deaths", numbers, self.reference)
         self.assertGreater(report.deaths, 20 if IS_THOROUGH else 1)
+
+    def test_a_store_after_the_lease_changes_nothing(self) -> None:
+        scenarios.late_store(self.url, self.folder / "late", self.reference)
+
+    def test_a_store_without_a_fence_is_found(self) -> None:
+        with self.assertRaisesRegex(Wrong, "^a journal is broken: WHOLE"):
+            scenarios.late_store(self.url, self.folder / "unfenced", self.reference, "unfenced")
+
+
+class KillsOfMany(OnAServer):
+    """Three workers, and many failures."""
+
+    count = 90
 
     def test_kills_pauses_and_lost_connections(self) -> None:
         options = {"workers": 3, "pauses": True, "disconnects": True, "reference": self.reference}
@@ -122,12 +138,6 @@ class KillsOfMany(InAFolder):
         report = scenarios.kills(self.url, self.folder / "stops", faults=30, workers=3, stops=True, reference=self.reference)
         print(report, file=sys.stderr)
         self.assertEqual(report.stops, 30)
-
-    def test_a_store_without_a_fence_is_found(self) -> None:
-        options = {"workers": 3, "pauses": True, "reference": self.reference, "wrong": "unfenced", "seconds": 30}
-        with self.assertRaises(Wrong):
-            for seed in range(5):
-                scenarios.kills(self.url, self.folder / f"kills{seed}", faults=30, seed=seed, **options)
 
 
 class FailsOver(InAFolder):

@@ -1,9 +1,9 @@
-"""The command `palqytun` of a wrong runtime: wrong_worker.py WRONG, and the words of the command."""
+"""The command `palqytun` of a worker with a fault: wrong_worker.py FAULT, and the words of the command."""
 
 import sys
 
 import faulty
 from palqytun.runtime.command import main
 
-faulty.WRONG[sys.argv.pop(1)]()
+faulty.FAULTS[sys.argv.pop(1)]()
 sys.exit(main())

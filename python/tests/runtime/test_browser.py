@@ -21,7 +21,7 @@ from selenium.webdriver.common.keys import Keys
 from selenium.webdriver.support import expected_conditions
 from selenium.webdriver.support.wait import WebDriverWait
 
-from palqytun.runtime import App, Context, Retry, Schedule, Service, TerminalError, VirtualObject
+from palqytun.runtime import App, Context, Queue, Retry, Schedule, Service, TerminalError, VirtualObject
 from palqytun.runtime.serving import Settings
 from served import Served
 
@@ -42,7 +42,7 @@ async def order(ctx: Context, it: str) -> str:
     return it
 
 
-@shop.handler()
+@shop.handler(queue=Queue("parcels", concurrency=5, per_key=2, rate=(100, 60)))
 async def parcel(ctx: Context, it: str) -> str:
     await ctx.sleep(3600 if it == "pen" else 0)
     return it
@@ -285,6 +285,20 @@ class InABrowser(support.OnADatabase, unittest.TestCase):
         for it in ("pause schedule", "resume schedule", "trigger schedule", "backfill schedule"):
             self.assertIn(it, self.one("table").text)
 
+    def test_queues(self):
+        self.serve(limit=0)
+        for key in ("ann", "ann", "ben"):
+            self.worker.ask(f"/Shop/parcel/send?queue-key={key}", "pen")
+        self.worker.ask("/Shop/parcel/send?delay=600", "pen")
+        self.open()
+        self.follow("Queues")
+        [row] = self.rows()
+        self.assertRegex(row, r"^parcels 3 [\d.]+ m?s 2 1 0 concurrency 5, per_key 2, rate 100 in 60 s$")
+        self.picture("queues")
+        self.follow("parcels")
+        self.assertEqual(len(self.rows()), 4)
+        self.assertEqual(self.one("input[name=queue]").get_attribute("value"), "parcels")
+
     def test_the_picture(self):
         """Each bar has a place in it, and each kind a pattern of its own: no two are told apart by a colour alone."""
         pen, ink, glue, cup = self.orders()
@@ -327,7 +341,7 @@ class InABrowser(support.OnADatabase, unittest.TestCase):
         backs = []
         for scheme in ("light", "dark"):
             self.in_scheme(scheme)
-            for path in ("", f"/{glue}", "/states", "/schedules", "/audit"):
+            for path in ("", f"/{glue}", "/states", "/queues", "/schedules", "/audit"):
                 self.open(path)
                 back = self.one("body").value_of_css_property("background-color")
                 for it in self.all("body, a, .bad, .soft, th"):

@@ -3,13 +3,15 @@
 import asyncio
 import os
 import secrets
+import threading
 import time
 import unittest
 from unittest import mock
 
 import support  # isort: skip
 import runtime_app
-from palqytun.runtime import App, Context, Queue, Retry, Service, TerminalError, VirtualObject, Workflow, acts, gather, inbox, invocations, journal, operate
+from palqytun.runtime import App, Context, Queue, Retry, Service, TerminalError, VirtualObject, Workflow, acts, deadlines, gather, inbox, invocations
+from palqytun.runtime import journal, operate, watchdog
 from palqytun.runtime.claiming import Claimer
 from palqytun.runtime.database import connect
 from palqytun.runtime.database.plain import Plain
@@ -127,6 +129,22 @@ class Order(OnOne):
         late, soon = self.create("Thing", "adds", "k", b"1", due=time.time() + 1000), self.create("Thing", "adds", "k", b"2")
         self.assertEqual([it.invocation for it in self.claim()], [soon])
         self.assertNotEqual(late, soon)
+
+
+@support.on_each_database
+class Held(OnOne):
+    def test_a_claim_that_holds_the_loop(self):
+        """Who holds it is no handler, and that is said."""
+        said, late = [], deadlines.late
+
+        def held(*words):
+            said.append(watchdog.holder(threading.get_ident()))
+            return late(*words)
+
+        self.enter("one")
+        with mock.patch.object(deadlines, "late", held):
+            self.assertEqual(self.claim(), [])
+        self.assertRegex(said[0], "^no handler, or the host is busy, in .*test_claims.py")
 
 
 class ThreeWorkers(support.OnADatabase, unittest.TestCase):
@@ -424,6 +442,8 @@ class Plans(OnOne):
             lambda db: worker.claim(db, (), 500),
             lambda db: worker.claim(db, (), 500),
             operate.by_status,
+            operate.waiting,
+            operate.queues,
             lambda db: operate.invocations(db, Filter(status="paused")),
             lambda db: operate.invocations(db, Filter(status="failed", error="x")),
             lambda db: operate.invocations(db, Filter(service="Claims")),

@@ -8,9 +8,9 @@ from unittest import mock
 
 import support  # isort: skip
 import runtime_app
-from palqytun.runtime import TerminalError, committer, desk
+from palqytun.runtime import App, ObjectContext, TerminalError, VirtualObject, committer, desk
 from palqytun.runtime.committer import Committer
-from palqytun.runtime.database import Conflict, Lost, StatementFailed, connect
+from palqytun.runtime.database import Conflict, Each, Lost, Reading, StatementFailed, connect
 from palqytun.runtime.database.plain import Plain
 
 
@@ -31,6 +31,45 @@ def put(*names):
 async def refused(db):
     await inserted("refused")(db)
     raise TerminalError("no", 400)
+
+
+cell = VirtualObject("Cell")
+
+
+@cell.handler()
+async def many(ctx: ObjectContext, n: int) -> None:
+    """Changes of the state that are stored together: the last value of a name counts."""
+    for it in (1, 2, n):
+        ctx.set("last", it)
+    ctx.set(f"of {n}", n)
+    await ctx.run("stored", lambda: None)
+    ctx.set("gone", 1)
+    ctx.clear("gone")
+    ctx.clear("last")
+    ctx.set("last", [n])
+    ctx.set("new", n)
+    await ctx.run("stored too", lambda: None)
+    if n % 2:
+        ctx.clear_all()
+        ctx.set("only", n)
+
+
+@support.on_each_database
+class States(support.OnADatabase):
+    def test_the_last_change_counts(self):
+        """Of each of twenty keys at once."""
+        keys = [f"{n:02d}" for n in range(20)]
+
+        async def go():
+            async with support.Runtime(App(cell), self.url) as runtime:
+                await asyncio.gather(*(runtime.call("Cell/many", n, key) for n, key in enumerate(keys)))
+                return await runtime.rows("SELECT key, name, value FROM state ORDER BY key, name")
+
+        expected = []
+        for n, key in enumerate(keys):
+            even = [("last", f"[{n}]"), ("new", f"{n}"), (f"of {n}", f"{n}")]
+            expected += [(key, name, value) for name, value in ([("only", f"{n}")] if n % 2 else sorted(even))]
+        self.assertEqual([(key, name, bytes(value).decode()) for key, name, value in asyncio.run(go())], expected)
 
 
 @support.on_each_database
@@ -75,6 +114,60 @@ class Groups(support.OnADatabase):
 
         self.with_committer(test)
         self.assertEqual(self.names(), ["first", *[f"good {n:02d}" for n in range(10)], *[f"more {n:02d}" for n in range(10)]])
+
+    def test_changes_of_rows_that_are_alike(self):
+        """They are made by their ranks, those of a rank without types in their order, and all before the statement that follows. A server makes those of a
+        shape in one statement, whose count is that of its rows."""
+        second = Each(2, "UPDATE workers SET lease=lease+?{rows} WHERE id=?", "double precision", "text")
+        first = Each(1, "INSERT INTO workers(id, lease) SELECT ?,?{rows}", "text", "double precision")
+        kept = Each(3, "UPDATE workers SET lease=lease*10 WHERE id=?"), Each(3, "UPDATE workers SET lease=lease+1 WHERE id=?")
+        gone = Each(4, "DELETE FROM workers{rows} WHERE id=? AND lease>?", "text", "double precision", by="USING")
+
+        def made(count, missing=None):
+            async def operation(db):
+                for n in range(count):
+                    if not db.is_remote:  # a file's are made as they come
+                        db.each(first, (f"{n:03d}", 1.0))
+                    db.each(second, (float(n), f"{n:03d}"), TerminalError("it isn't there", 404))
+                    if db.is_remote:
+                        db.each(first, (f"{n:03d}", 1.0))
+                if missing is not None:
+                    db.each(second, (0.0, missing), TerminalError("it isn't there", 404))
+                for it in kept * 2:
+                    db.each(it, ("001",))
+                db.each(gone, ("000", 0.0))
+                return await db.rows("SELECT COUNT(*), MAX(lease) FROM workers")
+
+            return operation
+
+        async def test(to):
+            many = 450  # more than one statement takes
+            self.assertEqual(await to.submit(made(many)), [(many - 1, float(many))])
+            self.assertEqual(await to.submit(lambda db: db.rows("SELECT lease FROM workers WHERE id='001'")), [(((2 * 10 + 1) * 10 + 1),)])
+            await to.submit(lambda db: db.change("DELETE FROM workers"))
+            with self.assertRaisesRegex(TerminalError, "it isn't there"):
+                await to.submit(made(3, "nobody"))
+            self.assertEqual(await to.submit(lambda db: db.rows("SELECT * FROM workers")), [])
+
+        self.with_committer(test)
+
+    def test_queries_that_are_alike(self):
+        """Each has its own rows, in their order, and none if there are none."""
+        read = Reading("SELECT seq, frame FROM inbox WHERE invocation=? ORDER BY seq LIMIT ?", "text", "bigint")
+        other = Reading("SELECT id FROM workers WHERE id=?", "text")
+
+        async def test(to):
+            await to.submit(inserted("here"))
+            sql = "INSERT INTO inbox(invocation, frame) VALUES (?,?)"
+            for n in range(6):
+                await to.submit(lambda db, n=n: db.change(sql, ("ab"[n % 2], b"%d" % n)))
+            asked = [(read, ("b", 2)), (other, ("here",)), (read, ("a", 9)), (read, ("c", 9)), ("SELECT 7", ()), (other, ("away",))]
+            found = await to.submit(lambda db: db.several(asked))
+            frames = [[bytes(frame) for _, frame in found[at]] for at in (0, 2, 3)]
+            self.assertEqual(frames, [[b"1", b"3"], [b"0", b"2", b"4"], []])
+            self.assertEqual([found[at] for at in (1, 4, 5)], [[("here",)], [(7,)], []])
+
+        self.with_committer(test)
 
     def test_a_conflict_is_never_final(self):
         """However often it is met; and meanwhile others are stored."""

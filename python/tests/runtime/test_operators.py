@@ -2,13 +2,10 @@
 
 import asyncio
 import contextlib
-import io
 import json
 import re
-import sys
 import time
 import unittest
-from unittest import mock
 
 import support  # isort: skip
 import needs
@@ -19,18 +16,8 @@ import runtime_app
 from palqytun.runtime import App, Schedule, command
 from palqytun.runtime.serving import Settings
 from served import Served
+from spoken import palqytun
 from support import PYTHON
-
-
-def palqytun(*words):
-    """The status of a command, and what it prints."""
-    out, error = io.StringIO(), io.StringIO()
-    with mock.patch.object(sys, "argv", ["palqytun", *words]), contextlib.redirect_stdout(out), contextlib.redirect_stderr(error):
-        try:
-            status = command.main()
-        except SystemExit as ended:
-            status = ended.code
-    return status, out.getvalue(), error.getvalue()
 
 
 @support.on_each_database

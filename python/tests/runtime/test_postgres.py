@@ -1,6 +1,7 @@
 """The driver of PostgreSQL: no thread waits, the event loop goes on, and what the server doesn't answer is `Lost`."""
 
 import asyncio
+import contextlib
 import os
 import random
 import socket
@@ -15,7 +16,8 @@ import needs
 import runtime_app
 from palqytun.runtime import App, Context, Service, VirtualObject, inbox, invocations, journal
 from palqytun.runtime.claiming import Claimer
-from palqytun.runtime.database import Lost, Unsuitable, connect, postgres
+from palqytun.runtime.committer import After
+from palqytun.runtime.database import Each, Lost, Reading, Unsuitable, connect, pipeline, postgres
 from palqytun.runtime.database.plain import Plain
 from palqytun.runtime.invocations import New
 from palqytun.runtime.lease import Growth
@@ -51,6 +53,34 @@ async def collects(ctx: Context, count: int) -> list[int]:
 async def ends(ctx: Context, n: int) -> int:
     await ctx.run("a moment", asyncio.sleep, random.random() * 0.03)
     return n
+
+
+@service.handler()
+async def calls(ctx: Context, count: int) -> int:
+    for n in range(count):
+        await ctx.call(ends, n)
+    return count
+
+
+opened = threading.Event()
+
+
+async def opens() -> None:
+    while not opened.is_set():
+        await asyncio.sleep(0.01)
+
+
+@service.handler()
+async def waits(ctx: Context, n: int) -> int:
+    await ctx.run("waits", opens)
+    return n
+
+
+@service.handler()
+async def steps(ctx: Context, count: int) -> int:
+    for n in range(count):
+        await ctx.run("step", lambda: 1)
+    return count
 
 
 @service.handler()
@@ -248,6 +278,45 @@ class TwoWorkers(support.OnADatabase, unittest.TestCase):
         self.collected(100, 20, between)
         self.assertEqual(set(looks), {looks[0]})
 
+    def test_a_worker_claims_what_it_makes(self):
+        """Calls, completions, keys that are free: the other one isn't woken for any of it."""
+
+        async def go():
+            options = {"poll": 3000, "idle": 0, "lease": 3000}
+            apps = [App(service, account) for _ in range(2)]
+            async with Runtime(apps[0], self.url, **options) as one, Runtime(apps[1], self.url, **options) as two:
+                await one.call("Postgres/ends", 0)  # from here on it knows the other one
+                await self.quiet(one, two)
+                before = two.engine._committer.counts["transactions"]
+                self.assertEqual(await asyncio.wait_for(one.call("Postgres/calls", 5), support.LONG), 5)
+                for n in range(5):
+                    await one.call("Account/add", n, "k")
+                self.assertEqual(two.engine._committer.counts["transactions"], before)
+                workers = await one.rows("SELECT DISTINCT right(worker, 12) FROM invocations")
+                self.assertEqual(len(workers), 1)
+
+        asyncio.run(go())
+
+    def test_what_a_worker_leaves_is_passed_on(self):
+        """It has room for four of twelve. Each of three takes some, though none looks by itself."""
+
+        async def go():
+            options, count = {"poll": 3000, "idle": 600, "lease": 3000, "limit": 4}, 12
+            opened.clear()
+            async with contextlib.AsyncExitStack() as stack:
+                three = [await stack.enter_async_context(Runtime(App(service), self.url, **options)) for _ in range(3)]
+                first = await three[0].send("Postgres/waits", 0)
+                while not three[0].engine.live:
+                    await asyncio.sleep(0.01)
+                ids = [first, *[await three[0].send("Postgres/waits", n) for n in range(1, count)]]
+                async with asyncio.timeout(support.LONG):
+                    while [len(it.engine.live) for it in three] != [4, 4, 4]:
+                        await asyncio.sleep(0.01)
+                opened.set()
+                self.assertEqual([await asyncio.wait_for(three[0].result(it), support.LONG) for it in ids], list(range(count)))
+
+        asyncio.run(go())
+
     def test_who_waits_while_it_ends(self):
         """What an end reads of those who wait comes before all else in its group. Those who begin to wait at the same time get the result too."""
 
@@ -270,6 +339,69 @@ class TwoWorkers(support.OnADatabase, unittest.TestCase):
         for idle in (0, 0.01, 100):
             with self.subTest(idle=idle):
                 self.collected(idle, 40, between)
+
+
+class Counts(support.OnADatabase, unittest.TestCase):
+    """What operations cost the server, counted: a machine that is busy counts alike."""
+
+    kind = "postgres"
+
+    async def before(self, runtime):
+        """What comes before the work, and isn't counted."""
+
+    def counted(self, work):
+        """The round trips of some work by a worker with nothing else to do, each with its statements."""
+        trips, made = [], pipeline.Pipeline.all_made
+
+        async def all_made(own, statements):
+            trips.append([it.sql for it in statements])
+            return await made(own, statements)
+
+        async def go():
+            async with Runtime(App(service), self.url, poll=3000, lease=3000, idle=600) as runtime:
+                await runtime.call("Postgres/ends", 0)
+                await self.before(runtime)
+                with mock.patch.object(pipeline.Pipeline, "all_made", all_made):
+                    await work(runtime)
+
+        asyncio.run(go())
+        return trips
+
+    async def group(self, runtime, count):
+        """One group of so many operations, each of which reads, and changes what it has read."""
+        seen = Reading("SELECT seq, frame FROM inbox WHERE invocation=? ORDER BY seq LIMIT ?", "text", "bigint")
+        gone = Each(1, "DELETE FROM inbox{rows} WHERE invocation=? AND frame=?", "text", "bytea", by="USING")
+
+        def operation(name):
+            async def then(db, found):
+                db.each(gone, (name, bytes(found[0][0][1])), AssertionError(name))
+
+            return After(lambda db: [(seen, (name, 1))], then)
+
+        names = [f"{n:03d}" for n in range(count)]
+        await asyncio.gather(*(runtime.engine._committer.follow(operation(it)) for it in names))
+
+    def test_a_group_of_twenty_costs_what_one_of_two_costs(self):
+        """Two round trips, four statements and a commit: BEGIN, the reads, the changes, COMMIT."""
+
+        async def filled(runtime):
+            await runtime.rows("DELETE FROM inbox RETURNING seq")
+            await runtime.rows("INSERT INTO inbox(invocation, frame) SELECT lpad(i::text, 3, '0'), 'x' FROM generate_series(0, 99) AS i RETURNING seq")
+
+        self.before = filled
+        for count in (2, 20):
+            reads, changes = self.counted(lambda runtime: self.group(runtime, count))
+            self.assertEqual((len(reads), len(changes)), (2, 2), count)
+            self.assertEqual((reads[0][:5], changes[-1]), (b"BEGIN", b"COMMIT"))
+
+    def test_a_step(self):
+        """A step alone is one statement in one round trip, which is its commit."""
+        found = []
+        for count in (10, 20):
+            trips = self.counted(lambda runtime: runtime.call("Postgres/steps", count))
+            found.append([it for it in trips if any(sql.startswith(b"WITH asked") for sql in it)])
+        self.assertEqual(len(found[1]) - len(found[0]), 10)
+        self.assertEqual({len(it) for it in found[0] + found[1]}, {1})
 
 
 class Settings(support.OnADatabase, unittest.TestCase):
@@ -335,6 +467,34 @@ class Settings(support.OnADatabase, unittest.TestCase):
         with self.assertRaisesRegex(Unsuitable, "permission denied .*: the user has to own the tables"):
             Plain(with_settings(self.url, {"role": "palqytun_guest"}))
 
+    def test_a_user_who_may_only_read(self):
+        """A worker is refused before it claims anything, and says which rights are wanted. A command reads."""
+        self.change("DROP ROLE IF EXISTS palqytun_reader", "CREATE ROLE palqytun_reader", "GRANT SELECT ON ALL TABLES IN SCHEMA public TO palqytun_reader")
+        self.addCleanup(self.change, "DROP OWNED BY palqytun_reader", "DROP ROLE palqytun_reader")
+        url = with_settings(self.url, {"role": "palqytun_reader"})
+        with Plain(url) as db:
+            self.assertEqual(db.rows("SELECT * FROM invocations"), [])
+        lacks = "the user palqytun_reader has no INSERT, UPDATE, DELETE on attempts, and lacks rights on [0-9]+ more tables: a worker's user owns the tables"
+        with self.assertRaisesRegex(Unsuitable, lacks):
+            self.as_worker(url)
+        self.change("GRANT INSERT, UPDATE, DELETE ON ALL TABLES IN SCHEMA public TO palqytun_reader", "REVOKE UPDATE ON inbox FROM palqytun_reader")
+        lacks = "the user palqytun_reader has no USAGE on audit, and lacks rights on 3 more tables: .* has SELECT, .* and USAGE on their sequences"
+        with self.assertRaisesRegex(Unsuitable, lacks):
+            self.as_worker(url)
+        self.change("GRANT USAGE ON ALL SEQUENCES IN SCHEMA public TO palqytun_reader")
+        with self.assertRaisesRegex(Unsuitable, "the user palqytun_reader has no UPDATE on inbox: a worker's user"):
+            self.as_worker(url)
+        self.change("GRANT UPDATE ON inbox TO palqytun_reader")
+        self.as_worker(url)
+
+    def test_an_old_server(self):
+        """This one, if the oldest that is allowed were newer than it."""
+        with Plain(self.url) as db:
+            [(version,)] = db.rows("SELECT current_setting('server_version_num')::int / 10000")
+        with mock.patch.object(postgres, "_OLDEST", 10000 * (version + 1)):
+            with self.assertRaisesRegex(Unsuitable, f"the server is PostgreSQL {version}, and has to be {version + 1} or newer"):
+                Plain(self.url)
+
     def test_a_database_that_may_only_be_read(self):
         """A command may read it. A worker says what is wrong, and tries again."""
         url = with_settings(self.url, {"default_transaction_read_only": "on"})
@@ -353,10 +513,10 @@ class Settings(support.OnADatabase, unittest.TestCase):
             self.assertEqual(db.rows("SHOW synchronous_commit"), [("off",)])
 
     def test_a_server_without_fsync(self):
-        with mock.patch.object(postgres, "_CHECKED", "SELECT 'UTF8', 'public', 'off', 'off', 'on', NULL"):
+        with mock.patch.object(postgres, "_CHECKED", "SELECT 'UTF8', 'public', 'off', 'off', 'on', NULL, 150000"):
             with self.assertRaisesRegex(Unsuitable, "with fsync=off"):
                 self.as_worker(self.url)
-        with mock.patch.object(postgres, "_CHECKED", "SELECT 'UTF8', 'public', 'off', 'off', 'on', 'on'"):
+        with mock.patch.object(postgres, "_CHECKED", "SELECT 'UTF8', 'public', 'off', 'off', 'on', 'on', 150000"):
             self.as_worker(self.url)
 
     def as_worker(self, url):

@@ -78,7 +78,7 @@ class Page(support.OnADatabase, unittest.TestCase):
         for name, column, kind, star in _ROW.findall(third.PAGE.read_text()):
             table = name or table
             shown.append((table, column, kind, bool(star)))
-        sql = "SELECT table_name, column_name, data_type, is_nullable='YES' FROM information_schema.columns WHERE table_name=ANY(%s) ORDER BY 1, 2"
+        sql = "SELECT table_name, column_name, data_type, is_nullable='YES' FROM information_schema.columns WHERE table_name=ANY(%s) AND table_schema=current_schema() ORDER BY 1, 2"
         with psycopg.connect(self.url) as db:
             found = [(table, column, _TYPES[kind], star) for table, column, kind, star in db.execute(sql, ([*TABLES, "schema_versions"],))]
         self.assertEqual(sorted(shown), sorted(found))

@@ -7,7 +7,7 @@ import unittest
 import support  # isort: skip
 from support import Runtime
 
-from palqytun.runtime import App, Client, Context, ObjectContext, Queue, Service, TerminalError, VirtualObject, gather, invocations, queues
+from palqytun.runtime import App, Client, Context, ObjectContext, Queue, Service, TerminalError, VirtualObject, gather, invocations, operate, queues
 from palqytun.runtime.claiming import Claimer
 from palqytun.runtime.database.plain import Plain
 from palqytun.runtime.invocations import New
@@ -164,6 +164,26 @@ class Limits(OnAConnection):
         other.handler()(one.function)
         self.worker("other", App(other))
         self.assertEqual(self.rows("SELECT id, queue, queue_key FROM invocations ORDER BY seq"), [(id, "late", ""), (queued, None, "")])
+
+    def test_what_is_shown_of_them(self):
+        self.make("keyed", 3, queue_key="ann")
+        self.make("keyed", 1, queue_key="ben")
+        later, waits, stands = self.make("keyed", 3, queue_key="cleo")
+        self.done(lambda db: db.change("UPDATE invocations SET due=due+1000 WHERE id=?", (later,)))
+        self.claim(room=2)
+        for id, status in ((waits, "suspended"), (stands, "paused")):
+            self.done(lambda db, id=id, status=status: db.change("UPDATE invocations SET status=? WHERE id=?", (status, id)))
+        found = {it["name"]: it for it in self.done(operate.queues)}
+        self.assertEqual(set(found), {"wide", "keyed", "rated", "boxes"})
+        oldest = found["keyed"].pop("oldest")
+        self.assertTrue(60 <= oldest < 60 + support.LONG, oldest)
+        shown = {"name": "keyed", "length": 2, "later": 1, "running": 2, "keys": 1, "limits": {"concurrency": 4, "per_key": 2}}
+        self.assertEqual(found["keyed"], shown)
+        self.assertEqual(found["rated"], {"name": "rated", "length": 0, "oldest": 0.0, "later": 0, "running": 0, "keys": 0, "limits": {"rate": [2, 100]}})
+        other = Service("Work")
+        other.handler(queue=Queue("keyed", per_worker=7))(keyed.function)
+        self.worker("other", App(other))
+        self.assertEqual([it["limits"] for it in self.done(operate.queues) if it["name"] == "keyed"], [{"per_worker": 7}])
 
     def test_what_is_refused(self):
         for headers, said in (({"priority": "high"}, "the priority is 'high', and it is a whole number"), ({"priority": 1001}, "from -1000 to 1000")):

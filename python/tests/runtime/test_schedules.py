@@ -231,7 +231,7 @@ class Overlaps(OnAConnection):
         [(self.first,)] = self.rows("SELECT due FROM schedules")
 
     def fired(self, *minutes):
-        """Lets the clock be at so many minutes after the first time, and answers for which minutes there are calls."""
+        """Lets the clock be some minutes after the first time, and returns for which minutes there are calls."""
         for it in minutes:
             self.done(schedules.fire, self.app, Outcome(), self.first + 60 * it)
         keys = [row[0] for row in self.rows("SELECT idem FROM invocations ORDER BY seq")]

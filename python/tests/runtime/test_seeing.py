@@ -15,10 +15,11 @@ if lacks := needs.lacks_server():
     raise unittest.SkipTest(lacks)
 from prometheus_client.parser import text_string_to_metric_families
 
-from palqytun.runtime import App, Context, Retry, Service, TerminalError, logs
+from palqytun.runtime import App, Context, Queue, Retry, Service, TerminalError, logs
 from palqytun.runtime.serving import Settings
 from palqytun.runtime.traces import Trace, checked
 from served import Served
+from spoken import palqytun
 
 service = Service("Seen")
 own_log = logging.getLogger("a.library")
@@ -39,6 +40,11 @@ async def refuses(ctx: Context, it):
 @service.handler(retry=Retry(initial=0.01, attempts=3))
 async def breaks(ctx: Context, it):
     raise ValueError("a bug")
+
+
+@service.handler(queue=Queue("letters", concurrency=5, rate=(100, 60)))
+async def letter(ctx: Context, it):
+    return it
 
 
 def _asked(ctx):
@@ -114,6 +120,56 @@ class Numbers(support.OnADatabase):
 
 
 @support.on_each_database
+class Queues(support.OnADatabase):
+    """The command, the request, the page and the numbers say the same of each queue."""
+
+    @with_ingress(limit=0)
+    async def test_each_way(self, served):
+        for key in ("a", "a", "b"):
+            await served.ask(f"/Seen/letter/send?queue-key={key}", 1)
+        await served.ask("/Seen/letter/send?delay=1000", 1)
+        await served.engine.transact(lambda db: db.change("UPDATE invocations SET due=due-90 WHERE due<?", (db.now() + 1,)))
+        _, [one], _ = await served.ask("/-/queues", None, "GET")
+        self.assertTrue(90 <= one.pop("oldest") < 90 + support.LONG)
+        limits = {"concurrency": 5, "rate": [100, 60]}
+        self.assertEqual(one, {"name": "letters", "length": 3, "later": 1, "running": 0, "keys": 2, "limits": limits})
+        found = await numbers(served)
+        self.assertEqual([found[f"palqytun_queue_{it}", "letters"] for it in ("length", "running")], [3, 0])
+        self.assertGreaterEqual(found["palqytun_queue_age_seconds", "letters"], 90)
+        self.assertEqual(found["palqytun_queue_limit", "concurrency", "letters"], 5)
+        self.assertAlmostEqual(found["palqytun_queue_limit", "rate", "letters"], 100 / 60)
+        _, page, _ = await served.ask("/-/page/queues", None, "GET")
+        row = re.findall(r"<t[dh][^>]*>([^<]*)", page.partition("<tbody>")[2].replace("<a ", "<td ").partition("</tr>")[0])
+        self.assertEqual(["letters", "3", "2", "1", "0"], [row[at] for at in (1, 2, 4, 5, 6)])
+        self.assertIn("concurrency 5, rate 100 in 60 s", row)
+        for query in ("/-/invocations?queue=letters", "/-/invocations?queue=none"):
+            _, rows, _ = await served.ask(query, None, "GET")
+            self.assertEqual(len(rows), 4 if query.endswith("letters") else 0)
+
+    @with_ingress(limit=0)
+    async def test_the_command(self, served):
+        for _ in range(2):
+            await served.ask("/Seen/letter/send", 1)
+        status, said, _ = await asyncio.to_thread(palqytun, "queues", "--db", self.url)
+        self.assertEqual(status, 0)
+        self.assertRegex(said, r"^letters +2 due, the first for [\d.]+ m?s; 0 later; 0 running  concurrency 5, rate 100 in 60 s\n$")
+        _, said, _ = await asyncio.to_thread(palqytun, "queues", "--json", "--db", self.url)
+        self.assertEqual(json.loads(said)["length"], 2)
+        _, said, _ = await asyncio.to_thread(palqytun, "invocations", "list", "--queue", "letters", "--db", self.url)
+        self.assertEqual(len(said.splitlines()), 2)
+
+    def test_there_are_none(self):
+        support.emptied(self.kind, self.folder)
+        async def go():
+            async with Served(App(Service("Plain")), self.url, Settings()) as served:
+                self.assertEqual((await served.ask("/-/queues", None, "GET"))[1], [])
+                self.assertIn("There are none.", (await served.ask("/-/page/queues", None, "GET"))[1])
+
+        asyncio.run(go())
+        self.assertEqual(palqytun("queues", "--db", self.url), (0, "", "there are no queues\n"))
+
+
+@support.on_each_database
 class Traces(support.OnADatabase):
     @with_ingress
     async def test_a_trace_is_taken_in_and_handed_on(self, served):
@@ -182,6 +238,8 @@ class Views(support.OnADatabase):
         self.assertIn("500 ValueError: a bug", how[0][2])
         await served.ask("/-/state/Kept/k/n", 40, "PUT")
         self.assertEqual([tuple(it) for it in await served.rows("SELECT service, key, name, value, bytes FROM palqytun_state")], [("Kept", "k", "n", "40", 2)])
+        [(queue, priority, version)] = await served.rows("SELECT queue, priority, version FROM palqytun_invocations WHERE handler='works'")
+        self.assertEqual((queue, priority, version), (None, 0, app.version))
         [(who, what, year)] = await served.rows("SELECT who, what, CAST(at AS TEXT) FROM palqytun_audit")
         self.assertEqual((who, what, year[:2]), ("ingress", "set state", "20"))
 

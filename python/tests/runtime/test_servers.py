@@ -3,7 +3,9 @@
 import asyncio
 import contextlib
 import os
+import pathlib
 import subprocess
+import sys
 import time
 import unittest
 from unittest import mock
@@ -308,6 +310,19 @@ class OwnCluster(unittest.TestCase):
                 self.assertGreater(runtime.engine.counts["sessions"], 1)
 
         asyncio.run(go())
+
+    def test_a_standby_as_the_database(self):
+        """A worker is refused in one line, which says what is wanted, and claims nothing."""
+        with postgres.standby(self.cluster) as standby:
+            app = pathlib.Path(__file__).parent / "runtime_app.py"
+            words = [sys.executable, "-m", "palqytun", "run", str(app), "--db", standby.url, "--port", "-1", "--wait-for-database", "15"]
+            ran = subprocess.run(words, capture_output=True, text=True, timeout=support.LONG)
+        self.assertEqual((ran.returncode, ran.stdout), (2, ""))
+        wanted = "palqytun: the database can't be opened: a worker has to write, and this session may only read: the server is a standby, or"
+        lines = [it for it in ran.stderr.splitlines() if it.startswith(wanted)]
+        self.assertEqual(len(lines), 1, ran.stderr)
+        [line] = lines
+        self.assertTrue(line.endswith("name the primary, or all servers and target_session_attrs=read-write"), line)
 
     def test_a_database_that_may_only_be_read(self):
         """What is to be stored waits until it may be written again, by the same sessions."""

@@ -1,4 +1,4 @@
-"""What the tests stand on: a temporary PostgreSQL that is removed, how tests are counted, and which interpreter runs them."""
+"""What the tests use themselves: a temporary PostgreSQL that is removed, and how tests are counted."""
 
 import os
 import pathlib
@@ -15,7 +15,6 @@ import support  # isort: skip
 import needs
 import postgres
 from support import PYTHON
-from tools.gate import packages
 
 TESTS = """\
 import unittest
@@ -119,6 +118,11 @@ class Counts(support.InAFolder, unittest.TestCase):
         status, said = self.counted("ValueError('why')", "--but", "postgres")
         self.assertEqual((status, said.splitlines()[-1]), (1, "1 passed, 1 failed, 1 skipped"))
 
+    def test_some_files(self):
+        (self.folder / "test_more.py").write_text("import unittest\nclass More(unittest.TestCase):\n    def test_more(self):\n        pass\n")
+        self.assertEqual(self.counted("unittest.SkipTest('')", "--files", "test_more")[1].splitlines()[-1], "1 passed, 0 failed, 0 skipped")
+        self.assertEqual(self.counted("unittest.SkipTest('')", "--files", "test_more,test_none")[0], 2)
+
     def test_a_module_that_cannot_be_loaded(self):
         (self.folder / "test_other.py").write_text("import nothing_of_this_name\n")
         self.assertEqual(self.counted("unittest.SkipTest('')", "--only", "postgres")[0], 1)
@@ -134,24 +138,6 @@ class Pages(unittest.TestCase):
             there = (PYTHON / "tests" / file).read_text()
             for name in re.findall(r"test_\w+", named):
                 self.assertIn(f"def {name}(", there, file)
-
-
-class Interpreters(unittest.TestCase):
-    def python_with(self, *modules: str) -> str:
-        """A program that says what a Python says that has just these modules."""
-        path = pathlib.Path(self.enterContext(tempfile.TemporaryDirectory()), "python3")
-        path.write_text(f"#!/bin/sh\necho {' '.join(modules)}\n")
-        path.chmod(0o755)
-        return str(path)
-
-    def test_what_one_lacks(self):
-        has = [name for it in packages.read().values() if it.kind == "module" for name in it.names if name != "psycopg"]
-        self.assertRegex(needs.lacking(self.python_with(*has)), r"python3 lacks psycopg: apt-get install python3-psycopg$")
-        self.assertEqual(needs.lacking(self.python_with(*has, "psycopg")), "")
-
-    def test_one_that_is_named(self):
-        with mock.patch.dict(os.environ, {"PALQYTUN_PYTHON": "/no/python"}), self.assertRaisesRegex(SystemExit, "/no/python is no Python 3.11 or newer"):
-            needs.interpreter()
 
 
 if __name__ == "__main__":

@@ -73,11 +73,11 @@ class Store:
 
     def deliver(self, invocation: str, frame: bytes) -> None:
         if self.made("deliver", invocation=invocation, frame=frame):
-            self.notify(f"to {invocation}")
+            self.made("tell", ids=[invocation])
 
     def served(self, service: str, handler: str) -> dict[str, Any] | None:
         """What the workers say of a handler."""
-        for (said,) in self.db.execute("SELECT serves FROM serving"):
+        for (said,) in self.made("serves"):
             if handler in json.loads(said).get(service, {}).get("handlers", {}):
                 return dict(json.loads(said)[service])
         return None
@@ -119,7 +119,7 @@ class Third(Store):
         """Fires the timers that are due, and claims what can go on."""
         with self.db.transaction():
             now = self.now()
-            for invocation, completes in self.made("timers", now=now):
+            for invocation, completes, _ in self.made("timers", now=now):
                 self.deliver(invocation, completion(completes, _NOTHING))
             found = self.made("ready", **self.own, now=now)
             found += [row[:4] for row in self.made("suspended", **self.own) if self._wakes(row)]
@@ -157,7 +157,7 @@ class Attempt:
 
     def __init__(self, worker: Third, id: str, epoch: int, row: Any):
         self.worker, self.id, self.epoch = worker, id, epoch
-        self.key, seed, entries, self.retries, self.failing_since, idem, _, _, exclusive, self.trace = row
+        self.key, seed, entries, self.retries, self.failing_since, idem, _, _, exclusive, self.trace, *_ = row
         self.began, frames = worker.now(), [bytes(it) for (it,) in worker.made("journal", id=id)]
         assert len(frames) == entries
         self.journal, self.vm = Journal(frames), VM("application/vnd.restate.invocation.v7", awaiting="never")

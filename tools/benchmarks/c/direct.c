@@ -1,4 +1,4 @@
-/* Plays one case of so many entries through the typed calls, as the program vmbench plays it through the VM's own calls, so that what the calls of
+/* Plays one case of some entries through the typed calls, as the program vmbench plays it through the VM's own calls, so that what the calls of
    C add can be counted:
 
        direct CASE ENTRIES

@@ -33,7 +33,7 @@ static inline void put(frames *to, const void *bytes, size_t len)
     to->len += len;
 }
 
-/* A number in so many bytes, at most 32, the most significant first. */
+/* A number in this many bytes, at most 32, the most significant first. */
 static inline void number(frames *to, uint64_t value, size_t width)
 {
     uint8_t digits[32] = {0};
@@ -59,7 +59,7 @@ static inline void head(frames *to, uint16_t type, size_t body)
     number(to, body, 8);
 }
 
-/* Start and Input of an attempt that knows of so many entries. Its state has the keys key0, key1 .. with this value. */
+/* Start and Input of an attempt that knows of this many entries. Its state has the keys key0, key1 .. with this value. */
 static inline void start(frames *to, uint32_t known, bool is_partial, unsigned keys, const void *value, size_t len)
 {
     frames body = {0};

@@ -2,7 +2,7 @@
 
        typed CASE ENTRIES ROUNDS on|off
 
-   The last word says whether a cancel signal ends awaits, which is the default of both libraries. A case is played so many times. Prints
+   The last word says whether a cancel signal ends awaits, which is the default of both libraries. A case is played as often as a word says. Prints
 
        awake=.. sent=.. taken=.. fed=.. ns=.. peak=.. allocations=..
 

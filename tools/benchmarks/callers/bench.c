@@ -1,4 +1,4 @@
-/* What a call takes from C, in nanoseconds of the processor: the best of so many rounds, of 1,000 calls each. usage: bench ROUNDS */
+/* What a call takes from C, in nanoseconds of the processor: the best of some rounds, of 1,000 calls each. usage: bench ROUNDS */
 #define _POSIX_C_SOURCE 200809L
 #include "palqytun.h"
 
@@ -51,6 +51,33 @@ static uint32_t call(palqytun_vm *vm, int of)
     }
 }
 
+/* A sleep that is sent, completed, awaited and taken: the one whose completion has this number. */
+static uint32_t whole(palqytun_vm *vm, uint32_t id)
+{
+    const uint8_t done[] = {0, 30, 0, 0, 0, 0, 0, 0, 0, 6, 0, (uint8_t)(id >> 24), (uint8_t)(id >> 16), (uint8_t)(id >> 8), (uint8_t)id, 0};
+    uint8_t room[512];
+    palqytun_replied slept = palqytun_sleep(vm, bytes(""), 1000);
+    uint32_t wrong = slept.status | palqytun_take_output(vm, room, sizeof room).status | palqytun_feed(vm, done, sizeof done);
+    palqytun_replied awaited = palqytun_await(vm, slept.first);
+    return wrong | awaited.status | (awaited.kind != PALQYTUN_AWAKE) | palqytun_take(vm, slept.first).status;
+}
+
+static uint32_t made(palqytun_vm *vm, int of, int at)
+{
+    switch (of) {
+    case 4:
+        return whole(vm, (uint32_t)at + 2);
+    case 5:
+        return palqytun_state(vm).status;
+    case 6:
+        return palqytun_is_completed(vm, 17).status;
+    case 7:
+        return palqytun_take(vm, 17).status;
+    default:
+        return call(vm, of);
+    }
+}
+
 static double now(void)
 {
     struct timespec it;
@@ -60,16 +87,16 @@ static double now(void)
 
 int main(int argc, char **argv)
 {
-    static const char *const names[] = {"sleep", "state", "call", "await"};
+    static const char *const names[] = {"sleep", "state", "call", "await", "whole", "state_of", "is_completed", "take"};
     int rounds = argc > 1 ? atoi(argv[1]) : 1;
-    for (int of = 0; of < 4; of++) {
+    for (int of = 0; of < 8; of++) {
         double best = 1e18;
         for (int round = 0; round < rounds; round++) {
             palqytun_vm *vm = begun();
             uint32_t wrong = call(vm, 0);
             double begin = now();
             for (int at = 0; at < CALLS; at++)
-                wrong |= call(vm, of);
+                wrong |= made(vm, of, at);
             double took = (now() - begin) / CALLS;
             best = took < best ? took : best;
             if (wrong != PALQYTUN_DONE || palqytun_close(vm) != PALQYTUN_DONE)

@@ -123,6 +123,10 @@ class Pages(unittest.TestCase):
         self.assertTrue(lines[-2].startswith("| simulate | one \\| two three | 60 | "), lines[-2])
         self.assertTrue(lines[-1].startswith("| hostile | nothing | 3 | "), lines[-1])
         self.assertEqual({it.count(" | ") for it in lines[-2:]}, {5})
+        to.write_text(to.read_text() + "\nA remark.\n")
+        evidence.add(evidence.Evidence("kills", "more", 4), to)
+        self.assertEqual(to.read_text().splitlines()[-2:], ["", "A remark."])
+        self.assertTrue(to.read_text().splitlines()[-3].startswith("| kills | more | 4 | "))
 
     def test_the_page_of_a_day(self) -> None:
         self.assertEqual(evidence.page(datetime.date(2026, 1, 2)), Path("docs/evidence/2026-01-02.md"))

@@ -1,9 +1,13 @@
 """The table of tools, and which of them are found."""
 
+import os
+import shutil
+import subprocess
 import sys
 import tempfile
 import unittest
 from pathlib import Path
+from typing import Any
 from unittest import mock
 
 from tools.gate import packages
@@ -48,6 +52,32 @@ class Finding(unittest.TestCase):
         with mock.patch.dict("os.environ", {"PATH": room}):
             self.assertFalse(self.tool("command", "shim").is_found(sys.executable))
 
+    def test_modules_of_node(self) -> None:
+        with tempfile.TemporaryDirectory() as folder:
+            Path(folder, "its_own.js").write_text("module.exports = 1;\n", encoding="utf-8")
+            with mock.patch.dict(os.environ, {"NODE_PATH": folder}):
+                self.assertEqual(packages.node_path().split(os.pathsep), [folder, *packages.NODE_MODULES])
+                self.assertEqual(self.tool("modules", "its_own").is_found(sys.executable), bool(shutil.which("node")))
+                self.assertFalse(self.tool("modules", "its_own", "no_such_module").is_found(sys.executable))
+
+    def test_modules_beside_another_node_are_unpacked(self) -> None:
+        ran: list[list[str]] = []
+
+        def runs(words: list[str], **how: Any) -> Any:
+            ran.append(words)
+            if words[0] == "apt-get":
+                Path(how["cwd"], "one.deb").touch()
+            else:
+                made = Path(how["cwd"], words[-1] + packages.NODE_MODULES[0], "one")
+                made.mkdir(parents=True)
+                (made / "index.js").touch()
+            return subprocess.CompletedProcess(words, 0)
+
+        with tempfile.TemporaryDirectory() as folder, mock.patch.object(packages.subprocess, "run", runs):
+            self.assertEqual(packages.unpacked([Tool("x", "modules", ("one",), ("node-one", "node-two"), "s")], folder), 0)
+            self.assertTrue(Path(folder, "one", "index.js").exists())
+        self.assertEqual([it[-2:] for it in ran], [["node-one", "node-two"], ["one.deb", "unpacked"]])
+
     def test_modules(self) -> None:
         self.assertTrue(self.tool("module", "json").is_found(sys.executable))
         self.assertFalse(self.tool("module", "json", "no_such_module").is_found(sys.executable))
@@ -80,9 +110,18 @@ class Finding(unittest.TestCase):
             self.assertEqual([it.name for it in packages.to_install(tools, ours)], ["here", "nowhere"])
             self.assertEqual(packages.to_install({"here": tools["here"]}, ours), [])
 
+    def test_what_a_python_lacks(self) -> None:
+        tools = packages.read()
+        has = [name for it in tools.values() if it.kind == "module" for name in it.names if name != "psycopg"]
+        self.assertRegex(packages.lacking(tools, self.python_with(*has)), r"python3 lacks psycopg: apt-get install python3-psycopg$")
+        self.assertEqual(packages.lacking(tools, self.python_with(*has, "psycopg")), "")
+
     def test_a_python_that_is_named(self) -> None:
-        with mock.patch.dict("os.environ", {"PALQYTUN_PYTHON": "/a/python"}):
-            self.assertEqual(packages.chosen_python({}), "/a/python")
+        named = self.python_with("unittest")
+        with mock.patch.dict("os.environ", {"PALQYTUN_PYTHON": named}):
+            self.assertEqual(packages.chosen_python({}), named)
+        with mock.patch.dict("os.environ", {"PALQYTUN_PYTHON": "/no/python"}), self.assertRaisesRegex(SystemExit, "/no/python is no Python 3.11 or newer"):
+            packages.chosen_python({})
 
 
 if __name__ == "__main__":

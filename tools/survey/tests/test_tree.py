@@ -6,7 +6,7 @@ import unittest
 from pathlib import Path
 
 from tools.survey.tree import Fault, crates_of
-from tools.survey.ways import chain, ways
+from tools.survey.ways import chain, standing, ways
 
 from .support import TreeTest
 
@@ -42,6 +42,11 @@ class WaysTest(unittest.TestCase):
 
     def test_libraries_of_the_kit_are_no_ways(self) -> None:
         self.assertEqual(ways(crates_of("a: bytes plain\n")), {"a": 1})
+
+    def test_what_depends_on_a_crate(self) -> None:
+        crates = crates_of("a:\nb: a\nc: b\nd: a\ntop: c d\n")
+        self.assertEqual(standing(crates, ["b"]), {"b", "c", "top"})
+        self.assertEqual(standing(crates, []), set())
 
     def test_the_longest_chain_by_number_and_by_weight(self) -> None:
         crates = crates_of("a:\nb: a\nc: b\nheavy:\ntop: c heavy\n")

@@ -1,4 +1,4 @@
-// Bench prints what a call takes, in nanoseconds of the processor: the best of so many rounds, of 1,000 calls each. usage: bench ROUNDS
+// Bench prints what a call takes, in nanoseconds of the processor: the best of some rounds, of 1,000 calls each. usage: bench ROUNDS
 package main
 
 import (

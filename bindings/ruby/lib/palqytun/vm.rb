@@ -220,7 +220,7 @@ module Palqytun
       call(:pq_propose, A.u32("handle", handle), A.value("value", value), A.policy(policy)) { nil }
     end
 
-    # A try of a run failed after so many milliseconds, and may be made again.
+    # A try of a run failed after this many milliseconds, and may be made again.
     def propose_retryable_failure(handle, took_millis, error, policy: RetryPolicy.new(kind: :infinite))
       given = [A.u32("handle", handle), A.u64("took_millis", took_millis), A.error(error), A.policy(policy)]
       call(:pq_propose_retryable, *given) { nil }

@@ -10,8 +10,10 @@ from .contexts import ObjectContext, Promise, ServiceContext, SharedObjectContex
 from .desk import Unavailable
 from .durable import Durable, NotDurable, gather, select, wait_any
 from .engine import Engine
+from .heartbeats import GivenUp, heartbeat, last_progress
 from .queues import Queue
 from .schedules import Schedule
+from .sealing import Sealed
 from .services import App, Cancelled, Handler, Retry, Service, TerminalError, TimedOut, VirtualObject, Workflow
 from .steps import Step, step
 from .transactions import Transaction
@@ -25,6 +27,7 @@ __all__ = [
     "Context",
     "Durable",
     "Engine",
+    "GivenUp",
     "Handler",
     "Invocation",
     "JsonCodec",
@@ -34,6 +37,7 @@ __all__ = [
     "Queue",
     "Retry",
     "Schedule",
+    "Sealed",
     "Service",
     "ServiceContext",
     "SharedObjectContext",
@@ -47,6 +51,8 @@ __all__ = [
     "Workflow",
     "WorkflowContext",
     "gather",
+    "heartbeat",
+    "last_progress",
     "select",
     "step",
     "wait_any",

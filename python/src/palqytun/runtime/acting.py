@@ -153,7 +153,7 @@ def state_options(one: argparse.ArgumentParser) -> None:
     one.add_argument("key", nargs="?", help="a key; without it, those that have a state are listed")
     one.add_argument("name", nargs="?", help="a name in the key's state")
     one.add_argument("--text", help="only keys with this text in them")
-    one.add_argument("--most", type=int, default=100, help="so many keys")
+    one.add_argument("--most", type=int, default=100, help="how many keys at most (%(default)s)")
     one.add_argument("--set", metavar="JSON", help="set the name to this value")
     one.add_argument("--clear", action="store_true", help="clear the name, or all names of the key")
     one.add_argument("--by", default=who(), help="who does it, for the audit")
@@ -176,5 +176,5 @@ def audited(options: argparse.Namespace, done: Done) -> int:
 
 def audit_options(one: argparse.ArgumentParser) -> None:
     one.add_argument("id", nargs="?", help="only of this invocation")
-    one.add_argument("--most", type=int, default=100, help="so many")
+    one.add_argument("--most", type=int, default=100, help="how many at most (%(default)s)")
     one.add_argument("--json", action="store_true", help="an object a line")

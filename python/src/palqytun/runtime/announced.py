@@ -6,8 +6,9 @@ import json
 from dataclasses import dataclass
 from typing import Any
 
-from .database import Database
+from .database import Asked, Database
 from .services import App, TerminalError
+
 
 @dataclass(frozen=True)
 class Target:
@@ -50,6 +51,11 @@ async def enter(db: Database, app: App, worker: str, version: str) -> None:
 
 async def leave(db: Database, worker: str) -> None:
     await db.change("DELETE FROM serving WHERE worker=?", (worker,))
+
+
+def peers(db: Database, app: App, version: str) -> Asked:
+    """Reads the workers that are alive and serve the same app of the same version, in order."""
+    return f"SELECT worker FROM {_ALIVE} WHERE lease>={db.clock} AND version=? AND serves=? ORDER BY worker", (version, _said(app))
 
 
 async def versions(db: Database) -> set[str]:

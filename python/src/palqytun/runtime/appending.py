@@ -8,8 +8,9 @@ from __future__ import annotations
 
 from collections.abc import Iterable, Iterator, Sequence
 from dataclasses import dataclass
+from typing import Any
 
-from .database import Database
+from .database import Asked, Database
 from .lease import INSERTED, PROGRESS, Growth
 
 AT_ONCE = 200  # stores that one statement makes, at most
@@ -49,29 +50,36 @@ async def append(db: Database, appends: Sequence[Append]) -> list[bool]:
     """Makes these stores; returns of each whether it was stored. One that wasn't has lost its lease."""
     if not db.is_remote:
         return await _one_by_one(db, appends)
-    stored = [False] * len(appends)
-    for first in range(0, len(appends), AT_ONCE):
-        for number in await _together(db, appends[first : first + AT_ONCE]):
-            stored[first + number] = True
-    return stored
+    return stored(appends, await db.several(asked(db, appends)))
+
+
+def asked(db: Database, appends: Sequence[Append]) -> list[Asked]:
+    """The statements that make these stores on a server."""
+    return [_together(db, appends[first : first + AT_ONCE]) for first in range(0, len(appends), AT_ONCE)]
+
+
+def stored(appends: Sequence[Append], found: Sequence[list[Any]]) -> list[bool]:
+    """Of each store whether it was made, by what the statements have returned."""
+    made = {first * AT_ONCE + number for first, rows in enumerate(found) for (number,) in rows}
+    return [number in made for number in range(len(appends))]
 
 
 async def _one_by_one(db: Database, appends: Sequence[Append]) -> list[bool]:
-    stored, rows, now = list[bool](), list[tuple[object, ...]](), db.now()
+    made, rows, now = list[bool](), list[tuple[object, ...]](), db.now()
     for it in appends:
-        stored.append(await it.growth.grow(db))
-        if stored[-1]:
+        made.append(await it.growth.grow(db))
+        if made[-1]:
             rows += ((*row, now) for row in it.entries())
     db.many(INSERTED, rows)
-    return stored
+    return made
 
 
 def _columns(rows: Iterable[tuple[object, ...]], count: int) -> list[list[object]]:
     return [list(it) for it in zip(*rows)] or [[] for _ in range(count)]
 
 
-async def _together(db: Database, appends: Sequence[Append]) -> list[int]:
-    """The numbers of the stores that were made."""
-    asked = _columns(((number, *it.asked()) for number, it in enumerate(appends)), 6)
+def _together(db: Database, appends: Sequence[Append]) -> Asked:
+    """Makes the stores, and reads the numbers of those that were made."""
+    fences = _columns(((number, *it.asked()) for number, it in enumerate(appends)), 6)
     entries = _columns(((number, *row) for number, it in enumerate(appends) for row in it.entries()), 5)
-    return [number for (number,) in await db.rows(_TOGETHER, [*asked, db.now(), *entries])]
+    return _TOGETHER, [*fences, db.now(), *entries]

@@ -3,14 +3,16 @@
 from __future__ import annotations
 
 import asyncio
+import logging
 import time
 from collections.abc import Awaitable, Callable, Mapping
 from types import TracebackType
 from typing import Any, Protocol, TypeVar
 
 from .. import core
-from . import journal, replay, storing, transactions
-from .codec import BadValue, decoded, encoded
+from . import heartbeats, journal, replay, sealing, spans, storing, transactions
+from .codec import BadValue, Codec, decoded, encoded
+from .committer import Stopped
 from .context import Action, AttemptEnds, CaughtTooMuch, Context, OutsideHandler, given_failure, running
 from .contexts import kind_of
 from .database import Database, StatementFailed
@@ -18,6 +20,7 @@ from .durable import Task
 from .executions import Closed, Executions, Raised
 from .invocations import TAKEN, WAITS, Claim, Continues
 from .lease import Growth
+from .meter import Ended
 from .outcome import Outcome
 from .services import App, Cancelled, Handler, TerminalError
 from .storing import Reads, Writes
@@ -27,6 +30,7 @@ from .transactions import Transaction
 from .turns import Turn
 
 T = TypeVar("T")
+log = logging.getLogger("palqytun")
 _LONG = 0.0005  # seconds that a wide tree takes to be asked for
 _FED = 1 << 16  # bytes of a journal that the core is fed at a time
 _STORED = 256  # frames that are stored together, at most
@@ -55,6 +59,9 @@ class Worker(Protocol):
 
     async def alone(self, operation: Callable[[Database], Awaitable[T]]) -> T:
         """Commits an operation in a transaction of its own."""
+
+    async def beside(self, operation: Callable[[Database], Awaitable[T]]) -> T:
+        """Commits an operation that isn't part of the attempt's journal, with others."""
 
     def now(self) -> float:
         """The database's time, in seconds since the epoch."""
@@ -107,7 +114,7 @@ class Bell:
             self._waiter.set_result(None)
 
     async def heard(self, patience: float | None) -> None:
-        """Waits until it rings, or for so many seconds."""
+        """Waits until it rings, or for `patience` seconds."""
         loop = asyncio.get_running_loop()
         self._waiter = loop.create_future()
         timer = None if patience is None else loop.call_later(patience, self.ring)
@@ -124,6 +131,10 @@ class Attempt:
         self.worker, self.claim = worker, claim
         self.bell = Bell()
         self.status = "lost"  # what its last store has made of the invocation
+        self.ended: Ended | None = None  # how the invocation has ended, if it has
+        self.error: str | None = None  # the note of its failure
+        self.codec: Codec = worker.app.codec  # that of the invocation, once its argument is known
+        self.spans = spans.of(claim.trace, claim.service, claim.handler, claim.invocation, claim.lease.epoch)
         self.task: asyncio.Task[None] | None = None
         self._turn = Turn()
         self._executing: dict[int, asyncio.Task[Any]] = {}
@@ -184,7 +195,9 @@ class Attempt:
 
     async def _left(self, operation: Callable[[Database], Awaitable[Outcome]]) -> None:
         """The attempt stops without an end of its core."""
-        self.status = (await self.worker.write(lambda db, found: operation(db), self.claim)).status
+        out = await self.worker.write(lambda db, found: operation(db), self.claim)
+        self.status = out.status
+        self._noted(out)
 
     async def _guarded(self) -> Exception | None:
         """Drives the handler. What it raises ends the attempt. Returns an error for which the invocation is to be paused, whatever the core
@@ -203,7 +216,7 @@ class Attempt:
             return fault
         except HandlerFailed as failed:
             self.claim.fault = failed.error
-            self._vm.notify_error(500, said(failed.error), stacktrace=traced(failed.error))
+            self._vm.notify_error(500, sealing.error(self.codec, said(failed.error)), stacktrace=sealing.text(self.codec, traced(failed.error)))
         return None
 
     async def _drive(self, input: core.Input) -> Exception | None:
@@ -212,12 +225,12 @@ class Attempt:
         kind = kind_of(handler.service, self.claim.exclusive)
         context = kind(self._vm, input, self.worker.app, self.claim.service, self.claim.trace, patches=self._patches, now=self.worker.now)
         self._context, self.awakeables = context, context.awakeables
-        codec = self.worker.app.codec
+        self.codec = codec = context.codec
         with _handlers_own:
             try:
                 argument = decoded(codec, input.value, handler.takes)
             except BadValue as error:
-                self._vm.sys_write_output(core.Failure(400, f"the argument of {handler.path}: {error}"))
+                self._vm.sys_write_output(core.Failure(400, sealing.text(codec, f"the argument of {handler.path}: {error}")))
                 self._vm.sys_end()
                 return None
             main: Task[Any] = Task(handler.function(context, argument))  # type: ignore[arg-type]
@@ -266,10 +279,15 @@ class Attempt:
             except core.Cancelled:
                 thrown = Cancelled()
                 continue
-            for leaf in tasks.taken(self._vm.take_notification):
+            for leaf in tasks.taken(self._taken):
                 if leaf is not None and context.actions.pop(leaf.handle, None) is not None:
                     context.asked.discard(leaf.handle)
                 await self._turn.end()
+
+    def _taken(self, handle: int) -> Any:
+        """What came for a handle; the text of a failure in clear."""
+        came = self._vm.take_notification(handle)
+        return core.Failure(came.code, sealing.clear(self.codec, came.message), came.metadata) if isinstance(came, core.Failure) else came
 
     async def _await(self, tree: int | core.Future | core.AnyOf, context: Context) -> None:
         """Until the tree is awake. Meanwhile runs are executed, and what was written is stored."""
@@ -312,38 +330,74 @@ class Attempt:
         self.bell.ring()
 
     async def _execute(self, handle: int, action: Action) -> bytes | core.Failure | core.Retryable | None:
-        """The result of a run; none if it didn't begin."""
+        """The result of a run, within a span of its own; none if it didn't begin."""
         running.set(action)
+        if self.spans is None:
+            return await self._done(handle, action)
+        with self.spans.run(action.name) as fails:
+            result = await self._done(handle, action)
+            if isinstance(result, (core.Failure, core.Retryable)):
+                fails(result.message)
+            return result
+
+    async def _done(self, handle: int, action: Action) -> bytes | core.Failure | core.Retryable | None:
         begun = time.monotonic()
         try:
-            if action.transaction is not None:
-                return await self._transacted(action, action.transaction)
-            came = await self.worker.executions.execute(self, action.function, action.arguments, action.timeout)
+            if action.is_transaction:
+                return await self._transacted(action, action.index)
+            heartbeats.pulse.set(pulse := await self._pulse(action))
+            came = await self.worker.executions.execute(self, action.function, action.arguments, action.timeout, pulse)
         except Closed:
             return None
         lasted = int((time.monotonic() - begun) * 1000)
         if isinstance(came, Raised):
             self._raised[handle] = came.error
-            return _failed(came.error, lasted)
+            return self._failed(came.error, lasted)
         try:
-            return encoded(self.worker.app.codec, came.value)
+            return encoded(self.codec, came.value)
         except MemoryError as error:
-            return _failed(error, lasted)
+            return self._failed(error, lasted)
         except BaseException as error:  # the effect has happened, and no other try of it would have another result
-            return core.Failure(500, f"the result of the run {plain(action.name)!r} can't be stored: {said(error)}")
+            return core.Failure(500, sealing.text(self.codec, f"the result of the run {plain(action.name)!r} can't be stored: {said(error)}"))
+
+    def _failed(self, error: BaseException, lasted: int) -> core.Failure | core.Retryable:
+        """What an effect that raised an error proposes. If another try would fail alike, the invocation is paused."""
+        if isinstance(error, TerminalError):
+            try:
+                return given_failure(error, self.codec)
+            except Exception:  # of a subclass that isn't made as its base is
+                return core.Failure(500, sealing.text(self.codec, said(error)))
+        then: core.Behaviour = "pause" if isinstance(error, OutsideHandler) else "retry"
+        return core.Retryable(500, sealing.error(self.codec, said(error)), lasted, stacktrace=sealing.text(self.codec, traced(error)), behaviour=then)
+
+    async def _pulse(self, action: Action) -> heartbeats.Pulse:
+        """What a run beats by. If it has to beat, what its execution before said last is read first."""
+        worker, lease = self.worker, self.claim.lease
+        before = None if action.heartbeat is None else await worker.beside(lambda db: heartbeats.before(db, lease, action.index))
+
+        async def keep(value: bytes) -> bool:
+            try:
+                return await worker.beside(lambda db: heartbeats.keep(db, lease, action.index, plain(action.name), value))
+            except StatementFailed as error:
+                log.warning("the progress of the run %r of %s isn't stored: %s", action.name, self.claim.invocation, error)
+                return True
+            except Stopped:  # the database is lost, and others go on
+                return False
+
+        return heartbeats.Pulse(self.codec, action.heartbeat, before, keep)
 
     async def _transacted(self, action: Action, run: int) -> bytes | core.Failure | core.Retryable:
         """The result of a step on the runtime's own database, which is committed with what the step did."""
 
         async def step(transaction: Transaction) -> bytes:
-            return encoded(self.worker.app.codec, await action.function(transaction, *action.arguments))
+            return encoded(self.codec, await action.function(transaction, *action.arguments))
 
         begun = time.monotonic()
         try:
             return await self.worker.alone(lambda db: transactions.made(db, self.claim.lease, run, step, action.timeout))
         except (transactions.RolledBack, StatementFailed) as failed:
             error = failed.error if isinstance(failed, transactions.RolledBack) else failed
-            return _failed(error, int((time.monotonic() - begun) * 1000))
+            return self._failed(error, int((time.monotonic() - begun) * 1000))
 
     async def _progress(self, context: Context) -> None:
         """Stores what was written, or waits until something comes; what comes is fed. If nothing comes the input is closed."""
@@ -386,7 +440,7 @@ class Attempt:
         """Proposes the results of runs. Those that another try is to be made of come last, since the first one fails the attempt."""
         failed: list[tuple[int, core.Retryable]] = []
         for handle, task in ended:
-            result = _failed(asyncio.CancelledError("the effect cancelled its own task"), 0) if task.cancelled() else task.result()
+            result = self._failed(asyncio.CancelledError("the effect cancelled its own task"), 0) if task.cancelled() else task.result()
             raised = self._raised.pop(handle, None)
             if result is None:
                 self._has_dropped = True
@@ -470,36 +524,33 @@ class Attempt:
         self._unawaited = later
         return ids
 
+    def _noted(self, out: Outcome) -> None:
+        """Keeps what the spans say of the attempt's end."""
+        own = [it.error for it in out.notes if it.invocation == self.claim.invocation]
+        self.error = own[-1] if own else self.error
+        if out.ends and self._has_ended:
+            self.ended = out.ends[-1]
+
     def _feed(self, out: Outcome) -> bool:
         if out.feed and out.status == "running":
             self._vm.notify_input(b"".join(out.feed))
         self._has_ended = out.status != "running"
+        self._noted(out)
         self.status = out.status
         return bool(out.feed)
 
 
 def _ends(context: Context, handler: Handler[Any, Any], main: Task[Any]) -> bytes | core.Failure:
     """What a handler has ended with: its result, its failure, or the argument with which it goes on as a new invocation."""
-    codec = context._codec
+    codec = context.codec
     if context.continues is not main.continued:
         raise RuntimeError("the handler caught what ctx.continue_as_new raises, by `except BaseException` or a bare `except`; catch `Exception` instead")
     if main.failure is not None:
-        return given_failure(main.failure)
+        return given_failure(main.failure, codec)
     if main.continued is None:
         return encoded(codec, main.value)
     try:
         decoded(codec, main.continued.argument, handler.takes)
     except BadValue as error:
-        return core.Failure(400, f"the argument of ctx.continue_as_new in {handler.path}: {error}")
+        return core.Failure(400, sealing.text(codec, f"the argument of ctx.continue_as_new in {handler.path}: {error}"))
     return main.continued.argument
-
-
-def _failed(error: BaseException, lasted: int) -> core.Failure | core.Retryable:
-    """What an effect that raised an error proposes. If another try would fail alike, the invocation is paused."""
-    if isinstance(error, TerminalError):
-        try:
-            return given_failure(error)
-        except Exception:  # of a subclass that isn't made as its base is
-            return core.Failure(500, said(error))
-    then: core.Behaviour = "pause" if isinstance(error, OutsideHandler) else "retry"
-    return core.Retryable(500, said(error), lasted, stacktrace=traced(error), behaviour=then)

@@ -4,12 +4,12 @@ from __future__ import annotations
 
 import functools
 import time
-from collections.abc import AsyncIterator, Collection
+from collections.abc import AsyncIterator, Collection, Sequence
 from dataclasses import dataclass, field
 from typing import Any
 
 from . import acts, announced, deadlines, inbox, invocations, journal, queueing, schedules
-from .database import Asked, Database
+from .database import Asked, Claiming, Database
 from .invocations import CLAIMED, MOST_LOST, SUSPECT, Claim, Claimable
 from .outcome import Outcome
 from .queues import Queue
@@ -18,7 +18,7 @@ from .turns import Turn
 
 _ALONE = 1.0  # seconds for which one that may end its worker is alone with it
 _FOR_GOOD = 1e9  # seconds
-_TIMERS = 1000  # at most so many fire in one transaction
+_TIMERS = 1000  # that fire in one transaction, at most
 _FRESH = 5000
 _AT_ONCE = 500  # leases that one statement takes
 _FEWEST = 20  # ready invocations that a claim may take, however many workers there are
@@ -125,24 +125,36 @@ class Claimer:
     async def claim(self, db: Database, live: Collection[str], room: int) -> Claims:
         """Fires the timers that are due, and claims at most `room` invocations that can go on; `live` are those that have an attempt here."""
         found, now, asked = Claims(), db.now(), time.monotonic()
-        due, fresh, [(next_due, clock)], *late = await db.several([self._due(db, now), _looked(), self._next(db, now), *deadlines.late(db, now)])
+        first = [self._due(db, now), _looked(), self._next(db, now), *deadlines.late(db, now), announced.peers(db, self.app, self.code)]
+        some = [self._orphaned(db, room), *self._of(db, self._unlimited, now, room)]
+        due, fresh, [(next_due, clock)], *late, peers, orphaned, ready, awake = await db.several([*first, *some])
         db.told(float(clock), asked)
+        db.claims(Claiming(self.worker, self._next_peers([name for name, in peers]), list(self.app.services), self.code))
+        cancelled = [id for id, is_cancelled in fresh if is_cancelled]
+        is_new = not (due or cancelled or any(late) or self.app.schedules)
         await deadlines.end(db, found.out, *late)
         await self._fire(db, found.out, due, now)
         await schedules.fire(db, self.app, found.out, now)
-        await self._cancel(db, found.out, [id for id, is_cancelled in fresh if is_cancelled], now)
+        await self._cancel(db, found.out, cancelled, now)
         found.out.touched |= {row[0] for row in fresh}
-        rows = [Claimable(*row) for row in await self._rows(db, found, now, room, bool(fresh or due))]
+        read = (orphaned, ready, awake) if is_new else await db.several(some)  # else what was read may have changed
+        rows = [Claimable(*row) for row in await self._rows(db, found, now, room, bool(fresh or due), read)]
         free = await self._without_suspects(db, [it for it in rows if it.id not in live])
-        for first in range(0, len(free), _AT_ONCE):
-            found.claims += await invocations.claim(db, self.worker, free[first : first + _AT_ONCE], found.out, self.code)
+        for at in range(0, len(free), _AT_ONCE):
+            found.claims += await invocations.claim(db, self.worker, free[at : at + _AT_ONCE], found.out, self.code)
         queueing.begun(db, self.app, found.claims)
+        if found.has_more:
+            db.pass_on()
         if len(free) < sum(it.id not in live for it in rows):
             found.has_more = False  # who is left out is looked for by and by
         has_more = len(due) == _TIMERS or any(len(it) == deadlines.MOST for it in late)
         times = (now if has_more else next_due, found.later, await schedules.next_due(db, self.app, now))
         found.next_due = min((float(it) - db.now() + time.time() for it in times if it is not None), default=None)
         return found
+
+    def _next_peers(self, names: list[str]) -> list[str]:
+        """The other workers that serve the same: those after this one, and then those before it. So what one passes on comes to each in turn."""
+        return [it for it in names if it > self.worker] + [it for it in names if it < self.worker]
 
     async def _cancel(self, db: Database, out: Outcome, cancelled: list[str], now: float) -> None:
         """A cancellation reaches also those that wait for no inbox."""
@@ -176,17 +188,21 @@ class Claimer:
         if due:
             db.many("DELETE FROM timers WHERE seq=?", [(seq,) for _, seq, _, _ in due])
 
-    async def _rows(self, db: Database, claims: Claims, now: float, room: int, has_fresh: bool) -> list[Any]:
-        """Invocations that can go on, each with its row kept until the commit."""
-        rows, orphaned = list[Any](), list[Any]()
+    def _of(self, db: Database, share: Share, now: float, most: int) -> list[Asked]:
+        """Reads invocations of a share that can go on: those that are ready, and those that may be woken."""
+        return [self._ready(db, share, now, most), self._awake(db, share, most)]
+
+    async def _rows(self, db: Database, claims: Claims, now: float, room: int, has_fresh: bool, read: Sequence[list[Any]]) -> list[Any]:
+        """Invocations that can go on, each with its row kept until the commit. `read` are those that have lost their worker, and what was read of those
+        without a limit."""
+        rows, (orphaned, *first) = list[Any](), read
         async for share in self._shares(db):
             most = min(share.room, room - len(rows))
             if most <= 0:
                 continue
-            asked = [self._ready(db, share, now, most), self._orphaned(db, room), *([self._awake(db, share, most)] if has_fresh else [])]
-            ready, orphaned, *awake = await db.several(asked)
+            ready, awake = first if share is self._unlimited else await db.several(self._of(db, share, now, most))
             claims.has_more |= bool(ready) and len(ready) >= ready[0][-1]
-            found = [*(await self._woken(db, awake[0]) if awake else ()), *(row[:-1] for row in ready)]
+            found = [*(await self._woken(db, awake) if awake else ()), *(row[:-1] for row in ready)]
             claims.has_more |= len(found) > most
             rows += found[:most]
         for queue in self.app.queues.values():
@@ -212,14 +228,19 @@ class Claimer:
             claims.later = it.later if claims.later is None else min(claims.later, it.later)
         return rows + found.rows
 
-    async def _shares(self, db: Database) -> AsyncIterator[Share]:
-        """The handlers without a limit, and then each that has one. The rows of the limits are kept until the commit, so two workers don't count
-        at one time."""
+    @functools.cached_property
+    def _unlimited(self) -> Share:
+        """The handlers without a limit."""
         limited, own = self.app.limited(), self.own
         is_free = "".join(" AND NOT (service=? AND handler=?)" for _ in limited)
         named = tuple(name for it in limited for name in (it.service.name, it.name))
-        yield Share(f"queue IS NULL AND {own.where}{is_free}", (*own.values, *named), 1_000_000)
-        for it in limited:
+        return Share(f"queue IS NULL AND {own.where}{is_free}", (*own.values, *named), 1_000_000)
+
+    async def _shares(self, db: Database) -> AsyncIterator[Share]:
+        """The handlers without a limit, and then each that has one. The rows of the limits are kept until the commit, so two workers don't count
+        at one time."""
+        yield self._unlimited
+        for it in self.app.limited():
             await db.rows(f"SELECT path FROM limits WHERE path=?{db.lock}", (it.path,))
             names = (it.service.name, it.name)
             [(running,)] = await db.rows("SELECT COUNT(*) FROM invocations WHERE status='running' AND service=? AND handler=?", names)

@@ -6,7 +6,7 @@ import time
 from dataclasses import dataclass
 from typing import Any, Generic, TypeVar, overload
 
-from . import journal, queues
+from . import journal, queues, sealing
 from .codec import BadValue, decoded, encoded
 from .desk import Desk, RemoteDesk
 from .effects import awakeable_of
@@ -131,7 +131,7 @@ class Client:
 
     def _result(self, value: object) -> journal.Result:
         if isinstance(value, TerminalError):
-            return journal.failure(value.code, value.message, value.metadata)
+            return journal.failure(value.code, sealing.text(self._desk.app.codec, value.message), value.metadata)
         return journal.value(encoded(self._desk.app.codec, value))
 
     def _read(self, result: journal.Result | None, gives: Any, id: str) -> Any:
@@ -140,5 +140,5 @@ class Client:
             raise TerminalError(f"there is no invocation {id}", 404)
         kind, it = journal.answer(result)
         if kind == "failure":
-            raise TerminalError(it[1], it[0], it[2])
+            raise TerminalError(sealing.clear(self._desk.app.codec, it[1]), it[0], it[2])
         return None if kind == "void" else decoded(self._desk.app.codec, it, gives)

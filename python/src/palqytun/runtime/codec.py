@@ -182,6 +182,10 @@ def encoded(codec: Codec, value: Any) -> bytes:
     return bytes(data)
 
 
+class Unreadable(Exception):
+    """A value can't be read by this worker, and may be by another one: what needs it is tried again."""
+
+
 class BadValue(ValueError):
     """A value can't be read as the type that is wanted."""
 
@@ -190,7 +194,7 @@ def decoded(codec: Codec, data: bytes, kind: Any) -> Any:
     """The value of these bytes. Whatever else a codec or a type's own code raises for them is a `BadValue`."""
     try:
         return codec.decode(data, kind)
-    except MemoryError:
+    except (MemoryError, Unreadable):
         raise
     except (ValueError, TypeError) as error:
         raise BadValue(said(error).partition(": ")[2]) from error

@@ -8,6 +8,7 @@ import dataclasses
 import functools
 import importlib
 import importlib.util
+import json
 import logging
 import os
 import pathlib
@@ -19,7 +20,7 @@ from typing import Any, TypeVar
 
 from palqytun._library import Library, library
 
-from . import acting, logs, operate, process
+from . import acting, logs, operate, process, sealing, shown
 from .database import Conflict, Database, Lost, Unsuitable, connect
 from .database.plain import Plain
 from .database.postgres import NoDriver
@@ -215,11 +216,15 @@ async def _inspected(db: Database, id: str) -> list[str]:
     found = await operate.invocation(db, id)
     if found is None:
         raise Refused(f"there is no invocation {id}")
-    return [*(f"# {name}: {value}" for name, value in found.items() if value is not None), *await operate.journal_of(db, id)]
+    progress, now = found.pop("progress"), db.now()
+    said = {**found, "attributes": shown.attributes(found["attributes"]) or None}
+    beats = [f"# progress of {it['name']}: {it['value']}, {shown.lasted(now - it['at'])} ago" for it in progress]
+    return [*(f"# {name}: {value}" for name, value in said.items() if value is not None), *beats, *await operate.journal_of(db, id)]
 
 
 def inspect(options: argparse.Namespace) -> int:
-    print("\n".join(_done(options.db, lambda db: _inspected(db, options.id))))
+    lines, app = _done(options.db, lambda db: _inspected(db, options.id)), load(options.app) if options.app else None
+    print("\n".join(lines if app is None else [sealing.clear(app.codec, it) for it in lines]))
     return 0
 
 
@@ -251,6 +256,20 @@ def schedules(options: argparse.Namespace) -> int:
     for it in found:
         due = time.strftime("next %Y-%m-%d %H:%M:%S UTC", time.gmtime(it["due"]))
         print(f"{it['name']:<20}  {it['service']}/{it['handler']:<20}  {it['rule']:<20}  {it['overlap']:<6}  {'paused' if it['paused'] else due}")
+    return 0
+
+
+def queues(options: argparse.Namespace) -> int:
+    """Lists queues."""
+    found = _done(options.db, operate.queues)
+    if not found:
+        print("there are no queues", file=sys.stderr)
+    for it in found:
+        if options.json:
+            print(json.dumps(it))
+            continue
+        waits = f"{it['length']} due, the first for {shown.lasted(it['oldest'])}" if it["length"] else "none due"
+        print(f"{it['name']:<20}  {waits}; {it['later']} later; {it['running']} running  {shown.limits(it['limits'])}".rstrip())
     return 0
 
 
@@ -354,8 +373,12 @@ def _filter_options(one: argparse.ArgumentParser) -> None:
     one.add_argument("--service", help="only those of this service")
     one.add_argument("--handler", help="only those of this handler")
     one.add_argument("--key", help="only those of this key")
-    one.add_argument("--older", type=_seconds, help="only those that were made more than so many seconds ago")
-    one.add_argument("--newer", type=_seconds, help="only those that were made less than so many seconds ago")
+    one.add_argument("--queue", help="only those of this queue")
+    one.add_argument("--older", type=_seconds, help="only those that were made more than this many seconds ago")
+    one.add_argument("--newer", type=_seconds, help="only those that were made less than this many seconds ago")
+    one.add_argument("--since", metavar="TIME", help="only those that were made at this time or later, as 2026-11-27T03:00; UTC, if it names no zone")
+    one.add_argument("--until", metavar="TIME", help="only those that were made before this time")
+    one.add_argument("--attribute", metavar="NAME=VALUE", help="only those whose handler has set this; with & between several")
     one.add_argument("--error", help="only those whose error has this text, in small or capital letters")
 
 
@@ -379,15 +402,19 @@ def _parser() -> argparse.ArgumentParser:
     asked = commands.add_parser("invocations", help=said, description=said).add_subparsers(required=True)
     one = add(asked, "list", list_invocations, "the newest first")
     _filter_options(one)
-    one.add_argument("--most", type=_count, default=100, help="so many")
-    add(asked, "inspect", inspect, "one, with its journal").add_argument("id", help="the invocation's id")
+    one.add_argument("--most", type=_count, default=100, help="how many at most (%(default)s)")
+    one = add(asked, "inspect", inspect, "one, with its journal")
+    one.add_argument("id", help="the invocation's id")
+    one.add_argument("--app", help="the app, by whose keys what is encrypted is shown in clear")
     for name, said in _ACTS.items():
         one = add(asked, name, _act(name), said)
         acting.act_options(name, one)
         _filter_options(one)
     one = add(asked, "purge", purge, "delete those that have ended")
-    one.add_argument("--older", type=_seconds, default=86400.0, help="ended more than so many seconds ago")
+    one.add_argument("--older", type=_seconds, default=86400.0, help="ended more than this many seconds ago")
     one.add_argument("--by", default=acting.who(), help="who does it, for the audit")
+    said = "how many invocations wait in each queue, for how long, how many run, and what it lets through"
+    add(commands, "queues", queues, said).add_argument("--json", action="store_true", help="an object a line")
     said = "the calls that are made by the clock, each with its next time; or pause, resume, trigger or backfill one"
     acting.schedule_options(add(commands, "schedules", schedules, said))
     acting.state_options(add(commands, "state", lambda options: acting.state(options, _done), "list, read, set and clear the states of keys"))

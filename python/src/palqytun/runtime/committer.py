@@ -15,6 +15,7 @@ from collections.abc import Awaitable, Callable, Sequence
 from dataclasses import dataclass
 from typing import Any, TypeVar
 
+from . import appending
 from .appending import AT_ONCE, Append, append
 from .database import Asked, Conflict, Database, Full, Lost, StatementFailed, Unsuitable
 from .lease import Growth
@@ -354,9 +355,9 @@ class Committer:
             await asyncio.sleep(min(0.1, 0.002 * tries))
 
     async def _made(self, db: Database, operations: list[Operation]) -> list[Any]:
-        appends = [it for it in operations if isinstance(it, Append)]
-        stored = iter(await append(db, appends) if appends else ())
-        following = iter(await self._followed(db, [it for it in operations if isinstance(it, After)]))
+        appends, after = [it for it in operations if isinstance(it, Append)], [it for it in operations if isinstance(it, After)]
+        both = await (self._together if db.is_remote else self._in_turn)(db, appends, after)
+        stored, following = iter(both[0]), iter(both[1])
         results: list[Any] = []
         for it in operations:
             if isinstance(it, Append):
@@ -365,13 +366,19 @@ class Committer:
                 results.append(next(following) if isinstance(it, After) else await it(db))
         return results
 
-    async def _followed(self, db: Database, operations: list[After]) -> list[Any]:
-        """What operations return that begin by some reads."""
-        if not db.is_remote:
-            return [await it.then(db, await db.several(it.reads(db))) for it in operations]
-        reads = [it.reads(db) for it in operations]
-        found = iter(await db.several([one for asked in reads for one in asked]))
-        return [await it.then(db, [next(found) for _ in asked]) for it, asked in zip(operations, reads)]
+    @staticmethod
+    async def _in_turn(db: Database, appends: list[Append], after: list[After]) -> tuple[list[bool], list[Any]]:
+        """What stores return, and operations that begin by some reads."""
+        stored = await append(db, appends) if appends else []
+        return stored, [await it.then(db, await db.several(it.reads(db))) for it in after]
+
+    @staticmethod
+    async def _together(db: Database, appends: list[Append], after: list[After]) -> tuple[list[bool], list[Any]]:
+        """The same by one round trip for the stores and all reads."""
+        made, reads = appending.asked(db, appends), [it.reads(db) for it in after]
+        found = iter(await db.several([*made, *(one for some in reads for one in some)]))
+        stored = appending.stored(appends, [next(found) for _ in made])
+        return stored, [await it.then(db, [next(found) for _ in some]) for it, some in zip(after, reads)]
 
     async def _rollback(self, db: Database) -> None:
         try:

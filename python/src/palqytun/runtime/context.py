@@ -22,10 +22,10 @@ from types import TracebackType
 from typing import TYPE_CHECKING, Any, Concatenate, NoReturn, ParamSpec, TypeVar, cast, overload
 
 from .. import core
-from . import queues
+from . import attributes, queues, sealing
 from .codec import BadValue, Codec, decoded, encoded
 from .durable import ContinuedAsNew, Durable, Leaf, Task, Timer, select
-from .journal import CONTINUED, PATCHED
+from .journal import CONTINUED, OWN, PATCHED, attribute
 from .names import check_name
 from .parting import Asked
 from .services import App, Handler, I, O, Retry, TerminalError, TimedOut, to_text_headers
@@ -60,16 +60,18 @@ class NoSuchUse(RuntimeError):
 
 @dataclass
 class Action:
-    """What a run executes, and how it is retried. `key` names the run for systems outside, alike in each attempt. `timeout` is in seconds, and
-    `transaction` the index of its command, if it is a step on the runtime's own database."""
+    """What a run executes, and how it is retried. `key` names the run for systems outside, alike in each attempt. `index` is that of its command, and
+    `is_transaction` whether it is a step on the runtime's own database. `timeout` and `heartbeat` are in seconds."""
 
     name: str
     function: Callable[..., Any]
     arguments: tuple[Any, ...]
     policy: core.RetryPolicy
     key: str
+    index: int
     timeout: float | None = None
-    transaction: int | None = None
+    heartbeat: float | None = None
+    is_transaction: bool = False
 
 
 running: contextvars.ContextVar[Action | None] = contextvars.ContextVar("palqytun_run", default=None)
@@ -83,8 +85,8 @@ def _ms(seconds: float) -> int:
     return int(seconds * 1000)
 
 
-def given_failure(error: TerminalError) -> core.Failure:
-    return core.Failure(error.code, error.message, error.metadata)
+def given_failure(error: TerminalError, codec: Codec) -> core.Failure:
+    return core.Failure(error.code, sealing.text(codec, error.message), error.metadata)
 
 
 def policy_of(retry: Retry) -> core.RetryPolicy:
@@ -190,7 +192,7 @@ class Context:
         self._patches, self._is_patched = dict(patches or {}), dict[str, bool]()
         self._vm, self._app, self._now = vm, app, now
         self._service = app.services[service]
-        self._codec: Codec = app.codec
+        self.codec = self._codec = sealing.of(app.codec, input.value)
         self._key, self._headers = input.key, dict(input.headers)
         self.invocation_id = input.invocation_id
         self.traceparent = (trace or Trace.of(input.invocation_id, None)).header
@@ -312,7 +314,7 @@ class Context:
 
     def _given(self, value: Any) -> bytes | core.Failure:
         if isinstance(value, TerminalError):
-            return given_failure(value)
+            return given_failure(value, self._codec)
         return encoded(self._codec, value)
 
     if not TYPE_CHECKING:  # a type checker says that there is no such attribute, and what runs says why
@@ -383,12 +385,12 @@ class Context:
     @overload
     def run(
         self, name: str, function: Callable[..., Awaitable[T]], /, *arguments: Any,
-        retry: Retry | None = None, timeout: float | None = None, gives: Any = None, **named: Any,
+        retry: Retry | None = None, timeout: float | None = None, heartbeat: float | None = None, gives: Any = None, **named: Any,
     ) -> Durable[T]: ...  # fmt: skip
     @overload
     def run(
         self, name: str, function: Callable[..., T], /, *arguments: Any,
-        retry: Retry | None = None, timeout: float | None = None, gives: Any = None, **named: Any,
+        retry: Retry | None = None, timeout: float | None = None, heartbeat: float | None = None, gives: Any = None, **named: Any,
     ) -> Durable[T]: ...  # fmt: skip
     def run(self, what: Any, /, *given: Any, **named: Any) -> Durable[Any]:
         """Executes an effect once it is awaited, and keeps its result.
@@ -396,15 +398,15 @@ class Context:
         It is executed at least once: a crash before the result is stored executes it again, so give what is outside an idempotency key, as
         `ctx.run_key` or `ctx.uuid()`. A plain function runs in a thread. A `TerminalError` is its result; another error is tried again by
         `retry`, without which it is tried for ever. So is one that takes longer than `timeout` seconds; a plain function can't be stopped, and its thread
-        goes on. A result that the codec can't write is a `TerminalError`, so that the effect isn't executed again. `gives` is the result's type, if
+        goes on. So is one that calls `palqytun.runtime.heartbeat` not once in `heartbeat` seconds. A result that the codec can't write is a `TerminalError`, so that the effect isn't executed again. `gives` is the result's type, if
         the function's annotation doesn't say it. A `step` has name, retries and time limit of its own: `ctx.run(pay, order)`."""
         if isinstance(what, Step):
             return self._run(what, given, named, None)
-        retry, timeout, gives = named.pop("retry", None), named.pop("timeout", None), named.pop("gives", None)
+        retry, timeout, beats, gives = (named.pop(it, None) for it in ("retry", "timeout", "heartbeat", "gives"))
         function = given[0] if given else None
         if isinstance(function, Step):
-            retry, timeout, function = retry or function.retry, timeout or function.timeout, function.function
-        return self._run(self._step(what, function, retry, timeout), given[1:], named, gives)
+            retry, timeout, beats, function = retry or function.retry, timeout or function.timeout, beats or function.heartbeat, function.function
+        return self._run(self._step(what, function, retry, timeout, beats), given[1:], named, gives)
 
     @overload
     def transaction(
@@ -439,20 +441,23 @@ class Context:
         return self._run(step, given, named, None, is_transaction=True)
 
     @staticmethod
-    def _step(name: str, function: Any, retry: Retry | None, timeout: float | None) -> Step[Any, Any]:
+    def _step(name: str, function: Any, retry: Retry | None, timeout: float | None, heartbeat: float | None) -> Step[Any, Any]:
         if not callable(function):
             given = "its coroutine" if inspect.iscoroutine(function) else repr(function)
             raise TypeError(f"ctx.run({name!r}, ..) takes a function, and its arguments after it; and not {given}")
-        return Step(function, name, retry, timeout)
+        return Step(function, name, retry, timeout, heartbeat)
 
     def _run(self, step: Step[Any, Any], given: tuple[Any, ...], named: dict[str, Any], gives: Any, *, is_transaction: bool = False) -> Durable[Any]:
+        if step.name.startswith(OWN):
+            raise ValueError(f"the name of a run doesn't begin with {OWN}, and {step.name[:100]!r} does")
         policy = _FOREVER if step.retry is None else policy_of(step.retry)
         run = self._vm_call("sys_run", step.name)
         index = self._vm.last_command_index()
         function: Callable[..., Any] = step.function
         if named:
             function = functools.partial(function, **named)
-        action = Action(step.name, function, given, policy, f"{self.invocation_id}-{index}", step.timeout, index if is_transaction else None)
+        key = f"{self.invocation_id}-{index}"
+        action = Action(step.name, function, given, policy, key, index, step.timeout, step.heartbeat, is_transaction)
         self.actions[run.handle] = action
         self.asked.add(run.handle)
         return Leaf(run.handle, self._result(_result_of(step.function) if gives is None else gives))
@@ -532,6 +537,18 @@ class Context:
                 self._patches.pop(self._vm.last_command_index() + 1, None)
                 self._vm_call("sys_run", PATCHED + name)
         return self._is_patched.get(name, False)
+
+    def set_attribute(self, name: str, value: attributes.Value | None) -> None:
+        """Says something of this invocation by which people find it, on the page, by `palqytun invocations list --attribute customer=ann`, and in the view
+        `palqytun_attributes`. It stays until it is set again; None takes it away. It can be seen at once.
+
+            ctx.set_attribute("customer", order.customer)
+            ctx.set_attribute("stage", "paid")
+
+        It is recorded as a command, so it is made once, and a handler makes the same ones in each attempt. Name and value have at most 1,000 bytes; a name
+        has no = and no &. Otherwise it raises a `TerminalError` with code 400. What is secret doesn't belong here."""
+        self._own("ctx.set_attribute")
+        self._vm_call("sys_run", attribute(name, attributes.checked(name, value)))
 
     def continue_as_new(self, argument: Any = None) -> NoReturn:
         """Ends this invocation, and begins a new one of the same handler with this argument in its place: with the same key, headers, idempotency key

@@ -11,7 +11,7 @@ from __future__ import annotations
 import time
 from collections import Counter
 
-from . import announced, inbox, invocations, journal
+from . import announced, attributes, inbox, invocations, journal, sealing
 from .database import Database
 from .effects import child_of
 from .invocations import VERSION, Claim
@@ -31,6 +31,7 @@ async def go_on(db: Database, app: App, out: Outcome, claim: Claim, growth: Grow
     [(idem, chain)] = await db.rows("SELECT idem, COALESCE(chain, id) FROM invocations WHERE id=?", (old,))
     await growth.write(db, status="done", ended=now, stopped=now, how="continued", idem=None, chain=chain, continued=id)
     await _make(db, app, claim, id, chain, idem, argument)
+    attributes.go_over(db, old, id)
     db.put("UPDATE waiters SET invocation=? WHERE invocation=?", (id, old))
     if claim.exclusive:
         db.put("UPDATE locks SET holder=? WHERE service=? AND key=? AND holder=?", (id, claim.service, claim.key, old))
@@ -41,7 +42,7 @@ async def go_on(db: Database, app: App, out: Outcome, claim: Claim, growth: Grow
     out.status, out.ended[old] = "done", argument
     out.ends.append(Ended(claim.service, claim.handler, "continued", now - claim.created))
     out.is_due(time.time())
-    db.notify("ready")
+    db.ready(is_own=True)
     db.notify(f"ended {old}")
 
 
@@ -56,7 +57,7 @@ async def _make(db: Database, app: App, claim: Claim, id: str, chain: str, idem:
     )
     db.put(sql, (id, idem, invocations.seed_of(id), due, now, deadline, expires, chain, claim.invocation))
     _, given = journal.answer(argument)
-    frame = journal.input_command(given, () if claim.continues is None else claim.continues.headers)
+    frame = journal.input_command(sealing.renewed(app.codec, given), () if claim.continues is None else claim.continues.headers)
     db.put("INSERT INTO journal(invocation, at, frame, stored) VALUES (?,0,?,?)", (id, frame, now))
 
 

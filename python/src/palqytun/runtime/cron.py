@@ -1,4 +1,4 @@
-"""When a schedule is due: every so many seconds, or by the five fields of cron, as croniter reads them, in a time zone.
+"""When a schedule is due: after each interval of some seconds, or by the five fields of cron, as croniter reads them, in a time zone.
 
 A time of the clock that summer time skips is due an hour later. One that comes twice is due at the first, unless the hours are `*`: then both count.
 """
@@ -70,7 +70,7 @@ class Cron:
 
 @dataclass(frozen=True)
 class Every:
-    """Every so many seconds, counted from the epoch."""
+    """Once each `seconds`, counted from the epoch."""
 
     seconds: float
 

@@ -6,16 +6,30 @@ import base64
 import hashlib
 import struct
 import time
+from collections.abc import Sequence
 from typing import Any
 
-from . import inbox, invocations, journal
-from .database import Database
+from . import announced, inbox, invocations, journal, sealing
+from .database import Database, Each
 from .invocations import New
-from .journal import Attach, Call, Change, Command, CompleteAwakeable, Promise, Read, Result, SendSignal, Sleep
-from .lease import Growth
+from .journal import Attach, Attribute, Call, Change, Command, CompleteAwakeable, Promise, Read, Result, SendSignal, Sleep
+from .lease import KEPT, WAITING, Growth
 from .outcome import Outcome
 from .services import App, TerminalError
 from .traces import Trace
+
+_TIMER = Each(WAITING, "INSERT INTO timers(due, invocation, completes) SELECT ?,?,?{rows}", "double precision", "text", "bigint")
+# The changes of a key's state stay in their order. Those of many keys are made together if each sets names, the last value of each.
+_NO_STATE = Each(KEPT, "DELETE FROM state WHERE service=? AND key=?")
+_NO_NAME = Each(KEPT, "DELETE FROM state WHERE service=? AND key=? AND name=?")
+_SET = " ON CONFLICT(service, key, name) DO UPDATE SET value=excluded.value"
+_NAME = Each(KEPT, f"INSERT INTO state(service, key, name, value) VALUES (?,?,?,?){_SET}")
+_NAMES = Each(KEPT, _NAME.one)
+_NAMES.many = (
+    "INSERT INTO state(service, key, name, value) SELECT DISTINCT ON (service, key, name) service, key, name, value"
+    " FROM unnest(?::text[], ?::text[], ?::text[], ?::bytea[]) WITH ORDINALITY AS asked(service, key, name, value, number)"
+    f" ORDER BY service, key, name, number DESC{_SET}"
+)
 
 
 def awakeable_of(id: str) -> tuple[str, int]:
@@ -39,24 +53,37 @@ class Performer:
     def __init__(self, db: Database, app: App, out: Outcome, growth: Growth, service: str, key: str, trace: Trace):
         self.db, self.app, self.out, self.growth, self.service, self.key, self.trace = db, app, out, growth, service, key, trace
         self.own = growth.lease.invocation
+        self.clears = False  # some command clears a name of the state
 
-    @staticmethod
-    def has_effect(it: Command) -> bool:
+    def needs_fence(self, it: Command) -> bool:
+        """Whether the invocation's row has to be kept before this command is performed. On a server the changes of rows that are alike come after the
+        fence of the last statement, whenever they are asked for; so what makes nothing else needs no fence before."""
+        if self.db.is_remote and (isinstance(it, (Sleep, Change, CompleteAwakeable)) or (isinstance(it, Call) and self._is_new(it))):
+            return False
         return type(it) in _PERFORMED
 
-    async def perform(self, it: Command) -> None:
-        method = _PERFORMED.get(type(it))
-        if method is not None:
-            await method(self, it)
+    def _is_new(self, it: Call) -> bool:
+        """Whether a call makes an invocation of this app without a look at what is there."""
+        target = announced.own(self.app, it.service, it.handler)
+        return target is not None and it.idempotency_key is None and not (target.workflow and target.exclusive)
+
+    async def perform(self, commands: Sequence[Command]) -> None:
+        """Does what these commands ask for, in their order."""
+        self.clears = any(isinstance(it, Change) and (it.key is None or it.value is None) for it in commands)
+        for it in commands:
+            method = _PERFORMED.get(type(it))
+            if method is not None:
+                await method(self, it)
 
     async def _sleep(self, it: Sleep) -> None:
         due = self.db.now() + it.due / 1000 - time.time()  # the command has it by this worker's clock
-        self.db.put("INSERT INTO timers(due, invocation, completes) VALUES (?,?,?)", (due, self.own, it.id))
+        self.db.each(_TIMER, (due, self.own, it.id))
         self.out.is_due(it.due / 1000)
 
     async def _call(self, it: Call) -> None:
         id = child_of(self.own, it.invocation_id)
-        new = New(it.service, it.handler, it.key, it.parameter, it.headers, it.idempotency_key, it.at / 1000, id, self.own, self.trace.header)
+        argument = sealing.renewed(self.app.codec, it.parameter)
+        new = New(it.service, it.handler, it.key, argument, it.headers, it.idempotency_key, it.at / 1000, id, self.own, self.trace.header)
         try:
             id, is_new = await invocations.create(self.db, self.app, self.out, new)
         except TerminalError as error:
@@ -73,15 +100,11 @@ class Performer:
     async def _change(self, it: Change) -> None:
         place = (self.service, self.key)
         if it.key is None:
-            self.db.put("DELETE FROM state WHERE service=? AND key=?", place)
+            self.db.each(_NO_STATE, place)
         elif it.value is None:
-            self.db.put("DELETE FROM state WHERE service=? AND key=? AND name=?", (*place, it.key))
+            self.db.each(_NO_NAME, (*place, it.key))
         else:
-            sql = (
-                "INSERT INTO state(service, key, name, value) VALUES (?,?,?,?)"
-                " ON CONFLICT(service, key, name) DO UPDATE SET value=excluded.value"
-            )
-            self.db.put(sql, (*place, it.key, it.value))
+            self.db.each(_NAME if self.clears else _NAMES, (*place, it.key, it.value))
 
     async def _read(self, it: Read) -> None:
         place = (self.service, self.key)
@@ -141,6 +164,14 @@ class Performer:
         else:
             self.growth.complete(it.id, journal.void() if found[0][0] is None else Result(bytes(found[0][0])))
 
+    async def _attribute(self, it: Attribute) -> None:
+        place = (self.own, it.name)
+        if it.value is None:
+            self.db.put("DELETE FROM attributes WHERE invocation=? AND name=?", place)
+            return
+        sql = "INSERT INTO attributes(invocation, name, value) VALUES (?,?,?) ON CONFLICT(invocation, name) DO UPDATE SET value=excluded.value"
+        self.db.put(sql, (*place, it.value))
+
     async def _named(self, it: Attach) -> str | None:
         """The invocation that an idempotency key names, or a workflow's key."""
         handler, idem = it.handler, it.idempotency_key
@@ -162,4 +193,5 @@ _PERFORMED: dict[type[Command], Any] = {
     SendSignal: Performer._send_signal,
     Promise: Performer._promise,
     Attach: Performer._attach,
+    Attribute: Performer._attribute,
 }

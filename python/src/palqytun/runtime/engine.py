@@ -112,6 +112,12 @@ class Engine(Desk):
         assert self._committer is not None
         return await self._committer.submit(operation, is_slow=True)
 
+    async def beside(self, operation: Callable[[Database], Awaitable[T]]) -> T:
+        """Commits an operation that isn't part of an attempt's journal, with others."""
+        if self._committer is None:
+            raise Stopped("the database is lost")
+        return await self._committer.submit(operation)
+
     def now(self) -> float:
         """The database's time, in seconds since the epoch."""
         return time.time() if self._committer is None else self._committer.db.now()
@@ -160,13 +166,25 @@ class Engine(Desk):
 
     def _heard(self, word: str) -> None:
         """Another worker sends a word: `ready`, or `to`, `stopped` or `ended` with some invocations. Who made something ready looks for it too. So
-        this worker looks at once only if it found something after the last such word, and else after a growing moment."""
+        this worker looks at once only if it found something after the last such word, and else after a growing moment. One without room passes the word
+        on, and looks once it has some."""
         what, *some = word.split(" ")
         if what == "ready":
-            self._is_told = True
-            self._wake(self._moment)
+            self._is_ready("".join(some))
+            return
         for invocation in some:
             {"ended": self._ended, "stopped": self._stopped, "to": self._touch}[what](invocation)
+
+    def _is_ready(self, first: str) -> None:
+        """Something can be claimed, as all were told, or this worker by one without room; the first of these is named."""
+        if len(self.live) < self.limit:
+            self._is_told = True
+            self._wake(self._moment)
+            return
+        self._has_more = True
+        if first and self._committer is not None:
+            passed = self._committer.submit(functools.partial(_passed_on, first=first))
+            passed.add_done_callback(lambda it: it.cancelled() or it.exception())  # a word may be lost
 
     @property
     def connections(self) -> int:
@@ -231,6 +249,7 @@ class Engine(Desk):
             self.counts["sessions"] += 1
             self._is_open.set()
             await self._loop(committer, claimer)
+            db.claims(None)
             await self._drain()
         except Stopped as error:
             raise Lost(str(error)) from error
@@ -424,6 +443,16 @@ class Engine(Desk):
             await self._give_up(attempt, error)
         finally:
             self.meter.attempt(attempt.claim.service, attempt.claim.handler, attempt.status, time.monotonic() - begun)
+            self._traced(attempt)
+
+    def _traced(self, attempt: Attempt) -> None:
+        """An attempt has stopped: its spans end."""
+        if attempt.spans is None:
+            return
+        attempt.spans.end(attempt.status, attempt.error)
+        if attempt.ended is not None:
+            created = attempt.claim.created
+            attempt.spans.ended(created, created + attempt.ended.seconds, attempt.ended.outcome)
 
     def _has_left(self, attempt: Attempt, task: asyncio.Task[None]) -> None:
         """An attempt has ended, or was cancelled before it began."""
@@ -474,6 +503,10 @@ class Engine(Desk):
     def client(self) -> Client:
         """Calls handlers, and looks at invocations, by this worker's connection."""
         return Client(self)
+
+
+async def _passed_on(db: Database, first: str) -> None:
+    db.pass_on(first)
 
 
 async def _within(what: str, awaited: Awaitable[object], seconds: float = _LAST) -> None:

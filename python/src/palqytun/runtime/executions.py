@@ -1,4 +1,4 @@
-"""Executes the effects of runs: `async` ones in the event loop, plain ones in threads, and so many of each at once.
+"""Executes the effects of runs: `async` ones in the event loop, plain ones in threads, and a limited number of each at once.
 
 Whatever an effect raises, `SystemExit` too, is a value here, so that it reaches neither the loop nor a future.
 """
@@ -14,6 +14,8 @@ from collections.abc import Callable
 from concurrent.futures import Future, ThreadPoolExecutor
 from dataclasses import dataclass
 from typing import Any
+
+from .heartbeats import Pulse
 
 
 @dataclass(frozen=True)
@@ -111,16 +113,43 @@ class Executions:
         self._effects, self._plain = Slots(effects), Slots(threads)
         self._threads = ThreadPoolExecutor(threads, thread_name_prefix="palqytun-effect")
 
-    async def execute(self, owner: object, function: Callable[..., Any], arguments: tuple[Any, ...], seconds: float | None = None) -> Done | Raised:
-        """Executes an effect once there is a slot for it, for so many seconds at most. Raises `Closed` if it didn't begin."""
+    async def execute(
+        self, owner: object, function: Callable[..., Any], arguments: tuple[Any, ...], seconds: float | None = None, pulse: Pulse | None = None
+    ) -> Done | Raised:
+        """Executes an effect once there is a slot for it, for `seconds` at most, and as long as it beats. Raises `Closed` if it didn't begin."""
+        if pulse is None:
+            return await self._executed(owner, function, arguments, seconds, lambda: None)
+        try:
+            if pulse.limit is None:
+                return await self._executed(owner, function, arguments, seconds, pulse.begin)
+            return await self._beating(asyncio.create_task(self._executed(owner, function, arguments, seconds, pulse.begin)), pulse)
+        finally:
+            await pulse.close()
+
+    @staticmethod
+    async def _beating(executing: asyncio.Task[Done | Raised], pulse: Pulse) -> Done | Raised:
+        """What an execution gives that has to beat."""
+        try:
+            while not executing.done():
+                left = pulse.left
+                if left is not None and left <= 0:
+                    return Raised(TimeoutError(f"it hasn't beaten for {pulse.limit:g} s"))
+                await asyncio.wait([executing], timeout=pulse.limit if left is None else left)
+            return executing.result()
+        finally:
+            executing.cancel()
+
+    async def _executed(
+        self, owner: object, function: Callable[..., Any], arguments: tuple[Any, ...], seconds: float | None, begins: Callable[[], None]
+    ) -> Done | Raised:
         try:
             if not inspect.iscoroutinefunction(function):
-                came = await self._in_thread(owner, function, arguments, seconds)
+                came = await self._in_thread(owner, function, arguments, seconds, begins)
                 if isinstance(came, Raised) or not inspect.isawaitable(came.value):
                     return came
                 awaitable = came.value
-                return await self._awaited(owner, lambda: awaitable, (), seconds)
-            return await self._awaited(owner, function, arguments, seconds)
+                return await self._awaited(owner, lambda: awaitable, (), seconds, begins)
+            return await self._awaited(owner, function, arguments, seconds, begins)
         except Closed:
             raise
         except asyncio.CancelledError:
@@ -128,8 +157,11 @@ class Executions:
         except BaseException as error:
             return Raised(error)
 
-    async def _awaited(self, owner: object, function: Callable[..., Any], arguments: tuple[Any, ...], seconds: float | None) -> Done | Raised:
+    async def _awaited(
+        self, owner: object, function: Callable[..., Any], arguments: tuple[Any, ...], seconds: float | None, begins: Callable[[], None]
+    ) -> Done | Raised:
         await self._effects.take(owner)
+        begins()
         try:
             async with asyncio.timeout(seconds) as time:
                 return Done(await function(*arguments))
@@ -143,8 +175,11 @@ class Executions:
         finally:
             self._effects.give(owner)
 
-    async def _in_thread(self, owner: object, function: Callable[..., Any], arguments: tuple[Any, ...], seconds: float | None) -> Done | Raised:
+    async def _in_thread(
+        self, owner: object, function: Callable[..., Any], arguments: tuple[Any, ...], seconds: float | None, begins: Callable[[], None]
+    ) -> Done | Raised:
         await self._plain.take(owner)
+        begins()
         loop, within = asyncio.get_running_loop(), contextvars.copy_context()
         future: Future[Done | Raised] = self._threads.submit(_called, within, function, arguments)
 

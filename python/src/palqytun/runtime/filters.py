@@ -5,7 +5,9 @@ from __future__ import annotations
 from collections.abc import Mapping
 from dataclasses import dataclass, fields
 
+from . import attributes
 from .services import TerminalError
+from .shown import moment_of as moment
 
 STATUSES = ("ready", "running", "suspended", "paused", "done", "failed")
 """What is shown of an invocation: `done` has ended with a value, and `failed` with a failure."""
@@ -15,14 +17,18 @@ _WHERE = {
     "service": "service=?",
     "handler": "handler=?",
     "key": "key=?",
+    "queue": "queue=?",
     "older": "created<?",
     "newer": "created>=?",
+    "since": "created>=?",
+    "until": "created<?",
     "error": "LOWER(error) LIKE ? ESCAPE '!'",
     "text": "(LOWER(id) LIKE ? ESCAPE '!' OR LOWER(key) LIKE ? ESCAPE '!' OR LOWER(idem) LIKE ? ESCAPE '!' OR LOWER(error) LIKE ? ESCAPE '!')",
     "before": "seq<?",
     "after": "seq>?",
 }
 # A status as the table has it. By `status<>'done'` the index of those that haven't ended is known to have them all.
+_HAS = "id IN (SELECT invocation FROM attributes WHERE name=? AND value=?)"
 _STATUS = {"done": "status='done' AND failed IS NULL", "failed": "failed IS NOT NULL"}
 
 
@@ -51,8 +57,9 @@ def _whole(name: str, text: str) -> int:
 
 @dataclass(frozen=True)
 class Filter:
-    """Invocations, by what is given: a status as it is shown, a service, a handler, a key; made more (`older`) or less (`newer`) than so many
-    seconds ago; a text in the `error`; a `text` in the id, the key, the idempotency key or the error; made before or after the one with a number.
+    """Invocations, by what is given: a status as it is shown, a service, a handler, a key, a queue; made more (`older`) or less (`newer`) than a number
+    of seconds ago; made at a time or later (`since`), or before one (`until`), in the form of ISO 8601; with an `attribute`, as `customer=ann`, or
+    several of them, as `customer=ann&stage=paid`; a text in the `error`; a `text` in the id, the key, the idempotency key or the error; made before or after the one with a number.
     Texts are compared without regard to the case of letters.
 
     >>> Filter(status="failed", service="Shop").where(now=0.0)
@@ -63,8 +70,12 @@ class Filter:
     service: str | None = None
     handler: str | None = None
     key: str | None = None
+    queue: str | None = None
     older: float | None = None
     newer: float | None = None
+    since: str | None = None
+    until: str | None = None
+    attribute: str | None = None
     error: str | None = None
     text: str | None = None
     before: int | None = None
@@ -73,6 +84,19 @@ class Filter:
     def __post_init__(self) -> None:
         if self.status is not None and self.status not in STATUSES:
             raise TerminalError(f"status={self.status[:40]} is none: it is {', '.join(STATUSES[:-1])} or {STATUSES[-1]}", 400)
+        self._checked()
+
+    def _checked(self) -> None:
+        """Refuses what is no time and no attribute."""
+        assert self._times is not None and self._attributes is not None
+
+    @property
+    def _times(self) -> dict[str, float]:
+        return {name: moment(name, it) for name, it in (("since", self.since), ("until", self.until)) if it is not None}
+
+    @property
+    def _attributes(self) -> list[tuple[str, str]]:
+        return [] if self.attribute is None else attributes.asked(self.attribute)
 
     @staticmethod
     def of(query: Mapping[str, str]) -> Filter:
@@ -97,8 +121,14 @@ class Filter:
                 parts.append(_STATUS.get(it, "status=? AND status<>'done'"))
                 values += [] if it in _STATUS else [it]
                 continue
+            if name == "attribute":
+                parts += [_HAS] * len(self._attributes)
+                values += [text for pair in self._attributes for text in pair]
+                continue
             parts.append(_WHERE[name])
-            if name in ("older", "newer"):
+            if name in ("since", "until"):
+                values.append(self._times[name])
+            elif name in ("older", "newer"):
                 values.append(now - it)
             elif name in ("error", "text"):
                 values += [_within(it)] * _WHERE[name].count("?")

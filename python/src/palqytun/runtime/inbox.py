@@ -9,19 +9,31 @@ from collections.abc import Sequence
 from typing import Any
 
 from . import journal
-from .database import Asked, Database
+from .database import Asked, Database, Each, Listed, Reading
 from .journal import Result
+from .lease import COMES, LOOKED_AT
 from .outcome import Outcome
 
 
 MOST = 1000  # that are moved to a journal by one transaction
 ALL = 1 << 40
-_SQL = "INSERT INTO inbox(invocation, frame) SELECT ?,? WHERE EXISTS (SELECT 1 FROM invocations WHERE id=? AND status<>'done')"
+_PUT = Each(
+    COMES,
+    # A subquery, and no join: the rows are put in their order.
+    "INSERT INTO inbox(invocation, frame) SELECT ?,?{rows} WHERE (SELECT status FROM invocations WHERE id=?)<>'done'",
+    *("text", "bytea", "text"),
+)
+_OWN = " AND EXISTS (SELECT 1 FROM invocations WHERE id=invocation AND epoch=? AND status='running')"
+_PEEK = "SELECT seq, frame FROM inbox WHERE invocation=?{} ORDER BY seq LIMIT ?"
+_ALL_OF, _ALL_OF_OWN = Reading(_PEEK.format(""), "text", "bigint"), Reading(_PEEK.format(_OWN), "text", "bigint", "bigint")
+_REMOVED = "DELETE FROM inbox WHERE seq=?"
+_SEEN = "UPDATE inbox SET fresh=0 WHERE seq=?"
+_REMOVED_TOGETHER, _SEEN_TOGETHER = (Listed(LOOKED_AT, it.replace("=?", "=ANY(?::bigint[])")) for it in (_REMOVED, _SEEN))
 
 
 async def deliver(db: Database, out: Outcome, invocation: str, notification: bytes) -> bool:
     """Puts a notification into an invocation's inbox; returns whether it has one. One that has ended or doesn't exist gets nothing."""
-    if not await db.change(_SQL, (invocation, notification, invocation)):
+    if not await db.change(_PUT.one, (invocation, notification, invocation)):
         return False
     _tell(db, out, invocation)
     return True
@@ -29,7 +41,7 @@ async def deliver(db: Database, out: Outcome, invocation: str, notification: byt
 
 def put(db: Database, out: Outcome, invocation: str, notification: bytes) -> None:
     """Puts a notification into an invocation's inbox, if it has one."""
-    db.put(_SQL, (invocation, notification, invocation))
+    db.each(_PUT, (invocation, notification, invocation))
     _tell(db, out, invocation)
 
 
@@ -44,13 +56,11 @@ def _tell(db: Database, out: Outcome, invocation: str) -> None:
 
 def peek(invocation: str, epoch: int | None = None, most: int = MOST) -> Asked:
     """Reads what waits, in the order of its arrival, each with its number. If an epoch is given and the lease is another's, nothing."""
-    is_own = "" if epoch is None else " AND EXISTS (SELECT 1 FROM invocations WHERE id=invocation AND epoch=? AND status='running')"
-    sql = f"SELECT seq, frame FROM inbox WHERE invocation=?{is_own} ORDER BY seq LIMIT ?"
-    return sql, ((invocation, most) if epoch is None else (invocation, epoch, most))
+    return (_ALL_OF, (invocation, most)) if epoch is None else (_ALL_OF_OWN, (invocation, epoch, most))
 
 
 def remove(db: Database, rows: Sequence[tuple[Any, ...]]) -> None:
-    _each(db, "DELETE FROM inbox", rows)
+    _each(db, _REMOVED, _REMOVED_TOGETHER, rows)
 
 
 def wakes(db: Database, rows: Sequence[tuple[Any, ...]], suspension: bytes, is_shielded: bool = False) -> bool:
@@ -65,7 +75,7 @@ def wakes(db: Database, rows: Sequence[tuple[Any, ...]], suspension: bytes, is_s
 
 def seen(db: Database, rows: Sequence[tuple[Any, ...]]) -> None:
     """These were looked at, and stay until something else comes."""
-    _each(db, "UPDATE inbox SET fresh=0", rows)
+    _each(db, _SEEN, _SEEN_TOGETHER, rows)
 
 
 async def is_cancelled(db: Database, invocation: str) -> bool:
@@ -73,8 +83,9 @@ async def is_cancelled(db: Database, invocation: str) -> bool:
     return bool(await db.rows("SELECT 1 FROM inbox WHERE invocation=? AND frame=?", (invocation, journal.cancellation())))
 
 
-def _each(db: Database, change: str, rows: Sequence[tuple[Any, ...]]) -> None:
-    if len(rows) > 1 and db.is_remote:
-        db.put(f"{change} WHERE seq=ANY(?::bigint[])", ([seq for seq, _ in rows],))
-    elif rows:
-        db.many(f"{change} WHERE seq=?", [(seq,) for seq, _ in rows])
+def _each(db: Database, one: str, many: Listed, rows: Sequence[tuple[Any, ...]]) -> None:
+    for seq, _ in rows:
+        if db.is_remote:
+            db.each(many, (seq,))
+        else:
+            db.put(one, (seq,))

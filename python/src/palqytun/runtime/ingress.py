@@ -2,8 +2,10 @@
 
     POST /{service}/{handler}            or /{service}/{key}/{handler}: calls it with the body, and returns its result
     POST /{service}/../{handler}/send    only makes the invocation (202); `?delay=SECONDS`, and `?priority=NUMBER&queue-key=KEY` for its queue
-    GET  /-/health
+    GET  /-/health                       200: the process lives; what it has done
+    GET  /-/ready                        200: it takes calls; 503: it doesn't, and why
     GET  /-/metrics                      for Prometheus
+    GET  /-/queues                       each with how many wait in it, for how long, how many run, and its limits
     GET  /-/schedules                    each with its next time
     POST /-/schedules/{name}/pause       or /resume, /trigger, or /backfill?since=2026-11-27T03:00&until=2026-11-28
     GET  /-/invocations                  by the names of `Filter`, as `?status=failed&service=Shop`; `?most=`
@@ -16,8 +18,8 @@
     GET  /-/page                         the operator's page: the list, and /{id}: one invocation as a picture
 
 A header `idempotency-key` names a call that is made once. A call and `/result` wait for the result, for `?wait=SECONDS` or a minute; then,
-and once the worker stops, they get 202 and the invocation's id. With a token, each request but /-/health has
-`authorization: Bearer TOKEN`; the page asks for it. A refusal is `{"code": .., "message": ..}`, and nothing of its request is stored.
+and once the worker stops, they get 202 and the invocation's id. With a token, each request has `authorization: Bearer TOKEN`, except /-/health and
+/-/ready; the page asks for it. A refusal is `{"code": .., "message": ..}`, and nothing of its request is stored.
 """
 
 from __future__ import annotations
@@ -38,8 +40,9 @@ from starlette.responses import JSONResponse, Response
 from starlette.routing import Route
 from starlette.types import ASGIApp, Receive, Scope, Send
 
-from . import acts, announced, audit, awakeables, invocations, journal, keyed, metrics, operate, queues, restarting, scheduling, timeline, traces
-from .codec import BadValue, decoded
+from . import acts, announced, audit, awakeables, invocations, journal, keyed, metrics, operate, queues, readiness
+from . import restarting, scheduling, sealing, timeline, traces
+from .codec import BadValue, Unreadable, decoded
 from .door import Door
 from .desk import Unavailable
 from .engine import Engine
@@ -59,8 +62,8 @@ _LONGEST_DELAY = 1e10  # seconds, about three centuries
 
 @dataclass(frozen=True)
 class Settings:
-    """`token`, `tokens` (the path of a file) and `origins`: who may ask (`Tokens`, `Door`). `payload`: bytes of a body. `wait`: for so many seconds a call waits for its result,
-    if it doesn't say. `patience`: so many seconds a client may take to send a request."""
+    """`token`, `tokens` (the path of a file) and `origins`: who may ask (`Tokens`, `Door`). `payload`: the most bytes of a body. `wait`: the
+    seconds that a call waits for its result, if it doesn't say. `patience`: the seconds that a client may take to send a request."""
 
     token: str | None = None
     origins: tuple[str, ...] = ()
@@ -162,7 +165,7 @@ class Guarded:
             return _fault(400, "the path or the query has the character NUL, which isn't allowed")
         if (why := self._door.foreign(request.headers)) is not None:
             return _fault(403, why)
-        if parts[:2] in (("-", "page"), ("-", "health")):
+        if parts[:2] in (("-", "page"), ("-", "health"), ("-", "ready")):
             return None
         refused = self._door.refusal(needed(request.method, parts), request.headers)
         return None if refused is None else _fault(*refused)
@@ -184,7 +187,9 @@ class Ingress:
     def _routes(self) -> Iterable[Route]:
         one = "/-/invocations/{id}"
         yield Route("/-/health", self._health)
+        yield Route("/-/ready", self._ready)
         yield Route("/-/metrics", self._metrics)
+        yield Route("/-/queues", self._queues)
         yield Route("/-/schedules", self._schedules)
         yield Route("/-/schedules/{rest:path}", self._act_on_schedule, methods=["POST"])
         yield Route("/-/invocations", self._list)
@@ -223,7 +228,7 @@ class Ingress:
         self._check(argument, new)
         if self._is_closing:
             raise Unavailable("the worker stops, and takes no new calls")
-        id = await self.engine.submit(replace(new, argument=argument))
+        id = await self.engine.submit(replace(new, argument=sealing.renewed(self.engine.app.codec, argument)))
         if is_sent:
             return JSONResponse({"invocation": id}, 202)
         try:
@@ -316,8 +321,12 @@ class Ingress:
         kind, it = journal.answer(result)
         if kind == "failure":
             code, message, metadata = it
-            return _fault(code, message, **({"metadata": dict(metadata)} if metadata else {}))
-        return Response(it if kind == "value" else b"", 200, {"content-type": self.engine.app.codec.content_type})
+            return _fault(code, sealing.clear(self.engine.app.codec, message), **({"metadata": dict(metadata)} if metadata else {}))
+        try:
+            value = sealing.opened(self.engine.app.codec, it) if kind == "value" else b""
+        except (ValueError, Unreadable) as error:
+            return _fault(500, f"the result can't be read: {error}")
+        return Response(value, 200, {"content-type": self.engine.app.codec.content_type})
 
     async def _result(self, request: Request) -> Response:
         return await self._answered(request, request.path_params["id"], _number(request, "wait", _LONGEST_WAIT))
@@ -327,11 +336,19 @@ class Ingress:
     async def _health(self, request: Request) -> Response:
         return JSONResponse({"live": len(self.engine.live), **self.engine.counts})
 
+    async def _ready(self, request: Request) -> Response:
+        why = await readiness.unready(self.engine)
+        return JSONResponse({"ready": True}) if why is None else _fault(503, why)
+
     async def _metrics(self, request: Request) -> Response:
         it = self.engine
-        statuses, queues = await asyncio.gather(it.transact(operate.by_status), it.transact(operate.queues))
-        now = metrics.Now(statuses, queues, len(it.live), it.connections, it.lease_age, it.counts)
+        asked = (it.transact(operate.by_status), it.transact(operate.waiting), it.transact(operate.queues))
+        statuses, waiting, queued = await asyncio.gather(*asked)
+        now = metrics.Now(statuses, waiting, queued, len(it.live), it.connections, it.lease_age, it.counts)
         return Response(metrics.text(self._measured, now), 200, {"content-type": metrics.CONTENT_TYPE})
+
+    async def _queues(self, request: Request) -> Response:
+        return JSONResponse(await self.engine.transact(operate.queues))
 
     async def _schedules(self, request: Request) -> Response:
         return JSONResponse(await self.engine.transact(operate.schedules))
@@ -421,6 +438,7 @@ class Ingress:
                 return Response(state[name], 200, {"content-type": self.engine.app.codec.content_type})
             return JSONResponse({it: _readable(value) for it, value in state.items()})
         value = keyed.checked(self.engine.app.codec, await self._body(request)) if request.method == "PUT" else None
+        value = None if value is None else sealing.renewed(self.engine.app.codec, value)
         many = await self.engine.transact(lambda db: keyed.change(db, service, key, name, value, self._who(request)))
         return JSONResponse({"done": True, "names": many})
 
@@ -437,7 +455,7 @@ class Ingress:
 
     async def _reject(self, request: Request) -> Response:
         message = (await self._body(request)).decode("utf-8", "replace").replace("\0", "\\0")
-        return await self._completed(request, journal.failure(500, message))
+        return await self._completed(request, journal.failure(500, sealing.text(self.engine.app.codec, message)))
 
     async def _completed(self, request: Request, result: Result) -> Response:
         await awakeables.complete(self.engine, request.path_params["id"], result)
@@ -450,7 +468,7 @@ class Ingress:
             decoded(self.engine.app.codec, body, Any)
         except BadValue as error:
             raise TerminalError(f"the body is no value: {error}", 400) from error
-        return body
+        return sealing.renewed(self.engine.app.codec, body)
 
 
 async def _gone(request: Request) -> None:

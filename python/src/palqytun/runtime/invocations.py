@@ -2,6 +2,7 @@
 
 from __future__ import annotations
 
+import functools
 import hashlib
 import secrets
 import time
@@ -11,9 +12,9 @@ from typing import Any
 
 from . import announced, inbox, journal, notes, places, queues
 from .announced import Target
-from .database import Asked, Database, StatementFailed
+from .database import Asked, Database, Each, Listed, Reading, StatementFailed
 from .journal import Begin, Journal, Result
-from .lease import Fenced, Growth, Lease
+from .lease import ENTRY, FREE, GONE, MADE, WAITING, Fenced, Growth, Lease
 from .names import check_name
 from .notes import Note
 from .outcome import Outcome
@@ -58,6 +59,23 @@ def check(new: New, target: Target) -> None:
     check_name("the idempotency key", new.idempotency_key or "")
 
 
+_COLUMNS = (
+    *("id text", "service text", "handler text", "key text", "exclusive bigint", "version bigint", "idem text", "seed bigint", "due double precision"),
+    *("created double precision", "parent text", "trace text", "deadline double precision", "expires double precision"),
+    *("queue text", "queue_key text", "priority bigint"),
+)
+
+
+@functools.cache
+def _made(clock: str) -> Each:
+    """The row of an invocation. What begins at once is due when the server makes this statement: so calls of a key are in their order, whichever worker
+    stores them."""
+    names = [it.partition(" ")[0] for it in _COLUMNS]
+    values = [f"COALESCE(?,{clock})" if it == "due" else "?" for it in names]
+    sql = f"INSERT INTO invocations({', '.join(names)}, status, entries) SELECT {', '.join(values)}, 'ready', 1{{rows}}"
+    return Each(MADE, sql, *(it.partition(" ")[2] for it in _COLUMNS))
+
+
 async def create(db: Database, app: App, out: Outcome, new: New) -> tuple[str, bool]:
     """Makes an invocation, of this app or of another one that a worker serves; returns its id and True. If there is one with this idempotency key, or
     a workflow with this key, its id and False. `TerminalError` with code 404 if nobody serves it."""
@@ -68,24 +86,17 @@ async def create(db: Database, app: App, out: Outcome, new: New) -> tuple[str, b
     now = db.now()
     due = now + new.due - time.time() if new.due else None if db.is_shared else now
     id = new.id or f"inv_{secrets.token_hex(12)}"
-    # What begins at once is due when the server makes this statement: so calls of a key are in their order, whichever worker stores them.
-    sql = (
-        "INSERT INTO invocations(id, service, handler, key, exclusive, version, idem, seed, status, due, entries, created, parent, trace,"
-        " deadline, expires, queue, queue_key, priority)"
-        f" VALUES (?,?,?,?,?,?,?,?,'ready',COALESCE(?,{db.clock}),1,?,?,?,?,?,?,?,?)"
-    )
     times, (priority, queue_key) = target.until(now if due is None else due), queues.asked(new.headers, new.key)
     queued = (target.queue, None if target.queue is None else queue_key, priority)
     row = (id, new.service, new.handler, new.key, int(target.exclusive), VERSION, idem, seed_of(new.id), due, now, new.parent, new.trace, *times, *queued)
     if idem is None:  # no other has its name
-        db.put(sql, row)
-    elif not await db.change(f"{sql} ON CONFLICT DO NOTHING", row):
+        db.each(_made(db.clock), row)
+    elif not await db.change(f"{_made(db.clock).one} WHERE true ON CONFLICT DO NOTHING", row):
         found = await db.rows("SELECT id FROM invocations WHERE service=? AND handler=? AND key=? AND idem=?", (new.service, new.handler, new.key, idem))
         return str(found[0][0]) if found else id, False
-    sql = "INSERT INTO journal(invocation, at, frame, stored) VALUES (?,0,?,?)"
-    db.put(sql, (id, journal.input_command(new.argument, new.headers), now))
+    db.each(ENTRY, (id, 0, None, journal.input_command(new.argument, new.headers), now))
     out.is_due(new.due or time.time())
-    db.notify("ready")
+    db.ready(is_own=announced.own(app, new.service, new.handler) is not None)
     return id, True
 
 
@@ -124,26 +135,30 @@ async def last_of(db: Database, id: str) -> list[Any]:
             return [row[:2] for row in found]
 
 
+_WAITS = Each(WAITING, "INSERT INTO waiters(invocation, waiter, completes) SELECT ?,?,?{rows}", "text", "text", "bigint")
+_WAITERS = Reading("SELECT waiter, completes FROM waiters WHERE invocation=?", "text")
+
+
 def wait(db: Database, growth: Growth, invocation: str, id: int) -> None:
     """The completion id waits for the end of another invocation, which hasn't ended."""
-    db.put("INSERT INTO waiters(invocation, waiter, completes) VALUES (?,?,?)", (invocation, growth.lease.invocation, id))
+    db.each(_WAITS, (invocation, growth.lease.invocation, id))
 
 
 def waiters_of(invocation: str) -> Asked:
     """Reads who waits for an invocation."""
-    return "SELECT waiter, completes FROM waiters WHERE invocation=?", (invocation,)
+    return _WAITERS, (invocation,)
 
 
 _GONE = [("waiters", "invocation"), ("timers", "invocation"), ("inbox", "invocation"), ("waiters", "waiter"), ("promise_waiters", "waiter")]
-_ALL_GONE = "WITH gone(id) AS (SELECT ?::text), " + ", ".join(
-    f"deleted{at} AS (DELETE FROM {table} WHERE {column}=(SELECT id FROM gone))" for at, (table, column) in enumerate(_GONE)
-)
+_DELETED = (f"deleted{at} AS (DELETE FROM {table} WHERE {column}=ANY((SELECT ids FROM gone)::text[]))" for at, (table, column) in enumerate(_GONE))
+_ALL_GONE = Listed(GONE, f"WITH gone(ids) AS (SELECT ?::text[]), {', '.join(_DELETED)} SELECT 1")
+_FREE = Each(FREE, "DELETE FROM locks{rows} WHERE service=? AND key=? AND holder=?", "text", "text", "text", by="USING")
 
 
 def leave_nothing(db: Database, invocation: str) -> None:
     """An invocation ends: it waits for nothing any more, and nobody for it."""
     if db.is_remote:
-        db.put(f"{_ALL_GONE} SELECT 1", (invocation,))
+        db.each(_ALL_GONE, (invocation,))
     else:
         for table, column in _GONE:
             db.put(f"DELETE FROM {table} WHERE {column}=?", (invocation,))
@@ -157,17 +172,19 @@ def ending(result: Result) -> tuple[int | None, str | None]:
     return code, storable(f"{code} {message}")
 
 
-async def end(db: Database, out: Outcome, invocation: str, service: str, key: str, result: Result, waiters: list[Any] | None = None) -> None:
+async def end(
+    db: Database, out: Outcome, invocation: str, service: str, key: str, result: Result, waiters: list[Any] | None = None, *, is_own: bool = False
+) -> None:
     """What an invocation's end does for others: it gives its result to those that wait, and its key to the next. `waiters` are those who wait, if they
-    were read since the invocation's row is kept."""
-    waiting = await db.rows(*waiters_of(invocation)) if waiters is None else waiters
+    were read since the invocation's row is kept. It `is_own` if the handler is one of this worker's app."""
+    waiting = (await db.several([waiters_of(invocation)]))[0] if waiters is None else waiters
     for waiter, completes in waiting:
         inbox.complete(db, out, waiter, completes, result)
     leave_nothing(db, invocation)
     if key:
-        db.put("DELETE FROM locks WHERE service=? AND key=? AND holder=?", (service, key, invocation))
+        db.each(_FREE, (service, key, invocation))
         out.is_due(time.time())
-        db.notify("ready")
+        db.ready(is_own)
     out.ended[invocation] = result
     if not waiting:  # what a handler has called is seldom asked for elsewhere too, and then it is looked for (`Engine.result`)
         db.notify(f"ended {invocation}")
@@ -250,13 +267,16 @@ async def state_of(db: Database, service: str, key: str) -> dict[str, bytes]:
     return {name: bytes(data) for name, data in await db.rows("SELECT name, value FROM state WHERE service=? AND key=? ORDER BY name", (service, key))}
 
 
+_SMALL = Reading(
+    "SELECT name, CASE WHEN total<=? THEN value END FROM (SELECT name, value, SUM(length(value)) OVER (ORDER BY length(value), name) AS total"
+    " FROM state WHERE service=? AND key=?) AS sized ORDER BY name",
+    *("bigint", "text", "text"),
+)
+
+
 def _small_state(service: str, key: str) -> Asked:
     """Reads what an attempt is handed of the keyed state: the smallest values, and NULL for the others, which are read when the handler asks for them."""
-    sql = (
-        "SELECT name, CASE WHEN total<=? THEN value END FROM (SELECT name, value, SUM(length(value)) OVER (ORDER BY length(value), name) AS total"
-        " FROM state WHERE service=? AND key=?) AS sized ORDER BY name"
-    )
-    return sql, (HANDED_OUT, service, key)
+    return _SMALL, (HANDED_OUT, service, key)
 
 
 @dataclass(frozen=True)
@@ -302,15 +322,19 @@ def _marks(count: int, mark: str = "?") -> str:
     return ",".join([mark] * count)
 
 
+_TAKEN = Each(MADE, "INSERT INTO locks(service, key, holder) SELECT ?,?,?{rows} WHERE true ON CONFLICT(service, key) DO NOTHING", "text", "text", "text")
+_HOLDER = Reading("SELECT holder FROM locks WHERE service=? AND key=?", "text", "text")
+
+
 async def _with_keys(db: Database, rows: list[Claimable]) -> list[Claimable]:
     """Takes the keys that nobody has; returns those that have theirs, or need none."""
     keyed = [it for it in rows if it.exclusive]
     if not keyed:
         return rows
-    taken = [(it.service, it.key, it.id) for it in keyed]
-    db.many("INSERT INTO locks(service, key, holder) VALUES (?,?,?) ON CONFLICT(service, key) DO NOTHING", taken)
-    places = [name for it in keyed for name in (it.service, it.key)]
-    holders = {row[0] for row in await db.rows(f"SELECT holder FROM locks WHERE (service, key) IN (VALUES {_marks(len(keyed), '(?,?)')})", places)}
+    for it in keyed:
+        db.each(_TAKEN, (it.service, it.key, it.id))
+    found = await db.several([(_HOLDER, (it.service, it.key)) for it in keyed])
+    holders = {holder for rows_of_key in found for (holder,) in rows_of_key}
     return [it for it in rows if not it.exclusive or it.id in holders]
 
 

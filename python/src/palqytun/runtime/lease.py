@@ -5,18 +5,27 @@ Whoever lost a lease is fenced: the fence stands before any effect, so that noth
 
 from __future__ import annotations
 
+import functools
 from dataclasses import dataclass, field
 from typing import Any
 
-from .database import Asked, Database
+from .database import Database, Each, Reading
 from .journal import Entry, Journal, Result, Stored, completion
 
 INSERTED = "INSERT INTO journal(invocation, at, completes, frame, stored) VALUES (?,?,?,?,?)"
-_INSERTED_TOGETHER = (
-    "INSERT INTO journal(invocation, at, completes, frame, stored) SELECT ?, at, completes, frame, ?"
-    " FROM unnest(?::bigint[], ?::bigint[], ?::bytea[]) AS entry(at, completes, frame)"
+# The order in which a transaction makes the changes of many rows that are alike. A fence is first: nothing of a lost lease is made after it.
+FENCED, MADE, APPENDED, WAITING, COMES, LOOKED_AT, GONE, FREE, KEPT = range(9)
+ENTRY = Each(
+    APPENDED,
+    "INSERT INTO journal(invocation, at, completes, frame, stored) SELECT ?,?,?,?,?{rows}",
+    *("text", "bigint", "bigint", "bytea", "double precision"),
 )
+"""An entry of a journal."""
 _FENCED = "WHERE id=? AND epoch=? AND entries=? AND status='running'"
+_FENCES = ("text", "bigint", "bigint")
+_TYPES = {"entries": "bigint", "due": "double precision", "stopped": "double precision", "ended": "double precision", "cancelled": "double precision"}
+_TYPES |= {"failing_since": "double precision", "failed_since": "double precision", "suspension": "bytea", "result": "bytea"}
+_TYPES |= {it: "bigint" for it in ("retries", "failures", "deaths", "shielded", "failed")}
 # Once an attempt has stored something, those before it aren't counted any more.
 PROGRESS: dict[str, object] = {"retries": 0, "failing_since": None, "failures": 0, "failed_since": None, "deaths": 0}
 _PROGRESS = ", ".join(f"{name}={'NULL' if value is None else value}" for name, value in PROGRESS.items())
@@ -38,9 +47,20 @@ class Lease:
         return Fenced(f"{self.invocation} is not this worker's at epoch {self.epoch} with {entries} entries")
 
 
-def fence(db: Database, lease: Lease, entries: int) -> Asked:
-    """Finds and keeps the invocation's row, if the lease isn't lost and so many entries are stored."""
-    return f"SELECT 1 FROM invocations {_FENCED}{db.lock}", (lease.invocation, lease.epoch, entries)
+@functools.cache
+def _fence(lock: str) -> Reading:
+    return Reading(f"SELECT 1 FROM invocations {_FENCED}{lock}", *_FENCES)
+
+
+@functools.cache
+def _written(names: tuple[str, ...]) -> Each:
+    """A change of these columns, which is a fence too."""
+    return Each(FENCED, f"UPDATE invocations SET {', '.join(f'{it}=?' for it in names)}{{rows}} {_FENCED}", *(_TYPES.get(it, "text") for it in names), *_FENCES)
+
+
+def fence(db: Database, lease: Lease, entries: int) -> tuple[Reading, tuple[object, ...]]:
+    """Finds and keeps the invocation's row, if the lease isn't lost and `entries` entries are stored."""
+    return _fence(db.lock), (lease.invocation, lease.epoch, entries)
 
 
 @dataclass
@@ -60,7 +80,8 @@ class Growth:
 
     async def fence(self, db: Database) -> None:
         """Keeps the invocation's row until the commit. It stands before any effect, so that a lost lease has none."""
-        db.must(*fence(db, self.lease, self.before), self.lease.lost(self.before))
+        asked, values = fence(db, self.lease, self.before)
+        db.must(asked.one, values, self.lease.lost(self.before))
         self.is_fenced = True
 
     def fenced(self, found: list[Any]) -> None:
@@ -86,19 +107,11 @@ class Growth:
 
     async def write(self, db: Database, **changed: object) -> None:
         """Writes the entries, with further changes of the invocation's row. It is called once."""
-        names = "".join(f", {name}=?" for name in changed)
-        sql = f"UPDATE invocations SET entries=?{names} {_FENCED}"
         values = (self.lease.journal.entries, *changed.values(), self.lease.invocation, self.lease.epoch, self.before)
-        if self.is_fenced:
-            db.put(sql, values)
-        else:
-            db.must(sql, values, self.lease.lost(self.before))
-        if len(self.entries) > 1 and db.is_remote:
-            columns = [list(it) for it in zip(*((it.at, it.completes, it.frame) for it in self.entries))]
-            db.put(_INSERTED_TOGETHER, (self.lease.invocation, db.now(), *columns))
-        else:
-            now = db.now()
-            db.many(INSERTED, [(self.lease.invocation, it.at, it.completes, it.frame, now) for it in self.entries])
+        db.each(_written(("entries", *changed)), values, None if self.is_fenced else self.lease.lost(self.before))
+        now = db.now()
+        for it in self.entries:
+            db.each(ENTRY, (self.lease.invocation, it.at, it.completes, it.frame, now))
 
     async def grow(self, db: Database) -> bool:
         """Writes the new count of entries alone, if the lease isn't lost; returns whether it did."""

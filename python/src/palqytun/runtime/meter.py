@@ -8,7 +8,7 @@ from typing import Protocol
 
 @dataclass(frozen=True)
 class Ended:
-    """An invocation that has ended, after so many seconds since it was made. `outcome` is `done`, `failed` or `continued`."""
+    """An invocation that has ended, `seconds` after it was made. `outcome` is `done`, `failed` or `continued`."""
 
     service: str
     handler: str
@@ -27,10 +27,10 @@ class Meter(Protocol):
         """An attempt has stopped: it is suspended, ready for another try, paused or done, or something else has stopped it."""
 
     def claimed(self, service: str, handler: str, late: float) -> None:
-        """A ready invocation was claimed, so long after it was due."""
+        """A ready invocation was claimed, `late` seconds after it was due."""
 
     def fired(self, late: float) -> None:
-        """A timer fired, so long after it was due."""
+        """A timer fired, `late` seconds after it was due."""
 
     def committed(self, operations: int, seconds: float) -> None:
         """A group of operations was committed."""

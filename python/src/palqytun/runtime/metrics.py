@@ -4,6 +4,7 @@ from __future__ import annotations
 
 from collections.abc import Iterable, Iterator, Mapping
 from dataclasses import dataclass
+from typing import Any
 
 from prometheus_client import CONTENT_TYPE_LATEST as CONTENT_TYPE
 from prometheus_client import CollectorRegistry, Counter, Histogram, generate_latest
@@ -61,10 +62,11 @@ class Measured:
 @dataclass(frozen=True)
 class Now:
     """What holds at this moment: how many invocations have each status; of each handler how many are ready and due, and for how many seconds the
-    first of them; how many attempts and connections this worker has; and how many seconds ago its lease was kept."""
+    first of them; each queue, as `operate.queues` gives it; how many attempts and connections this worker has; and how many seconds ago its lease was kept."""
 
     statuses: Mapping[str, int]
-    queues: Iterable[tuple[str, str, int, float]]
+    waiting: Iterable[tuple[str, str, int, float]]
+    queues: Iterable[Mapping[str, Any]]
     live: int
     connections: int
     lease_age: float
@@ -82,16 +84,29 @@ class _Moment(Collector):
         yield rows
         waiting = GaugeMetricFamily("palqytun_queue_ready", "Invocations that are ready and due, in the database.", labels=_OF)
         oldest = GaugeMetricFamily("palqytun_queue_oldest_seconds", "How long the first of them has been due.", labels=_OF)
-        for service, handler, many, age in self._now.queues:
+        for service, handler, many, age in self._now.waiting:
             waiting.add_metric([service, handler], many)
             oldest.add_metric([service, handler], max(0.0, age))
         yield waiting
         yield oldest
+        yield from self._queues()
         yield GaugeMetricFamily("palqytun_live_attempts", "Attempts of this worker.", self._now.live)
         yield GaugeMetricFamily("palqytun_connections", "Connections of this worker for transactions.", self._now.connections)
         yield GaugeMetricFamily("palqytun_lease_age_seconds", "How long ago this worker's lease was kept.", self._now.lease_age)
         for name, count in self._now.counts.items():
             yield CounterMetricFamily(f"palqytun_{name}", "Since this worker began.", count)
+
+    def _queues(self) -> Iterator[Metric]:
+        length = GaugeMetricFamily("palqytun_queue_length", "Invocations of a queue that are ready and due.", labels=["queue"])
+        age = GaugeMetricFamily("palqytun_queue_age_seconds", "How long the first of them has been due.", labels=["queue"])
+        running = GaugeMetricFamily("palqytun_queue_running", "Invocations of a queue that have an attempt.", labels=["queue"])
+        limit = GaugeMetricFamily("palqytun_queue_limit", "What a queue lets through; a rate is by the second.", labels=["queue", "limit"])
+        for it in self._now.queues:
+            for family, number in ((length, it["length"]), (age, it["oldest"]), (running, it["running"])):
+                family.add_metric([it["name"]], number)
+            for name, most in it["limits"].items():
+                limit.add_metric([it["name"], name], most[0] / most[1] if name == "rate" else most)
+        yield from (length, age, running, limit)
 
 
 def text(measured: Measured, now: Now) -> bytes:

@@ -2,10 +2,11 @@
 
 from __future__ import annotations
 
+import json
 from dataclasses import dataclass
 from typing import Any
 
-from . import audit, journal
+from . import attributes, audit, heartbeats, journal
 from .database import Database
 from .filters import Filter
 
@@ -29,12 +30,16 @@ async def invocations(db: Database, asked: Filter = Filter(), most: int = 100) -
     """The newest invocations first, of those that are asked for."""
     where, values = asked.where(db.now())
     sql = f"SELECT {', '.join(_COLUMNS)} FROM invocations WHERE {where} ORDER BY seq DESC LIMIT ?"
-    return [_shown(row) for row in await db.rows(sql, (*values, most))]
+    found = [_shown(row) for row in await db.rows(sql, (*values, most))]
+    said = await attributes.of(db, [it["id"] for it in found])
+    return [{**it, "attributes": said.get(it["id"], {})} for it in found]
 
 
 async def invocation(db: Database, id: str) -> dict[str, Any] | None:
     rows = await db.rows(f"SELECT {', '.join(_COLUMNS)} FROM invocations WHERE id=?", (id,))
-    return _shown(rows[0]) if rows else None
+    if not rows:
+        return None
+    return {**_shown(rows[0]), "attributes": (await attributes.of(db, [id])).get(id, {}), "progress": await heartbeats.of(db, id)}
 
 
 def error_of(row: dict[str, Any]) -> str:
@@ -57,18 +62,24 @@ async def schedules(db: Database) -> list[dict[str, Any]]:
 
 
 async def purge(db: Database, older: float, most: int = 200) -> int:
-    """Deletes at most so many invocations that ended more than `older` seconds ago, with their journals; returns how many. With a workflow's
+    """Deletes at most `most` invocations that ended more than `older` seconds ago, with their journals; returns how many. With a workflow's
     `main` go the state and the promises of its key, so that the key can run again. It is called until it returns 0, each time in a transaction of
     its own, so that no lock is kept for long."""
     sql = f"SELECT id, service, key, exclusive, idem FROM invocations WHERE status='done' AND ended<? ORDER BY ended LIMIT ?{db.skip}"
     rows = await db.rows(sql, (db.now() - older, most))
     ids = [row[0] for row in rows]
-    for table, column in (("journal", "invocation"), ("attempts", "invocation"), ("transactions", "invocation"), ("invocations", "id")) if ids else ():
+    for table, column in _OF_INVOCATIONS if ids else ():
         db.put(f"DELETE FROM {table} WHERE {column} IN ({','.join('?' * len(ids))})", ids)
     workflows = [(service, key) for _, service, key, exclusive, idem in rows if exclusive and idem == ""]
     for table in ("state", "promises"):
         db.many(f"DELETE FROM {table} WHERE service=? AND key=?", workflows)
     return len(rows)
+
+
+_OF_INVOCATIONS = (
+    *((table, "invocation") for table in ("journal", "attempts", "transactions", "attributes", "progress")),
+    ("invocations", "id"),
+)
 
 
 @dataclass(frozen=True)
@@ -88,11 +99,33 @@ async def purge_by(db: Database, older: float, who: str, before: Purged) -> Purg
     return Purged(count, await audit.counted(db, before.row, who, "purge", f"{count} invocations that ended more than {older:g} s before"))
 
 
-async def queues(db: Database) -> list[tuple[str, str, int, float]]:
+async def waiting(db: Database) -> list[tuple[str, str, int, float]]:
     """How many invocations of each handler are ready and due, and for how many seconds the first of them."""
     now = db.now()
     sql = "SELECT service, handler, COUNT(*), MIN(due) FROM invocations WHERE status='ready' AND due<=? GROUP BY service, handler"
     return [(service, handler, int(many), now - first) for service, handler, many, first in await db.rows(sql, (now,))]
+
+
+async def queues(db: Database) -> list[dict[str, Any]]:
+    """Each queue: how many of its invocations are ready and due (`length`), for how many seconds the first of them (`oldest`), how many become due
+    later, how many have an attempt (`running`), of how many keys are those that are due (`keys`), and what the queue lets through (`limits`), as the
+    worker that began last says it. Nothing of an invocation that is suspended or paused counts."""
+    now = db.now()
+    is_due = "CASE WHEN due<=? THEN"
+    ready = (
+        f"SELECT queue, SUM({is_due} 1 ELSE 0 END), MIN({is_due} due END), SUM({is_due} 0 ELSE 1 END), COUNT(DISTINCT {is_due} queue_key END)"
+        " FROM invocations WHERE status='ready' AND queue IS NOT NULL GROUP BY queue"
+    )
+    running = "SELECT queue, COUNT(*) FROM invocations WHERE status='running' AND queue IS NOT NULL GROUP BY queue"
+    rows, working, named = await db.several([(ready, (now,) * 4), (running, ()), ("SELECT name, limits FROM queues", ())])
+    found, works, known = {row[0]: row[1:] for row in rows}, dict(working), {name: json.loads(limits or "{}") for name, limits in named}
+    shown = []
+    for name in sorted(found.keys() | works.keys() | known.keys()):
+        length, first, later, keys = found.get(name, (0, None, 0, 0))
+        oldest = 0.0 if first is None else max(0.0, now - first)
+        counts = {"length": int(length), "oldest": oldest, "later": int(later), "running": int(works.get(name, 0)), "keys": int(keys)}
+        shown.append({"name": name, **counts, "limits": known.get(name, {})})
+    return shown
 
 
 async def by_status(db: Database) -> dict[str, int]:

@@ -11,7 +11,7 @@ from typing import Any
 
 import jinja2
 
-from . import keyed, shown
+from . import attributes, keyed, shown
 from .acts import ACTS
 from .filters import STATUSES, Filter
 from .operate import error_of
@@ -42,8 +42,8 @@ def _as_text(value: bytes) -> str:
 def _environment() -> jinja2.Environment:
     folder = pathlib.Path(__file__).parent / "templates"
     made = jinja2.Environment(loader=jinja2.FileSystemLoader(folder), autoescape=True, undefined=jinja2.StrictUndefined)
-    made.filters |= {"moment": shown.moment, "lasted": shown.lasted, "target": shown.target, "first_error": _first_error}
-    made.filters |= {"query": _query, "part": _part, "as_text": _as_text}
+    made.filters |= {"moment": shown.moment, "lasted": shown.lasted, "target": shown.target, "limits": shown.limits, "first_error": _first_error}
+    made.filters |= {"query": _query, "part": _part, "as_text": _as_text, "has": lambda pair: attributes.query(*pair)}
     return made
 
 
@@ -98,6 +98,10 @@ def drawn(it: Timeline, now: float, root: str = ROOT) -> str:
 
 def schedules(rows: list[dict[str, Any]], now: float, root: str = ROOT) -> str:
     return _page("schedules.html", "Schedules", root, rows=rows, now=now)
+
+
+def queues(rows: list[dict[str, Any]], root: str = ROOT) -> str:
+    return _page("queues.html", "Queues", root, rows=rows)
 
 
 def services_with_state(names: list[str], root: str = ROOT) -> str:

@@ -14,7 +14,7 @@ from starlette.requests import Request
 from starlette.responses import HTMLResponse, PlainTextResponse, RedirectResponse, Response
 from starlette.routing import Route
 
-from . import acts, audit, keyed, operate, page, restarting, scheduling, timeline
+from . import acts, audit, keyed, operate, page, restarting, scheduling, sealing, timeline
 from .door import Door
 from .engine import Engine
 from .filters import Filter
@@ -65,6 +65,7 @@ class Pages:
         yield Route("/-/page/acts", self._seen(self._act), methods=["POST"])
         yield Route("/-/page/schedules", self._seen(self._schedules))
         yield Route("/-/page/schedules", self._seen(self._act_on_schedule), methods=["POST"])
+        yield Route("/-/page/queues", self._seen(self._queues))
         yield Route("/-/page/audit", self._seen(self._audit))
         yield Route("/-/page/states", self._seen(self._states))
         yield Route("/-/page/states/{service}", self._seen(self._keys))
@@ -160,6 +161,9 @@ class Pages:
     async def _schedules(self, request: Request) -> Response:
         return _html(page.schedules(await self._engine.transact(operate.schedules), time.time(), _root(request)))
 
+    async def _queues(self, request: Request) -> Response:
+        return _html(page.queues(await self._engine.transact(operate.queues), _root(request)))
+
     async def _act_on_schedule(self, request: Request) -> Response:
         """Presses a button of a schedule."""
         query, form, app, who = request.query_params, await _form(request, 4096), self._engine.app, self._who(request)
@@ -196,5 +200,6 @@ class Pages:
         if not name:
             raise TerminalError("the state has no name", 400)
         value = keyed.checked(self._engine.app.codec, form.get("value", "").encode()) if what == "set" else None
+        value = None if value is None else sealing.renewed(self._engine.app.codec, value)
         await self._engine.transact(lambda db: keyed.change(db, service, key, name, value, self._who(request)))
         return await self._shown_state(request, f"{name} is {'set' if value is not None else 'cleared'}")

@@ -2,6 +2,7 @@
 
 from __future__ import annotations
 
+import json
 from collections import Counter
 from collections.abc import Sequence
 from dataclasses import dataclass, field
@@ -48,8 +49,9 @@ class Room:
 
 
 async def enter(db: Database, app: App) -> None:
-    """A worker begins: each open invocation of its handlers is in the queue that its code says."""
-    db.many("INSERT INTO queues(name) VALUES (?) ON CONFLICT(name) DO NOTHING", [(name,) for name in app.queues])
+    """A worker begins: each open invocation of its handlers is in the queue that its code says, and what its queues let through is written down."""
+    limits = [(name, json.dumps(it.limits)) for name, it in app.queues.items()]
+    db.many("INSERT INTO queues(name, limits) VALUES (?,?) ON CONFLICT(name) DO UPDATE SET limits=excluded.limits", limits)
     for service, handler, was in await db.rows("SELECT DISTINCT service, handler, queue FROM invocations WHERE status<>'done'"):
         known = app.known(service, handler)
         name = None if known is None or known.queue is None else known.queue.name
@@ -59,7 +61,7 @@ async def enter(db: Database, app: App) -> None:
 
 
 async def room(db: Database, queue: Queue, worker: str, most: int, now: float) -> Room:
-    """What the queue has room for, on a worker that has room for so many. Its row is kept until the commit, so two workers don't count at one time."""
+    """What the queue has room for, on a worker that has room for `most`. Its row is kept until the commit, so two workers don't count at one time."""
     await db.rows(f"SELECT name FROM queues WHERE name=?{db.lock}", (queue.name,))
     sql = "SELECT queue_key, COUNT(*), SUM(CASE WHEN worker=? THEN 1 ELSE 0 END) FROM invocations WHERE status='running' AND queue=? GROUP BY queue_key"
     rows = await db.rows(sql, (worker, queue.name))

@@ -49,6 +49,17 @@ class Queue:
         if self.rate is not None and not (len(self.rate) == 2 and self.rate[0] >= 1 and 0 < self.rate[1] < math.inf):
             raise ValueError(f"the queue {self.name} has the rate {self.rate}, and it is a pair (count from 1 on, seconds above 0)")
 
+    @property
+    def limits(self) -> dict[str, object]:
+        """What is limited, by its name.
+
+        >>> Queue("mail", concurrency=10, rate=(100, 60)).limits
+        {'concurrency': 10, 'rate': [100, 60]}
+        """
+        found = {name: getattr(self, name) for name in ("concurrency", "per_worker", "per_key")}
+        rate = None if self.rate is None else list(self.rate)
+        return {name: it for name, it in {**found, "rate": rate}.items() if it is not None}
+
     def free(self, running: int, own: int, room: int) -> int:
         """How many more attempts may run beside those that are `running`, `own` of them on this worker, which has room for `room` more."""
         limits = ((self.concurrency, running), (self.per_worker, own))

@@ -12,8 +12,8 @@ from itertools import groupby
 from typing import Any
 
 from .. import core
-from . import journal, parting
-from .codec import BadValue, decoded
+from . import journal, parting, sealing
+from .codec import BadValue, decoded, encoded
 from .context import AttemptEnds, CaughtTooMuch, Context, ReplayLog, given_failure
 from .contexts import kind_of
 from .database import Database
@@ -104,7 +104,7 @@ def replayed(app: App, it: Stored) -> Replayed:
 def _replayed(app: App, vm: core.VM, context: Context, handler: Handler[Any, Any], given: bytes) -> str | None:
     """Runs the handler as far as the journal goes; returns what it raised while it was replayed."""
     try:
-        argument = decoded(app.codec, given, handler.takes)
+        argument = decoded(context.codec, given, handler.takes)
     except BadValue as error:
         return f"the argument: {error}"
     main: Task[Any] = Task(handler.function(context, argument))  # type: ignore[arg-type]
@@ -122,6 +122,11 @@ def _replayed(app: App, vm: core.VM, context: Context, handler: Handler[Any, Any
     return None
 
 
+def _taken(vm: core.VM, context: Context, handle: int) -> Any:
+    came = vm.take_notification(handle)
+    return core.Failure(came.code, sealing.clear(context.codec, came.message), came.metadata) if isinstance(came, core.Failure) else came
+
+
 def _drive(app: App, vm: core.VM, context: Context, tasks: Tasks) -> None:
     """Until the journal says no more, or the handler is done."""
     thrown: Cancelled | None = None
@@ -133,7 +138,7 @@ def _drive(app: App, vm: core.VM, context: Context, tasks: Tasks) -> None:
             if continued is not None:
                 context.write_output(continued.argument, has_next=True)
             else:
-                context.write_output(app.codec.encode(tasks.main.value) if failure is None else given_failure(failure))
+                context.write_output(encoded(context.codec, tasks.main.value) if failure is None else given_failure(failure, context.codec))
             return
         thrown = None
         try:
@@ -142,7 +147,7 @@ def _drive(app: App, vm: core.VM, context: Context, tasks: Tasks) -> None:
         except core.Cancelled:
             thrown = Cancelled()
             continue
-        for _ in tasks.taken(vm.take_notification):
+        for _ in tasks.taken(lambda handle: _taken(vm, context, handle)):
             pass
 
 

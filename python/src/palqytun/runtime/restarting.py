@@ -10,7 +10,7 @@ import secrets
 import time
 from typing import Any
 
-from . import announced, audit, invocations, journal
+from . import announced, attributes, audit, invocations, journal
 from .database import Database
 from .effects import Performer
 from .invocations import Claimable
@@ -118,7 +118,7 @@ class _Restart:
             if isinstance(it, Call) and id == it.id and id in self._called:
                 await invocations.attach(self.db, growth, self._called[id], id)
             elif isinstance(it, (Sleep, Promise, Attach)):
-                await performer.perform(it)
+                await performer.perform([it])
         self.entries += [(it.completes, it.frame) for it in growth.entries]
         self._journal.keep()
 
@@ -132,5 +132,6 @@ class _Restart:
         sql = f"INSERT INTO invocations({', '.join(row)}) VALUES ({','.join('?' * len(row))})"
         await self.db.change(sql, tuple(row.values()))
         self.db.many(INSERTED, [(self.id, at, completes, frame, now) for at, (completes, frame) in enumerate(self.entries)])
+        attributes.put(self.db, self.id, journal.attributes_in(frame for _, frame in self.entries))
         out.is_due(time.time())
         self.db.notify("ready")

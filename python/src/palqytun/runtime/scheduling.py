@@ -16,6 +16,7 @@ from .invocations import create
 from .outcome import Outcome
 from .schedules import Stored, call, stored
 from .services import App, TerminalError
+from .shown import moment_of
 
 MOST = 1000  # calls that one backfill may make
 
@@ -67,7 +68,7 @@ async def backfill(db: Database, app: App | None, out: Outcome, name: str, who: 
     asked, at = list[float](), times.after(since - 1e-6)
     while at < end:
         if len(asked) == MOST:
-            raise TerminalError(f"there are more than {MOST} times between these, and one backfill makes so many calls at most: take a part", 400)
+            raise TerminalError(f"there are more than {MOST} times between these, and one backfill makes {MOST} calls at most: take a part", 400)
         asked.append(at)
         at = times.after(at)
     made = sum([(await _made(db, app, out, it, at))[1] for at in asked])
@@ -88,19 +89,6 @@ def _shown(at: float) -> str:
     return datetime.datetime.fromtimestamp(at, datetime.timezone.utc).isoformat(timespec="seconds")
 
 
-def moment(what: str, text: str) -> float:
-    """A time in the form of ISO 8601, in seconds since the epoch; UTC if it names no zone. Raises a `TerminalError` with code 400 for what is none.
-
-    >>> moment("since", "2026-11-27T03:00"), moment("since", "2026-11-27T04:00:00+01:00")
-    (1795748400.0, 1795748400.0)
-    """
-    try:
-        at = datetime.datetime.fromisoformat(text)
-        return (at if at.tzinfo is not None else at.replace(tzinfo=datetime.timezone.utc)).timestamp()
-    except (ValueError, OverflowError):
-        raise TerminalError(f"{what}={text[:40]} is no time, as 2026-11-27T03:00 or 2026-11-27T03:00+01:00", 400) from None
-
-
 Act = Callable[[Database, App | None, Outcome, str, str], Awaitable[str]]
 ACTS: dict[str, Act] = {"pause": pause, "resume": resume, "trigger": trigger}
 
@@ -113,4 +101,4 @@ async def act(db: Database, app: App | None, out: Outcome, what: str, name: str,
         raise TerminalError(f"there is no act {what[:40]} on schedules: it is {', '.join(ACTS)} or backfill", 404)
     if not since:
         raise TerminalError("a backfill needs `since`, its first time, as 2026-11-27T03:00", 400)
-    return await backfill(db, app, out, name, who, moment("since", since), moment("until", until) if until else None)
+    return await backfill(db, app, out, name, who, moment_of("since", since), moment_of("until", until) if until else None)

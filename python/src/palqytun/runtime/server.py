@@ -25,13 +25,13 @@ _busy = JSONResponse({"code": 503, "message": "the server has all the connection
 
 
 def connections_at_most(wanted: int) -> int:
-    """So many connections as are wanted, if the process may open so many files."""
+    """How many connections there may be: those that are wanted, or as many as the process may open files for."""
     soft, _ = resource.getrlimit(resource.RLIMIT_NOFILE)
     return wanted if soft == resource.RLIM_INFINITY else max(1, min(wanted, soft - _SPARE - _HARD))
 
 
 class Config(uvicorn.Config):  # type: ignore[misc]
-    """What a server with limits needs. `patience`: so many seconds a client may take for a request's head, and to read its response."""
+    """What a server with limits needs. `patience`: the seconds that a client may take for a request's head, and to read its response."""
 
     def __init__(self, app: ASGIApp, *, connections: int = CONNECTIONS, patience: float = 60.0):
         self.connections, self.patience = connections_at_most(connections), patience
@@ -122,7 +122,7 @@ class Server(uvicorn.Server):  # type: ignore[misc]
         self.is_up.set()
 
     def stop(self, grace: float) -> None:
-        """Takes no connection any more. Requests that are being served have so many seconds."""
+        """Takes no connection any more. Requests that are being served may end within `grace` seconds."""
         self.should_exit = True
         asyncio.get_running_loop().call_later(grace, self._force)
 

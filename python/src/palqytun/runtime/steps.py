@@ -12,6 +12,12 @@ P = ParamSpec("P")
 R_co = TypeVar("R_co", covariant=True)
 
 
+def _check(**limits: float | None) -> None:
+    for name, seconds in limits.items():
+        if seconds is not None and not seconds > 0:
+            raise ValueError(f"a {name} is a number of seconds above 0, and not {seconds}")
+
+
 @dataclass(frozen=True)
 class Step(Generic[P, R_co]):
     """A function that handlers run: `await ctx.run(pay, order, amount=5)`. Called by itself it is the function, as in a test."""
@@ -20,24 +26,30 @@ class Step(Generic[P, R_co]):
     name: str
     retry: Retry | None = None
     timeout: float | None = None
+    heartbeat: float | None = None
+
+    def __post_init__(self) -> None:
+        _check(timeout=self.timeout, heartbeat=self.heartbeat)
 
     def __call__(self, *arguments: P.args, **named: P.kwargs) -> R_co:
         return self.function(*arguments, **named)
 
 
-def step(*, name: str | None = None, retry: Retry | None = None, timeout: float | None = None) -> Callable[[Callable[P, R_co]], Step[P, R_co]]:
+def step(
+    *, name: str | None = None, retry: Retry | None = None, timeout: float | None = None, heartbeat: float | None = None
+) -> Callable[[Callable[P, R_co]], Step[P, R_co]]:
     """Makes a step of a function. Its runs are named by the function, or by `name`; they are tried again by `retry`, and for ever without it; and
-    one that takes longer than `timeout` seconds has failed, which is tried again too.
+    one that takes longer than `timeout` seconds has failed, which is tried again too. So has one that calls `palqytun.runtime.heartbeat` not once in
+    `heartbeat` seconds.
 
         @step(retry=Retry(attempts=5), timeout=10)
         async def pay(key: str, amount: int) -> str: ..
 
         receipt = await ctx.run(pay, ctx.uuid(), amount=5)
     """
-    if timeout is not None and not timeout > 0:
-        raise ValueError(f"a timeout is a number of seconds above 0, and not {timeout}")
+    _check(timeout=timeout, heartbeat=heartbeat)
 
     def made(function: Callable[P, R_co]) -> Step[P, R_co]:
-        return Step(function, getattr(function, "__name__", "step") if name is None else name, retry, timeout)
+        return Step(function, getattr(function, "__name__", "step") if name is None else name, retry, timeout, heartbeat)
 
     return made

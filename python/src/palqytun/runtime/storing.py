@@ -8,11 +8,11 @@ from dataclasses import dataclass
 from typing import Any
 
 from . import continuing, inbox, invocations, journal, notes
-from .database import Asked, Database
+from .database import Asked, Database, Each
 from .effects import Performer
 from .invocations import Claim
 from .journal import Failed, Output, Result, Suspension
-from .lease import PROGRESS, Growth, fence
+from .lease import GONE, PROGRESS, Growth, fence
 from .meter import Ended
 from .outcome import Outcome
 from .services import App
@@ -39,6 +39,9 @@ def reads(claim: Claim, output: bytes) -> Reads | None:
     return None
 
 
+_NO_TIMER = Each(GONE, "DELETE FROM timers{rows} WHERE invocation=? AND completes=?", "text", "bigint", by="USING")
+
+
 async def store(
     db: Database, app: App, claim: Claim, output: bytes, at: int, timers: Sequence[int] = (), found: Sequence[list[Any]] = ()
 ) -> Outcome:
@@ -48,12 +51,12 @@ async def store(
     stored = growth.store(output, at)
     if found:
         growth.fenced(found[0])
-    elif isinstance(stored.end, Suspension) or any(map(Performer.has_effect, stored.commands)):
-        await growth.fence(db)  # else the first statement that changes something is that of `write`, which fences
     performer = Performer(db, app, out, growth, claim.service, claim.key, claim.trace)
-    for command in stored.commands:
-        await performer.perform(command)
-    db.many("DELETE FROM timers WHERE invocation=? AND completes=?", [(claim.invocation, id) for id in timers])
+    if not found and (isinstance(stored.end, Suspension) or any(map(performer.needs_fence, stored.commands))):
+        await growth.fence(db)  # else the first statement that changes something is that of `write`, which fences
+    await performer.perform(stored.commands)
+    for id in timers:
+        db.each(_NO_TIMER, (claim.invocation, id))
     if stored.end is None:
         await growth.write(db, **(PROGRESS if growth.has_progress else {}))
     elif isinstance(stored.end, Suspension):
@@ -78,7 +81,7 @@ def _leave_room(db: Database, app: App, out: Outcome, claim: Claim) -> None:
     """An attempt has stopped: if its handler has a limit, another may begin."""
     if app.has_limit(claim.service, claim.handler):
         out.is_due(time.time())
-        db.notify("ready")
+        db.ready(is_own=True)
 
 
 async def _suspend(db: Database, out: Outcome, claim: Claim, growth: Growth, suspension: Suspension, arrived: list[Any]) -> None:
@@ -156,7 +159,7 @@ async def _end(db: Database, out: Outcome, claim: Claim, growth: Growth, result:
     out.ends.append(Ended(claim.service, claim.handler, "done" if failed is None else "failed", now - claim.created))
     if error is not None:
         out.notes.append(claim.note(notes.ENDED, error))
-    await invocations.end(db, out, claim.invocation, claim.service, claim.key if claim.exclusive else "", result, waiters)
+    await invocations.end(db, out, claim.invocation, claim.service, claim.key if claim.exclusive else "", result, waiters, is_own=True)
 
 
 def arrivals(claim: Claim) -> Reads:

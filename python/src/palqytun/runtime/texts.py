@@ -19,7 +19,7 @@ _MOST_SAID, _MOST_TRACED = 4_000, 20_000  # characters that are kept of an error
 
 
 def _short(text: str, most: int) -> str:
-    """At most so many characters: the first ones and the last ones."""
+    """A text of some `most` characters: the first ones and the last ones."""
     return text if len(text) <= most else f"{text[: most // 2]} .. {text[-most // 2 :]}"
 
 

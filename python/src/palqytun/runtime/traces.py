@@ -33,6 +33,7 @@ class Trace:
     trace_id: str
     span_id: str
     flags: str = "01"
+    parent_id: str | None = None  # the span of whoever made it
 
     @staticmethod
     def of(invocation: str, header: str | None) -> Trace:
@@ -43,8 +44,8 @@ class Trace:
         """
         if (given := checked(header)) is None:
             return Trace(_of(invocation, 16), _of(invocation, 8))
-        _, trace_id, _, flags = given.split("-")
-        return Trace(trace_id, _of(invocation, 8), flags)
+        _, trace_id, parent_id, flags = given.split("-")
+        return Trace(trace_id, _of(invocation, 8), flags, parent_id)
 
     @property
     def header(self) -> str:

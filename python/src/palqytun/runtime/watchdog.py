@@ -13,6 +13,7 @@ import traceback
 from collections.abc import Iterator
 from types import FrameType
 
+from .invocations import Claim
 from .places import is_own, is_users
 
 log = logging.getLogger("palqytun")
@@ -36,7 +37,7 @@ def holder(thread: int) -> str:
     if not frames:
         return "a thread that has ended"
     claims = (getattr(it.f_locals.get("self"), "claim", None) for it in frames if is_own(it))
-    claim = next((it for it in claims if it is not None), None)
+    claim = next((it for it in claims if isinstance(it, Claim)), None)  # a `Claimer` has a method of this name
     who = "no handler, or the host is busy" if claim is None else f"{claim.service}/{claim.handler} of {claim.invocation}"
     at = next((it for it in frames if is_users(it)), frames[0])
     file, line = at.f_code.co_filename, at.f_lineno

@@ -3,7 +3,10 @@
 from __future__ import annotations
 
 from collections.abc import Callable, Iterable, Sequence
+from dataclasses import dataclass
 from typing import Any, Protocol
+
+from .together import Each, Listed, Reading
 
 
 class Conflict(Exception):
@@ -33,8 +36,19 @@ class Unsuitable(Exception):
     """The database is there, and can't be used as it is set up: what is wrong, and what is allowed."""
 
 
-Asked = tuple[str, Sequence[object]]
-"""A statement with its values."""
+Asked = tuple[str | Reading, Sequence[object]]
+"""A query with its values."""
+
+
+@dataclass(frozen=True)
+class Claiming:
+    """What a worker claims: invocations of these services, of this version of their code or of none. `peers` are the others that claim the same, the next
+    one first."""
+
+    worker: str
+    peers: Sequence[str]
+    services: Sequence[str]
+    code: str
 
 
 class Beats(Protocol):
@@ -75,10 +89,10 @@ class Database(Protocol):
     async def rows(self, sql: str, values: Sequence[object] = ()) -> list[Any]: ...
     async def change(self, sql: str, values: Sequence[object] = ()) -> int: ...
     async def several(self, asked: Sequence[Asked]) -> list[list[Any]]:
-        """The rows of each of several statements. On a server they take one round trip together."""
+        """The rows of each of several queries. On a server they take one round trip together, and those of the same `Reading` are one statement."""
 
     def must(self, sql: str, values: Sequence[object], otherwise: Exception, count: int = 1) -> None:
-        """A `put` that has to change, or find, just so many rows. If it doesn't, `otherwise` is raised, by this or by one of the statements that follow, the
+        """A `put` that has to change, or find, exactly `count` rows. If it doesn't, `otherwise` is raised, by this or by one of the statements that follow, the
         commit too; then nothing of the transaction is stored."""
 
     def put(self, sql: str, values: Sequence[object] = ()) -> None:
@@ -87,15 +101,31 @@ class Database(Protocol):
     def many(self, sql: str, values: Iterable[Sequence[object]]) -> None:
         """A `put` for each of the rows of values."""
 
+    def each(self, change: Each, values: Sequence[object], otherwise: Exception | None = None) -> None:
+        """A change of one row, which a server makes together with others like it, by their ranks. They are made before the next `put` or statement
+        with a result, and before the commit. With `otherwise` it is a `must`."""
+
     def hurry(self) -> None:
         """The rest of this transaction waits for another's lock only a moment, and then raises `Conflict`."""
 
     def notify(self, word: str) -> None:
         """Tells this word to the workers that listen, once the transaction is committed. What has ended is told together: `ended ONE TWO`."""
 
+    def ready(self, is_own: bool) -> None:
+        """Something can be claimed from the commit on. If it `is_own`, of a worker that claims by this connection, that one looks for it, and tells
+        others if it leaves some (`pass_on`). Else all workers are notified."""
+
+    def claims(self, what: Claiming | None) -> None:
+        """The worker of this connection looks for this after each of its transactions; with None, it doesn't claim any more."""
+
+    def pass_on(self, first: str = "") -> None:
+        """The worker of this connection has left something that can be claimed: its next peer looks for it, once the transaction is committed. `first` is
+        the worker that was the first to say so, if it isn't this one; it isn't told."""
+
     def notify_holder(self, invocation: str) -> None:
-        """Tells `to INVOCATION`, or several at a time, to the worker that has its lease, once the transaction is committed; to all if none has, and to nobody if it has
-        ended. The lease is looked up just before the commit. A worker that takes it in between finds what came when it next looks by itself."""
+        """Tells `to INVOCATION`, or several at a time, to the worker that has its lease, once the transaction is committed; to all if none has, except if the
+        worker of this connection claims it, and to nobody if it has ended. The lease is looked up just before the commit. A worker that takes it in between
+        finds what came when it next looks by itself."""
 
     async def listen(self, worker: str, heard: Callable[[str], None]) -> Callable[[], None] | None:
         """Calls `heard` for each word that others tell to all or to this worker; returns what ends it. None: there are no others. If the
@@ -124,4 +154,4 @@ async def connect(url: str, *, worker: bool = False, migrates: bool = False) -> 
     return SQLite(path, synchronous=option or "FULL", worker=worker or migrates)
 
 
-__all__ = ["Asked", "Beats", "Conflict", "Database", "Full", "Lost", "StatementFailed", "Unsuitable", "connect"]
+__all__ = ["Asked", "Beats", "Claiming", "Conflict", "Database", "Each", "Full", "Listed", "Lost", "Reading", "StatementFailed", "Unsuitable", "connect"]

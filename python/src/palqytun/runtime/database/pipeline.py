@@ -25,7 +25,7 @@ from ..turns import Turn
 from . import Conflict, Full, Lost, StatementFailed
 
 _BLOB, _INT, _TEXT, _FLOAT, _BOOL, _UNKNOWN = 17, 20, 25, 701, 16, 0  # the server's numbers of types
-_OFTEN, _PREPARED = 3, 500  # a statement is prepared when it is made so often; at most so many are
+_OFTEN, _PREPARED = 3, 500  # a statement is prepared the third time that it is made; and how many are, at most
 _IN_THE_WAY = frozenset(("40001", "40P01", "55P03", "57014", "25006", "58030"))
 _FULL = "53100"
 _TOO_LARGE = "53200"  # of class 53, insufficient resources, this one is for want of memory: by the statement's own size

@@ -15,10 +15,10 @@ import threading
 import time
 from collections.abc import Callable, Iterable, Sequence
 from dataclasses import dataclass, field
-from typing import TYPE_CHECKING, Any
+from typing import TYPE_CHECKING, Any, NamedTuple
 
-from . import Asked, Conflict, Lost, StatementFailed, Unsuitable
-from .schema import MIGRATIONS, VERSIONS, failed, missing
+from . import Asked, Claiming, Conflict, Each, Lost, Reading, StatementFailed, Unsuitable
+from .schema import MIGRATIONS, TABLES, VERSIONS, failed, missing
 
 if TYPE_CHECKING:
     import psycopg
@@ -33,15 +33,19 @@ _FAILED = failed(
 )
 _TYPES = {"serial": "BIGSERIAL PRIMARY KEY", "blob": "BYTEA", "float": "FLOAT8", "plain": "", "failed": _FAILED}
 _TYPES |= {"since": "to_timestamp(", "epoch": ")", "text": "convert_from(value, 'UTF8')", "now": "extract(epoch from clock_timestamp())::float8"}
+_TYPES["remade"] = "CREATE OR REPLACE VIEW"  # views of the user's own over it stay
 _CHANNEL = "palqytun"  # of all workers
-_OWN = 12  # each worker has a channel of its own too, named by so many last characters of its name, which are random
+_OWN = 12  # each worker has a channel of its own too, named by the last characters of its name, this many, which are random
 _NOTIFIED = f"SELECT pg_notify('{_CHANNEL}', word) FROM unnest(?::text[]) AS word"
+_PASSED_ON = f"SELECT pg_notify('{_CHANNEL}_' || right(?, {_OWN}), 'ready ' || ?)"
 _TO_HOLDERS = (
     "SELECT pg_notify(channel, 'to ' || string_agg(id, ' ')) FROM ("
     f"SELECT CASE status WHEN 'running' THEN '{_CHANNEL}_' || right(worker, {_OWN}) ELSE '{_CHANNEL}' END AS channel, id"
-    " FROM invocations WHERE id=ANY(?::text[]) AND status<>'done') AS touched GROUP BY channel"
+    " FROM invocations WHERE id=ANY(?::text[]) AND status<>'done' AND"
+    " (status='running' OR NOT (service=ANY(?::text[]) AND COALESCE(code=?, true)))) AS touched GROUP BY channel"
 )
 _AT_ONCE = 100  # invocations that one notification names; it has less than 8,000 bytes
+_TOGETHER = 200  # rows that one statement changes, at most
 _MIGRATING = 7_401_953  # the advisory lock of whoever migrates
 _LEVEL = "ISOLATION LEVEL READ COMMITTED"  # each statement reads all that was committed before it; by an older snapshot changes are lost
 _BEGIN = f"BEGIN {_LEVEL}"
@@ -77,7 +81,15 @@ _SET_UP = (
 _UNSAFE = "palqytun.unsafe"  # a setting of a session: `on` allows what may lose commits
 _CHECKED = (
     "SELECT current_setting('server_encoding'), current_schema()::text, current_setting('transaction_read_only'), current_setting('fsync'),"
-    f" current_setting('synchronous_commit'), current_setting('{_UNSAFE}', true)"
+    f" current_setting('synchronous_commit'), current_setting('{_UNSAFE}', true), current_setting('server_version_num')::int"
+)
+_OLDEST = 140000  # the server's version that is needed
+_RIGHTS = ("SELECT", "INSERT", "UPDATE", "DELETE")
+_MAY = "CASE what WHEN 'USAGE' THEN has_sequence_privilege(to_regclass(relname || '_seq_seq'), what) ELSE has_table_privilege(oid, what) END"
+_NEEDED = ", ".join(f"({at}, {it!r})" for at, it in enumerate((*_RIGHTS, "USAGE")))
+_LACKING = (
+    f"SELECT relname::text, string_agg(what, ', ' ORDER BY number) FROM pg_class, (VALUES {_NEEDED}) AS needed(number, what)"
+    f" WHERE oid=to_regclass(relname) AND relname=ANY(?::text[]) AND NOT {_MAY} GROUP BY relname ORDER BY relname"
 )
 _ENCODINGS = ("UTF8", "SQL_ASCII")
 
@@ -110,6 +122,7 @@ class _Server:
     url: str
     processes: set[int] = field(default_factory=set)  # of the server, for these connections
     clock: float = 0.0  # the server's time at 0 of the monotonic clock
+    claims: Claiming | None = None  # what the worker of these connections looks for
 
     async def reached(self) -> psycopg.AsyncConnection[Any]:
         """A new connection, as the server's defaults have it."""
@@ -139,6 +152,14 @@ class _Server:
         return found
 
 
+class _Row(NamedTuple):
+    """A change of one row, which isn't in the queue yet."""
+
+    change: Each
+    values: Sequence[object]
+    otherwise: Exception | None
+
+
 class Postgres:
     is_shared, is_remote, skip, lock = True, True, " FOR UPDATE SKIP LOCKED", " FOR UPDATE"
     clock = "extract(epoch from clock_timestamp())::float8"
@@ -149,8 +170,10 @@ class Postgres:
         self._statement: Callable[..., Statement] = _driver().statement
         self._begin = self._statement(_BEGIN)
         self._words: set[str] = set()  # that this transaction sends
+        self._passes_on: str | None = None  # this transaction tells the next peer that something is ready, as this worker said first
         self._touched: set[str] = set()  # the invocations whose holders it notifies
         self._queue: list[Statement] = []
+        self._each: dict[Each | int, list[_Row]] = {}  # changes that aren't in the queue yet, by their shape or by their rank alone
         self.before = len(MIGRATIONS)
 
     @staticmethod
@@ -161,6 +184,8 @@ class Postgres:
         try:
             await found._check(worker)
             await found._migrate(migrates)
+            if worker:
+                await found._check_rights()
             asked = time.monotonic()
             found.told((await found.rows(f"SELECT {found.clock}"))[0][0], asked)
         except StatementFailed as error:
@@ -178,17 +203,30 @@ class Postgres:
 
     async def _check(self, worker: bool) -> None:
         """Refuses a database that can't be used as it is set up."""
-        [(encoding, schema, read_only, fsync, synchronous, unsafe)] = await self.rows(_CHECKED)
+        [(encoding, schema, read_only, fsync, synchronous, unsafe, version)] = await self.rows(_CHECKED)
+        if version < _OLDEST:
+            raise Unsuitable(f"the server is PostgreSQL {version // 10000}, and has to be {_OLDEST // 10000} or newer")
         if encoding not in _ENCODINGS:
             raise Unsuitable(f"the database's encoding is {encoding}, and has to be UTF8: CREATE DATABASE .. ENCODING 'UTF8' TEMPLATE template0")
         if schema is None:
             raise Unsuitable("the search_path names no schema that is there and that the user may use, so there is no place for the tables")
         if worker and read_only == "on":
-            raise Lost("a worker has to write, and this session may only read: the server is a standby, or default_transaction_read_only is on")
+            raise Lost(
+                "a worker has to write, and this session may only read: the server is a standby, or default_transaction_read_only is on;"
+                " name the primary, or all servers and target_session_attrs=read-write"
+            )
         loses = [f"{name}=off" for name, value in (("fsync", fsync), ("synchronous_commit", synchronous)) if value == "off"]
         if worker and loses and unsafe != "on":
             text = f"with {' and '.join(loses)} what was committed may be lost when the server's host stops"
             raise Unsuitable(f"{text}; to allow it, set {_UNSAFE}=on, as by postgresql://..?options=-c{_UNSAFE}%3Don")
+
+    async def _check_rights(self) -> None:
+        """Refuses a user who may not change the tables: each claim would fail."""
+        if lacks := await self.rows(_LACKING, (list(TABLES),)):
+            table, rights = lacks[0]
+            [(user,)] = await self.rows("SELECT current_user::text")
+            text = f"the user {user} has no {rights} on {table}{f', and lacks rights on {len(lacks) - 1} more tables' if len(lacks) > 1 else ''}"
+            raise Unsuitable(f"{text}: a worker's user owns the tables, or has {', '.join(_RIGHTS)} on all of them and USAGE on their sequences")
 
     async def _migrate(self, migrates: bool) -> None:
         self.before = await self._version()
@@ -221,25 +259,63 @@ class Postgres:
 
     async def _send(self, it: Statement) -> PGresult:
         """Makes what is queued, and then this statement, in one round trip."""
-        statements, self._queue = [*self._queue, it], []
-        return await self._pipeline.made(statements)
+        return await self._pipeline.made([*self._queued(), it])
+
+    def _queued(self) -> list[Statement]:
+        """What is to be made before the next statement with a result, which isn't queued any more."""
+        self._gather()
+        queue, self._queue = self._queue, []
+        return queue
+
+    def _gather(self) -> None:
+        """Queues the changes of rows, those of a shape together."""
+        if not self._each:
+            return
+        gathered, self._each = self._each, {}
+        for rows in sorted(gathered.values(), key=lambda it: it[0].change.rank):
+            most = 1 if rows[0].change.many is None else _TOGETHER
+            for at in range(0, len(rows), most):
+                self._queue.append(self._made(rows[at : at + most]))
+
+    def _made(self, rows: list[_Row]) -> Statement:
+        """The statement that makes a change of some rows."""
+        change, values, otherwise = rows[0].change, rows[0].values, next((it.otherwise for it in rows if it.otherwise is not None), None)
+        sql = change.one
+        if change.many is not None and (len(rows) > 1 or not sql):
+            sql, values = change.many, [list(it) for it in zip(*(row.values for row in rows))]
+        return self._statement(sql, values) if otherwise is None else self._checked(sql, values, otherwise, len(rows))
+
+    def _checked(self, sql: str, values: Sequence[object], otherwise: Exception, count: int) -> Statement:
+        """The server itself refuses, so what is sent with this statement isn't made either, and isn't committed."""
+        found = f"{sql} RETURNING 1" if sql.startswith(("UPDATE", "INSERT", "DELETE")) else sql
+        checked = f"WITH found AS ({found}) SELECT 1/CASE WHEN COUNT(*)=? THEN 1 ELSE 0 END FROM found"
+        return self._statement(checked, (*values, count))._replace(otherwise=otherwise)
 
     async def begin(self, reads: bool = False) -> None:
         self._words.clear()
+        self._passes_on = None
         self._touched.clear()
+        self._each.clear()
         self._queue = [self._statement(_BEGIN_READING) if reads else self._begin]
 
     async def commit(self) -> None:
         ended = sorted(it.removeprefix("ended ") for it in self._words if it.startswith("ended "))
         words = {it for it in self._words if not it.startswith("ended ")} | {f"ended {' '.join(it)}" for it in _some(ended)}
-        for sql, all_names in ((_NOTIFIED, [sorted(words)] if words else []), (_TO_HOLDERS, _some(sorted(self._touched)))):
-            for names in all_names:
-                self.put(sql, (names,))
+        claims = self._server.claims or Claiming("", (), (), "")
+        if words:
+            self.put(_NOTIFIED, (sorted(words),))
+        for names in _some(sorted(self._touched)):
+            self.put(_TO_HOLDERS, (names, list(claims.services), claims.code))
+        if self._passes_on is not None and claims.peers and "ready" not in words:
+            first = self._passes_on or claims.worker
+            if claims.peers[0] != first:
+                self.put(_PASSED_ON, (claims.peers[0], first))
         done = await self._send(self._statement("COMMIT"))
         if done.command_status != b"COMMIT":
             raise Conflict("the transaction was rolled back")
 
     async def rollback(self) -> None:
+        self._each.clear()
         has_begun, self._queue = not self._queue or not self._queue[0].sql.startswith(b"BEGIN"), []
         if has_begun:
             await self._send(self._statement("ROLLBACK"))
@@ -253,21 +329,43 @@ class Postgres:
     async def several(self, asked: Sequence[Asked]) -> list[list[Any]]:
         if not asked:
             return []
-        statements, self._queue = [*self._queue, *(self._statement(sql, values) for sql, values in asked)], []
-        results = await self._pipeline.all_made(statements)
-        return [await self._pipeline.rows(it) for it in results[-len(asked) :]]
+        alike: dict[str | Reading, list[int]] = {}  # the numbers of those that are one statement
+        for number, (it, _) in enumerate(asked):
+            alike.setdefault(it if isinstance(it, Reading) else f"{number}", []).append(number)
+        results = await self._pipeline.all_made([*self._queued(), *(self._asked(asked, it) for it in alike.values())])
+        found: list[list[Any]] = [[] for _ in asked]
+        for numbers, result in zip(alike.values(), results[-len(alike) :]):
+            rows = await self._pipeline.rows(result)
+            if len(numbers) == 1:
+                found[numbers[0]] = rows
+                continue
+            for number, *row in rows:
+                found[number].append(tuple(row))
+        return found
+
+    def _asked(self, asked: Sequence[Asked], numbers: list[int]) -> Statement:
+        """One of several queries, or one statement for many that are alike."""
+        it, values = asked[numbers[0]]
+        if isinstance(it, str):
+            return self._statement(it, values)
+        if len(numbers) == 1:
+            return self._statement(it.one, values)
+        return self._statement(it.many, [numbers, *(list(column) for column in zip(*(asked[number][1] for number in numbers)))])
 
     def must(self, sql: str, values: Sequence[object], otherwise: Exception, count: int = 1) -> None:
-        # The server itself refuses, so what is sent with this statement isn't made either, and isn't committed.
-        found = f"{sql} RETURNING 1" if sql.startswith(("UPDATE", "INSERT", "DELETE")) else sql
-        checked = f"WITH found AS ({found}) SELECT 1/CASE WHEN COUNT(*)=? THEN 1 ELSE 0 END FROM found"
-        self._queue.append(self._statement(checked, (*values, count))._replace(otherwise=otherwise))
+        self._gather()
+        self._queue.append(self._checked(sql, values, otherwise, count))
 
     def put(self, sql: str, values: Sequence[object] = ()) -> None:
+        self._gather()
         self._queue.append(self._statement(sql, values))
 
     def many(self, sql: str, values: Iterable[Sequence[object]]) -> None:
+        self._gather()
         self._queue += [self._statement(sql, row) for row in values]
+
+    def each(self, change: Each, values: Sequence[object], otherwise: Exception | None = None) -> None:
+        self._each.setdefault(change.rank if change.many is None else change, []).append(_Row(change, values, otherwise))
 
     def hurry(self) -> None:
         self.put(_HURRY)
@@ -276,6 +374,16 @@ class Postgres:
 
     def notify(self, word: str) -> None:
         self._words.add(word)
+
+    def ready(self, is_own: bool) -> None:
+        if not is_own or self._server.claims is None:
+            self._words.add("ready")
+
+    def claims(self, what: Claiming | None) -> None:
+        self._server.claims = what
+
+    def pass_on(self, first: str = "") -> None:
+        self._passes_on = first
 
     def notify_holder(self, invocation: str) -> None:
         self._touched.add(invocation)

@@ -11,8 +11,8 @@ from collections.abc import Callable
 
 
 def failed(octets: Callable[[int, int], str], number: Callable[[int], str]) -> str:
-    """The SQL of {failed}, for docs/WIRE.md's Output and Notification. `octets` is the hexadecimal form of so many bytes of `result` from a place on,
-    counted from 1, and `number` the number that two bytes are."""
+    """The SQL of {failed}, for docs/WIRE.md's Output and Notification. `octets(place, count)` is the hexadecimal form of
+    `count` bytes of `result` from a place on, counted from 1, and `number` the number that two bytes are."""
     output = f"WHEN {octets(1, 2)}='001D' AND {octets(11, 1)}='01' THEN {number(14)}"
     completion = f"WHEN {octets(1, 2)}='001E' AND {octets(11, 1)}='00' AND {octets(16, 1)}='02' THEN {number(19)}"
     return f"CASE {output} {completion} END"
@@ -164,14 +164,32 @@ CREATE TABLE starts(queue TEXT NOT NULL, at {float} NOT NULL);
 CREATE INDEX starts_of ON starts(queue, at)
 """
 
-MIGRATIONS = [_FIRST, _SECOND, _THIRD, _FOURTH, _FIFTH, _SIXTH, _SEVENTH, _EIGHTH, _NINTH]
+# What a queue lets through, as JSON, as the worker that began last says it. What handlers say of their invocations for a search, and the last that runs
+# have told of their progress. The view of invocations says which one goes on in the place of another one, its queue and its code. {remade} makes
+# a view anew that is there.
+_TENTH = """
+ALTER TABLE queues ADD COLUMN limits TEXT;
+CREATE TABLE attributes(invocation TEXT NOT NULL, name TEXT NOT NULL, value TEXT NOT NULL, PRIMARY KEY(invocation, name)){plain};
+CREATE INDEX attributes_by ON attributes(name, value, invocation);
+CREATE TABLE progress(
+    invocation TEXT NOT NULL, run BIGINT NOT NULL,
+    name TEXT NOT NULL, at {float} NOT NULL, value {blob} NOT NULL, PRIMARY KEY(invocation, run)){plain};
+{remade} palqytun_invocations AS SELECT id, service, handler, key,
+    CASE WHEN failed IS NOT NULL THEN 'failed' ELSE status END AS status, failed AS code, error,
+    {since}created{epoch} AS created, {since}ended{epoch} AS ended, COALESCE(ended, {now}) - created AS seconds, {since}due{epoch} AS due,
+    epoch AS attempts, retries, entries, worker, {since}cancelled{epoch} AS cancelled, parent, origin, trace, idem AS idempotency_key, seq,
+    continued, chain, queue, queue_key, priority, code AS version FROM invocations;
+CREATE VIEW palqytun_attributes AS SELECT invocation, name, value FROM attributes
+"""
+
+MIGRATIONS = [_FIRST, _SECOND, _THIRD, _FOURTH, _FIFTH, _SIXTH, _SEVENTH, _EIGHTH, _NINTH, _TENTH]
 _OLDEST = 3  # what older databases hold can't be read any more
 
 VERSIONS = "CREATE TABLE IF NOT EXISTS schema_versions(version INTEGER PRIMARY KEY)"
 
 TABLES = (
     *("invocations", "journal", "inbox", "timers", "waiters", "state", "promises", "promise_waiters"),
-    *("locks", "workers", "attempts", "schedules", "limits", "audit", "serving", "transactions", "queues", "starts"),
+    *("locks", "workers", "attempts", "schedules", "limits", "audit", "serving", "transactions", "queues", "starts", "attributes", "progress"),
 )
 
 

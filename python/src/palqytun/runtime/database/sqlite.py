@@ -14,7 +14,7 @@ from collections.abc import Callable, Iterable, Sequence
 from types import TracebackType
 from typing import Any, TextIO
 
-from . import Asked, Beats, Conflict, Full, Lost, StatementFailed
+from . import Asked, Beats, Claiming, Conflict, Each, Full, Lost, Reading, StatementFailed
 from .schema import VERSIONS, failed, missing
 
 _READ = 1000  # rows that are read in one step
@@ -44,6 +44,7 @@ def _number(at: int) -> str:
 
 _TYPES = {"serial": "INTEGER PRIMARY KEY AUTOINCREMENT", "blob": "BLOB", "float": "REAL", "plain": " WITHOUT ROWID", "failed": failed(_hex, _number)}
 _TYPES |= {"since": "datetime(", "epoch": ", 'unixepoch')", "text": "CAST(value AS TEXT)", "now": "((julianday('now') - 2440587.5) * 86400.0)"}
+_TYPES["remade"] = "DROP VIEW palqytun_invocations;\nCREATE VIEW"
 
 
 class InUse(Exception):
@@ -190,7 +191,7 @@ class SQLite:
             return self._connection.execute(sql, tuple(values)).rowcount
 
     async def several(self, asked: Sequence[Asked]) -> list[list[Any]]:
-        return [await self.rows(sql, values) for sql, values in asked]
+        return [await self.rows(it.one if isinstance(it, Reading) else it, values) for it, values in asked]
 
     def must(self, sql: str, values: Sequence[object], otherwise: Exception, count: int = 1) -> None:
         with _named:
@@ -207,10 +208,25 @@ class SQLite:
         with _named:
             self._connection.executemany(sql, values)
 
+    def each(self, change: Each, values: Sequence[object], otherwise: Exception | None = None) -> None:
+        if otherwise is None:
+            self.put(change.one, values)
+        else:
+            self.must(change.one, values, otherwise)
+
     def hurry(self) -> None:
         """Nothing waits for a lock here."""
 
     def notify(self, word: str) -> None:
+        """There is no other worker to tell."""
+
+    def ready(self, is_own: bool) -> None:
+        """There is no other worker to tell."""
+
+    def claims(self, what: Claiming | None) -> None:
+        """There is no other worker."""
+
+    def pass_on(self, first: str = "") -> None:
         """There is no other worker to tell."""
 
     def notify_holder(self, invocation: str) -> None:

@@ -9,6 +9,7 @@ delivering one never reads it.
 from __future__ import annotations
 
 import functools
+import json
 import struct
 from collections.abc import Callable, Iterable, Iterator
 from dataclasses import dataclass
@@ -130,7 +131,7 @@ class Begin:
 
 
 def start(begin: Begin, known_entries: int) -> bytes:
-    """The Start of a new attempt over a journal of so many entries."""
+    """The Start of a new attempt over a journal of `known_entries` entries."""
     id, state = _text(begin.id), ", ".join(f"({_text(name)} {_blob(data)})" for name, data in begin.state)
     line = f"Start id={id} debug_id={id} key={_text(begin.key)} known_entries={known_entries} state=[{state}]"
     line += f" partial={'true' if begin.partial else 'false'} retry_count={begin.retries} duration={begin.duration} random_seed={begin.seed}"
@@ -234,6 +235,14 @@ class Run(Command):
 
     def carried(self) -> tuple[int, ...]:
         return (self.id,)
+
+
+@dataclass(frozen=True)
+class Attribute(Command):
+    """Sets what a search finds the invocation by, or clears it if there is no value. It is a run that is never executed."""
+
+    name: str
+    value: str | None
 
 
 @dataclass(frozen=True)
@@ -399,6 +408,8 @@ def timed(it: Message | None) -> int | None:
 
 def asked_of(kind: int, frame: bytes) -> Message | None:
     """What a frame that an attempt wrote asks of the runtime: nothing, if it is a step's. One that can't be read is a `ValueError`."""
+    if _is_attribute(kind, frame):
+        return _attribute(frame)
     if kind in _STEPS:
         return None
     if kind == _SUSPENSION:
@@ -408,37 +419,80 @@ def asked_of(kind: int, frame: bytes) -> Message | None:
     return read(kind, frame)
 
 
+OWN = "palqytun."
+"""What the names of the runs begin with that a handler's other calls make. They are never executed: the command itself is the record."""
+
+PATCHED, CONTINUED, ATTRIBUTE = f"{OWN}patched ", f"{OWN}continued", f"{OWN}attribute "
+"""What a run's name begins with that stands for a patch of the handler's code; the name of one that stands before the Output of a handler that goes on as
+a new invocation, whose argument that Output is; and what the name of one begins with that sets an attribute, which it has as JSON."""
+
+_NAMED = 18  # the place of a run's name in its frame
+_SETS = ATTRIBUTE.encode()
+_OTHER = -1  # stands for a run that asks something of the runtime
+
+
+def _is_attribute(kind: int, frame: bytes) -> bool:
+    return kind == _RUN and frame.startswith(_SETS, _NAMED)
+
+
+def attribute(name: str, value: str | None) -> str:
+    """The name of the run that sets an attribute.
+
+    >>> attribute("customer", "ann")
+    'palqytun.attribute ["customer", "ann"]'
+    """
+    return ATTRIBUTE + json.dumps([name] if value is None else [name, value])
+
+
+def _attribute(frame: bytes) -> Attribute | None:
+    it = read(_RUN, frame)
+    assert isinstance(it, Run)
+    try:
+        name, *value = json.loads(it.name.removeprefix(ATTRIBUTE))
+    except ValueError as error:
+        raise ValueError(f"{it.name[:100]} sets no attribute") from error
+    return Attribute(name, value[0] if value else None)
+
+
+def attributes_in(frames: Iterable[bytes]) -> dict[str, str]:
+    """The attributes that the commands of a stored journal leave."""
+    found: dict[str, str] = {}
+    for kind, frame in (it for part in frames for it in split(part)):
+        it = _attribute(frame) if _is_attribute(kind, frame) else None
+        if it is not None and it.value is not None:
+            found[it.name] = it.value
+        elif it is not None:
+            found.pop(it.name, None)
+    return found
+
+
+def _kinds(output: bytes) -> Iterator[int]:
+    return (_OTHER if _is_attribute(kind, frame) else kind for kind, frame in split(output))
+
+
 def only_steps(output: bytes) -> bool:
     """Whether an output has neither an end nor a command that asks something of the runtime."""
-    return all(kind in _STEPS for kind, _ in split(output))
+    return all(kind in _STEPS for kind in _kinds(output))
 
 
-_OWN = _STEPS | {_OUTPUT}
+_ENDING = _STEPS | {_OUTPUT}
 
 
 def only_ends(output: bytes) -> bool:
     """Whether an output has an end, and no command that asks something else of the runtime."""
-    kinds = {kind for kind, _ in split(output)}
-    return _END in kinds and kinds <= _OWN | {_END}
+    kinds = set(_kinds(output))
+    return _END in kinds and kinds <= _ENDING | {_END}
 
 
 def only_suspends(output: bytes) -> bool:
     """Whether an output has a suspension, and no command that asks something of the runtime."""
-    kinds = {kind for kind, _ in split(output)}
-    return _SUSPENSION in kinds and kinds <= _OWN | {_SUSPENSION}
+    kinds = set(_kinds(output))
+    return _SUSPENSION in kinds and kinds <= _ENDING | {_SUSPENSION}
 
 
 def only_runs(output: bytes) -> bool:
-    """Whether an output has no frame but commands of runs."""
-    return all(kind == _RUN for kind, _ in split(output))
-
-
-PATCHED = "palqytun.patched "
-"""What a run's name begins with that stands for a patch of the handler's code. It is never executed: the command itself is the record."""
-
-
-CONTINUED = "palqytun.continued"
-"""The name of a run that stands before the Output of a handler that goes on as a new invocation. It is never executed. The Output is that one's argument."""
+    """Whether an output has no frame but commands of runs that are executed, or of patches."""
+    return all(kind == _RUN for kind in _kinds(output))
 
 
 def signal_name(frame: bytes) -> str | None:
@@ -495,7 +549,8 @@ def described(frame: bytes) -> Described:
     [(kind, whole)] = split(frame)
     it = read(kind, whole)
     fields = tuple((name, _shown(name, part)) for name, part in vars(it).items())
-    carries = it.carried() if isinstance(it, Command) else ()
+    is_record = isinstance(it, Run) and it.name.startswith(OWN)  # nothing completes it
+    carries = it.carried() if isinstance(it, Command) and not is_record else ()
     completes = int(it.id[1]) if isinstance(it, Notification) and it.id[0] == 0 else None
     has_failed = isinstance(it, (Notification, Output)) and is_failure(it.result)
     return Described(_NAMES[kind - _INPUT], fields, carries, completes, has_failed)

@@ -1,0 +1,4 @@
+pub mod Running
+pub mod Resting
+pub mod Suspending
+pub mod Stepping

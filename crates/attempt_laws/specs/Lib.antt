@@ -1,0 +1,2 @@
+pub mod Suspensions
+pub mod Limits

@@ -1,0 +1,85 @@
+-- What the events of a script do: those of an engine, one after another.
+use Rattle.std.specs.Prelude.{◌≡◌, ℕ, List, [], Option, Some, None}
+use Rattle.std.specs.List.{AllByRecursion}
+use Rattle.vm_model.specs.Calls.{Meaning}
+use Rattle.handler_plans.specs.Plans.{plan_step}
+use Rattle.handler_plans.specs.declared.plan.Plan.{Plan}
+use Rattle.world_rounds.specs.declared.types.Event.TheVariants as attempt
+use Rattle.engines.specs.Engines.{AllHappen, HappeningDoes}
+use Rattle.engines.specs.declared.engine.Engine.{Engine}
+use Rattle.engines.specs.declared.types.Happening.{Happening}
+use Rattle.engines.specs.declared.types.Happening.TheVariants as happening
+use Rattle.engines.specs.declared.types.Order.{Order}
+use Rattle.engine_lines.specs.declared.said.Asked.{Asked}
+use Rattle.engine_lines.specs.declared.said.Deed.{Deed}
+use Rattle.engine_lines.specs.declared.said.Deed.TheVariants as deed
+use Rattle.engine_lines.specs.declared.said.Event.{Event}
+use Rattle.engine_lines.specs.declared.said.Event.TheVariants as event
+
+-- what a plan means
+abbrev pub plan_meaning : Plan → Meaning
+plan_meaning plan = plan_step plan.steps.items
+
+-- Such events of an engine happen, one after another.
+pub record HappenOf (Such : Happening → Type 0) (old new : Engine Plan) : Type 0 where
+  pub events : List Happening
+  pub happen : AllHappen plan_meaning events old new
+  pub such : AllByRecursion Such events
+
+-- this one event happens
+pub record HappensOnce (it : Happening) (old new : Engine Plan) : Type 0 where
+  pub does : HappeningDoes plan_meaning it old new
+
+-- a key that isn't named is empty
+abbrev pub key_of : Option (List ℕ) → List ℕ
+key_of None = []
+key_of (Some key) = key
+
+-- what a line `submit` asks for
+abbrev pub submitted_order : Asked → Order
+submitted_order asked = record {
+  service = asked.service;
+  handler = asked.handler;
+  key = key_of asked.key;
+  idempotency_key = asked.idempotency_key;
+  parameter = asked.parameter;
+  begins = asked.begins;
+}
+
+-- something that waits for an invocation is delivered
+abbrev pub IsDeliveryTo : ℕ → Happening → Type 0
+IsDeliveryTo place (happening.Deliver other at) = other ≡ place
+IsDeliveryTo place it = ⊥
+
+-- what happens while invocations settle: nobody is asked for, no attempt is stopped, and the clock
+-- stands
+abbrev pub IsSettling : Happening → Type 0
+IsSettling (happening.Submit order) = ⊥
+IsSettling (happening.Stop place) = ⊥
+IsSettling happening.StopAll = ⊥
+IsSettling (happening.Clock t) = ⊥
+IsSettling it = Unit {0}
+
+-- what a line does to the invocation at a place
+abbrev pub DeedDoes : ℕ → Deed → Engine Plan → Engine Plan → Type 0
+DeedDoes place deed.Begin old new = HappensOnce (happening.Begin place) old new
+DeedDoes place (deed.Piece n) old new =
+    HappensOnce (happening.Act place (attempt.Piece n)) old new
+DeedDoes place deed.Close old new = HappensOnce (happening.Act place attempt.Close) old new
+DeedDoes place (deed.Steps n) old new =
+    HappensOnce (happening.Act place (attempt.Steps n)) old new
+DeedDoes place (deed.RunResult p) old new =
+    HappensOnce (happening.Act place (attempt.RunResult p.handle p.result p.policy)) old new
+DeedDoes place (deed.Deliver at) old new = HappensOnce (happening.Deliver place at) old new
+DeedDoes place deed.DeliverAll old new = HappenOf (IsDeliveryTo place) old new
+DeedDoes place (deed.Store n) old new = HappenOf (λ it. it ≡ happening.Store place) old new
+DeedDoes place deed.Stop old new = HappensOnce (happening.Stop place) old new
+
+-- What a line does.
+abbrev pub EventDoes : Event → Engine Plan → Engine Plan → Type 0
+EventDoes (event.Submit asked) old new = HappensOnce (happening.Submit (submitted_order asked)) old
+    new
+EventDoes (event.To number does) old new = DeedDoes number does old new
+EventDoes event.Crash old new = HappensOnce happening.StopAll old new
+EventDoes (event.Clock time) old new = HappensOnce (happening.Clock time) old new
+EventDoes (event.Settle times) old new = HappenOf IsSettling old new

@@ -1,0 +1,4 @@
+pub mod Statuses
+pub mod Events
+pub mod Printed
+pub mod Runs

@@ -1,0 +1,4 @@
+pub mod Children
+pub mod MemberRounds
+pub mod ToldSets
+pub mod Values

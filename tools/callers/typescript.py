@@ -1,0 +1,67 @@
+"""The SDK in TypeScript: it is built, its tests run over a database, and its handlers and Python's call each other while workers are killed."""
+
+from __future__ import annotations
+
+import shutil
+import sys
+from pathlib import Path
+
+from tools.gate import counts as counting
+from tools.gate import packages
+from tools.pages import protocol
+from tools.programs.commands import ended
+
+from .common import SECONDS, Bindings, copied, example_of
+from .node import COUNT
+
+TOP = Path(__file__).resolve().parents[2]
+POSTGRES, CHAOS = "python/tests/postgres.py", "python/tests/crash/chaos.py"
+KILLS = 4  # in the short form of the crash test
+
+
+def typescript(it: Bindings) -> None:
+    """Builds the SDK with strict types, runs its tests and README's example, and kills workers of both languages."""
+    it.checks.tell(protocol.MODULE, protocol.check(TOP))
+    if not it.checks.has("the SDK in TypeScript", "node", "node-api", "typescript", "node-pg"):
+        return
+    env = {name: value for name, value in it.env().items() if not name.startswith("NODE_")} | {"NODE_PATH": packages.node_path()}
+    folder = built(it, env)
+    if folder is None or not it.checks.has("the SDK in TypeScript on a database", "postgresql", "psycopg"):
+        return
+    tests = sorted(str(one) for one in Path(folder, "out/test").glob("*.test.js"))
+    ran = ended(beside_a_database("node", "--test", *tests), env, None, SECONDS)
+    said = {word: int(count) for word, count in COUNT.findall(ran.output)}
+    passed = said.pop("pass", 0)
+    found = counting.with_status(counting.Counts(passed, sum(said.values())), 1 if ran.status is None else ran.status)
+    it.checks.counts += found
+    print(f"{ran.output + ran.said if found.failed else ''}bindings tests of typescript: {found}", flush=True)
+    example(it, env, folder)
+    words = [sys.executable, CHAOS, "--db", "postgres", "--kills", str(KILLS), "--sdk", folder]
+    it.checks.build(f"handlers in Python and TypeScript under {KILLS} kills", words, env)
+
+
+def beside_a_database(*words: str) -> list[str]:
+    """A command beside a temporary cluster that has the tables."""
+    migrate = f"{sys.executable} -m palqytun migrate --db \"$PALQYTUN_TEST_POSTGRES\" >/dev/null && exec \"$@\""
+    return [sys.executable, POSTGRES, "sh", "-c", migrate, "sh", *words]
+
+
+def built(it: Bindings, env: dict[str, str]) -> str | None:
+    """The folder of a copy in which the SDK and its tests are built, beside a binding of its own; none if that fails."""
+    folder = f"{it.room}/typescript"
+    shutil.copytree("typescript", folder, ignore=shutil.ignore_patterns("out", "node_modules"))
+    binding = copied(it, "node", f"{folder}/node_modules/palqytun")
+    steps = {"its addon is compiled": (["node", "build.js"], binding), "types of typescript": (["tsc", "-p", "."], folder), "types of its tests": (["tsc", "-p", "test"], folder)}
+    return folder if all(it.checks.build(f"typescript: {name}", words, env, cwd) for name, (words, cwd) in steps.items()) else None
+
+
+def example(it: Bindings, env: dict[str, str], folder: str) -> None:
+    """README's example, whose types are checked, by `require` and by `import`."""
+    code, printed = example_of("../typescript", "ts")
+    declared = "declare const process: { env: { DATABASE?: string } };\ndeclare const console: { log(text: string): void };\n"
+    Path(folder, "test/readme.ts").write_text(declared + code, encoding="utf-8")
+    if it.checks.build("types of the example of typescript/README.md", ["tsc", "-p", "test"], env, folder):
+        run = f"DATABASE=\"$PALQYTUN_TEST_POSTGRES\" exec node {folder}/out/test/readme.js"
+        it.checks.prints("the example of typescript/README.md", beside_a_database("sh", "-c", run), printed, env)
+    names = "import('@palqytun/sdk').then((it) => console.log(Object.keys(it).filter((name) => name !== 'default').length === Object.keys(require('@palqytun/sdk')).length))"
+    it.checks.prints("import and require give the same names", ["node", "-e", names], "true\n", env, folder)

@@ -1,0 +1,395 @@
+/** One attempt of an invocation: its handler, the VM, and the store between them. */
+
+import { VM, VMError, contentType, unknown } from 'palqytun';
+import type { Future, Handle, Input, RetryPolicy } from 'palqytun';
+import { Context, contextOf, failureOf } from './context';
+import type { Action } from './context';
+import { Cancelled, NotDurable, OutsideHandler, TerminalError, isOf, said, traced } from './errors';
+import { isStep, split } from './frames';
+import type { Frame } from './frames';
+import { traceOf } from './hash';
+import type { Log } from './log';
+import { VM_VERSION } from './storing';
+import type { Claim, Outcome, Status } from './storing';
+import { decoded, encoded } from './values';
+import { within } from './within';
+
+/** What an attempt needs of its worker. */
+export interface Host {
+  readonly log: Log;
+  /** No run begins any more, and what waits is suspended. */
+  readonly drains: boolean;
+  /** For how many milliseconds an attempt may wait now, before it is suspended. */
+  readonly patience: number;
+  /** The database's time, in seconds since the epoch. */
+  now(): number;
+  store(claim: Claim, output: Uint8Array): Promise<Outcome>;
+  pull(claim: Claim): Promise<Outcome>;
+  release(claim: Claim): Promise<Outcome>;
+  /** Executes an effect once there is room for it. */
+  effect<T>(does: () => Promise<T>): Promise<T>;
+}
+
+/** The attempt was told to stop: nothing more of it is stored. */
+export class Stopped extends Error {
+  override readonly name = 'Stopped';
+}
+
+/** An attempt ended and its core said nothing of it. This is a bug of the SDK. */
+class WithoutEnd extends Error {
+  override readonly name = 'WithoutEnd';
+}
+
+/** The worker stops, and the attempt has more to do: the next worker goes on with it. */
+class Released extends Error {
+  override readonly name = 'Released';
+}
+
+type Executed =
+  | { readonly kind: 'value'; readonly value: Uint8Array }
+  | { readonly kind: 'failure'; readonly error: TerminalError }
+  | { readonly kind: 'failed'; readonly error: unknown; readonly took: number };
+
+/** How a handler has ended: undefined as long as it hasn't. */
+type Ending = { readonly value: unknown } | { readonly thrown: unknown } | undefined;
+
+const FOREIGN = "something that its context didn't give: other work stands in ctx.run";
+
+export class Attempt {
+  status: Status | 'lost' = 'lost';
+  readonly #vm: VM;
+  readonly #executing = new Set<Handle>();
+  readonly #executed: [Handle, Executed][] = [];
+  #waiting: Frame[] = []; // of the output, that isn't stored yet
+  #isPoked = false;
+  #isStopped = false;
+  #hasEnded = false;
+  #ending: Ending;
+  #ring: () => void = () => undefined;
+  readonly #aborts = new Set<AbortController>();
+
+  constructor(private readonly host: Host, readonly claim: Claim) {
+    this.#vm = new VM(contentType(VM_VERSION), { awaitingOnPolicy: 'dontSend', journalMismatchRetryBehavior: 'pause' });
+  }
+
+  /** Something came for the invocation. */
+  poke(): void {
+    this.#isPoked = true;
+    this.#ring();
+  }
+
+  /** Looks at the host again, which drains. */
+  ring(): void {
+    this.#ring();
+  }
+
+  /** Ends the attempt: what it writes isn't stored any more. */
+  stop(): void {
+    this.#isStopped = true;
+    this.#ring();
+  }
+
+  get wasPoked(): boolean {
+    return this.#isPoked;
+  }
+
+  /** What each record of the log has of it. */
+  get fields(): Readonly<Record<string, unknown>> {
+    const { id, service, handler, epoch, trace } = this.claim;
+    const { traceId, spanId } = traceOf(id, trace);
+    return { invocation: id, handler: `${service}/${handler}`, attempt: epoch, trace_id: traceId, span_id: spanId };
+  }
+
+  /** To the attempt's end, which is stored. */
+  run(): Promise<void> {
+    return within.run({ fields: this.fields, run: undefined }, () => this.#run());
+  }
+
+  async #run(): Promise<void> {
+    try {
+      this.#vm.notifyInput(this.claim.fed);
+      await this.#guarded();
+      await this.#rest();
+      if (!this.#hasEnded) throw new WithoutEnd(this.claim.id);
+    } catch (error) {
+      if (!(error instanceof Released)) throw error;
+      await this.#rest();
+      this.status = (await this.host.release(this.claim)).status;
+    } finally {
+      for (const it of this.#aborts) it.abort();
+      this.#vm.close();
+      this.claim.journal.close();
+    }
+  }
+
+  /** Drives the handler. What it throws ends the attempt, and the VM says so. */
+  async #guarded(): Promise<void> {
+    try {
+      await this.#drive(this.#vm.sysInput());
+    } catch (error) {
+      if (error instanceof VMError) return; // the core has failed, or is suspended, and has said so
+      throw error;
+    }
+  }
+
+  async #drive(input: Input): Promise<void> {
+    const about = this.claim.services.get(this.claim.service);
+    const handler = about?.handlers.get(this.claim.handler);
+    if (about === undefined || handler === undefined) throw new Error(`a claim of ${this.claim.service}/${this.claim.handler}, which isn't served here`);
+    const kind = contextOf(about.workflow, about.keyed, this.claim.exclusive);
+    const trace = traceOf(this.claim.id, this.claim.trace);
+    const context = new kind({
+      vm: this.#vm, input, service: about.name, trace: { ...trace, header: this.claim.trace }, patches: this.claim.patches,
+      log: this.host.log, now: () => Math.trunc(this.host.now() * 1000), rings: () => this.#ring(),
+    }); // prettier-ignore
+    let argument: never;
+    try {
+      argument = decoded(input.input, handler.takes);
+    } catch (error) {
+      context.write({ code: 400, message: `the argument of ${about.name}/${handler.name}: ${said(error).replace(/^BadValue: /, '')}` });
+      return;
+    }
+    try {
+      await this.#steps(context, () => handler.run(context as never, argument));
+    } finally {
+      context.end();
+    }
+  }
+
+  /** Until the handler is done: its code runs until it waits, and then what it awaits is awaited. */
+  async #steps(context: Context, begins: () => unknown): Promise<void> {
+    const begun = (): void => {
+      const ended = (made: Ending): void => {
+        this.#ending = made;
+        this.#ring();
+      };
+      new Promise((resolve) => resolve(begins())).then((value) => ended({ value }), (thrown: unknown) => ended({ thrown }));
+    };
+    await context.enter(begun);
+    for (;;) {
+      this.claim.isShielded = context.isShielded;
+      if (this.#isOver(context)) return;
+      if (this.#ending !== undefined) return this.#ends(context, this.#ending);
+      const waiters = context.waiters;
+      if (waiters.length === 0) return this.#fails(new NotDurable(`the handler awaits ${FOREIGN}`));
+      const trees = [...new Set(waiters.map((it) => it.durable))].map((it) => it.tree());
+      const came = await this.#await(trees.length === 1 ? trees[0]! : unknown(...trees), context);
+      if (came === 'over') return;
+      if (came === 'cancelled') {
+        await context.enter(() => context.reject(() => new Cancelled()));
+        continue;
+      }
+      for (const { durable } of waiters) for (const leaf of [...durable.leaves()]) this.#takes(leaf.handle, context, (value) => (leaf.came = value));
+      await context.enter(() => context.settle());
+    }
+  }
+
+  #takes(handle: Handle, context: Context, came: (value: NonNullable<ReturnType<VM['takeNotification']>>) => void): void {
+    const value = this.#vm.takeNotification(handle);
+    if (value === undefined) return;
+    context.actions.delete(handle);
+    context.asked.delete(handle);
+    came(value);
+  }
+
+  /** Whether the attempt ends here: the core has refused a call, or the context was used where it isn't to be. */
+  #isOver(context: Context): boolean {
+    if (context.misused !== undefined && !context.isOver) this.#vm.notifyError({ code: 500, message: said(context.misused), behavior: 'pause' });
+    return context.isOver || context.misused !== undefined;
+  }
+
+  #fails(error: unknown): void {
+    this.#vm.notifyError({ code: 500, message: said(error), stacktrace: traced(error) });
+  }
+
+  /** The handler has ended: its result is written, or its failure, or the attempt has failed. */
+  #ends(context: Context, ending: NonNullable<Ending>): void {
+    if ('value' in ending) {
+      let value: Uint8Array;
+      try {
+        value = encoded(ending.value);
+      } catch (error) {
+        return this.#fails(error);
+      }
+      return context.write(value);
+    }
+    if (!isOf(ending.thrown, TerminalError)) return this.#fails(ending.thrown);
+    context.write(failureOf(ending.thrown));
+  }
+
+  // ---- awaits
+
+  /** Until the tree is awake. Meanwhile runs are executed, and what was written is stored. */
+  async #await(tree: Handle | Future, context: Context): Promise<'awake' | 'cancelled' | 'over'> {
+    for (;;) {
+      if (this.#isOver(context)) return 'over';
+      if (this.#ending !== undefined) {
+        this.#fails(new NotDurable(`the handler went on by ${FOREIGN}`));
+        return 'over';
+      }
+      if (this.claim.cancelWaits && !this.claim.isShielded && this.#vm.state() === 'processing') await this.#pull();
+      const it = this.#vm.doAwait(tree);
+      if (it.kind === 'anyCompleted') return 'awake';
+      if (it.kind === 'cancelSignalReceived') return 'cancelled';
+      if (it.kind === 'executeRun') this.#begin(it.handle, context, true);
+      if (this.host.drains && this.#executing.size === 0 && it.kind === 'executeRun') throw new Released();
+      await this.#progress(context);
+    }
+  }
+
+  /** Begins to execute a run for which the core has asked, and the others that the handler awaits: each is asked for alone, since to ask for the next one of
+   * a whole tree takes a look at all of it. */
+  #begin(handle: Handle, context: Context, others: boolean): void {
+    if (this.host.drains) return;
+    const action = context.actions.get(handle);
+    if (action === undefined) throw new Error(`the core asks for the run ${handle}, which isn't there`);
+    context.asked.delete(handle);
+    this.#executing.add(handle);
+    this.#policies.set(handle, action.policy);
+    void this.#execute(action).then((executed) => {
+      this.#executed.push([handle, executed]);
+      this.#ring();
+    });
+    if (!others) return;
+    for (const { durable } of context.waiters) {
+      for (const leaf of durable.leaves()) {
+        if (context.asked.has(leaf.handle) && this.#vm.doAwait(leaf.handle).kind === 'executeRun') this.#begin(leaf.handle, context, false);
+      }
+    }
+  }
+
+  readonly #policies = new Map<Handle, RetryPolicy>();
+
+  /** Executes an effect; never throws. */
+  async #execute(action: Action): Promise<Executed> {
+    const begun = performance.now();
+    const abort = new AbortController();
+    this.#aborts.add(abort);
+    try {
+      const place = { fields: this.fields, run: action.name };
+      const run = (): Promise<unknown> => within.run(place, async () => action.does({ key: action.key, signal: abort.signal }));
+      const value = await this.host.effect(() => timed(run, action, abort));
+      try {
+        return { kind: 'value', value: encoded(value) };
+      } catch (error) { // the effect has happened, and no other try of it would have another result
+        return { kind: 'failure', error: new TerminalError(`the result of the run ${JSON.stringify(action.name)} can't be stored: ${said(error)}`) };
+      }
+    } catch (error) {
+      if (isOf(error, TerminalError)) return { kind: 'failure', error };
+      return { kind: 'failed', error, took: Math.trunc(performance.now() - begun) };
+    } finally {
+      this.#aborts.delete(abort);
+    }
+  }
+
+  /** Stores what was written, or waits until something comes; what comes is fed. If nothing comes the input is closed. */
+  async #progress(context: Context): Promise<void> {
+    this.#take();
+    // A run's command is stored with its result, unless something else is to be stored before.
+    if (this.#waiting.length > 0 && !(this.#executing.size > 0 && this.#waiting.every(isStep))) {
+      if (await this.#store()) return;
+    }
+    if (this.#isPoked) return this.#pull();
+    const patience = this.host.patience;
+    if (this.#executing.size === 0 && patience <= 0) return this.#vm.notifyInputClosed();
+    await this.#wait(this.#executing.size > 0 ? undefined : patience, context);
+  }
+
+  /** Until a run has a result, which is stored, or something comes, or patience is over. */
+  async #wait(patience: number | undefined, context: Context): Promise<void> {
+    const isForeign = this.#ending !== undefined || context.misused !== undefined; // it came while something was stored
+    if (!this.#isPoked && this.#executed.length === 0 && !this.#isStopped && !isForeign) await this.#heard(patience);
+    if (this.#isStopped) throw new Stopped('the attempt was told to stop');
+    const done = this.#executed.splice(0);
+    if (this.#ending !== undefined || context.misused !== undefined) return;
+    if (done.length === 0 && !this.#isPoked && this.#executing.size === 0) return this.#vm.notifyInputClosed();
+    this.#propose(done);
+    if (done.length > 0) await this.#rest();
+  }
+
+  /** Waits until it is rung, or for so many milliseconds. */
+  async #heard(patience: number | undefined): Promise<void> {
+    let timer: Timer | undefined;
+    await new Promise<void>((heard) => {
+      this.#ring = heard;
+      if (patience !== undefined) timer = setTimeout(heard, patience);
+    });
+    this.#ring = () => undefined;
+    clearTimeout(timer);
+  }
+
+  /** Proposes the results of runs. One that another try is to be made of comes last, since it fails the attempt. */
+  #propose(done: readonly [Handle, Executed][]): void {
+    let failed: (() => void) | undefined;
+    for (const [handle, it] of done) {
+      this.#executing.delete(handle);
+      const policy = this.#policies.get(handle);
+      if (it.kind === 'value') this.#vm.proposeRunCompletion(handle, it.value, policy);
+      else if (it.kind === 'failure') this.#vm.proposeRunCompletion(handle, failureOf(it.error), policy);
+      else failed ??= () => this.#proposeFailed(handle, it.error, it.took, policy);
+    }
+    failed?.();
+  }
+
+  #proposeFailed(handle: Handle, error: unknown, took: number, policy: RetryPolicy | undefined): void {
+    const pauses = isOf(error, OutsideHandler); // no retry helps
+    this.claim.byRun = !pauses;
+    const why = { code: 500, message: said(error), stacktrace: traced(error), behavior: pauses ? 'pause' as const : 'retry' as const };
+    this.#vm.proposeRetryableFailure(handle, took, why, pauses ? { kind: 'infinite' } : policy);
+  }
+
+  // ---- the store
+
+  /** Takes what the core has written. */
+  #take(): void {
+    const output = this.#vm.takeOutput();
+    if (output.length > 0) this.#waiting.push(...split(output));
+  }
+
+  /** Stores all that was written, up to now. */
+  async #rest(): Promise<void> {
+    this.#take();
+    if (this.#waiting.length > 0) await this.#store();
+  }
+
+  async #store(): Promise<boolean> {
+    if (this.#isStopped) throw new Stopped('the attempt was told to stop');
+    const output = Buffer.concat(this.#waiting.splice(0).map((it) => it.bytes));
+    return this.#fed(await this.host.store(this.claim, output));
+  }
+
+  async #pull(): Promise<void> {
+    if (this.#isStopped) throw new Stopped('the attempt was told to stop');
+    this.#isPoked = false;
+    const it = await this.host.pull(this.claim);
+    this.#isPoked ||= it.hasMore;
+    this.#fed(it);
+  }
+
+  /** Feeds what a transaction has brought; returns whether it brought something. */
+  #fed(it: Outcome): boolean {
+    this.status = it.status;
+    this.#hasEnded = it.status !== 'running';
+    if (it.feed.length === 0 || this.#hasEnded) return false;
+    this.#vm.notifyInput(Buffer.concat(it.feed));
+    return true;
+  }
+}
+
+/** Executes an effect within its time. */
+async function timed(run: () => Promise<unknown>, action: Action, abort: AbortController): Promise<unknown> {
+  const { timeout } = action;
+  if (timeout === undefined) return run();
+  let timer: Timer | undefined;
+  const over = new Promise<never>((_, reject) => {
+    timer = setTimeout(() => {
+      abort.abort();
+      reject(new Error(`it took longer than ${timeout} ms`));
+    }, timeout);
+  });
+  try {
+    return await Promise.race([run(), over]);
+  } finally {
+    clearTimeout(timer);
+  }
+}

@@ -1,0 +1,181 @@
+/** Calls handlers from outside of handlers, over a connection of its own. */
+
+import { randomBytes } from 'node:crypto';
+import { frames } from 'palqytun';
+import { CHANNEL, Database } from './database';
+import type { Statements } from './tables';
+import { create, deliver, newest } from './effects';
+import { BadValue, TerminalError } from './errors';
+import { CANCEL, VOID, awakeableOf, failure, failureIn, valueIn } from './frames';
+import { Hearing } from './hearing';
+import { Log } from './log';
+import { servicesOf } from './services';
+import type { About, AnyService, Fixed, Handler } from './services';
+import { PAYLOAD, checkName, checkPayload, decoded, encoded } from './values';
+import type { Parse } from './values';
+
+export interface ClientOptions {
+  /** The database: `postgresql://..`. */
+  url: string;
+  /** Services that it calls also while no worker serves them. */
+  services?: readonly AnyService[];
+  /** Bytes of an argument, at most: 4 MiB. */
+  payload?: number;
+}
+
+export interface ClientCall {
+  key?: string;
+  idempotencyKey?: string;
+  headers?: Readonly<Record<string, string>>;
+  /** Milliseconds after which it begins. */
+  delay?: number;
+}
+
+const LOOK = 1000; // milliseconds between two looks for a result
+
+/** An invocation, as its client knows it. */
+export class Sent<O> {
+  constructor(private readonly client: Client, readonly id: string) {}
+
+  /** Its result, once it has ended, or its failure as a `TerminalError`. Throws an `Error` after so many milliseconds: it goes on. */
+  result(wait = Infinity, gives?: Parse<O>): Promise<O> {
+    return this.client.result(this.id, wait, gives);
+  }
+
+  /** Cancels it: what it awaits throws `Cancelled`. */
+  cancel(): Promise<void> {
+    return this.client.deliver(this.id, CANCEL());
+  }
+
+  /** Sends it a signal. */
+  signal(name: string, value: unknown = null): Promise<void> {
+    return this.client.deliver(this.id, frames.namedSignal(name, resultOf(value)));
+  }
+}
+
+function resultOf(value: unknown): Uint8Array {
+  if (value instanceof TerminalError) return failure(value.code, value.message, value.metadata);
+  const data = encoded(value);
+  return data.length === 0 ? VOID() : frames.valueFrame(data);
+}
+
+export class Client {
+  readonly #heard = new Map<string, Set<() => void>>();
+  #hearing: Hearing | undefined;
+
+  private constructor(private readonly db: Database, private readonly services: ReadonlyMap<string, About>, private readonly payload: number) {}
+
+  /** Connects to a database, which has the tables of Palqytun. */
+  static async connect({ url, services = [], payload = PAYLOAD }: ClientOptions): Promise<Client> {
+    const log = new Log();
+    const db = await Database.open(url, 4, log);
+    const found = new Client(db, servicesOf(services), payload);
+    const heard = (word: string): void => {
+      const [what, ...ids] = word.split(' ');
+      if (what === 'ended') for (const id of ids) for (const it of found.#heard.get(id) ?? []) it();
+    };
+    found.#hearing = await Hearing.begun(url, CHANNEL, db, heard, log);
+    return found;
+  }
+
+  async close(): Promise<void> {
+    await this.#hearing?.end();
+    await this.db.close();
+  }
+
+  /** Calls a handler, or `"Service/handler"`, and doesn't wait for it. */
+  async send<I, O>(callee: Handler<I, O>, argument: Fixed<I>, options?: ClientCall): Promise<Sent<O>>;
+  async send<O = unknown>(callee: string, argument?: unknown, options?: ClientCall): Promise<Sent<O>>;
+  async send<I, O>(callee: Handler<I, O> | string, argument?: I, options: ClientCall = {}): Promise<Sent<O>> {
+    const [service = '', handler = ''] = typeof callee === 'string' ? callee.split('/') : [callee.service, callee.name];
+    const data = encoded(argument);
+    checkPayload('the argument', data.length, this.payload);
+    if (options.key !== undefined) checkName('the key', options.key);
+    const { id } = await this.db.transact((to) =>
+      create(to, this.services, {
+        id: `inv_${randomBytes(12).toString('hex')}`, seed: randomBytes(8).readBigUInt64BE(0) >> 1n, service, handler, key: options.key ?? '',
+        argument: data, headers: Object.entries(options.headers ?? {}), idempotencyKey: options.idempotencyKey ?? null,
+        due: options.delay === undefined ? null : to.now + options.delay / 1000, parent: null, trace: options.headers?.['traceparent'] ?? null,
+      }),
+    ); // prettier-ignore
+    return new Sent<O>(this, id);
+  }
+
+  /** Calls a handler, and waits for its result. */
+  async call<I, O>(callee: Handler<I, O>, argument: Fixed<I>, options?: ClientCall): Promise<O>;
+  async call<O = unknown>(callee: string, argument?: unknown, options?: ClientCall): Promise<O>;
+  async call<O>(callee: Handler<unknown, O> | string, argument?: unknown, options: ClientCall = {}): Promise<O> {
+    return (await this.send(callee as Handler<unknown, O>, argument, options)).result();
+  }
+
+  /** An invocation by its id. */
+  sent<O = unknown>(id: string): Sent<O> {
+    return new Sent<O>(this, id);
+  }
+
+  /** Completes an awakeable with a value, or with a failure, which is a `TerminalError`. */
+  async resolveAwakeable(id: string, value: unknown = null): Promise<void> {
+    const found = awakeableOf(id);
+    if (found === undefined) throw new TerminalError(`${id.slice(0, 200)} is no awakeable`, 400);
+    await this.deliver(found.invocation, frames.signal(found.signal, resultOf(value)));
+  }
+
+  /** @internal */
+  async deliver(id: string, frame: Uint8Array): Promise<void> {
+    await this.db.transact(async (to) => deliver(to, await newest(to, id), frame));
+  }
+
+  /** @internal */
+  async result<O>(id: string, wait: number, gives: Parse<O> | undefined): Promise<O> {
+    const until = performance.now() + wait;
+    for (;;) {
+      const ended = this.#hears(id);
+      const found = await this.db.transact((to) => looked(to, id));
+      if (found !== undefined) {
+        ended.forget();
+        return read(found, gives);
+      }
+      const left = until - performance.now();
+      if (left <= 0) {
+        ended.forget();
+        throw new Error(`${id} hasn't ended after ${wait} ms, and goes on`);
+      }
+      await ended.within(Math.min(LOOK, left));
+      ended.forget();
+    }
+  }
+
+  /** Hears that an invocation has ended. */
+  #hears(id: string): { within(milliseconds: number): Promise<void>; forget(): void } {
+    let rings: () => void = () => undefined;
+    const came = new Promise<void>((done) => (rings = done));
+    const all = this.#heard.get(id) ?? new Set();
+    this.#heard.set(id, all.add(rings));
+    let timer: Timer | undefined;
+    return {
+      within: (milliseconds) => Promise.race([came, new Promise<void>((done) => (timer = setTimeout(done, milliseconds)))]),
+      forget: () => {
+        clearTimeout(timer);
+        all.delete(rings);
+        if (all.size === 0) this.#heard.delete(id);
+      },
+    };
+  }
+}
+
+async function looked(to: Statements, id: string): Promise<Uint8Array | undefined> {
+  const found = (await to.rows('look', { invocation: await newest(to, id) }))[0];
+  if (found === undefined) throw new TerminalError(`there is no invocation ${id.slice(0, 200)}`, 404);
+  return (found[1] as Uint8Array | null) ?? undefined;
+}
+
+function read<O>(frame: Uint8Array, gives: Parse<O> | undefined): O {
+  const failed = failureIn(frame);
+  if (failed !== undefined) throw new TerminalError(failed.message, failed.code, failed.metadata);
+  try {
+    return decoded<O>(valueIn(frame) ?? new Uint8Array(), gives);
+  } catch (error) {
+    if (error instanceof BadValue) throw new TerminalError(`a result that can't be read: ${error.message}`);
+    throw error;
+  }
+}

@@ -1,0 +1,368 @@
+/**
+ * PostgreSQL, by node-pg: transactions over a few connections. An operation that something is in the way of is made again, and words to other workers go
+ * with the commit of what they are about.
+ */
+
+import { Client, types } from 'pg';
+import type { Config, Query, Result } from 'pg';
+import { parse } from 'pg-connection-string';
+import { Unsuitable, said } from './errors';
+import type { Log } from './log';
+import { STATEMENTS, VERSION } from './statements';
+import type { StatementName } from './statements';
+import type { Row, Statements, Values } from './tables';
+
+/** The channel of all workers. Each has one of its own too, named by the last characters of its name. */
+export const CHANNEL = 'palqytun';
+const OWN = 12;
+const AT_ONCE = 100; // invocations that one word names
+const INT8 = 20;
+const SETTINGS = {
+  lock_timeout: '1s',
+  statement_timeout: '0',
+  idle_in_transaction_session_timeout: '60s',
+  enable_seqscan: 'off', // a plan that was made when a table was small is kept when it is large
+  jit: 'off',
+};
+/** A deadlock, a conflict of snapshots, and a lock that was waited for long enough. */
+const IN_THE_WAY = new Set(['40P01', '40001', '55P03']);
+/** Classes of errors that end a connection, or the server. */
+const LOST = /^(08|57P|53300)/;
+const LONGEST_WAIT = 1000; // milliseconds between two tries of an operation
+const PATIENCE = 10_000; // milliseconds that a connection may take to be made
+const TRIED = new Set([20, 200, 2000]);
+
+/** The database can't be reached any more. */
+export class Lost extends Error {
+  override readonly name = 'Lost';
+}
+
+/** A statement that can't be made. */
+export class StatementFailed extends Error {
+  override readonly name = 'StatementFailed';
+
+  constructor(message: string, readonly code: string) {
+    super(message);
+  }
+}
+
+/** A channel's name for the words to one worker. */
+export function channelOf(worker: string): string {
+  return `${CHANNEL}_${worker.slice(-OWN)}`;
+}
+
+function read(oid: number, format?: string): (text: string) => unknown {
+  if (oid !== INT8) return types.getTypeParser(oid, format);
+  return (text) => (Number.isSafeInteger(Number(text)) ? Number(text) : BigInt(text));
+}
+
+/** What node-pg takes of a URL. A port may be a parameter of the URL, as in libpq's. */
+export function configOf(url: string): Config {
+  const found = parse(url);
+  const port = /[?&]port=(\d+)/.exec(url)?.[1];
+  if (port !== undefined) found['port'] = port;
+  return { ...found, types: { getTypeParser: read }, connectionTimeoutMillis: PATIENCE, keepAlive: true };
+}
+
+function failed(error: unknown): Error {
+  const code: unknown = (error as { code?: unknown } | null)?.code;
+  const text = said(error).replace(/^error: /, '');
+  if (typeof code !== 'string' || !/^[0-9A-Z]{5}$/.test(code) || LOST.test(code)) return new Lost(text);
+  return new StatementFailed(text, code);
+}
+
+/** One connection, whose statements are prepared once. */
+class Connection {
+  isBroken = false;
+
+  private constructor(readonly client: Client) {}
+
+  static async made(config: Config): Promise<Connection> {
+    const client = new Client(config);
+    const found = new Connection(client);
+    client.on('error', () => {
+      found.isBroken = true;
+    });
+    try {
+      await client.connect();
+      await found.made('session', {});
+      for (const [name, value] of Object.entries(SETTINGS)) await found.query(`SET ${name}='${value}'`);
+      return found;
+    } catch (error) {
+      found.close();
+      throw error instanceof Lost || error instanceof StatementFailed ? error : failed(error);
+    }
+  }
+
+  async query(query: Query | string): Promise<Result> {
+    try {
+      return await this.client.query(query);
+    } catch (error) {
+      throw failed(error);
+    }
+  }
+
+  /** Makes the statements of a name; returns the result of the last. */
+  async made(name: StatementName, values: Values): Promise<Result> {
+    let result: Result | undefined;
+    let at = 0;
+    for (const { text, names } of STATEMENTS[name]) {
+      const given = (names as readonly string[]).map((it) => {
+        if (!(it in values)) throw new Error(`the statement ${name} lacks the value ${it}`);
+        return values[it] ?? null;
+      });
+      result = await this.query({ text, values: given, name: `palqytun_${name}_${at++}`, rowMode: 'array' });
+    }
+    return result as Result;
+  }
+
+  close(): void {
+    this.isBroken = true;
+    this.client.end().catch(() => undefined);
+  }
+}
+
+/** A transaction over a connection. */
+export class Transaction implements Statements {
+  readonly #words = new Set<string>();
+  readonly #touched = new Set<string>();
+  readonly #ended = new Set<string>();
+
+  /** When something is due first that this transaction has made. */
+  due: number | undefined;
+
+  constructor(private readonly connection: Connection, readonly now: number) {}
+
+  async rows(name: StatementName, values: Values): Promise<readonly Row[]> {
+    return (await this.connection.made(name, values)).rows;
+  }
+
+  async change(name: StatementName, values: Values): Promise<number> {
+    return (await this.connection.made(name, values)).rowCount ?? 0;
+  }
+
+  say(word: 'ready'): void {
+    this.#words.add(word);
+  }
+
+  touch(invocation: string): void {
+    this.#touched.add(invocation);
+  }
+
+  isDue(at: number): void {
+    this.due = Math.min(this.due ?? at, at);
+  }
+
+  ended(invocation: string): void {
+    this.#ended.add(invocation);
+  }
+
+  get touched(): ReadonlySet<string> {
+    return this.#touched;
+  }
+
+  get isReady(): boolean {
+    return this.#words.has('ready');
+  }
+
+  get endings(): ReadonlySet<string> {
+    return this.#ended;
+  }
+
+  /** Sends what was said. */
+  async tell(): Promise<void> {
+    const some = (names: ReadonlySet<string>): string[][] => {
+      const all = [...names].sort();
+      return Array.from({ length: Math.ceil(all.length / AT_ONCE) }, (_, at) => all.slice(at * AT_ONCE, (at + 1) * AT_ONCE));
+    };
+    const words = [...this.#words, ...some(this.#ended).map((ids) => `ended ${ids.join(' ')}`)];
+    for (const word of words) await this.rows('notify', { channel: CHANNEL, word });
+    for (const ids of some(this.#touched)) await this.rows('tell', { ids });
+  }
+}
+
+/** Transactions over a database. */
+export class Database {
+  readonly #idle: Connection[] = [];
+  readonly #waiting: ((connection: Connection | Lost) => void)[] = [];
+  readonly #all = new Set<Connection>();
+  #making = 0;
+  #clock = 0; // the server's time, in seconds, at 0 of the monotonic clock
+  #lost: Lost | undefined;
+  /** Hears of each commit: how many milliseconds it took. */
+  committed: (milliseconds: number) => void = () => undefined;
+  /** Hears of what a transaction did once it is committed: whom it touched, and whether something is ready. */
+  told: (transaction: Transaction) => void = () => undefined;
+  /** Hears once that the database is lost. */
+  onLost: (lost: Lost) => void = () => undefined;
+
+  private constructor(readonly config: Config, private readonly most: number, private readonly log: Log) {}
+
+  /** A database of this protocol's version. What is wrong with it is `Unsuitable`, in one line; one that can't be reached is `Lost`. */
+  static async open(url: string, most: number, log: Log): Promise<Database> {
+    const found = new Database(configOf(url), most, log);
+    try {
+      await found.#checked();
+      await found.transact((to) => found.#ask(to));
+    } catch (error) {
+      await found.close();
+      throw error;
+    }
+    return found;
+  }
+
+  async #checked(): Promise<void> {
+    const connection = await this.#taken();
+    try {
+      const ask = async (text: string): Promise<Row> => (await connection.query({ text, rowMode: 'array' })).rows[0] ?? [];
+      const [encoding, fsync, isThere] = await ask("SELECT current_setting('server_encoding'), current_setting('fsync'), to_regclass('schema_versions') IS NOT NULL");
+      const unsafe = await ask("SELECT current_setting('palqytun.unsafe', true)");
+      if (encoding !== 'UTF8') throw new Unsuitable(`the database's encoding is ${String(encoding)}, and has to be UTF8`);
+      if (fsync === 'off' && unsafe[0] !== 'on') throw new Unsuitable("with fsync=off what was committed may be lost when the server's host stops; to allow it, set palqytun.unsafe=on");
+      if (isThere !== true) throw new Unsuitable('the database has no tables of Palqytun: palqytun migrate makes them');
+      const [version] = await ask('SELECT COALESCE(MAX(version), 0)::int FROM schema_versions');
+      if (version !== VERSION) {
+        const what = (version as number) < VERSION ? 'palqytun migrate moves it' : 'this package is older: install one of the same version as the other workers';
+        throw new Unsuitable(`the database has version ${String(version)}, and this package works with version ${VERSION}: ${what}`);
+      }
+    } finally {
+      this.#give(connection);
+    }
+  }
+
+  // ---- the clock
+
+  /** The database's time, in seconds since the epoch. */
+  now(): number {
+    return this.#clock + performance.now() / 1000;
+  }
+
+  async #ask(to: Transaction): Promise<void> {
+    const asked = performance.now() / 1000;
+    const time = (await to.rows('now', {}))[0]?.[0] as number;
+    const [earliest, latest] = [time - performance.now() / 1000, time - asked];
+    this.#clock = Math.min(Math.max(this.#clock, earliest), latest);
+  }
+
+  /** Asks for the database's time. */
+  async asksTime(to: Transaction): Promise<number> {
+    await this.#ask(to);
+    return this.now();
+  }
+
+  // ---- connections
+
+  get connections(): number {
+    return this.#all.size;
+  }
+
+  /** The server's processes of these connections, whose words are known here. */
+  get processes(): ReadonlySet<number | null> {
+    return new Set([...this.#all].map((it) => it.client.processID));
+  }
+
+  async #taken(): Promise<Connection> {
+    if (this.#lost !== undefined) throw this.#lost;
+    const idle = this.#idle.pop();
+    if (idle !== undefined) return idle;
+    if (this.#all.size + this.#making < this.most) {
+      this.#making += 1;
+      try {
+        const made = await Connection.made(this.config);
+        this.#all.add(made);
+        return made;
+      } finally {
+        this.#making -= 1;
+      }
+    }
+    const came = await new Promise<Connection | Lost>((resolve) => this.#waiting.push(resolve));
+    if (came instanceof Lost) throw came;
+    return came;
+  }
+
+  #give(connection: Connection): void {
+    if (connection.isBroken || this.#lost !== undefined) {
+      this.#all.delete(connection);
+      connection.close();
+      return;
+    }
+    const next = this.#waiting.shift();
+    if (next === undefined) this.#idle.push(connection);
+    else next(connection);
+  }
+
+  #isLost(lost: Lost): void {
+    if (this.#lost !== undefined) return;
+    this.#lost = lost;
+    for (const it of this.#waiting.splice(0)) it(lost);
+    this.onLost(lost);
+  }
+
+  async close(): Promise<void> {
+    this.#lost ??= new Lost('the database is closed');
+    for (const it of this.#waiting.splice(0)) it(this.#lost);
+    const ended = this.#idle.splice(0).map((it) => it.client.end().catch(() => undefined));
+    await Promise.race([Promise.all(ended), new Promise<void>((done) => setTimeout(done, 2000).unref())]);
+  }
+
+  // ---- transactions
+
+  /** Commits an operation. One that something is in the way of is made again, so it has to begin anew each time. One of a single statement is a
+   * transaction by itself. */
+  async transact<T>(operation: (to: Transaction) => Promise<T>, isSingle = false): Promise<T> {
+    for (let tries = 1; ; tries++) {
+      try {
+        return await this.#once(operation, isSingle);
+      } catch (error) {
+        if (!(error instanceof StatementFailed) || !IN_THE_WAY.has(error.code)) throw error;
+        if (TRIED.has(tries)) this.log.warning(`something is in the way of an operation, which was tried ${tries} times: ${error.message}`);
+      }
+      await new Promise<void>((done) => setTimeout(done, Math.random() * Math.min(LONGEST_WAIT, 20 * tries)));
+    }
+  }
+
+  async #once<T>(operation: (to: Transaction) => Promise<T>, isSingle: boolean): Promise<T> {
+    const begun = performance.now();
+    const connection = await this.#reached();
+    const to = new Transaction(connection, this.now());
+    try {
+      if (!isSingle) await connection.query('BEGIN ISOLATION LEVEL READ COMMITTED');
+      const result = await operation(to);
+      await to.tell();
+      if (!isSingle) await connection.query('COMMIT');
+      this.committed(performance.now() - begun);
+      this.told(to);
+      return result;
+    } catch (error) {
+      throw await this.#undone(connection, error, isSingle);
+    } finally {
+      this.#give(connection);
+    }
+  }
+
+  async #reached(): Promise<Connection> {
+    try {
+      return await this.#taken();
+    } catch (error) {
+      if (error instanceof Lost) this.#isLost(error);
+      throw error;
+    }
+  }
+
+  /** Takes a transaction back; returns the error to throw. */
+  async #undone(connection: Connection, error: unknown, isSingle: boolean): Promise<unknown> {
+    let why = error;
+    if (isSingle && !(why instanceof Lost)) return why;
+    if (!(why instanceof Lost)) {
+      try {
+        await connection.query('ROLLBACK');
+        return why;
+      } catch (second) {
+        if (second instanceof Lost) why = second;
+      }
+    }
+    connection.isBroken = true;
+    if (why instanceof Lost) this.#isLost(why);
+    return why;
+  }
+}

@@ -1,0 +1,107 @@
+/** What handlers raise and catch, and errors as text. */
+
+export type Pair = readonly [name: string, value: string];
+
+/**
+ * Ends the handler with a failure; nothing is tried again. A failed call, promise or signal raises it. `code` is a whole number of 16 bits, and
+ * `metadata` has texts by their names.
+ */
+export class TerminalError extends Error {
+  readonly code: number;
+  readonly metadata: readonly Pair[];
+
+  constructor(message: string, code = 500, metadata: Readonly<Record<string, string>> | readonly Pair[] = []) {
+    super(wellFormed(typeof message === 'string' ? message : said(message)));
+    this.name = new.target.name;
+    if (!Number.isInteger(code) || code < 0 || code > 0xffff) throw new RangeError(`a failure's code is a whole number of 16 bits, and not ${String(code)}`);
+    this.code = code;
+    const pairs = Array.isArray(metadata) ? (metadata as readonly Pair[]) : Object.entries(metadata);
+    this.metadata = pairs.map(([name, value]) => [wellFormed(String(name)), wellFormed(String(value))] as const);
+  }
+}
+
+/** The invocation was cancelled. What the handler does then, as undoing what it did, is its own. */
+export class Cancelled extends TerminalError {
+  constructor(message = 'cancelled') {
+    super(message, 409);
+  }
+}
+
+/** What was awaited didn't come in its time. */
+export class TimedOut extends TerminalError {
+  constructor(message = 'it took too long') {
+    super(message, 408);
+  }
+}
+
+/** The context is used outside the handler's own code, as within a run. The invocation is paused: no retry helps. */
+export class OutsideHandler extends Error {
+  override readonly name = 'OutsideHandler';
+}
+
+/** A handler awaits something else than what its context gave it. */
+export class NotDurable extends Error {
+  override readonly name = 'NotDurable';
+}
+
+/** The attempt is over, or the core has refused a call. Nothing that the handler does from here on counts. */
+export class AttemptEnds extends Error {
+  override readonly name = 'AttemptEnds';
+}
+
+/** A value that JSON can't carry, or that isn't what is wanted. */
+export class BadValue extends Error {
+  override readonly name = 'BadValue';
+}
+
+/** The database can't be used as it is set up: the text says what to do. */
+export class Unsuitable extends Error {
+  override readonly name = 'Unsuitable';
+}
+
+const MOST_SAID = 4_000;
+const MOST_TRACED = 20_000;
+const LONE = /\p{Surrogate}/gu;
+
+/** The text, with escapes instead of lone halves of surrogate pairs. */
+export function wellFormed(text: string): string {
+  return text.replace(LONE, (it) => `\\u${it.charCodeAt(0).toString(16)}`);
+}
+
+/** A text that the database can store: without NUL, and well formed. */
+export function storable(text: string): string {
+  return wellFormed(text).replaceAll('\0', '\\0');
+}
+
+function short(text: string, most: number): string {
+  return text.length <= most ? text : `${text.slice(0, most / 2)} .. ${text.slice(-most / 2)}`;
+}
+
+/** What something that was thrown says. It is text for each value, also for one whose own text can't be made. */
+export function said(thrown: unknown): string {
+  try {
+    const text = thrown instanceof Error ? `${thrown.name}: ${thrown.message}` : `${typeof thrown} ${String(thrown)}`;
+    return storable(short(text, MOST_SAID));
+  } catch {
+    return 'what was thrown has no text: its own code raises an error';
+  }
+}
+
+/** The stack of something that was thrown; empty if it has none. */
+export function traced(thrown: unknown): string {
+  try {
+    const stack = thrown instanceof Error ? thrown.stack : undefined;
+    return typeof stack === 'string' ? storable(short(stack, MOST_TRACED)) : '';
+  } catch {
+    return '';
+  }
+}
+
+/** Whether a thrown value is of a class. A proxy may throw when it is asked. */
+export function isOf<T>(thrown: unknown, kind: abstract new (...given: never[]) => T): thrown is T {
+  try {
+    return thrown instanceof kind;
+  } catch {
+    return false;
+  }
+}

@@ -1,0 +1,75 @@
+/** The words of other workers. */
+
+import { Client as Connection } from 'pg';
+import { CHANNEL, Lost, channelOf, configOf } from './database';
+import type { Database } from './database';
+import { said } from './errors';
+import type { Log } from './log';
+
+const AGAIN = 500; // milliseconds until a connection that is lost is made again
+const LAST = 1000; // milliseconds that its end may take
+
+function after(milliseconds: number): Promise<void> {
+  return new Promise((done) => setTimeout(done, milliseconds));
+}
+
+/** A connection that hears words. A lost one is made again. */
+export class Hearing {
+  #client: Connection | undefined;
+  #isOver = false;
+
+  private constructor(
+    private readonly url: string,
+    private readonly channels: readonly string[],
+    private readonly own: () => ReadonlySet<number | null>,
+    private readonly heard: (word: string) => void,
+    private readonly log: Log,
+  ) {}
+
+  static async begun(url: string, worker: string, db: Database, heard: (word: string) => void, log: Log): Promise<Hearing> {
+    const found = new Hearing(url, [CHANNEL, channelOf(worker)], () => db.processes, heard, log);
+    try {
+      await found.#listen();
+    } catch (error) {
+      throw new Lost(said(error));
+    }
+    return found;
+  }
+
+  async #listen(): Promise<void> {
+    const client = new Connection(configOf(this.url));
+    let isLost = false;
+    const lost = (): void => {
+      if (isLost || this.#isOver) return;
+      isLost = true;
+      this.log.warning('notifications have ended, and are asked for again');
+      void this.#again();
+    };
+    client.on('error', lost);
+    client.on('end', lost);
+    client.on('notification', (it) => {
+      if (!this.own().has(it.processId)) this.heard(it.payload ?? '');
+    });
+    await client.connect();
+    for (const channel of this.channels) await client.query(`LISTEN "${channel}"`);
+    this.#client = client;
+  }
+
+  async #again(): Promise<void> {
+    while (!this.#isOver) {
+      await after(AGAIN);
+      try {
+        if (!this.#isOver) await this.#listen();
+        this.heard('ready');
+        return;
+      } catch {
+        continue; // it is tried again
+      }
+    }
+  }
+
+  async end(): Promise<void> {
+    this.#isOver = true;
+    await Promise.race([this.#client?.end().catch(() => undefined), after(LAST)]);
+  }
+}

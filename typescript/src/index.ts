@@ -1,0 +1,19 @@
+/** Durable handlers in TypeScript on PostgreSQL. README.md has an example, and docs/TYPESCRIPT.md the guide. */
+
+export { Client, Sent } from './client';
+export type { ClientCall, ClientOptions } from './client';
+export { Context, ObjectContext, ServiceContext, SharedObjectContext, SharedWorkflowContext, WorkflowContext } from './context';
+export type { CallOptions, ReplayLog, Run, RunOptions, SendOptions, WorkflowPromise } from './context';
+export { Call, Durable, all, allSettled, any, race, select } from './durable';
+export { BadValue, Cancelled, NotDurable, OutsideHandler, TerminalError, TimedOut, Unsuitable } from './errors';
+export { Log } from './log';
+export type { Fields, Level, LogOptions } from './log';
+export { Random } from './random';
+export { serve } from './serve';
+export type { ServeOptions } from './serve';
+export { handler, main, object, service, shared, workflow } from './services';
+export type { AnyService, Handler, HandlerOptions, Retry, Service } from './services';
+export { VERSION as PROTOCOL_VERSION } from './statements';
+export type { Parse } from './values';
+export { Worker } from './worker';
+export type { WorkerOptions } from './worker';

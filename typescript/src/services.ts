@@ -1,0 +1,183 @@
+/** Services and their handlers: what a worker serves, and what handlers and clients call. */
+
+import { createHash } from 'node:crypto';
+import type { ObjectContext, ServiceContext, SharedObjectContext, SharedWorkflowContext, WorkflowContext } from './context';
+import type { Parse } from './values';
+
+/**
+ * When a failed run, or a failed attempt of a handler, is tried again. Times are in milliseconds. The first delay is `initial` (50); each next one is
+ * larger by `factor` (2), up to `longest` (10,000). It is tried `attempts` times at most, and for `duration` at most; without them there is no bound.
+ * Then `pause` pauses the invocation, and without it the error is the result.
+ */
+export interface Retry {
+  initial?: number;
+  factor?: number;
+  longest?: number;
+  attempts?: number;
+  duration?: number;
+  pause?: boolean;
+}
+
+/** A handler's attempts, if it says nothing else. */
+export const ATTEMPTS: Retry = { attempts: 50, pause: true };
+
+export interface HandlerOptions<I> {
+  /** When its attempts are tried again: 50 times, and then a pause, by default. */
+  retry?: Retry;
+  /** Reads the argument, or throws: then the invocation ends with code 400. */
+  takes?: Parse<I>;
+}
+
+export const ABOUT: unique symbol = Symbol('palqytun.service');
+
+type Run<C, I, O> = (ctx: C, argument: I) => O | PromiseLike<O>;
+
+/** What `shared`, `main` or `handler` make of a function. */
+export interface Made<C, I, O> extends HandlerOptions<I> {
+  readonly kind: 'handler' | 'shared' | 'main';
+  readonly run: Run<C, I, O>;
+}
+
+/** A handler, as its callers know it: `ctx.call(stock.take, 2, { key: 'pen' })`. */
+export interface Handler<I, O> {
+  readonly service: string;
+  readonly name: string;
+  readonly keyed: boolean;
+  readonly exclusive: boolean;
+  readonly retry: Retry;
+  readonly takes: Parse<I> | undefined;
+  readonly run: Run<never, I, O>;
+}
+
+/** A type that is given by another argument, and isn't inferred here. */
+export type Fixed<T> = [T][T extends unknown ? 0 : never];
+
+/** A handler of whatever types. */
+export type AnyHandler = Handler<never, unknown>;
+
+// eslint-disable-next-line @typescript-eslint/no-explicit-any -- a handler takes what it likes
+type Given<C> = Run<C, never, unknown> | Made<C, any, unknown>;
+type HandlerOf<G> = G extends Made<never, infer I, infer O> ? Handler<I, Awaited<O>>
+  : G extends (ctx: never, argument: infer I) => infer O ? Handler<I, Awaited<O>> : never;
+
+/** The handlers of a service, each as a property. */
+export type Service<G> = { readonly [N in keyof G]: HandlerOf<G[N]> } & { readonly [ABOUT]: About };
+
+export interface About {
+  readonly name: string;
+  readonly keyed: boolean;
+  readonly workflow: boolean;
+  readonly handlers: ReadonlyMap<string, AnyHandler>;
+}
+
+/** A service of whatever handlers. */
+export interface AnyService {
+  readonly [ABOUT]: About;
+}
+
+const TIMES = ['initial', 'longest', 'duration'] as const;
+
+/** Refuses a policy that has no meaning. */
+export function checkRetry(what: string, retry: Retry): void {
+  for (const name of TIMES) {
+    const time = retry[name];
+    if (time !== undefined && !(time >= 0 && time < Infinity)) throw new RangeError(`${what}: ${name} is a number of milliseconds from 0, and not ${time}`);
+  }
+  const { attempts, factor } = retry;
+  if (attempts !== undefined && !(Number.isInteger(attempts) && attempts >= 1)) throw new RangeError(`${what}: attempts is a whole number from 1, and not ${attempts}`);
+  if (factor !== undefined && !(factor >= 0 && factor <= 1e6)) throw new RangeError(`${what}: factor is a number from 0 to 1,000,000, and not ${factor}`);
+}
+
+/** The delay in milliseconds after this number of failures. */
+export function delayOf(retry: Retry, failures: number): number {
+  return Math.min(retry.longest ?? 10_000, (retry.initial ?? 50) * (retry.factor ?? 2) ** (failures - 1));
+}
+
+/** Whether it isn't tried again after this number of failures within so many milliseconds. */
+export function isOver(retry: Retry, failures: number, failing: number): boolean {
+  return (retry.attempts !== undefined && failures >= retry.attempts) || (retry.duration !== undefined && failing >= retry.duration);
+}
+
+function made<C, I, O>(kind: Made<C, I, O>['kind'], run: Run<C, I, O>, options: HandlerOptions<I>): Made<C, I, O> {
+  if (typeof run !== 'function') throw new TypeError(`a handler is a function, and not ${typeof run}`);
+  return { kind, run, ...options };
+}
+
+/** A handler with options: `handler(async (ctx: ServiceContext, n: number) => .., { retry: { attempts: 3 } })`. */
+export function handler<C, I, O>(run: Run<C, I, O>, options: HandlerOptions<I> = {}): Made<C, I, O> {
+  return made('handler', run, options);
+}
+
+/** A handler of an object that reads the state and doesn't wait for others of its key. */
+export function shared<I, O>(run: Run<SharedObjectContext, I, O>, options: HandlerOptions<I> = {}): Made<SharedObjectContext, I, O> {
+  return made('shared', run, options);
+}
+
+/** The handler of a workflow that runs once a key. */
+export function main<I, O>(run: Run<WorkflowContext, I, O>, options: HandlerOptions<I> = {}): Made<WorkflowContext, I, O> {
+  return made('main', run, options);
+}
+
+function served<G>(name: string, keyed: boolean, workflow: boolean, given: Record<string, Given<never>>): Service<G> {
+  if (typeof name !== 'string' || name === '') throw new TypeError('a service has a name, which is a text');
+  const handlers = new Map<string, AnyHandler>();
+  for (const [own, it] of Object.entries(given)) {
+    const how = typeof it === 'function' ? made('handler', it as Run<never, never, unknown>, {}) : it;
+    if (how === null || typeof how !== 'object' || typeof how.run !== 'function') throw new TypeError(`${name}/${own} is no function`);
+    if (how.kind === 'main' && !workflow) throw new TypeError(`${name}/${own} is a main, which a workflow has alone`);
+    if (how.kind === 'shared' && (!keyed || workflow)) throw new TypeError(`${name}/${own} is shared, which the handlers of an object are alone`);
+    const retry = how.retry ?? ATTEMPTS;
+    checkRetry(`the retry of ${name}/${own}`, retry);
+    const exclusive = workflow ? how.kind === 'main' : keyed && how.kind !== 'shared';
+    handlers.set(own, { service: name, name: own, keyed, exclusive, retry, takes: how.takes as Parse<never> | undefined, run: how.run as Run<never, never, unknown> });
+  }
+  const about: About = { name, keyed, workflow, handlers };
+  return Object.freeze({ ...Object.fromEntries(handlers), [ABOUT]: about }) as unknown as Service<G>;
+}
+
+/** Handlers without a key, which run side by side. */
+export function service<G extends Record<string, Given<ServiceContext>>>(name: string, handlers: G): Service<G> {
+  return served<G>(name, false, false, handlers);
+}
+
+/** Handlers with a key and its state. One of a key runs at a time, except for those that are `shared`, which only read. */
+export function object<G extends Record<string, Given<ObjectContext>>>(name: string, handlers: G): Service<G> {
+  return served<G>(name, true, false, handlers);
+}
+
+/** A `main` that runs once a key, and handlers beside it, which look at its state and complete its promises. */
+export function workflow<G extends Record<string, Given<SharedWorkflowContext> | Given<WorkflowContext>>>(name: string, handlers: G): Service<G> {
+  const found = served<G>(name, true, true, handlers as Record<string, Given<never>>);
+  const mains = [...found[ABOUT].handlers.values()].filter((it) => it.exclusive);
+  if (mains.length !== 1) throw new TypeError(`the workflow ${name} has ${mains.length} handlers that are main, and it has one: main(async (ctx, argument) => ..)`);
+  return found;
+}
+
+/** The services that a worker serves, by their names. */
+export function servicesOf(services: readonly AnyService[]): Map<string, About> {
+  const found = new Map<string, About>();
+  for (const { [ABOUT]: about } of services) {
+    if (found.has(about.name)) throw new Error(`there are two services with the name ${about.name}`);
+    found.set(about.name, about);
+  }
+  return found;
+}
+
+/** The version of this code, as long as nothing else names it: a hash of its handlers' sources. What they call isn't in it. */
+export function versionOf(services: ReadonlyMap<string, About>): string {
+  const hash = createHash('sha256');
+  const handlers = [...services.values()].flatMap((it) => [...it.handlers.values()]);
+  for (const it of handlers.sort((one, other) => (`${one.service}/${one.name}` < `${other.service}/${other.name}` ? -1 : 1))) {
+    hash.update(`${it.service}/${it.name}\0${it.exclusive}\0${Function.prototype.toString.call(it.run)}\0`);
+  }
+  return hash.digest('hex').slice(0, 12);
+}
+
+/** What a worker announces. */
+export function servesText(services: ReadonlyMap<string, About>): string {
+  const about = [...services.values()].map((it) => {
+    const handlers = Object.fromEntries([...it.handlers.values()].map((one) => [one.name, one.exclusive]));
+    return [it.name, { keyed: it.keyed, workflow: it.workflow, handlers }];
+  });
+  return JSON.stringify(Object.fromEntries(about));
+}

@@ -1,0 +1,26 @@
+// What the tests use of Node beside what the SDK does (src/ambient.d.ts).
+
+declare module 'node:assert/strict' {
+  const assert: {
+    (holds: unknown, message?: string): asserts holds;
+    equal(found: unknown, wanted: unknown, message?: string): void;
+    notEqual(found: unknown, unwanted: unknown, message?: string): void;
+    deepEqual(found: unknown, wanted: unknown, message?: string): void;
+    match(found: string, wanted: RegExp, message?: string): void;
+    throws(does: () => unknown, wanted: RegExp | object, message?: string): void;
+    rejects(does: PromiseLike<unknown> | (() => PromiseLike<unknown>), wanted: RegExp | object, message?: string): Promise<void>;
+  };
+  export default assert;
+}
+
+declare module 'node:test' {
+  export function test(name: string, does: () => unknown): Promise<void>;
+  export function test(name: string, options: { timeout?: number }, does: () => unknown): Promise<void>;
+  export function before(does: () => unknown): void;
+  export function after(does: () => unknown): void;
+}
+
+declare module 'node:fs' {
+  export function appendFileSync(file: string, text: string): void;
+  export function readFileSync(file: string, encoding: 'utf8'): string;
+}

@@ -1,0 +1,42 @@
+// What the tests of the worker stand on: the database of PALQYTUN_TEST_POSTGRES, which has its tables, and workers and clients on it.
+
+import { Client, Worker } from '@palqytun/sdk';
+import type { AnyService, WorkerOptions } from '@palqytun/sdk';
+
+export const URL = process.env['PALQYTUN_TEST_POSTGRES'] ?? '';
+export const LONG = 300_000; // milliseconds after which a test that waits has failed, however busy its host is
+
+export interface Stage {
+  readonly worker: Worker;
+  readonly client: Client;
+  /** The lines of the worker's log. */
+  readonly lines: Record<string, unknown>[];
+  end(): Promise<void>;
+}
+
+/** A worker of some services, and a client. */
+export async function stage(services: readonly AnyService[], options: Partial<WorkerOptions> = {}): Promise<Stage> {
+  const lines: Record<string, unknown>[] = [];
+  const log = { format: 'json' as const, write: (line: string) => void lines.push(JSON.parse(line) as Record<string, unknown>) };
+  const worker = new Worker({ url: URL, services, idle: 200, poll: 500, log, ...options });
+  const running = worker.run();
+  await Promise.race([worker.isOpen, running]);
+  const client = await Client.connect({ url: URL, services });
+  return {
+    worker, client, lines,
+    end: async () => {
+      await client.close();
+      worker.stop();
+      await running;
+    },
+  }; // prettier-ignore
+}
+
+/** Waits until something is so. */
+export async function until(holds: () => boolean | Promise<boolean>): Promise<void> {
+  const last = performance.now() + LONG;
+  while (!(await holds())) {
+    if (performance.now() > last) throw new Error('it took too long');
+    await new Promise<void>((done) => setTimeout(done, 20));
+  }
+}

@@ -1,0 +1,111 @@
+// Values, hashes and random numbers: what is compared comes from outside, as from Python's hashlib and json.
+
+import assert from 'node:assert/strict';
+import { test } from 'node:test';
+import { blake2b, idOfCall, seedOf, traceOf } from '../hash';
+import { Random } from '../random';
+import { BadValue, TerminalError, said } from '../errors';
+import { checkName, checkPayload, decoded, encoded } from '../values';
+
+const text = (data: Uint8Array): string => Buffer.concat([data]).toString();
+const bytes = (json: string): Uint8Array => Buffer.from(json, 'utf8');
+
+test('BLAKE2b is that of hashlib', () => {
+  assert.equal(blake2b('abc', 12).toString('hex'), '48b4f1f9042a2d5033b382b5');
+  assert.equal(blake2b('abc', 8, 'trace').toString('hex'), 'ad4322dde4ae9a6a');
+  assert.equal(blake2b('x'.repeat(300), 16).toString('hex'), 'c2f093e41879e412280bfcc0ed6533e4');
+  assert.equal(blake2b('x'.repeat(128), 7).toString('hex'), '8d89dcc02e678d');
+});
+
+test('ids, seeds and traces are those of Python', () => {
+  assert.equal(idOfCall('inv_1', 2), ID_OF_CALL);
+  assert.equal(seedOf('inv_1'), SEED_OF);
+  assert.equal(traceOf('inv_1', '00-0af7651916cd43dd8448eb211c80319c-b7ad6b7169203331-00').header, '00-0af7651916cd43dd8448eb211c80319c-82c0842922d6ea50-00');
+});
+
+// Of palqytun.runtime: `effects.child_of("inv_1", 2)`, `invocations.seed_of("inv_1")`; the trace is that of its docstring.
+const ID_OF_CALL = 'inv_64b2e30b1cac51a8eba340ff';
+const SEED_OF = 55151051881685878n;
+
+test('random numbers follow from the seed', () => {
+  const [one, again, other] = [new Random(7n), new Random(7n), new Random(8n)];
+  const drawn = Array.from({ length: 100 }, () => one.random());
+  assert.deepEqual(Array.from({ length: 100 }, () => again.random()), drawn);
+  assert.notEqual(other.random(), drawn[0]);
+  assert(drawn.every((it) => it >= 0 && it < 1));
+  assert(Math.abs(drawn.reduce((sum, it) => sum + it, 0) / 100 - 0.5) < 0.15);
+  const uuids = Array.from({ length: 1000 }, () => one.uuid());
+  assert(uuids.every((it) => /^[0-9a-f]{8}-[0-9a-f]{4}-4[0-9a-f]{3}-[89ab][0-9a-f]{3}-[0-9a-f]{12}$/.test(it)));
+  assert.equal(new Set(uuids).size, 1000);
+});
+
+test('values are JSON, and no bytes stand for null', () => {
+  assert.equal(encoded(null).length, 0);
+  assert.equal(encoded(undefined).length, 0);
+  assert.equal(text(encoded({ a: [1, 'é', true, null], left: undefined })), '{"a":[1,"é",true,null]}');
+  assert.equal(text(encoded(new Date(0))), '"1970-01-01T00:00:00.000Z"');
+  assert.deepEqual(decoded(bytes('{"a":[1,"é"]}')), { a: [1, 'é'] });
+  assert.equal(decoded(bytes('')), null);
+});
+
+test('what JSON has not is refused by name', () => {
+  const cyclic: unknown[] = [];
+  cyclic.push(cyclic);
+  let deep: unknown = 1;
+  for (let at = 0; at < 100_000; at++) deep = [deep];
+  const cases: [unknown, RegExp][] = [
+    [1n, /^the value is the BigInt 1, which JSON can't carry$/],
+    [{ price: [1, NaN] }, /^the value at \.price\[1\] is NaN/],
+    [[Infinity], /^the value at \[0\] is Infinity/],
+    [[undefined], /^the value at \[0\] is undefined/],
+    [() => 1, /is a function/],
+    [{ 'a b': Symbol('s') }, /^the value at \["a b"\] is a symbol/],
+    [cyclic, /^the value at \[0\] is an object within itself/],
+    [new Map(), /of type Map/],
+    [new Set(), /of type Set/],
+    [/x/, /of type RegExp/],
+    [new Uint8Array(2), /of type Uint8Array/],
+    [new Error('x'), /of type Error/],
+    [Promise.resolve(1), /a promise \(await it first\)/],
+    [new Date(NaN), /a date that is none/],
+    ['\ud800', /half of a surrogate pair/],
+    [deep, /nested too deep/],
+    [{ toJSON: () => undefined }, /nothing by its own toJSON/],
+    [{ get x(): number { throw new Error('mine'); } }, /can't be written as JSON: Error: mine/],
+    [new Proxy({}, { ownKeys: () => { throw new Error('trap'); } }), /Error: trap/],
+  ];
+  for (const [value, wanted] of cases) assert.throws(() => encoded(value), { name: 'BadValue', message: wanted });
+});
+
+test('a number that JavaScript would round is refused', () => {
+  assert.throws(() => decoded(bytes('[12345678901234567890]')), /the number 12345678901234567890 is greater/);
+  assert.equal(decoded(bytes('"12345678901234567890"')), '12345678901234567890');
+  assert.equal(decoded(bytes('9007199254740991')), 9007199254740991);
+  assert.equal(decoded(bytes('0.12345678901234567890')), 0.12345678901234568);
+  assert.throws(() => decoded(bytes('{')), BadValue);
+  assert.throws(() => decoded(new Uint8Array([0x22, 0xff, 0x22])), BadValue);
+  assert.throws(() => decoded(bytes('1'), () => { throw new Error('no text'); }), /no text/);
+});
+
+test('names and sizes have their limits', () => {
+  checkName('the key', 'k'.repeat(1000));
+  assert.throws(() => checkName('the key', 'é'.repeat(501)), { code: 400, message: 'the key has 1002 bytes in UTF-8, and 1000 are allowed' });
+  assert.throws(() => checkName('the key', 'a\0'), { code: 400, message: /NUL/ });
+  assert.throws(() => checkName('the key', '\ud800'), { code: 400, message: /surrogate/ });
+  assert.throws(() => checkName('the key', 5), { code: 400, message: 'the key is a text, and not number' });
+  assert.throws(() => checkPayload('the argument', 5, 4), { code: 413, message: 'the argument has 5 bytes, and may have 4' });
+});
+
+test('whatever is thrown has a text', () => {
+  assert.equal(said(new RangeError('far')), 'RangeError: far');
+  assert.equal(said(5), 'number 5');
+  assert.equal(said(undefined), 'undefined undefined');
+  const silent = { toString: () => { throw new Error('no'); } };
+  assert.match(said(silent), /has no text/);
+  const proxy = new Proxy({}, { getPrototypeOf: () => { throw new Error('trap'); } });
+  assert.match(said(proxy), /has no text/);
+  assert.equal(said(new Error('a\0b')), 'Error: a\\0b');
+  assert(said(new Error('x'.repeat(5_000_000))).length < 5_000);
+  assert.throws(() => new TerminalError('x', 70_000), /16 bits/);
+  assert.equal(new TerminalError('\ud800').message, '\\ud800');
+});

@@ -1,0 +1,100 @@
+// The worker: databases that it refuses, its end within its grace, cancellations, patches, and its numbers and log.
+
+import assert from 'node:assert/strict';
+import { test } from 'node:test';
+import { Cancelled, Unsuitable, Worker, service } from '@palqytun/sdk';
+import type { ServiceContext } from '@palqytun/sdk';
+import { Client as Connection } from 'pg';
+import { LONG, URL, stage, until } from './cluster';
+import { configOf } from '../database';
+
+let executed = 0;
+let begun = 0;
+
+const work = service('Grace', {
+  slow: async (ctx: ServiceContext, milliseconds: number): Promise<string> => {
+    const first = await ctx.run('slow', async () => {
+      begun += 1;
+      await new Promise<void>((done) => setTimeout(done, milliseconds));
+      executed += 1;
+      return 'slow';
+    });
+    return `${first}, ${await ctx.run('after', () => 'after')}`;
+  },
+  undoes: async (ctx: ServiceContext, _: null): Promise<unknown> => {
+    const steps: string[] = [];
+    try {
+      await ctx.shield(async () => steps.push(await ctx.run('shielded', async () => new Promise<string>((done) => setTimeout(() => done('kept'), 300)))));
+      await ctx.sleep(3_600_000);
+    } catch (error) {
+      if (error instanceof Cancelled) steps.push(await ctx.run('undo', () => 'undone'));
+    }
+    return steps;
+  },
+  patched: async (ctx: ServiceContext, _: null): Promise<unknown> => {
+    const applies = ctx.patched('mail');
+    ctx.log.info('it goes on', { at: 1 });
+    await ctx.sleep(1);
+    return [applies, ctx.patched('mail')];
+  },
+});
+
+/** The URL of an empty database of the same server. */
+async function empty(name: string): Promise<string> {
+  const connection = new Connection(configOf(URL));
+  await connection.connect();
+  await connection.query(`DROP DATABASE IF EXISTS ${name}`);
+  await connection.query(`CREATE DATABASE ${name}`);
+  await connection.end();
+  return URL.replace('/postgres?', `/${name}?`);
+}
+
+test('databases that a worker refuses, each in one line', { timeout: LONG }, async () => {
+  const url = await empty('without_tables');
+  const refused = (): Promise<void> => new Worker({ url, services: [work] }).run();
+  await assert.rejects(refused, (error: unknown) => error instanceof Unsuitable && error.message === 'the database has no tables of Palqytun: palqytun migrate makes them');
+  const connection = new Connection(configOf(url));
+  await connection.connect();
+  await connection.query('CREATE TABLE schema_versions(version integer)');
+  for (const [version, wanted] of [[1, /has version 1, and this package works with version \d+: palqytun migrate moves it/], [999, /this package is older/]] as const) {
+    await connection.query(`INSERT INTO schema_versions VALUES (${version})`);
+    await assert.rejects(refused, (error: unknown) => error instanceof Unsuitable && wanted.test(error.message));
+  }
+  await connection.end();
+  assert.throws(() => new Worker({ url: 'sqlite', services: [] }), /url is that of a PostgreSQL database/);
+  assert.throws(() => new Worker({ url: URL, services: [], limit: 0 }), /limit is a number from 1, and not 0/);
+  assert.throws(() => new Worker({ url: URL, services: [work, work] }), /two services with the name Grace/);
+});
+
+test('runs end within the grace and are executed once, and another worker goes on', { timeout: LONG }, async () => {
+  const on = await stage([work]);
+  const sent = await on.client.send(work.slow, 500);
+  await until(() => begun === 1);
+  await on.end();
+  assert.equal(executed, 1);
+  const again = await stage([work]);
+  try {
+    assert.equal(await again.client.sent<string>(sent.id).result(LONG), 'slow, after');
+    assert.equal(executed, 1);
+  } finally {
+    await again.end();
+  }
+});
+
+test('cancellations wait for a shield, and patches and logs are recorded once', { timeout: LONG }, async () => {
+  const on = await stage([work], { idle: 0 });
+  try {
+    const sent = await on.client.send(work.undoes, null);
+    await until(() => on.worker.metrics().includes('palqytun_live_attempts 1\n'));
+    await sent.cancel();
+    assert.deepEqual(await sent.result(LONG), ['kept', 'undone']);
+    assert.deepEqual(await on.client.call(work.patched, null), [true, true]);
+    const told = on.lines.filter((it) => it['message'] === 'it goes on');
+    assert.equal(told.length, 1);
+    assert.deepEqual([told[0]?.['logger'], told[0]?.['handler'], told[0]?.['at']], ['palqytun.handler', 'Grace/patched', 1]);
+    assert.match(on.worker.metrics(), /palqytun_ended_total\{service="Grace",handler="undoes",outcome="done"\} 1/);
+    assert.match(on.worker.metrics(), /palqytun_attempt_seconds_count\{service="Grace",handler="patched"\} \d/);
+  } finally {
+    await on.end();
+  }
+});
