@@ -118,18 +118,19 @@ class Heartbeats(support.OnADatabase):
 
         asyncio.run(go())
 
-    async def progress(self, served, id, count):
+    async def progress(self, served, id, wanted):
+        """Waits until the invocation shows this progress, by the names of its runs. What is said first is stored at once, and what is said last a second later."""
         for _ in range(int(support.LONG / 0.02)):
-            found = (await served.ask(f"/-/invocations/{id}", None, "GET"))[1]["progress"]
-            if len(found) == count:
-                return {it["name"]: it["value"] for it in found}
+            found = {it["name"]: it["value"] for it in (await served.ask(f"/-/invocations/{id}", None, "GET"))[1]["progress"]}
+            if found == wanted:
+                return
             await asyncio.sleep(0.02)
-        raise AssertionError(found)
+        self.assertEqual(found, wanted)
 
     def test_they_are_seen(self):
         async def test(served):
             id = (await served.ask("/Long/tells/send", 40))[1]["invocation"]
-            self.assertEqual(await self.progress(served, id, 2), {"in thread": '{"rows":40}', "in loop": '"40 rows"'})
+            await self.progress(served, id, {"in thread": '{"rows":40}', "in loop": '"40 rows"'})
             _, page, _ = await served.ask(f"/-/page/{id}", None, "GET")
             self.assertIn("40 rows", page)
             said = await asyncio.to_thread(palqytun, "invocations", "inspect", id, "--db", self.url)
@@ -175,7 +176,7 @@ class Heartbeats(support.OnADatabase):
     def test_a_killed_one_is_told(self):
         async def test(served):
             id = (await served.ask("/Long/tells/send", 1))[1]["invocation"]
-            await self.progress(served, id, 2)
+            await self.progress(served, id, {"in thread": '{"rows":1}', "in loop": '"1 rows"'})
             pulses = [it for attempt in served.engine.live.values() for it in attempt._executing.values()]
             self.assertEqual(len(pulses), 2)
             await served.ask(f"/-/invocations/{id}/kill")
@@ -195,7 +196,7 @@ class Heartbeats(support.OnADatabase):
     def test_another_workers_is_not_stored(self):
         async def test(served):
             id = (await served.ask("/Long/tells/send", 1))[1]["invocation"]
-            await self.progress(served, id, 2)
+            await self.progress(served, id, {"in thread": '{"rows":1}', "in loop": '"1 rows"'})
             stale = Lease(id, 7, None)
             self.assertFalse(await served.engine.transact(lambda db: heartbeats.keep(db, stale, 99, "other", b"1")))
             self.assertEqual(await served.rows("SELECT 1 FROM progress WHERE run=99"), [])
