@@ -1,8 +1,8 @@
 """The tools that tests use: which are found, and how the others are installed. The table is tools/packages.
 
-usage: python3 -m tools.gate.packages [--install]
+usage: python3 -m tools.gate.packages [--install | --python]
 
-It prints what isn't found. With --install Debian's packages of these tools are installed, as root."""
+It prints what isn't found. With --install Debian's packages of these tools are installed, as root. With --python it prints which Python runs the tests."""
 
 from __future__ import annotations
 
@@ -201,9 +201,12 @@ def _installed(tools: list[Tool]) -> int:
 
 
 def main(words: list[str]) -> int:
-    if words not in ([], ["--install"]):
+    if words not in ([], ["--install"], ["--python"]):
         print(__doc__, file=sys.stderr)
         return 2
+    if words == ["--python"]:
+        print(chosen_python(read()))
+        return 0
     found = missing()
     for it in found:
         print(f"{it.name}: {it.how} ({it.skipped})", flush=True)

@@ -11,6 +11,7 @@ from typing import Any
 from unittest import mock
 
 from tools.gate import packages
+from tools.gate.environment import TOP
 from tools.gate.packages import BadTable, Tool, read
 
 
@@ -122,6 +123,12 @@ class Finding(unittest.TestCase):
             self.assertEqual(packages.chosen_python({}), named)
         with mock.patch.dict("os.environ", {"PALQYTUN_PYTHON": "/no/python"}), self.assertRaisesRegex(SystemExit, "/no/python is no Python 3.11 or newer"):
             packages.chosen_python({})
+
+    def test_chaos_is_run_by_the_python_of_the_tests(self) -> None:
+        named = self.python_with("unittest", '"$@"')
+        env = {**os.environ, "PALQYTUN_PYTHON": named, "PALQYTUN_LIBRARY": "/no/library"}
+        ran = subprocess.run([str(TOP / "tools/chaos"), "--kills", "7"], env=env, stdin=subprocess.DEVNULL, capture_output=True, text=True)
+        self.assertRegex(ran.stdout, r"^unittest \S+/python/tests/crash/chaos\.py --kills 7\n$", ran.stderr)
 
 
 if __name__ == "__main__":
