@@ -1,8 +1,10 @@
 """A worker with its ingress on a port of this host, and its clients: requests as values, and as the bytes on a socket."""
 
 import asyncio
+import contextlib
 import http.client
 import json
+import socket
 import time
 
 import support
@@ -10,11 +12,20 @@ from palqytun.runtime.engine import Engine
 from palqytun.runtime.serving import Http, Settings
 
 
+async def _answered(reader):
+    """All that comes, until the other side closes or resets the connection."""
+    said = b""
+    with contextlib.suppress(ConnectionError):
+        while some := await reader.read(1 << 16):
+            said += some
+    return said
+
+
 class Served:
     """`limit=0` as an option of the worker runs no handler. `ends`: seconds in which requests that have begun may end when it stops."""
 
     def __init__(self, app, url, settings=Settings(), *, connections=1000, ends=1.0, **worker):
-        self.engine = Engine(app, url, **{"idle": support.IDLE, "poll": 0.2, **worker})
+        self.engine = Engine(app, url, **{"idle": support.IDLE, "poll": 0.2, "lease": support.LEASE, **worker})
         self.http = Http(self.engine, settings, "127.0.0.1", 0, connections=connections, grace=ends)
 
     async def __aenter__(self):
@@ -60,15 +71,21 @@ class Served:
     async def client(self):
         return await asyncio.open_connection("127.0.0.1", self.port)
 
-    async def raw(self, *pieces):
-        """All that is answered to these bytes, until the server closes the connection."""
-        reader, writer = await self.client()
-        for it in pieces:
-            writer.write(it)
-            await writer.drain()
-            await asyncio.sleep(0.02)
+    async def raw(self, first=b"", *pieces):
+        """All that is answered to these bytes, until the server closes the connection, which may be before it has the last of them. The first ones are there
+        when it takes the connection."""
+        client = socket.create_connection(("127.0.0.1", self.port), support.LONG)
+        client.sendall(first)
+        client.setblocking(False)
+        reader, writer = await asyncio.open_connection(sock=client)
+        said = asyncio.create_task(_answered(reader))
+        with contextlib.suppress(ConnectionError):
+            for it in pieces:
+                await asyncio.sleep(0.02)
+                writer.write(it)
+                await writer.drain()
         try:
-            return await asyncio.wait_for(reader.read(), support.LONG)
+            return await asyncio.wait_for(said, support.LONG)
         finally:
             writer.close()
 

@@ -29,6 +29,7 @@ from palqytun.runtime.invocations import New  # noqa: E402
 
 IDLE = float(os.environ.get("PALQYTUN_TEST_IDLE", 0))
 LONG = 300.0  # seconds after which a test that waits has failed, however busy its host is
+LEASE = 60.0  # seconds; a host that stands still for a while makes no dead worker of one that lives
 
 
 def emptied(kind, folder):
@@ -92,7 +93,7 @@ def with_runtime(test):
 
 class Runtime:
     def __init__(self, app, url, **options):
-        self.engine = Engine(app, url, **{"idle": IDLE, "poll": 0.2, **options})
+        self.engine = Engine(app, url, **{"idle": IDLE, "poll": 0.2, "lease": LEASE, **options})
 
     async def __aenter__(self):
         self.task = asyncio.create_task(self.engine.run())
@@ -128,3 +129,17 @@ class Runtime:
                 raise AssertionError(found)
             await asyncio.sleep(0.02)
         return found
+
+    async def until_rows(self, wanted, sql, *values):
+        """Waits until a query has these rows."""
+        until = time.monotonic() + LONG
+        while (found := await self.rows(sql, *values)) != wanted:
+            if time.monotonic() > until:
+                raise AssertionError(found)
+            await asyncio.sleep(0.02)
+
+    async def time_passes(self, id):
+        """An invocation is suspended, and then what it sleeps for is over: so no sleep ends before its attempt is suspended, however slow the host is."""
+        await self.until(id, "suspended")
+        await self.engine.transact(lambda db: db.change("UPDATE timers SET due=0 WHERE invocation=?", (id,)))
+        self.engine.look()
