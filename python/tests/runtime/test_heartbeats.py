@@ -4,6 +4,7 @@ import asyncio
 import threading
 import time
 import unittest
+from unittest import mock
 
 import support  # isort: skip
 import needs
@@ -54,19 +55,31 @@ async def stalls() -> str:
 
 @step(heartbeat=0.3, retry=FAST)
 def stalls_in_thread() -> str:
-    """The first execution beats, then not for long, and at its next beat it is told that it has been given up."""
+    """The first execution beats, and not again until another one was begun in its place. At its next beat it is told that it has been given up."""
     seen.append("begun")
     if len(seen) > 1:
         return "again"
     heartbeat(1)
-    time.sleep(1.0)
+    while len(seen) < 2:
+        time.sleep(0.01)
     try:
-        while True:
-            heartbeat(2)
-            time.sleep(0.01)
+        heartbeat(2)
     except GivenUp as error:
         seen.append(str(error))
         raise
+    return "not given up"
+
+
+class Clock:
+    """The clock by which silence is measured: it goes on if a test says so, and so a host that stands still makes no silence."""
+
+    now = 1000.0
+
+    def monotonic(self) -> float:
+        return self.now
+
+
+clock = Clock()
 
 
 @step(heartbeat=0.5)
@@ -74,6 +87,7 @@ async def goes_on() -> int:
     """It takes several times as long as it may be silent."""
     for number in range(12):
         await asyncio.sleep(0.15)
+        clock.now += 0.4
         heartbeat(number)
     return 12
 
@@ -164,7 +178,8 @@ class Heartbeats(support.OnADatabase):
             self.assertEqual((await served.ask("/Long/runs", "goes_on"))[1], 12)
             self.assertEqual(await served.rows("SELECT 1 FROM attempts WHERE how='failed'"), [])
 
-        self.served(test)
+        with mock.patch.object(heartbeats, "time", clock):
+            self.served(test)
 
     def test_it_goes_on_where_the_one_before_was(self):
         async def test(served):
