@@ -171,24 +171,24 @@ class Groups(support.OnADatabase):
 
     def test_a_conflict_is_never_final(self):
         """However often it is met; and meanwhile others are stored."""
-        tries = []
+        tries, stored = [], []
 
         async def conflicts(db):
             tries.append(1)
             await inserted("late")(db)
-            if len(tries) < 40:
+            if len(tries) < 40 or len(stored) < 20:
                 raise Conflict("not yet")
 
         async def test(to):
             with mock.patch.object(committer, "_LONGEST", 0.05):
                 late = to.submit(conflicts)
                 for n in range(20):
-                    await to.submit(inserted(f"{n:02d}"))
-                self.assertFalse(late.done())
+                    stored.append(await to.submit(inserted(f"{n:02d}")))
                 await asyncio.wait_for(late, support.LONG)
 
         self.with_committer(test)
-        self.assertEqual((len(tries), len(self.names())), (40, 21))
+        self.assertGreaterEqual(len(tries), 40)
+        self.assertEqual(len(self.names()), 21)
 
     def test_a_further_connection_that_fails_when_the_first_is_free(self):
         """One is tried for since a group is slow. Once it is known that there is none, nothing is in work any more."""
