@@ -1,7 +1,7 @@
 """Steps: names, retries and time limits of runs, transactions on the database itself, what each kind of context has, and time limits of waits."""
 
 import asyncio
-import time
+import threading
 import unittest
 
 import support  # isort: skip
@@ -25,7 +25,7 @@ from palqytun.runtime import (
 )
 
 work, thing, flow = Service("Work"), VirtualObject("Thing"), Workflow("Flow")
-seen = []
+seen, free = [], threading.Event()
 ONCE = Retry(attempts=1, pause=True)
 
 
@@ -50,7 +50,7 @@ async def slow() -> None:
 
 @step(timeout=0.1, retry=Retry(attempts=1))
 def slow_in_a_thread() -> None:
-    time.sleep(0.5)
+    free.wait(support.LONG)
 
 
 @work.handler()
@@ -155,7 +155,7 @@ async def times(ctx: Context, it):
             seen.append("part")
             raise
 
-    found = [await ctx.timeout(ctx.run("quick", lambda: 1), 60)]
+    found = [await ctx.timeout(ctx.run("quick", lambda: 1), 3600)]
     for waits in (lambda: ctx.call(forever, "call"), lambda: gather(ctx.call(forever, "a"), ctx.call(forever, "b")), lambda: ctx.spawn(part())):
         try:
             await ctx.timeout(waits(), 0.05)
@@ -208,11 +208,13 @@ class Steps(support.OnADatabase):
     def setUp(self):
         super().setUp()
         seen.clear()
+        free.clear()
+        self.addCleanup(free.set)
 
     def with_runtime(self, test, **options):
         async def go():
             async with Runtime(app, self.url, **options) as runtime:
-                await test(runtime)
+                await asyncio.wait_for(test(runtime), support.LONG)
 
         asyncio.run(go())
 
@@ -250,7 +252,7 @@ class Steps(support.OnADatabase):
                 await runtime.engine.transact(lambda db: db.change(it))
             found = await runtime.call("Work/moves")
             self.assertEqual(found, ["OSError: never", "TimeoutError: the transaction took longer than 1 s"])
-            self.assertEqual(seen, ["cleo", "cleo", "late"])
+            self.assertIn(seen, (["cleo", "cleo", "late"], ["cleo", "cleo"]))  # the last, if a busy host came so far within its second
             self.assertEqual(await runtime.rows("SELECT name FROM guests"), [])
 
         self.with_runtime(go)
@@ -274,7 +276,7 @@ class Steps(support.OnADatabase):
             while len(set(seen)) < 5:
                 await asyncio.sleep(0.02)
             self.assertEqual(sorted(set(seen)), ["a undone", "b undone", "call undone", "inner undone", "part"])
-            self.assertEqual(await runtime.rows("SELECT id FROM invocations WHERE status<>'done'"), [])
+            await runtime.until_rows([], "SELECT id FROM invocations WHERE status<>'done'")
 
         self.with_runtime(go)
         self.assertTrue(issubclass(TimedOut, TerminalError) and issubclass(TimedOut, TimeoutError))

@@ -13,6 +13,7 @@ from unittest import mock
 
 import support  # isort: skip
 from palqytun.runtime import App, Context, Service, gather
+from palqytun.runtime.claiming import Claimer
 from palqytun.runtime.engine import Unavailable
 from palqytun.runtime.executions import Closed, Executions, Slots
 from support import Runtime
@@ -58,7 +59,7 @@ async def hangs(ctx: Context, _: None) -> str:
 
 @service.handler()
 async def blocks(ctx: Context, seconds: float) -> None:
-    while not any(HELD in it for it in logged):
+    while not any(HELD in it and "S/blocks of inv_" in it for it in logged):
         time.sleep(seconds)
 
 
@@ -86,7 +87,7 @@ class Stopping(support.OnADatabase):
 
     def test_what_waits_is_suspended_and_requests_are_answered(self):
         async def go():
-            runtime = Runtime(app, self.url, idle=60)
+            runtime = Runtime(app, self.url, idle=support.LONG, grace=support.LONG)
             async with runtime:
                 id = await runtime.send("S/waits")
                 await runtime.until(id, "running")
@@ -117,14 +118,17 @@ class Stopping(support.OnADatabase):
 
     def test_what_has_no_attempt_is_taken_back(self):
         async def go():
-            async with Runtime(app, self.url, idle=600, lease=3) as runtime:
-                id = await runtime.send("S/waits")
+            async with Runtime(app, self.url, idle=600) as runtime:
+                id, engine = await runtime.send("S/waits"), runtime.engine
                 await runtime.until(id, "running")
-                while id not in runtime.engine.live:
+                while id not in engine.live:
                     await asyncio.sleep(0.01)
-                first = runtime.engine.live.pop(id)
-                while runtime.engine.live.get(id) in (None, first):
+                first = engine.live.pop(id)
+                engine.lease = 1.0  # so it looks soon. What the database has of the lease stays, however long the host stands still
+                looks = asyncio.create_task(engine._sweeps(engine._committer, Claimer(engine._former, app, support.LEASE)))
+                while engine.live.get(id) in (None, first):
                     await asyncio.sleep(0.01)
+                looks.cancel()
                 assert (await runtime.rows("SELECT how FROM attempts WHERE invocation=?", id)) == [("lost",)]
 
         with self.assertLogs("palqytun", "WARNING") as said:
@@ -138,9 +142,9 @@ class Stopping(support.OnADatabase):
 
         with self.assertLogs("palqytun", "WARNING") as watched, mock.patch.object(sys.modules[__name__], "logged", watched.output):
             asyncio.run(go())
-        said = [it for it in watched.output if HELD in it]
-        assert said and "S/blocks of inv_" in said[0] and f"{__file__}:" in said[0], watched.output
-        assert said[0].endswith((": time.sleep(seconds)", ": while not any(HELD in it for it in logged):")), watched.output
+        said = [it for it in watched.output if HELD in it and "S/blocks of inv_" in it]
+        assert said and f"{__file__}:" in said[0], watched.output
+        assert said[0].endswith((": time.sleep(seconds)", " in it for it in logged):")), watched.output
 
 
 def ended(program, *signals, again=False):
