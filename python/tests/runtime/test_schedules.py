@@ -22,6 +22,7 @@ from palqytun.runtime.invocations import New
 from palqytun.runtime.outcome import Outcome
 
 mail, box, flow = Service("Mail"), VirtualObject("Box"), Workflow("Flow")
+LEASE = 10 * support.LONG
 
 
 @mail.handler(limit=2)
@@ -146,12 +147,16 @@ class OnAConnection(support.OnADatabase):
     def rows(self, sql, *values):
         return self.done(lambda db: db.rows(sql, values))
 
+    def all_are_due(self):
+        """A worker knows the server's clock a little late."""
+        self.done(lambda db: db.change("UPDATE invocations SET due=due-1000"))
+
 
 @support.on_each_database
 class Schedules(OnAConnection):
     def entered(self, *schedules_of_it):
         app = App(mail, box, schedules=schedules_of_it)
-        self.done(Claimer(secrets.token_hex(4), app, 10).enter)
+        self.done(Claimer(secrets.token_hex(4), app, LEASE).enter)
         return app
 
     def fired(self, app, now):
@@ -159,7 +164,7 @@ class Schedules(OnAConnection):
         return len(self.rows("SELECT id FROM invocations"))
 
     def test_each_time_makes_one_call(self):
-        app = self.entered(Schedule("often", send, {"to": "ann"}, every=60), Schedule("seldom", clean, key="k", cron="0 0 1 1 *"))
+        app = self.entered(Schedule("often", send, {"to": "ann"}, every=60), Schedule("seldom", clean, key="k", cron="0 0 29 2 *"))
         [(due,)] = self.rows("SELECT due FROM schedules WHERE name='often'")
         self.assertEqual(self.done(schedules.next_due, app, due - 1), due)
         self.assertEqual([self.fired(app, at) for at in (due - 1, due, due + 59, due + 60, due + 60, due + 1000)], [0, 1, 1, 2, 2, 3])
@@ -167,7 +172,7 @@ class Schedules(OnAConnection):
         [(frame,), *_] = self.rows("SELECT frame FROM journal ORDER BY stored")
         time_of_it = datetime.datetime.fromtimestamp(due, datetime.timezone.utc).isoformat()
         self.assertEqual(journal.line_of(bytes(frame)), f"Input headers=(('schedule', 'often'), ('scheduled-for', '{time_of_it}')) value=b'{{\"to\":\"ann\"}}'")
-        self.assertEqual([(it["name"], it["rule"]) for it in self.done(operate.schedules)], [("often", "every 60"), ("seldom", "cron 0 0 1 1 *")])
+        self.assertEqual([(it["name"], it["rule"]) for it in self.done(operate.schedules)], [("often", "every 60"), ("seldom", "cron 0 0 29 2 *")])
 
     def test_another_version_of_the_app(self):
         self.entered(Schedule("a", send, every=60), Schedule("b", send, every=60), Schedule("c", clean, key="k", every=60))
@@ -175,16 +180,17 @@ class Schedules(OnAConnection):
         self.assertEqual(self.rows("SELECT name, handler, rule FROM schedules ORDER BY name"), [("a", "send", "every 60"), ("b", "free", "every 10")])
         only_mail = App(mail, schedules=[Schedule("a", send, every=60)])
         self.entered(Schedule("a", send, every=60), Schedule("c", clean, key="k", every=60))
-        self.done(Claimer("other", only_mail, 10).enter)
+        self.done(Claimer("other", only_mail, LEASE).enter)
         self.assertEqual(self.rows("SELECT name FROM schedules ORDER BY name"), [("a",), ("c",)])
         self.assertEqual(self.fired(app, time.time() + 10**6), 1)  # `c` isn't its own
 
 
     def test_the_clock_is_the_databases(self):
+        before = self.db.now()
         with mock.patch("time.time", return_value=0.0) if self.kind == "postgres" else contextlib.nullcontext():  # a file's clock is this host's
             self.entered(Schedule("often", send, every=60))
         [(due, now)] = self.rows(f"SELECT due, {self.db.clock} FROM schedules")
-        self.assertTrue(0 < due - now <= 60)
+        self.assertTrue(before < due <= now + 60, (before, due, now))
 
     def test_a_clock_that_was_a_day_ahead(self):
         app = self.entered(Schedule("often", send, every=60))
@@ -227,7 +233,7 @@ class Overlaps(OnAConnection):
 
     def entered(self, overlap):
         self.app = App(mail, box, schedules=[Schedule("often", send, {"to": "ann"}, every=60, overlap=overlap)])
-        self.done(Claimer(secrets.token_hex(4), self.app, 10).enter)
+        self.done(Claimer(secrets.token_hex(4), self.app, LEASE).enter)
         [(self.first,)] = self.rows("SELECT due FROM schedules")
 
     def fired(self, *minutes):
@@ -292,8 +298,11 @@ class Overlaps(OnAConnection):
 class ActsOnSchedules(OnAConnection):
     def setUp(self):
         super().setUp()
-        self.app = App(mail, box, schedules=[Schedule("often", send, {"to": "ann"}, every=60), Schedule("a/b", clean, key="k", cron="0 3 * * *")])
-        self.done(Claimer("one", self.app, 1000).enter)
+        self.entered("0 3 * * *")
+
+    def entered(self, cron):
+        self.app = App(mail, box, schedules=[Schedule("often", send, {"to": "ann"}, every=60), Schedule("a/b", clean, key="k", cron=cron)])
+        self.done(Claimer(secrets.token_hex(4), self.app, LEASE).enter)
 
     def act(self, what, name="often", since="", until=""):
         """Without the app, as the command does it."""
@@ -303,6 +312,7 @@ class ActsOnSchedules(OnAConnection):
         return next(it for it in self.done(operate.schedules) if it["name"] == "often")
 
     def test_pause_and_resume(self):
+        self.entered(f"0 {(time.gmtime(self.db.now()).tm_hour + 12) % 24} * * *")  # far from now
         due = self.row()["due"]
         self.assertEqual([self.act("pause"), self.act("pause"), self.row()["paused"]], ["paused", "is paused", True])
         self.done(schedules.fire, self.app, Outcome(), due + 1)
@@ -321,7 +331,7 @@ class ActsOnSchedules(OnAConnection):
         said = self.act("trigger")
         [(id, key)] = self.rows("SELECT id, idem FROM invocations")
         self.assertEqual((said, self.row()["called"]), (f"made {id}", id))
-        self.assertAlmostEqual(self.row()["last"], time.time(), delta=60)
+        self.assertAlmostEqual(self.row()["last"], time.time(), delta=support.LONG)
         self.assertEqual(key, f"schedule often {self.row()['last']}")
         self.act("trigger", "a/b")
         self.assertEqual(self.rows("SELECT service, handler, key FROM invocations WHERE key<>''"), [("Box", "clean", "k")])
@@ -361,14 +371,14 @@ class ActsOnSchedules(OnAConnection):
 class Limits(OnAConnection):
     def test_at_most_so_many(self):
         app = App(mail, box)
-        one, two = Claimer("one", app, 10), Claimer("two", app, 10)
+        one, two = Claimer("one", app, LEASE), Claimer("two", app, LEASE)
         self.done(one.enter)
         if self.db.is_shared:
             self.done(two.enter)
         for _ in range(5):
             self.done(invocations.create, app, Outcome(), New("Mail", "send"))
         self.done(invocations.create, app, Outcome(), New("Mail", "free"))
-        self.done(lambda db: db.change("UPDATE invocations SET due=due-60"))  # a worker knows the server's clock a little late
+        self.all_are_due()
 
         def claims(claimer, room=100):
             return [it.handler for it in self.done(claimer.claim, (), room).claims]
@@ -393,11 +403,12 @@ class Shares(OnAConnection, unittest.TestCase):
 
     def test_a_claim_leaves_others_theirs(self):
         app = App(mail)
-        workers = [Claimer(name, app, 10) for name in ("one", "two", "three")]
+        workers = [Claimer(name, app, LEASE) for name in ("one", "two", "three")]
         for it in workers:
             self.done(it.enter)
         for _ in range(80):
             self.done(invocations.create, app, Outcome(), New("Mail", "free"))
+        self.all_are_due()
 
         def claimed(claimer, room):
             found = self.done(claimer.claim, (), room)
@@ -413,10 +424,11 @@ class Shares(OnAConnection, unittest.TestCase):
 class Broken(OnAConnection):
     def test_a_broken_journal_keeps_nobody_out(self):
         """Two completions of nothing: one stands in a journal, one in an inbox. Their invocations are paused, and the third is claimed."""
-        app, claimer = App(mail), Claimer("one", App(mail), 10)
+        app, claimer = App(mail), Claimer("one", App(mail), LEASE)
         self.done(claimer.enter)
         for id in "abc":
             self.done(invocations.create, app, Outcome(), New("Mail", "free", id=id))
+        self.all_are_due()
         nobodys = journal.completion(1, journal.void())
         self.done(lambda db: db.change("INSERT INTO journal(invocation, at, completes, frame) VALUES ('a',1,1,?)", (nobodys,)))
         self.done(lambda db: db.change("UPDATE invocations SET entries=2 WHERE id='a'"))
