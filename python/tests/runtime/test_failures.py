@@ -4,6 +4,7 @@ import asyncio
 import functools
 import logging
 import pathlib
+import time
 import unittest
 from unittest import mock
 
@@ -106,8 +107,13 @@ def with_worker(test):
 
 @support.on_each_database
 class Failures(support.OnADatabase):
-    def notes(self, id):
-        return [it for it in self.logged.records if getattr(it, "invocation", None) == id]
+    async def notes(self, id, count=1):
+        """What the log says of an invocation, once it says so much. A note is logged after the commit that others see."""
+        until = time.monotonic() + support.LONG
+        while len(found := [it for it in self.logged.records if getattr(it, "invocation", None) == id]) < count:
+            self.assertLess(time.monotonic(), until, found)
+            await asyncio.sleep(0.01)
+        return found
 
     @with_worker
     async def test_the_status(self, runtime):
@@ -152,7 +158,7 @@ class Failures(support.OnADatabase):
     async def test_an_attempt_that_fails_and_a_pause_are_lines(self, runtime):
         id = await runtime.send("Fails/breaks", 1)
         await runtime.until(id, "paused")
-        first, second = self.notes(id)
+        first, second = await self.notes(id, 2)
         self.assertRegex(first.getMessage(), rf"^Fails/breaks {id} attempt 1 failed, next in 0\.01 s: ValueError: a bug \(.*{line('the line that the log names')}\)$")
         self.assertRegex(second.getMessage(), rf"^Fails/breaks {id} attempt 2 failed, and it is paused until it is resumed: ValueError: a bug \(")
         self.assertEqual((first.levelname, first.event, first.handler, first.attempt, first.delay), ("WARNING", "attempt failed", "Fails/breaks", 1, 0.01))
@@ -162,14 +168,14 @@ class Failures(support.OnADatabase):
     async def test_an_end_by_a_failure_is_a_line(self, runtime):
         id = await runtime.send("Fails/refuses", 1)
         await runtime.result(id)
-        [note] = self.notes(id)
+        [note] = await self.notes(id)
         self.assertEqual((note.levelname, note.getMessage()), ("INFO", f"Fails/refuses {id} failed: 404 no such"))
 
     @with_worker
     async def test_a_run_that_fails_is_a_line(self, runtime):
         id = await runtime.send("Fails/runs", 1)
         self.assertEqual(await runtime.result(id), [3])
-        notes = self.notes(id)
+        notes = await self.notes(id, 2)
         self.assertEqual([(it.event, it.run, it.attempt) for it in notes], [("attempt failed", "unsteady", 1), ("attempt failed", "unsteady", 2)])
         self.assertRegex(notes[0].getMessage(), r"attempt 1 failed in the run 'unsteady', next in \d\.\d\d s: OSError: not yet \(.*" + line("the run's line"))
 
@@ -179,7 +185,7 @@ class Failures(support.OnADatabase):
         await runtime.until(id, "suspended")
         await runtime.engine.transact(lambda db: db.change("UPDATE timers SET due=0"))
         await runtime.until(id, "paused")
-        [note] = self.notes(id)
+        [note] = await self.notes(id)
         self.assertEqual(note.event, "paused")
         said = "570 CommandTypeMismatchError: command 1 is recorded as Sleep, and the code makes Run 'other'"
         self.assertIn(f": {said} (", note.getMessage())
