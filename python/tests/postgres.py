@@ -15,6 +15,7 @@ import functools
 import os
 import pathlib
 import pwd
+import random
 import re
 import shlex
 import shutil
@@ -104,6 +105,16 @@ def _told(log: pathlib.Path) -> str:
 # ---- a cluster
 
 
+def _free_port() -> int:
+    """A port at which nobody listens. It isn't one of those that the system gives to whoever asks for any, so it stays free until the server listens."""
+    first = int(pathlib.Path("/proc/sys/net/ipv4/ip_local_port_range").read_text().split()[0])
+    while True:
+        port = random.randrange(first // 2, first)
+        with socket.socket() as found, contextlib.suppress(OSError):
+            found.bind(("127.0.0.1", port))
+            return port
+
+
 @dataclass(frozen=True)
 class Place:
     """Where a server listens: at a Unix socket in a folder, or if the socket's path is too long at a free port of the loopback."""
@@ -115,8 +126,7 @@ class Place:
     def of(folder: pathlib.Path) -> Place:
         if len(os.fsencode(folder / ".s.PGSQL.5432.lock")) <= _LONGEST_PATH:
             return Place(str(folder))
-        with socket.create_server(("127.0.0.1", 0)) as free:
-            return Place("127.0.0.1", str(free.getsockname()[1]))
+        return Place("127.0.0.1", str(_free_port()))
 
     def settings(self) -> dict[str, str]:
         is_socket = self.host.startswith("/")

@@ -13,7 +13,7 @@ from types import TracebackType
 
 from .blocks import Command, is_printed
 
-STARTS = 120.0  # seconds within which a command that stays prints what the page shows
+STARTS = 600.0  # seconds within which a command that stays prints what the page shows
 
 
 class Ran:

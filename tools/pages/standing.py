@@ -54,6 +54,17 @@ PYTHON = r"""#!/usr/bin/env bash
 PYTHONPATH=$COPY/python/src exec "$PYTHON" "$@"
 """
 
+# Stands for sleep, by which a page waits until its worker has done something. A busy host may need longer than the page says: it goes on until no
+# invocation is at work, for two minutes at most.
+SLEEP = r"""#!/usr/bin/env bash
+/bin/sleep "$@" || exit
+for ((n = 0; n < 600; n++)); do
+    said=$(curl -s "localhost:$PORT/-/invocations?status=running"; curl -s "localhost:$PORT/-/invocations?status=ready")
+    [[ $said == *inv_* ]] || exit 0
+    /bin/sleep 0.2
+done
+"""
+
 # Stands for pip: what it installs is installed by tools/bindings.
 PIP = r"""#!/usr/bin/env bash
 [[ ${1:-} == install && ${2:-} == ./python* && -f python/src/palqytun/libpalqytun.so ]]
@@ -75,7 +86,7 @@ def write(folder: Path, copy: Path) -> None:
     """Writes the commands that stand in into a folder, and into the copy of the repository."""
     folder.mkdir()
     build = BUILD.replace("SONAME", soname(copy))
-    files = {folder / "rt": RT, folder / "palqytun": PALQYTUN, folder / "python3": PYTHON, folder / "pip": PIP, copy / "bindings" / "build": build}
+    files = {folder / "rt": RT, folder / "palqytun": PALQYTUN, folder / "python3": PYTHON, folder / "pip": PIP, folder / "sleep": SLEEP, copy / "bindings" / "build": build}
     for file, text in files.items():
         file.write_text(text, encoding="utf-8")
         file.chmod(0o755)
