@@ -190,7 +190,7 @@ class Locks(unittest.TestCase):
     """Calls that copy a large payload let other threads run, and others keep the interpreter's lock. A second thread's call finds the VM busy only
     while the lock is free."""
 
-    LIMIT = 120  # seconds
+    LIMIT = 600  # seconds
 
     def is_found_busy(self, call: Called, data: bytes, rounds: int) -> bool:
         """Whether another thread's call comes into one of the calls."""

@@ -36,7 +36,7 @@ print(json.dumps([palqytun.implementation, of, palqytun.VM.__name__, palqytun.VM
 def run(code: str, wanted: str | None, package: pathlib.Path = PACKAGE) -> subprocess.CompletedProcess[str]:
     env = {name: it for name, it in os.environ.items() if name != VARIABLE}
     env |= {"PYTHONPATH": str(package.parent)} | ({} if wanted is None else {VARIABLE: wanted})
-    return subprocess.run([sys.executable, "-B", "-c", code], env=env, capture_output=True, text=True, timeout=300)
+    return subprocess.run([sys.executable, "-B", "-c", code], env=env, capture_output=True, text=True, timeout=600)
 
 
 class Choice(unittest.TestCase):

@@ -23,7 +23,7 @@ UNPROVED = "the library was built without a proof"
 
 def run(*words: str, **more: str) -> subprocess.CompletedProcess[str]:
     env = {**os.environ, "PYTHONPATH": str(PROJECT / "src"), **more}
-    return subprocess.run([sys.executable, "-m", "palqytun", *words], env=env, capture_output=True, text=True, timeout=180)
+    return subprocess.run([sys.executable, "-m", "palqytun", *words], env=env, capture_output=True, text=True, timeout=600)
 
 
 class Which(unittest.TestCase):
@@ -73,7 +73,7 @@ class Command(unittest.TestCase):
                 assert worker.stdout is not None
                 worker.stdout.readline()  # its address: it runs
                 worker.send_signal(signal.SIGTERM)
-                said = worker.communicate(timeout=120)[1]
+                said = worker.communicate(timeout=600)[1]
         self.assertEqual(said.count(UNPROVED), 0 if palqytun.is_proved else 1, said)
 
 

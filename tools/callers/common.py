@@ -15,7 +15,7 @@ from tools.abi import words
 from tools.gate import counts as counting
 from tools.programs.commands import Ended, ended
 
-SECONDS = 900  # for a command that builds or tests, beside all else that the gate runs
+SECONDS = 2400  # for a command that builds or tests, beside all else that the gate runs
 
 
 class Checks(Protocol):

@@ -14,7 +14,7 @@ from tools.programs.row_files import BadRow
 from . import suite
 
 TOP = Path(__file__).resolve().parents[2]
-SECONDS = 600  # for a player
+SECONDS = 2400  # for a player
 SHOWN = 20  # differences that are printed
 ABOUT = """Plays the conformance suite: the rows of vmscript through the typed calls of a binding. A PLAYER is a command that reads the suite on
 standard input, a row a line; for each row it prints 'ok ROW', or lines that say what differs and then 'not ok ROW'. By default the player is

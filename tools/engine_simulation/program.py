@@ -7,7 +7,7 @@ from dataclasses import dataclass
 
 from tools.simulation.program import Bad
 
-SECONDS = 60  # a run has no more
+SECONDS = 300  # a run has no more
 
 
 @dataclass(frozen=True)

@@ -15,7 +15,7 @@ from typing import Protocol
 
 from .counts import Counts, of_last_line
 
-LIMIT = 1800  # seconds that a job may take, if it says nothing else
+LIMIT = 5400  # seconds that a job may take, if it says nothing else: some fifteen times what the longest takes on an idle host
 POLL = 0.05  # seconds between two looks at a process
 PATIENCE = 20  # seconds that a job may take to end if the run is interrupted
 
@@ -211,13 +211,13 @@ def _waited(process: subprocess.Popen[bytes], limit: float) -> tuple[int | None,
     hadn't ended in time."""
     until = time.monotonic() + limit
     while time.monotonic() < until:
-        with contextlib.suppress(ChildProcessError):
+        try:
             pid, status, used = os.wait4(process.pid, os.WNOHANG)
-            if pid:
-                process.returncode = os.waitstatus_to_exitcode(status)
-                return process.returncode, used.ru_utime + used.ru_stime
-        if process.poll() is not None:  # another thread has waited for it
-            return process.returncode, 0
+        except ChildProcessError:  # another thread has waited for it
+            return process.wait(), 0
+        if pid:
+            process.returncode = os.waitstatus_to_exitcode(status)
+            return process.returncode, used.ru_utime + used.ru_stime
         time.sleep(POLL)
     return None, 0
 

@@ -20,7 +20,7 @@ SERVERS = "/usr/lib/postgresql/*/bin"
 SYSTEM = "/usr/bin/python3"  # the Python that Debian's packages are for
 KINDS = ("command", "version", "header", "mkmf", "library", "server", "module", "modules", "include", "sanitizer")
 INCLUDES = "import pathlib, sys, sysconfig; sys.exit(not pathlib.Path(sysconfig.get_path('include'), sys.argv[1]).is_file())"
-SECONDS = 60  # for one tool to say its version
+SECONDS = 300  # for one tool to say its version
 NODE_MODULES = "/usr/share/nodejs", "/usr/local/share/nodejs"  # Debian's of Node, and those that another Node than Debian's is given
 
 

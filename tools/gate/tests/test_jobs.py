@@ -10,6 +10,9 @@ from tools.gate.counts import Counts
 from tools.gate.jobs import Done, Job, Runner, chains, total, with_needed
 
 
+LONG = 600  # seconds after which a test that waits has failed, however busy its host is
+
+
 class Quiet:
     """Notes what it gets."""
 
@@ -57,18 +60,19 @@ class Running(unittest.TestCase):
         self.assertEqual(self.run_jobs(*jobs, cores=1)[1].begun, ["first", "last", "long", "short"])
 
     def test_a_job_of_all_cores_runs_alone(self) -> None:
-        begun = time.monotonic()
-        words = (sys.executable, "-c", "import time; time.sleep(0.5); print('1 passed, 0 failed')")
-        done, _ = self.run_jobs(Job("a", words, 9, cores=100), Job("b", words, 5), Job("c", words, 1, cores=0))
+        """But one that takes none goes on beside it: the first of them ends once the other has."""
+        room = self.enterContext(tempfile.TemporaryDirectory())
+        says, waits = "echo 1 passed, 0 failed", "while [ ! -e c ]; do sleep 0.05; done"
+        jobs = ("a", f"{waits}; {says}", 9, 100), ("b", says, 5, 1), ("c", f"{says}; touch c", 1, 0)
+        done, _ = self.run_jobs(*(Job(name, ("sh", "-c", words), seconds, cores=cores, folder=room, limit=LONG) for name, words, seconds, cores in jobs))
         self.assertGreaterEqual(done["b"].begun, done["a"].ended)
-        self.assertLess(done["c"].begun, done["a"].ended)
-        self.assertLess(time.monotonic() - begun, 30)
+        self.assertEqual(total(done, True), Counts(3))
 
     def test_what_does_not_end_fails_and_ends(self) -> None:
-        words = ("sh", "-c", "sleep 600 & echo 1 passed, 0 failed; sleep 600")
+        words = ("sh", "-c", "sleep 3600 & echo 1 passed, 0 failed; sleep 3600")
         begun = time.monotonic()
         done, _ = self.run_jobs(Job("a", words, 1, limit=1))
-        self.assertLess(time.monotonic() - begun, 30)
+        self.assertLess(time.monotonic() - begun, LONG)
         self.assertEqual(done["a"].counts.failed, 1)
         self.assertIn("had not ended after 1 seconds", done["a"].log.read_text())
 
