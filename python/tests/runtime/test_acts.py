@@ -60,7 +60,7 @@ async def undoes(ctx: Context, it):
         await ctx.sleep(3600)
     except Cancelled:
         await ctx.run("one", lambda: seen.append("one"))
-        await ctx.sleep(0.2)
+        await ctx.sleep(3600)
         await ctx.run("two", lambda: seen.append("two"))
         raise
 
@@ -182,6 +182,7 @@ class Cancelling(Acting):
         self.assertEqual([await self.act(runtime, "cancel", id) for _ in range(2)], ["cancelled", "was cancelled before"])
         await until(lambda: "one" in seen)
         self.assertEqual(await self.act(runtime, "cancel", id), "was cancelled before")
+        await runtime.time_passes(id)
         self.assertEqual((await runtime.result(id))[0], 409)
         self.assertEqual(seen, ["one", "two"])
         self.assertEqual(await self.what(runtime, id), [("ann", "cancel")])
@@ -241,9 +242,9 @@ class Cancelling(Acting):
         id = await runtime.send("Acts/shields", 3600)
         await runtime.until(id, "suspended")
         await self.act(runtime, "cancel", id)
+        await runtime.until_rows([("suspended", 1)], "SELECT status, shielded FROM invocations WHERE id=?", id)
         await asyncio.sleep(0.3)
-        [(epoch, shielded)] = await runtime.rows("SELECT epoch, shielded FROM invocations WHERE id=?", id)
-        self.assertTrue(shielded)
+        [(epoch,)] = await runtime.rows("SELECT epoch FROM invocations WHERE id=?", id)
         self.assertLessEqual(epoch, 2)
         await self.time_passes(runtime)
         self.assertEqual((await runtime.result(id))[0], 409)

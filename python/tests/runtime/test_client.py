@@ -77,7 +77,7 @@ class Clients(support.OnADatabase):
         """The test with the client of a worker, and with one of its own."""
 
         async def go():
-            async with Engine(app, self.url, idle=0, poll=0.1) as engine:
+            async with Engine(app, self.url, idle=0, poll=0.1, lease=support.LEASE) as engine:
                 await test(engine.client, "by its worker")
                 async with Client(app, self.url) as client:
                     await test(client, "by itself")
@@ -93,7 +93,7 @@ class Clients(support.OnADatabase):
             self.assertEqual([await it.result() for it in sent], [5, 5])
             self.assertEqual(await client.invocation(sent[0].id, int).result(), 5)
             self.assertEqual(await client.call(main, "ann", key=way), await client.call(main, "other", key=way))
-            later = await client.send(take, 1, key=way, delay=60)
+            later = await client.send(take, 1, key=way, delay=36_000)
             with self.assertRaises(TimeoutError):
                 await later.result(wait=0.1)
 
@@ -169,9 +169,9 @@ class Several(support.OnADatabase, unittest.TestCase):
         """A call of a service that another app serves is an invocation like any other; it is refused if nobody serves it."""
 
         async def go():
-            async with Engine(App(shop), self.url, idle=0, poll=0.1) as one:
+            async with Engine(App(shop), self.url, idle=0, poll=0.1, lease=support.LEASE) as one:
                 self.assertEqual(await one.client.call(asks, "Stock/left"), "404 there is no handler Stock/left, of this app or of a worker that is alive")
-                async with Engine(App(stock, visa), self.url, idle=0, poll=0.1) as other:
+                async with Engine(App(stock, visa), self.url, idle=0, poll=0.1, lease=support.LEASE) as other:
                     self.assertEqual(await one.client.call(order, Order("pen", 4)), Order("pen", 6))
                     self.assertEqual(await other.client.call("Shop/order", Order("pen", 1)), {"item": "pen", "count": 5})
                     self.assertEqual(await one.client.call("Stock/left", key="pen"), 5)
@@ -185,7 +185,7 @@ class Several(support.OnADatabase, unittest.TestCase):
 
     def test_a_client_whose_connection_is_lost(self):
         async def go():
-            async with Engine(app, self.url, idle=0, poll=0.1), Client(app, self.url) as client:
+            async with Engine(app, self.url, idle=0, poll=0.1, lease=support.LEASE), Client(app, self.url) as client:
                 sent = await client.send(waits, "x")
                 result = asyncio.create_task(sent.result())
                 other = await connect(self.url)

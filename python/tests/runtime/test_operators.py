@@ -77,7 +77,7 @@ class ByHttp(support.OnADatabase):
                 self.assertEqual([row[name] for name in ("name", "rule", "overlap", "paused", "called")], ["a/b", "cron 0 3 1 1 *", "skip", True, None])
                 self.assertEqual((await it.ask(f"{at}/resume"))[1]["said"], "resumed")
                 id = (await it.ask(f"{at}/trigger"))[1]["said"].removeprefix("made ")
-                self.assertEqual((await it.ask(f"/-/invocations/{id}/result?wait=60", None, "GET"))[0], 200)
+                self.assertEqual((await it.ask(f"/-/invocations/{id}/result?wait=600", None, "GET"))[0], 200)
                 self.assertEqual((await it.ask(f"{at}/backfill?since=2025-01-01&until=2026-01-02"))[1]["said"], "2 calls are made")
                 self.assertEqual((await it.ask(f"{at}/backfill"))[:2], (400, {"code": 400, "message": "a backfill needs `since`, its first time, as 2026-11-27T03:00"}))
                 self.assertEqual([(await it.ask(it_))[0] for it_ in (f"{at}/stop", "/-/schedules/none/pause", "/-/schedules/a/b/pause")], [404] * 3)

@@ -103,7 +103,7 @@ class Timelines(support.OnADatabase):
 
     def test_the_picture(self):
         it = self.found()
-        page = Elements(drawn(it, it.invocation["created"] + 10))
+        page = Elements(drawn(it, it.steps[-1].begun + 10))
         bars = [attributes for attributes in page.of("rect") if "bar" in attributes.get("class", "")]
         self.assertEqual([it["class"].removeprefix("bar ") for it in bars], ["suspended", "lost", "runs", "done", "done", "waits"])
         left, right = (float(bars[-1][name]) for name in ("x", "width"))
