@@ -134,7 +134,7 @@ class Workers(support.OnADatabase, unittest.TestCase):
                 self.assertEqual(await runtime.result(id), "seat to Oslo, paid 5, None, signed")
             worker.leave()
 
-        asyncio.run(asyncio.wait_for(test(), 120))
+        asyncio.run(asyncio.wait_for(test(), support.LONG))
         self.assertEqual(made, ["seat to Oslo"])
 
     def test_what_both_leave_is_alike(self):
@@ -150,7 +150,7 @@ class Workers(support.OnADatabase, unittest.TestCase):
             worker.leave()
             return by_python, by_page
 
-        both = asyncio.run(asyncio.wait_for(test(), 120))
+        both = asyncio.run(asyncio.wait_for(test(), support.LONG))
         self.assertEqual(*map(self.left, both))
 
     def left(self, id):
@@ -185,7 +185,7 @@ class Workers(support.OnADatabase, unittest.TestCase):
                 self.assertEqual(await runtime.result(second), "seat to Rome, paid 5, None")
             worker.leave()
 
-        asyncio.run(asyncio.wait_for(test(), 120))
+        asyncio.run(asyncio.wait_for(test(), support.LONG))
         self.assertEqual(made, ["seat to Oslo", "seat to Rome"])
 
     def test_a_worker_that_is_lost(self):
@@ -202,7 +202,7 @@ class Workers(support.OnADatabase, unittest.TestCase):
             with self.assertRaises(third.Fenced):
                 attempt.run()
 
-        asyncio.run(asyncio.wait_for(test(), 120))
+        asyncio.run(asyncio.wait_for(test(), support.LONG))
         self.assertEqual(made.count("seat to Oslo"), 2)  # an effect is executed at least once
 
     def test_a_handler_that_fails_and_a_worker_that_stops(self):
@@ -228,7 +228,7 @@ class Workers(support.OnADatabase, unittest.TestCase):
                 self.assertEqual([how for how, in hows][:3], ["released", "failed", "failed"])
             worker.leave()
 
-        asyncio.run(asyncio.wait_for(test(), 120))
+        asyncio.run(asyncio.wait_for(test(), support.LONG))
 
 
 if __name__ == "__main__":

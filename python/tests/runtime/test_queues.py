@@ -69,7 +69,7 @@ class OnAConnection(support.OnADatabase):
         self.workers = [self.worker(name) for name in ("one", "two")[: 1 + self.plain.db.is_shared]]
 
     def worker(self, name, of=app):
-        claimer = Claimer(f"{name}-{secrets.token_hex(4)}", of, 60)
+        claimer = Claimer(f"{name}-{secrets.token_hex(4)}", of, 10 * support.LONG)
         self.done(claimer.enter)
         return claimer
 
@@ -247,7 +247,7 @@ class Workers(support.OnADatabase):
         service.handler(queue=Queue("busy", concurrency=2, per_key=1))(busy)
 
         async def go():
-            async with Runtime(App(service), self.url, idle=10) as runtime:
+            async with Runtime(App(service), self.url, idle=support.LONG) as runtime:
                 ids = [await runtime.send("Busy/busy", headers=((queues.KEY, str(n % 4)),)) for n in range(24)]
                 self.assertEqual([await runtime.result(id) for id in ids], [None] * 24)
 

@@ -47,7 +47,7 @@ class Ready(support.OnADatabase):
     def test_it_serves_and_asks_for_no_token(self):
         async def go():
             async with Served(runtime_app.app, self.url, Settings(token="a secret")) as served:
-                self.assertEqual(await asked(served), (200, {"ready": True}))
+                self.assertEqual(await until(served, 200), {"ready": True})
                 self.assertEqual((await served.ask("/-/ready", 1))[0], 404)  # it is asked by GET
 
         asyncio.run(go())
@@ -69,7 +69,7 @@ class Ready(support.OnADatabase):
             async with Served(App(service), self.url, grace=support.LONG) as served:
                 _, said, _ = await served.ask("/Slow/works/send")
                 await begun.wait()
-                self.assertEqual(await asked(served), (200, {"ready": True}))
+                self.assertEqual(await until(served, 200), {"ready": True})
                 served.engine.stop()
                 status, why, headers = await served.ask("/-/ready", None, "GET")
                 self.assertEqual((status, why), (503, {"code": 503, "message": "the worker stops, and takes no new calls"}))

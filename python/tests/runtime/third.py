@@ -23,6 +23,7 @@ from palqytun.frames import Message, completion, frame_of, input_frame, is_awake
 PAGE = pathlib.Path(__file__).resolve().parents[3] / "docs/PROTOCOL.md"
 _BLOCK = re.compile(r"^```sql\n-- ([\w-]+)\n(.*?)^```$", re.MULTILINE | re.DOTALL)
 _VALUE = re.compile(r"(?<!:):(\w+)")
+_LONG = 300.0  # seconds after which a test that waits has failed, however busy its host is
 _SUSPENSION, _ERROR, _END, _SLEEP, _CALL, _SEND, _OUTPUT = 2, 3, 4, 18, 19, 20, 29
 _NOTHING = frame_of("Notification id=completion(0) result=void")
 _CANCEL = signal(1, _NOTHING)
@@ -142,14 +143,15 @@ class Third(Store):
 
     def until(self, has_ended: Callable[[], bool]) -> None:
         """Works until something is so."""
-        for _ in range(1200):
+        until = time.monotonic() + _LONG
+        while time.monotonic() < until:
             self.beat()
             for it in self.look():
                 it.run()
             if has_ended():
                 return
             time.sleep(0.05)
-        raise AssertionError("it took a minute")
+        raise AssertionError(f"it took {_LONG:g} seconds")
 
 
 class Attempt:
