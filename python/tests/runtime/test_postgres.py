@@ -14,7 +14,7 @@ from unittest import mock
 import support  # isort: skip
 import needs
 import runtime_app
-from palqytun.runtime import App, Context, Service, VirtualObject, inbox, invocations, journal
+from palqytun.runtime import App, Context, Service, VirtualObject, desk, inbox, invocations, journal
 from palqytun.runtime.claiming import Claimer
 from palqytun.runtime.committer import After
 from palqytun.runtime.database import Each, Lost, Reading, Unsuitable, connect, pipeline, postgres
@@ -99,6 +99,22 @@ async def signalled(db, id, number):
     await db.begin()
     await inbox.deliver(db, Outcome(), id, journal.named_signal("go", journal.value(str(number).encode())))
     await db.commit()
+
+
+async def quiet(db, *runtimes):
+    """Until whoever was woken has looked: each worker has heard what was said so far, and makes no transaction for a while. `db` is no worker's."""
+    with contextlib.ExitStack() as stack:
+        heard = [stack.enter_context(it.engine._told_of("nobody")) for it in runtimes]
+        await db.begin()
+        db.notify("ended nobody")
+        await db.commit()
+        await asyncio.wait_for(asyncio.gather(*heard), support.LONG)  # words come in their order
+    before, same = None, 0
+    while same < 5:
+        await asyncio.sleep(0.2)
+        made = [it.engine._committer for it in runtimes]
+        counts = [it.counts["transactions"] for it in made]
+        before, same = counts, same + 1 if counts == before and not any(it._working or it._queue for it in made) else 0
 
 
 class OnAServer(support.OnADatabase, unittest.TestCase):
@@ -250,7 +266,7 @@ class TwoWorkers(support.OnADatabase, unittest.TestCase):
                 db = await connect(self.url)
                 id = await one.send("Postgres/collects", count)
                 await one.until(id, "running" if idle > 1 else "suspended")
-                await self.quiet(one, two)
+                await quiet(db, one, two)
                 holder, other = (one, two) if id in one.engine.live else (two, one)
                 for number in range(count):
                     await signalled(db, id, number)
@@ -259,14 +275,6 @@ class TwoWorkers(support.OnADatabase, unittest.TestCase):
                 db.close()
 
         asyncio.run(go())
-
-    async def quiet(self, *runtimes):
-        """Until whoever was woken has looked: no worker makes a transaction for a while."""
-        before, same = None, 0
-        while same < 5:
-            await asyncio.sleep(0.2)
-            counts = [it.engine._committer.counts["transactions"] for it in runtimes]
-            before, same = counts, same + 1 if counts == before else 0
 
     def test_only_the_holder_of_a_lease_is_woken(self):
         looks = []
@@ -286,7 +294,9 @@ class TwoWorkers(support.OnADatabase, unittest.TestCase):
             apps = [App(service, account) for _ in range(2)]
             async with Runtime(apps[0], self.url, **options) as one, Runtime(apps[1], self.url, **options) as two:
                 await one.call("Postgres/ends", 0)  # from here on it knows the other one
-                await self.quiet(one, two)
+                db = await connect(self.url)
+                await quiet(db, one, two)
+                db.close()
                 before = two.engine._committer.counts["transactions"]
                 self.assertEqual(await asyncio.wait_for(one.call("Postgres/calls", 5), support.LONG), 5)
                 for n in range(5):
@@ -361,10 +371,14 @@ class Counts(support.OnADatabase, unittest.TestCase):
             async with Runtime(App(service), self.url, poll=3000, lease=3000, idle=600) as runtime:
                 await runtime.call("Postgres/ends", 0)
                 await self.before(runtime)
+                db = await connect(self.url)
+                await quiet(db, runtime)
+                db.close()
                 with mock.patch.object(pipeline.Pipeline, "all_made", all_made):
                     await work(runtime)
 
-        asyncio.run(go())
+        with mock.patch.object(desk, "_LOOKED", 150_000.0):  # who waits for a result is told, and doesn't look by itself
+            asyncio.run(go())
         return trips
 
     async def group(self, runtime, count):
@@ -541,7 +555,7 @@ class Isolation(support.OnADatabase, unittest.TestCase):
         one, two = await connect(url), await connect(url)
         try:
             await one.begin()
-            await invocations.create(one, self.app, Outcome(), New("Account", "add", "k", b"1", id="inv_second"))
+            await invocations.create(one, self.app, Outcome(), New("Account", "add", "k", b"1", due=2, id="inv_second"))  # due by each one's clock
             await one.commit()
             await two.begin()
             await two.rows("SELECT * FROM workers")
@@ -551,7 +565,7 @@ class Isolation(support.OnADatabase, unittest.TestCase):
             two.close()
 
     async def claimed(self, db, worker):
-        return (await Claimer(worker, self.app, 10).claim(db, (), 1)).claims[0]
+        return (await Claimer(worker, self.app, support.LEASE).claim(db, (), 1)).claims[0]
 
     def test_money_is_kept(self):
         """The other worker calls an object, which has 70 from then on. The next call of it is handed these, and so adds to them."""
