@@ -109,7 +109,7 @@ async def swallows(ctx: Context, it):
 async def swallows_a_mismatch(ctx: Context, it):
     if not seen:
         seen.append("slept")
-        await ctx.sleep(0.05)
+        await ctx.sleep(3600)
     try:
         await ctx.call(echo, 1)
     except BaseException:
@@ -121,7 +121,7 @@ async def swallows_a_mismatch(ctx: Context, it):
 async def changed(ctx: Context, it):
     if not seen:
         seen.append("slept")
-        await ctx.sleep(0.05)
+        await ctx.sleep(3600)
     else:
         await ctx.call(echo, 1)
 
@@ -206,7 +206,7 @@ async def misuses(ctx: Context, what):
 @service.handler()
 async def tidies(ctx: Context, it):
     try:
-        await ctx.sleep(0.05)
+        await ctx.sleep(3600)
     finally:
         seen.append("finally")
         ctx.set("n", 1)
@@ -246,7 +246,7 @@ async def doubled(ctx: Context, item: Item) -> Item:
 @service.handler()
 async def logs(ctx: Context, it):
     ctx.log.warning("before the sleep")
-    await ctx.sleep(0.05)
+    await ctx.sleep(3600)
     ctx.log.warning("after the sleep")
 
 

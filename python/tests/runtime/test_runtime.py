@@ -60,13 +60,17 @@ class Handlers(support.OnADatabase):
     @with_runtime
     async def test_a_handler_that_catches_too_much_is_refused(self, runtime):
         assert "catch `Exception` instead" in (await runtime.until(await runtime.send("S/swallows"), "paused"))[1]
-        assert "catch `Exception` instead" in (await runtime.until(await runtime.send("S/swallows_a_mismatch"), "paused"))[1]
+        id = await runtime.send("S/swallows_a_mismatch")
+        await runtime.time_passes(id)
+        assert "catch `Exception` instead" in (await runtime.until(id, "paused"))[1]
         assert seen == ["slept", "swallowed"]
 
     @suspends
     @with_runtime
     async def test_a_changed_handler_is_refused(self, runtime):
-        assert (await runtime.until(await runtime.send("S/changed"), "paused"))[1].startswith("570 CommandTypeMismatchError")
+        id = await runtime.send("S/changed")
+        await runtime.time_passes(id)
+        assert (await runtime.until(id, "paused"))[1].startswith("570 CommandTypeMismatchError")
 
     @with_runtime
     async def test_awakeables_and_signals(self, runtime):
@@ -134,7 +138,9 @@ class Handlers(support.OnADatabase):
     def test_the_log_is_silent_in_replay(self):
         async def go():
             async with Runtime(runtime_app.app, self.url) as runtime:
-                await runtime.call("S/logs")
+                id = await runtime.send("S/logs")
+                await runtime.time_passes(id)
+                await runtime.result(id)
                 assert runtime.engine.counts["attempts"] == 2
 
         with self.assertLogs("palqytun.handler", "INFO") as logged:
@@ -182,7 +188,9 @@ class Handlers(support.OnADatabase):
     @with_runtime
     async def test_a_suspended_handlers_finally_has_no_context(self, runtime):
         """Python runs it as the attempt ends, and the journal has nothing of it. A service has no state, so the last attempt is refused."""
-        assert "has no key and so no state" in (await runtime.call("S/tidies"))[1] and len(seen) == 2
+        id = await runtime.send("S/tidies")
+        await runtime.time_passes(id)
+        assert "has no key and so no state" in (await runtime.result(id))[1] and len(seen) == 2
 
     @with_runtime
     async def test_odd_texts_and_values(self, runtime):
