@@ -14,7 +14,7 @@ import support  # isort: skip
 import needs
 import postgres
 import runtime_app
-from palqytun.runtime import App, Context, Service, Transaction, committer, transactions
+from palqytun.runtime import App, Context, Service, Transaction, Unavailable, committer, transactions
 from palqytun.runtime.committer import Committer
 from palqytun.runtime.database import Conflict, Full, Lost, StatementFailed, connect
 from palqytun.runtime.database.plain import Plain
@@ -129,14 +129,17 @@ class OnAServer(support.OnADatabase, unittest.TestCase):
         used = []
 
         async def slow(db):
+            await db.change("SET LOCAL lock_timeout=0")
             used.append(db._pipeline._pg.socket)
-            return await db.rows("SELECT pg_sleep(0.5), 7")
+            return await db.rows("SELECT pg_advisory_xact_lock(7), 7")
 
         async def go():
-            async with Runtime(runtime_app.app, self.url) as runtime:
+            async with two(self.url) as (outside, _), Runtime(runtime_app.app, self.url) as runtime:
+                await outside.rows("SELECT pg_advisory_lock(7)")
                 waits = runtime.engine._committer.submit(slow, is_slow=True)
                 while not (used and asyncio.get_running_loop().remove_reader(used[0])):
                     await asyncio.sleep(0.001)
+                await outside.rows("SELECT pg_advisory_unlock(7)")
                 self.assertEqual((await asyncio.wait_for(waits, support.LONG))[0][1], 7)
                 self.assertEqual(await runtime.call("S/echo", 1), 1)
                 self.assertEqual(runtime.engine.counts["sessions"], 1)
@@ -434,6 +437,13 @@ class Wire:
 class Networks(support.OnADatabase, unittest.TestCase):
     kind = "postgres"
 
+    async def again(self, runtime):
+        """A call of a worker, which is made again until it has its database. The server may have ended its session while it wasn't heard of."""
+        while True:
+            with contextlib.suppress(Unavailable):
+                return await runtime.call("Servers/slowly", 2)
+            await asyncio.sleep(0.1)
+
     def test_a_network_that_stops(self):
         """Another worker goes on with what the one has that nobody hears of. Once it is heard of again it is fenced, and works as before."""
 
@@ -452,7 +462,7 @@ class Networks(support.OnADatabase, unittest.TestCase):
                     [(commands, completions)] = await near.rows("SELECT COUNT(*) FILTER (WHERE completes IS NULL), COUNT(completes) FROM journal WHERE invocation=?", id)
                     self.assertEqual((commands, completions), (42, 40))  # with the input and the output
                     wire.go()
-                    self.assertEqual(await asyncio.wait_for(far.call("Servers/slowly", 2), support.LONG), 2)
+                    self.assertEqual(await asyncio.wait_for(self.again(far), support.LONG), 2)
             wire.end()
 
         asyncio.run(asyncio.wait_for(go(), 2 * support.LONG))
@@ -526,14 +536,16 @@ class Pipelines(support.OnADatabase, unittest.TestCase):
 
     def test_a_server_that_does_not_end_what_is_given_up(self):
         async def go():
-            async with two(self.url) as (db, _):
+            async with two(self.url) as (db, other):
+                [(process,)] = await db.rows("SELECT pg_backend_pid()")
                 with self.assertRaises(asyncio.TimeoutError):
-                    await asyncio.wait_for(db.rows("SELECT pg_sleep(5)"), 0.2)
+                    await asyncio.wait_for(db.rows("SELECT pg_sleep(1800)"), 0.2)
                 from palqytun.runtime.database import pipeline  # where psycopg is missing, this is skipped
 
                 no_cancel = mock.patch.object(pipeline, "_apart", lambda cancel: asyncio.sleep(0))
                 with no_cancel, mock.patch.object(pipeline, "_DRAINING", 0.2), self.assertRaises(Lost):
                     await db.rows("SELECT 1")
+                await other.rows("SELECT pg_terminate_backend(?::int)", (process,))
 
         asyncio.run(asyncio.wait_for(go(), support.LONG))
 
