@@ -44,7 +44,7 @@ def headers() -> pathlib.Path:
 
 def put(module: bytes, made: pathlib.Path) -> None:
     """Writes a module in the place of the one before, so that no program is disturbed which has loaded that."""
-    beside = made.with_name(f".{made.name}.{os.getpid()}")
+    beside = made.with_name(f".{os.getpid()}.{made.name}")
     beside.write_bytes(module)
     beside.chmod(0o755)
     beside.replace(made)
