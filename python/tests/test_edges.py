@@ -52,6 +52,45 @@ class Errors(unittest.TestCase):
         self.assertEqual(raised.exception.related, Related(1, 26, "charge"))
 
 
+class ReplayChecks(unittest.TestCase):
+    """What docs/DEPLOYING.md says of a check without the runtime: a handler's calls over Start and a journal of an input and a sleep."""
+
+    def replaying(self) -> VM:
+        vm = fed(start(2), input_frame(), sleep_frame(1000, 1))
+        vm.notify_input_closed()
+        vm.sys_input()
+        return vm
+
+    def refusal(self, call: Callable[[VM], object]) -> VMError:
+        with self.assertRaises(VMError) as raised:
+            call(self.replaying())
+        return raised.exception
+
+    def test_the_handler_goes_on(self) -> None:
+        vm = self.replaying()
+        vm.sys_sleep(1000)
+        self.assertEqual(vm.state(), "Processing")
+
+    def test_it_stops_early(self) -> None:
+        self.assertEqual(self.replaying().state(), "Replaying")
+
+    def test_it_differs_by_another_command_or_another_field(self) -> None:
+        self.assertEqual(self.refusal(lambda vm: vm.sys_state_set("k", b"v")).related, Related(1, 15, ""))
+        self.assertEqual(self.refusal(lambda vm: vm.sys_state_set("k", b"v")).code, 570)
+        self.assertEqual(self.refusal(lambda vm: vm.sys_sleep(1000, name="nap")).code, 570)
+
+    def test_it_awaits_what_hasnt_come(self) -> None:
+        self.assertEqual(self.refusal(lambda vm: vm.do_await(vm.sys_awakeable().handle)).code, 570)
+
+    def test_it_ends_while_a_command_is_left(self) -> None:
+        self.assertEqual(self.refusal(lambda vm: vm.sys_end()).code, 571)
+
+    def test_the_version_isnt_supported(self) -> None:
+        with self.assertRaises(VMError) as raised:
+            VM("application/vnd.restate.invocation.v4")
+        self.assertEqual(raised.exception.code, 415)
+
+
 ERRORS = [
     VMError(500, "no seat", "call sys_input first", "at x", Related(3, 26, "seat")),
     error_of(570, "CommandMismatchError"),

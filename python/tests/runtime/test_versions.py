@@ -14,7 +14,8 @@ from palqytun.runtime import App, Context, Service, TerminalError, VirtualObject
 from palqytun.runtime.command import load
 from palqytun.runtime.command import main as palqytun
 from palqytun.runtime.database.plain import Plain
-from palqytun.runtime.replay import PROVES, replay_all, report
+from palqytun.runtime.context import AttemptEnds
+from palqytun.runtime.replay import PROVES, ReplayOutcome, replay_all, report
 
 OLD, NEW, PATCHED, AFTER, OTHER = "old", "new", "patched", "after", "other"
 
@@ -50,9 +51,24 @@ def made(code, waits=True):
     return App(shop, stock)
 
 
-def replayed(url, app, **options):
+def checked(url, app, **options):
     with Plain(url) as db:
-        return list(report(db.read(lambda to: replay_all(app, to, **options))))
+        return db.read(lambda to: replay_all(app, to, **options))
+
+
+def replayed(url, app, **options):
+    return list(report(checked(url, app, **options)))
+
+
+def stopping():
+    """An app whose order ends its attempt by itself, before its first call."""
+    shop = Service("Shop")
+
+    @shop.handler()
+    async def order(ctx: Context, count: int) -> list:
+        raise AttemptEnds()
+
+    return App(shop)
 
 
 @support.on_each_database
@@ -168,6 +184,29 @@ class Versions(support.OnADatabase):
         lines = replayed(self.url, made(OTHER, waits=False), ended=True)
         self.assertEqual(lines[:2], ["Shop/order: 0 of 1 ended journals are those of this code", "  command 3, Call Stock/take 'ink 1', is recorded with parameter b'1', and the code gives b'2'"])
 
+    def test_a_replay_has_an_outcome(self):
+        async def go():
+            async with Runtime(made(OLD), self.url, version=OLD) as runtime:
+                await self._begun(runtime)
+
+        self.run_to(go)
+        found = [(it.outcome, it.command) for code in (OLD, NEW) for it in checked(self.url, made(code))]
+        self.assertEqual(found, [(ReplayOutcome.GOES_ON, 2), (ReplayOutcome.DIFFERS, 2)])
+        [stopped] = checked(self.url, stopping())
+        self.assertEqual((stopped.outcome, stopped.command), (ReplayOutcome.STOPS_EARLY, 0))
+        self.assertEqual(stopped.difference, "the code stops after command 0, and recorded commands are left")
+
+    def test_a_journal_of_a_version_that_isnt_supported(self):
+        async def go():
+            async with Runtime(made(OLD), self.url, version=OLD) as runtime:
+                await self._begun(runtime)
+                await runtime.rows("UPDATE invocations SET version=4")
+
+        self.run_to(go)
+        [found] = checked(self.url, made(OLD))
+        self.assertEqual((found.outcome, found.command), (ReplayOutcome.UNSUPPORTED_VERSION, -1))
+        self.assertEqual(found.difference, "the journal has protocol version 4, which this package doesn't support (415 UNSUPPORTED_MEDIA_TYPE)")
+
     def test_the_command(self):
         async def go():
             async with Runtime(made(OLD), self.url, version=OLD) as runtime:
@@ -210,8 +249,7 @@ class Example(support.InAFolder, unittest.TestCase):
         return load(str(self.folder / f"{name}_orders.py"))
 
     def _differ(self, url, app):
-        with Plain(url) as db:
-            return sum(it.difference is not None for it in db.read(lambda to: replay_all(app, to)))
+        return sum(it.difference is not None for it in checked(url, app))
 
 
 class Rolling(support.OnADatabase, unittest.TestCase):

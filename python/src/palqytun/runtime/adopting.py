@@ -62,7 +62,7 @@ class Adopting:
 
     def apart(self, it: Stored) -> str | None:
         """Where this code parts from a journal; none if it makes it."""
-        return difference(self.claimer.app, it)[1]
+        return difference(self.claimer.app, it)
 
     async def judged(self, db: Database, it: Stored, apart: str | None) -> None:
         """Takes an invocation over, if nobody has gone on with it meanwhile; or writes down why not."""

@@ -6,6 +6,7 @@ The handler's own code between its calls does run, as it does in each attempt.
 
 from __future__ import annotations
 
+import enum
 from collections.abc import AsyncIterator, Iterator, Sequence
 from dataclasses import dataclass
 from itertools import groupby
@@ -25,16 +26,30 @@ from .tasks import Tasks
 from .traces import Trace
 
 
+class ReplayOutcome(enum.Enum):
+    """What the replay of a stored journal has shown."""
+
+    GOES_ON = "goes on"
+    """The code makes each recorded command."""
+    DIFFERS = "differs"
+    """The code makes another call than the recorded one, or raises before it makes it."""
+    UNSUPPORTED_VERSION = "unsupported version"
+    """The core makes no attempt in the protocol version of the journal."""
+    STOPS_EARLY = "stops early"
+    """The code stops while recorded commands are left, and the core has refused no call of it."""
+
+
 @dataclass(frozen=True)
 class Checked:
-    """A stored journal, and where the code parts from it: `difference` says so, and is none if the code makes the journal. `command` is the index,
-    from 0, of the command at which they part; -1 is before any. `is_open`: the invocation hasn't ended."""
+    """A stored journal, and what its replay has shown. `difference` says it in words, and is none if the invocation goes on. `command` is the
+    index, from 0, of the command at which code and journal part; -1 is before any. `is_open`: the invocation hasn't ended."""
 
     invocation: str
     handler: str
     is_open: bool
     command: int
     difference: str | None
+    outcome: ReplayOutcome
 
 
 @dataclass(frozen=True)
@@ -52,12 +67,13 @@ class Stored:
 
 @dataclass(frozen=True)
 class Replayed:
-    """How far a handler went over a stored journal: up to the command with this index, and what was wrong there. `context` is that of the
-    handler, if it was called."""
+    """How far a handler went over a stored journal: up to the command with this index, and what was wrong there, if the invocation doesn't go on.
+    `context` is that of the handler, if it was called."""
 
     command: int
     error: str | None
     context: Context | None = None
+    outcome: ReplayOutcome = ReplayOutcome.DIFFERS
 
 
 class _Silent(ReplayLog):
@@ -89,7 +105,12 @@ def replayed(app: App, it: Stored) -> Replayed:
         handler = app.find(row.service, row.handler)
     except TerminalError as error:
         return Replayed(-1, error.message)
-    with core.VM(f"application/vnd.restate.invocation.v{row.version}", awaiting="never") as vm:
+    try:
+        made = core.VM(f"application/vnd.restate.invocation.v{row.version}", awaiting="never")
+    except core.VMError as error:
+        said = f"the journal has protocol version {row.version}, which this package doesn't support ({error.code} {error.text})"
+        return Replayed(-1, said, outcome=ReplayOutcome.UNSUPPORTED_VERSION)
+    with made as vm:
         vm.notify_input(it.start)
         vm.notify_input_closed()
         input = vm.sys_input()
@@ -97,8 +118,19 @@ def replayed(app: App, it: Stored) -> Replayed:
         context = kind(vm, input, app, row.service, trace, patches=journal.patches_in(it.start))
         context._log = _Silent(context, row.id)
         raised = _replayed(app, vm, context, handler, input.value)
+        is_left = vm.state() == "Replaying"
         said = [one for one in journal.messages_in(vm.take_output()) if isinstance(one, Failed)]
-        return Replayed(vm.last_command_index(), f"{said[0].code} {said[0].message}" if said else raised, context)
+        error = f"{said[0].code} {said[0].message}" if said else raised
+        return _found(vm.last_command_index(), error, context, is_left)
+
+
+def _found(command: int, error: str | None, context: Context, is_left: bool) -> Replayed:
+    """How far a handler went that was called. `is_left`: recorded commands are left, and the VM has refused no call."""
+    if error is not None:
+        return Replayed(command, error, context)
+    if is_left:
+        return Replayed(command, f"the code stops after command {command}, and recorded commands are left", context, ReplayOutcome.STOPS_EARLY)
+    return Replayed(command, None, context, ReplayOutcome.GOES_ON)
 
 
 def _replayed(app: App, vm: core.VM, context: Context, handler: Handler[Any, Any], given: bytes) -> str | None:
@@ -154,15 +186,16 @@ def _drive(app: App, vm: core.VM, context: Context, tasks: Tasks) -> None:
 # ---- both commands
 
 
-def difference(app: App, it: Stored) -> tuple[int, str | None]:
-    """The index of the command at which the code parts from a journal, and how, with both commands; none if the code makes the journal."""
-    found = replayed(app, it)
-    if found.error is None:
-        return found.command, None
-    if found.command < 0 or found.context is None or not found.error.startswith("570"):
-        return found.command, found.error
+def difference(app: App, it: Stored) -> str | None:
+    """How the code parts from a journal, with both commands; none if the invocation goes on by this code."""
+    return _in_words(it, replayed(app, it))
+
+
+def _in_words(it: Stored, found: Replayed) -> str | None:
+    if found.error is None or found.command < 0 or found.context is None or not found.error.startswith("570"):
+        return found.error
     call = found.context.refused_call
-    return found.command, (parted(it, found.command, call) if call else _awaited(it, found.command)) or found.error
+    return (parted(it, found.command, call) if call else _awaited(it, found.command)) or found.error
 
 
 def parted(it: Stored, command: int, call: parting.Asked) -> str | None:
@@ -182,8 +215,10 @@ def _awaited(it: Stored, command: int) -> str | None:
 async def _all(app: App, db: Database, status: str | None, ended: bool) -> AsyncIterator[Checked]:
     where, values = ("WHERE status=?", (status,)) if status else ("" if ended else "WHERE status<>'done'", ())
     for row in await db.rows(f"SELECT {CLAIMED} FROM invocations {where} ORDER BY seq", values):
-        it = Claimable(*row)
-        yield Checked(it.id, f"{it.service}/{it.handler}", it.status != "done", *difference(app, await stored(db, it)))
+        it = await stored(db, Claimable(*row))
+        found = replayed(app, it)
+        handler, is_open = f"{it.row.service}/{it.row.handler}", it.row.status != "done"
+        yield Checked(it.row.id, handler, is_open, found.command, _in_words(it, found), found.outcome)
 
 
 async def replay_all(app: App, db: Database, status: str | None = None, ended: bool = False) -> list[Checked]:
@@ -192,8 +227,8 @@ async def replay_all(app: App, db: Database, status: str | None = None, ended: b
 
 
 PROVES = (
-    "What this shows: a journal without a difference is a history of its handler as it is now, so an attempt makes each recorded command again and goes on"
-    " after the last (the core's law replays_prove_histories, docs/THEOREMS.md). Of calls that aren't recorded yet it shows nothing."
+    "What this shows: a journal without a difference was replayed to its end, so an attempt by this code that is given the same results makes each recorded"
+    " command again and goes on after the last. Of calls that aren't recorded yet it shows nothing. docs/DEPLOYING.md says what is proved of it."
 )
 
 
