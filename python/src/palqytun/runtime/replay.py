@@ -107,9 +107,9 @@ def replayed(app: App, it: Stored) -> Replayed:
         return Replayed(-1, error.message)
     try:
         made = core.VM(f"application/vnd.restate.invocation.v{row.version}", awaiting="never")
-    except core.VMError as error:
-        said = f"the journal has protocol version {row.version}, which this package doesn't support ({error.code} {error.text})"
-        return Replayed(-1, said, outcome=ReplayOutcome.UNSUPPORTED_VERSION)
+    except core.VMError as refused:
+        text = f"the journal has protocol version {row.version}, which this package doesn't support ({refused.code} {refused.text})"
+        return Replayed(-1, text, outcome=ReplayOutcome.UNSUPPORTED_VERSION)
     with made as vm:
         vm.notify_input(it.start)
         vm.notify_input_closed()
@@ -120,8 +120,8 @@ def replayed(app: App, it: Stored) -> Replayed:
         raised = _replayed(app, vm, context, handler, input.value)
         is_left = vm.state() == "Replaying"
         said = [one for one in journal.messages_in(vm.take_output()) if isinstance(one, Failed)]
-        error = f"{said[0].code} {said[0].message}" if said else raised
-        return _found(vm.last_command_index(), error, context, is_left)
+        wrong = f"{said[0].code} {said[0].message}" if said else raised
+        return _found(vm.last_command_index(), wrong, context, is_left)
 
 
 def _found(command: int, error: str | None, context: Context, is_left: bool) -> Replayed:
