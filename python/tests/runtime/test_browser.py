@@ -7,6 +7,7 @@ import os
 import pathlib
 import re
 import threading
+import time
 import unittest
 
 import support  # isort: skip
@@ -55,7 +56,8 @@ async def take(ctx: Context, n: int) -> int:
     return left
 
 
-app = App(shop, stock, schedules=[Schedule("nightly", order, "pen", cron="0 3 * * *", zone="Europe/Berlin")])
+HOUR = 3 if PICTURES else (time.gmtime().tm_hour + 12) % 24  # far from now, so that it makes no call while a test counts them
+app = App(shop, stock, schedules=[Schedule("nightly", order, "pen", cron=f"0 {HOUR} * * *", zone="Europe/Berlin")])
 
 
 class Background:
@@ -69,7 +71,7 @@ class Background:
         self.do(self.served.__aenter__())
 
     def do(self, awaitable):
-        return asyncio.run_coroutine_threadsafe(awaitable, self.loop).result(60)
+        return asyncio.run_coroutine_threadsafe(awaitable, self.loop).result(support.LONG)
 
     def ask(self, path, body=None, method="POST"):
         return self.do(self.served.ask(path, body, method))
@@ -77,7 +79,7 @@ class Background:
     def close(self):
         self.do(self.served.__aexit__())
         self.loop.call_soon_threadsafe(self.loop.stop)
-        self.thread.join(10)
+        self.thread.join(support.LONG)
         self.loop.close()
 
 
@@ -87,7 +89,7 @@ def browser():
     for it in ("--headless=new", "--no-sandbox", "--disable-gpu", "--disable-dev-shm-usage", "--force-device-scale-factor=1", f"--window-size={SIZE[0]},{SIZE[1]}"):
         options.add_argument(it)
     found = webdriver.Chrome(service=Driver(needs.driver()), options=options)
-    found.set_page_load_timeout(60)
+    found.set_page_load_timeout(support.LONG)
     return found
 
 
@@ -123,14 +125,20 @@ class InABrowser(support.OnADatabase, unittest.TestCase):
     def made(self, handler, it, status, key=""):
         """An invocation, once it has this status."""
         id = self.worker.ask(f"/{handler}/send", it)[1]["invocation"]
-        for _ in range(3000):
-            if self.worker.ask(f"/-/invocations/{id}", None, "GET")[1]["status"] == status:
-                return id
-        raise AssertionError(status)
+        self.until(lambda: self.worker.ask(f"/-/invocations/{id}", None, "GET")[1]["status"] == status)
+        return id
+
+    def until(self, holds):
+        until = time.monotonic() + support.LONG
+        while not holds():
+            self.assertLess(time.monotonic(), until)
+            time.sleep(0.01)
 
     def orders(self):
         self.serve()
-        return [self.made("Shop/order", it, status) for it, status in [("pen", "suspended"), ("ink", "failed"), ("glue", "paused"), ("cup", "done")]]
+        made = [self.made("Shop/order", it, status) for it, status in [("pen", "suspended"), ("ink", "failed"), ("glue", "paused"), ("cup", "done")]]
+        self.until(lambda: self.worker.ask("/-/invocations?handler=parcel&status=suspended", None, "GET")[1])  # that of the first order
+        return made
 
     def open(self, path=""):
         self.browser.get(f"{self.page}{path}")
@@ -145,7 +153,7 @@ class InABrowser(support.OnADatabase, unittest.TestCase):
         """Does what leads to another page, and waits until it is there."""
         before = self.one("html")
         does(*given)
-        WebDriverWait(self.browser, 60).until(expected_conditions.staleness_of(before))
+        WebDriverWait(self.browser, support.LONG).until(expected_conditions.staleness_of(before))
 
     def press(self, text):
         """Presses the button with this text."""
@@ -271,7 +279,7 @@ class InABrowser(support.OnADatabase, unittest.TestCase):
         self.assertIn("40; was 99", self.one("table").text)
         self.picture("audit")
         self.open("/schedules")
-        self.assertIn("cron 0 3 * * * Europe/Berlin", self.one("table").text)
+        self.assertIn(f"cron 0 {HOUR} * * * Europe/Berlin", self.one("table").text)
         self.assertIn("Shop/order", self.one("table").text)
         self.press("pause")
         self.assertIn("paused", self.one("table").text)

@@ -233,10 +233,11 @@ class Example(support.InAFolder, unittest.TestCase):
 
         async def go():
             async with Runtime(apps["old"], url) as runtime:
-                id = await runtime.send("Orders/place", {"customer": "ann", "days": 1 / 86400})
+                id = await runtime.send("Orders/place", {"customer": "ann", "days": 30})
                 await runtime.until(id, "suspended")
             self.assertEqual([await asyncio.to_thread(self._differ, url, apps[it]) for it in ("new", "old", "wrong")], [0, 0, 1])
             async with Runtime(apps["new"], url) as runtime:
+                await runtime.time_passes(id)
                 self.assertEqual(await runtime.result(id), ["charged ann", "shipped to ann"])
                 self.assertEqual(await runtime.call("Orders/place", {"customer": "ben", "days": 0}), ["charged ben", "mailed ben", "shipped to ben"])
 
@@ -289,7 +290,7 @@ class Rolling(support.OnADatabase, unittest.TestCase):
                 is_over.set()
                 await coming
                 ids += [await last.send("Shop/order", 1) for _ in range(3)]
-                found = await asyncio.gather(*[last.result(id, 120) for id in ids])
+                found = await asyncio.gather(*[last.result(id) for id in ids])
                 kinds = [it[1:] for it in found]
                 allowed = [[], [["patched", False, False]], [["patched", False, True]], ["mailed", ["patched", True, True]]]
                 self.assertEqual([it for it in kinds if it not in allowed], [])
@@ -318,7 +319,7 @@ class Rolling(support.OnADatabase, unittest.TestCase):
 
 
 async def gather_all(runtime, ids):
-    await asyncio.gather(*[runtime.result(id, 150) for id in ids])
+    await asyncio.gather(*[runtime.result(id) for id in ids])
 
 
 if __name__ == "__main__":

@@ -2,6 +2,8 @@
 
 import asyncio
 import gc
+import secrets
+import threading
 import time
 import unittest
 
@@ -12,12 +14,24 @@ from support import Runtime
 
 service, thing = Service("S"), VirtualObject("O")
 at_once = [0, 0]  # now, and at most
+may_end = threading.Event()
+TRIES = 4  # of a measurement: other work of the host only adds to it, so the least counts
 
 
 async def counted(n: int) -> int:
     at_once[0] += 1
     at_once[1] = max(at_once)
     await asyncio.sleep(0.001)
+    at_once[0] -= 1
+    return n
+
+
+async def held(n: int) -> int:
+    """It lasts until the test says so."""
+    at_once[0] += 1
+    at_once[1] = max(at_once)
+    while not may_end.is_set():
+        await asyncio.sleep(0.01)
     at_once[0] -= 1
     return n
 
@@ -30,6 +44,11 @@ async def echo(ctx: Context, n: int) -> int:
 @service.handler()
 async def runs(ctx: Context, n: int) -> int:
     return sum(await gather(*[ctx.run("one", counted, 1) for _ in range(n)]))
+
+
+@service.handler()
+async def holds(ctx: Context, n: int) -> int:
+    return sum(await gather(*[ctx.run("one", held, 1) for _ in range(n)]))
 
 
 @service.handler()
@@ -82,53 +101,63 @@ class Wide(support.OnADatabase):
             async with Runtime(app, self.url, idle=0.5) as runtime:
                 await runtime.call("S/runs", 100)
                 for path in ("S/runs", "S/plain_runs", "S/sleeps", "S/spawned", "O/sets", "S/calls"):
+                    few, many = (100, 1000) if path != "S/calls" else (20, 200)
+                    least = max(await self.took(runtime, path, few), 0.02)
                     took = []
-                    for count in (100, 1000) if path != "S/calls" else (20, 200):
-                        gc.collect()
-                        begun = time.process_time()
-                        id = await runtime.send(path, count, key=f"{count}" if path[0] == "O" else "")
-                        assert await runtime.result(id, 300) == count
-                        took.append(time.process_time() - begun)
-                    assert took[1] < 30 * max(took[0], 0.02), (path, took)
+                    while not took or (min(took) >= 30 * least and len(took) < TRIES):
+                        took.append(await self.took(runtime, path, many))
+                    assert min(took) < 30 * least, (path, least, took)
 
         asyncio.run(go())
+
+    async def took(self, runtime, path, count):
+        """How many seconds of a processor an invocation takes."""
+        gc.collect()
+        begun = time.process_time()
+        id = await runtime.send(path, count, key=secrets.token_hex(4) if path[0] == "O" else "")
+        assert await runtime.result(id) == count
+        return time.process_time() - begun
 
     def test_a_long_journal_lets_others_have_their_turn(self):
         """While an invocation with 6,000 entries is claimed and fed, nothing of the runtime's holds the loop. Time is the processor's."""
 
-        async def go():
-            async with Runtime(app, self.url, idle=0) as runtime:
-                id = await runtime.send("S/waits", 3000)
-                await runtime.until(id, "suspended")
-                gc.collect()
-                gc.disable()  # a collection isn't the runtime's
-                held, last = [], time.thread_time()
-                await runtime.engine.notify(id, journal.named_signal("go", journal.value(b"1")))
-                ended = asyncio.create_task(runtime.result(id, 300))
-                while not ended.done():
-                    await asyncio.sleep(0)
-                    now = time.thread_time()
-                    held.append(now - last)
-                    last = now
-                self.assertEqual(await ended, 3000)
-                return max(held)
+        longest = []
+        while not longest or (min(longest) >= 0.25 and len(longest) < TRIES):
+            try:
+                longest.append(asyncio.run(asyncio.wait_for(self.held(), support.LONG)))
+            finally:
+                gc.enable()
+        self.assertLess(min(longest), 0.25)
 
-        try:
-            longest = asyncio.run(asyncio.wait_for(go(), 300))
-        finally:
-            gc.enable()
-        self.assertLess(longest, 0.25)
+    async def held(self):
+        """For how many seconds of a processor the loop was held at most, while a long journal was fed."""
+        async with Runtime(app, self.url, idle=0) as runtime:
+            id = await runtime.send("S/waits", 3000)
+            await runtime.until(id, "suspended")
+            gc.collect()
+            gc.disable()  # a collection isn't the runtime's
+            held, last = [], time.thread_time()
+            await runtime.engine.notify(id, journal.named_signal("go", journal.value(b"1")))
+            ended = asyncio.create_task(runtime.result(id))
+            while not ended.done():
+                await asyncio.sleep(0)
+                now = time.thread_time()
+                held.append(now - last)
+                last = now
+            self.assertEqual(await ended, 3000)
+            return max(held)
 
     def test_so_many_runs_at_once_and_others_beside_them(self):
         async def go():
             at_once[:] = [0, 0]
+            may_end.clear()
             async with Runtime(app, self.url, effects=10) as runtime:
-                wide = await runtime.send("S/runs", 800)
+                wide = await runtime.send("S/holds", 800)
                 while not at_once[1]:
                     await asyncio.sleep(0.001)
-                assert await runtime.call("S/runs", 3) == 3
-                assert (await runtime.status(wide))[0] != "done"
-                assert await runtime.result(wide, 300) == 800
+                assert await runtime.call("S/runs", 3) == 3  # while those of the other are executed, and wait for their turn
+                may_end.set()
+                assert await runtime.result(wide) == 800
             assert at_once[1] <= 10, at_once
 
         asyncio.run(go())
