@@ -125,6 +125,7 @@ class Serving(support.OnADatabase):
             status, lines = it.ask(f"/-/invocations/{made['invocation']}/journal")
             assert lines[0] == "Input headers=() value=b'\"red?\"'" and any(line.startswith("GetPromise") for line in lines) and lines[-1].startswith("Output")
             _, made = it.ask("/Approval/b/ask/send", "green?")
+            it.until_suspended(made)
             assert it.ask(f"/-/invocations/{made['invocation']}/cancel", method="POST") == (200, {"done": True, "said": "cancelled"})
             assert it.ask(f"/-/invocations/{made['invocation']}/result?wait=600") == (409, {"code": 409, "message": "cancelled"})
             assert it.ask(f"/-/invocations/{made['invocation']}/resume", method="POST")[0] == 409
@@ -143,7 +144,7 @@ class Serving(support.OnADatabase):
             assert status == 0 and "Shop/order: 1 of 1 ended journals are those of this code\n" in said and "\n3 journals are replayed, 0 differ\n" in said
             assert palqytun("invocations", "resume", waits["invocation"], "--db", self.url)[0] == 2
             assert palqytun("invocations", "cancel", waits["invocation"], "--db", self.url)[0] == 0
-            assert it.ask(f"/-/invocations/{waits['invocation']}/result?wait=20")[0] == 409
+            assert it.ask(f"/-/invocations/{waits['invocation']}/result?wait=600")[0] == 409
         assert palqytun("invocations", "purge", "--older", "0", "--by", "ann", "--db", self.url)[1] == "3 invocations are purged\n"
         assert palqytun("invocations", "purge", "--older", "0", "--db", self.url)[1] == "0 invocations are purged\n"
         audit = palqytun("audit", "--most", "1", "--db", self.url)[1]

@@ -392,7 +392,7 @@ class Awakeables(support.OnADatabase):
 
         async def go():
             async with Served(App(approvals), self.url) as served:
-                await served.ask("/A/slowly/send", 20)
+                await served.ask("/A/slowly/send", support.LONG)
                 while await served.rows("SELECT status FROM invocations") != [("suspended",)]:
                     await asyncio.sleep(0.02)
                 in_replay.set()
@@ -444,9 +444,10 @@ class OfAnotherWorker(support.OnADatabase, unittest.TestCase):
 
         async def go():
             async with Served(App(approvals), self.url, limit=0) as served, support.Runtime(App(approvals), self.url) as other:
-                id, said = await other.send("A/grows", 40), set()
+                id = await other.send("A/grows", 40)
                 await served.until(lambda: begun)
                 path = f"/-/awakeables/{begun[0]}/resolve"
+                said = {(await served.ask(path, "yes"))[0]}
                 while (await other.rows("SELECT COUNT(*) FROM journal WHERE invocation=?", id))[0][0] < 81:
                     said.add((await served.ask(path, "yes"))[0])
                 self.assertEqual(said, {400})

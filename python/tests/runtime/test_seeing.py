@@ -107,7 +107,7 @@ class Numbers(support.OnADatabase):
         self.assertGreater(found["palqytun_commit_seconds_count",], 2)
         self.assertEqual([found["palqytun_invocations", it] for it in ("done", "failed", "ready")], [2, 2, 0])
         self.assertGreaterEqual(found["palqytun_connections",], 1)
-        self.assertLess(found["palqytun_lease_age_seconds",], 60)
+        self.assertLess(found["palqytun_lease_age_seconds",], support.LONG)
 
     @with_ingress(limit=0)
     async def test_queues(self, served):
