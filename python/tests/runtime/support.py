@@ -21,7 +21,8 @@ sys.path[:0] = [str(PYTHON / "src"), str(PYTHON / "tests"), str(pathlib.Path(__f
 import needs  # noqa: E402
 import postgres  # noqa: E402
 import runtime_app  # noqa: E402
-from palqytun.runtime import journal  # noqa: E402
+from palqytun.runtime import desk, journal  # noqa: E402
+from palqytun.runtime.database import postgres as server  # noqa: E402
 from palqytun.runtime.database.plain import Plain  # noqa: E402
 from palqytun.runtime.database.schema import TABLES  # noqa: E402
 from palqytun.runtime.engine import Engine  # noqa: E402
@@ -30,6 +31,7 @@ from palqytun.runtime.invocations import New  # noqa: E402
 IDLE = float(os.environ.get("PALQYTUN_TEST_IDLE", 0))
 LONG = 300.0  # seconds after which a test that waits has failed, however busy its host is
 LEASE = 60.0  # seconds; a host that stands still for a while makes no dead worker of one that lives
+server._PATIENCE = desk._ANSWERED = LONG  # nor a database that doesn't reply
 
 
 def emptied(kind, folder):
