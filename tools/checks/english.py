@@ -17,6 +17,8 @@ END = re.compile(r"(?<=[.!?])[)*\"”]*\s+(?=[A-Z`(*\[\d\"“])|(?<=[.!?][)*\"�
 ITEM = re.compile(r"\s*(?:[-*+]|\d+\.) +|\s*> ?")
 NO_PROSE = re.compile(r"\s*(?:#|\|)|    |<")
 NUMBERS = "two|three|four|five|six|seven|eight|nine|ten|twelve|twenty|thirty|fifty|hundred|thousand"
+# What a tool writes into a page, up to its end: the words are those of the sources.
+WRITTEN = re.compile(r"<!-- From here to the end of .*?<!-- The end of [^>]*-->", re.DOTALL)
 # Turns of phrase, each with what to say instead.
 PLAINER = {
     r"in the place of": "instead of",
@@ -25,8 +27,11 @@ PLAINER = {
     r"begins? (?:the )?(?:other|those)\b": "is a prefix of",
     r"(?:stands?|stood) on": "depends on",
     r"of one's own": "own",
-    r"(?:is|looks|are) so(?= *[.,:;)]|$| of )": "holds",
+    r"(?:is|are) so(?= *[.,:;)]|$| of )": "holds",
     r"read it so": "holds",
+    r"looks so": "looks like this",
+    r"begins? (?:the )?\w+'s(?= *[.,:;)]|$)": "is a prefix of",
+    r"(?:journal|point|report|round)s? (?:then )?tells?\b": "determines",
     r"(?<!\bthe )(?<!\bof )(?<!\bits )(?<!\btheir )(?<!\ball )answers (?:`|the |an? |its |no |nothing|out )": "returns",
     r"(?:polic(?:y|ies)|trees?|expressions?) of (?:retries|awaits|cron)": "retry policy, await tree, cron expression",
     r"(?:(?<=[.;] )|^)Of (?:an?|the|what|each|one)\b": "the subject first",
@@ -58,10 +63,25 @@ def sentences(text: str) -> list[str]:
     return [it.strip() for line in plain for it in END.split(line) if re.search(r"\w", it)]
 
 
+def cells(text: str) -> Iterator[str]:
+    """Yields the cells of a page's tables, except those that a tool writes."""
+    fenced = False
+    for line in WRITTEN.sub("", text).splitlines():
+        fenced ^= line.startswith("```")
+        if line.startswith("|") and not fenced:
+            yield from (it.strip() for it in CODE.sub("`code`", line).strip("|").split("|"))
+
+
 def avoided(text: str) -> list[tuple[str, str]]:
-    """Returns the turns of phrase to avoid that a page's prose has, each with the sentence where it stands."""
-    plain = (LINK.sub(r"\1", CODE.sub("`", it)) for it in paragraphs(text))
-    return [(it[0], sentence.strip()) for line in plain for sentence in END.split(line) for it in AVOIDED.finditer(sentence)]
+    """Returns the turns of phrase to avoid that a page's prose and tables have, each with the sentence where it stands."""
+    found = [(it, sentence) for line in paragraphs(text) for it, sentence in _phrases(line)]
+    in_tables = ((it, sentence) for line in cells(text) for it, sentence in _phrases(line))
+    return found + [it for it in in_tables if not it[0].startswith("of ")]  # a cell says of what it speaks, as a dictionary does
+
+
+def _phrases(line: str) -> Iterator[tuple[str, str]]:
+    plain = LINK.sub(r"\1", CODE.sub("`", line))
+    yield from ((it[0], sentence.strip()) for sentence in END.split(plain) for it in AVOIDED.finditer(sentence))
 
 
 def plainer(phrase: str) -> str:

@@ -36,7 +36,7 @@ def prove_archive(top: Path, progress: Progress) -> Path:
     """Proves what isn't proved yet, and builds the archive."""
     crates = Crates(top)
     names = [it.name for it in crates.below(["ffi"])]
-    progress.step(f"{len(names)} crates are below the library; those that were proved before stay. The first time takes most of an hour")
+    progress.step(f"{len(names)} crates are below the library; those that were proved before stay. The first time takes an hour or more")
     folder = top / "crates/ffi"
     # rt prints nothing of a crate that is kept.
     with subprocess.Popen(["rt", "lib"], cwd=folder, env=os.environ, stdout=subprocess.PIPE, stderr=subprocess.STDOUT, text=True, errors="replace") as ran:

@@ -68,6 +68,10 @@ class Phrases(unittest.TestCase):
             "It is so.": ("is so", "holds"),
             "The call answers an id.": ("answers an ", "returns"),
             "A policy of retries.": ("policy of retries", "retry policy, await tree, cron expression"),
+            "A handler looks so.": ("looks so", "looks like this"),
+            "No text begins another's.": ("begins another's", "is a prefix of"),
+            "That is what the journal tells.": ("journal tells", "determines"),
+            "| a | It stands on wire. |": ("stands on", "depends on"),
         }
         for text, (phrase, instead) in rows.items():
             with self.subTest(text):
@@ -77,6 +81,13 @@ class Phrases(unittest.TestCase):
     def test_plain_sentences_pass(self) -> None:
         plain = "Some commands wait. The answers the handler saw. It is so far. Nothing but forms. A list of what it says. One of a kind."
         self.assertEqual(self.phrases(plain), [])
+
+    def test_a_cell_may_say_of_what_it_speaks(self) -> None:
+        self.assertEqual(self.phrases("| failed | of a VM: it has its first error |\n"), [])
+
+    def test_what_a_tool_writes_is_left_out(self) -> None:
+        written = "<!-- From here to the end of the map a tool writes. -->\n| a | It stands on wire. |\n<!-- The end of the map. -->\n"
+        self.assertEqual(self.phrases(written), [])
 
     def test_code_and_headings_are_no_prose(self) -> None:
         self.assertEqual(self.phrases("# It stands on wire\n\n`it stands on wire`\n\n    it is so.\n"), [])

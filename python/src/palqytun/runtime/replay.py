@@ -228,7 +228,7 @@ async def replay_all(app: App, db: Database, status: str | None = None, ended: b
 
 PROVES = (
     "What this shows: a journal without a difference was replayed to its end, so an attempt by this code that is given the same results makes each recorded"
-    " command again and goes on after the last. Of calls that aren't recorded yet it shows nothing. docs/DEPLOYING.md says what is proved of it."
+    " command again and goes on after the last. It shows nothing about calls that aren't recorded yet. docs/DEPLOYING.md says what is proved of it."
 )
 
 
