@@ -25,6 +25,12 @@ class Part:
 
 
 @dataclasses.dataclass
+class Other:
+    name: str
+    more: int = 0
+
+
+@dataclasses.dataclass
 class Whole:
     parts: list[Part]
     colour: Colour
@@ -64,9 +70,22 @@ class Codec(unittest.TestCase):
     def test_an_int_is_a_float(self):
         self.assertIsInstance(codec.decode(b"1", float), float)
 
+    def test_a_union_is_the_first_of_its_types_that_takes_the_value(self):
+        rows = [(b"1", float | int, 1), (b"1", str | float, 1.0), (b'{"name":"a"}', Whole | Part, Part("a")), (b'{"name":"a"}', Part | Other, Part("a"))]
+        for data, kind, value in [*rows, (b'{"name":"a","more":1}', Part | Other, Other("a", 1)), (b'"red"', Colour | str, "red"), (b"null", int | None, None)]:
+            with self.subTest(data=data, kind=kind):
+                found = codec.decode(data, kind)
+                self.assertEqual((type(found), found), (type(value), value))
+
     def test_what_is_not_json_is_refused(self):
         with self.assertRaisesRegex(TypeError, "type object is not JSON"):
             codec.encode(object())
+        for number in (float("nan"), float("inf"), float("-inf")):
+            with self.subTest(number), self.assertRaisesRegex(ValueError, "not JSON compliant"):
+                codec.encode({"n": [number]})
+        for text in (b"NaN", b'{"n":Infinity}', b"[-Infinity]"):
+            with self.subTest(text), self.assertRaises(ValueError):
+                codec.decode(text, Any)
 
     def test_pydantic_models(self):
         if lacks := needs.lacks_module("pydantic"):

@@ -134,6 +134,43 @@ class Refusals(support.OnADatabase):
             self.assertEqual((await served.ask(path, method="GET"))[0], 404, path)
 
 
+told = Service("Told")
+
+
+@told.handler()
+async def headers(ctx: Context, it: object) -> dict[str, str]:
+    return ctx.headers
+
+
+@support.on_each_database
+class Headers(support.OnADatabase):
+    """Those of a request that a handler gets."""
+
+    def test_those_that_the_app_names(self):
+        async def go():
+            async with Served(App(told, headers=["X-Tenant", "x-user"]), self.url) as served:
+                sent = {"x_tenant": "acme", "x_other": "no", "authorization": "Bearer secret", "cookie": "secret"}
+                self.assertEqual((await served.ask("/Told/headers?priority=3", 1, **sent))[:2], (200, {"palqytun-priority": "3", "x-tenant": "acme"}))
+                self.assertEqual(await served.rows("SELECT COUNT(*) FROM invocations"), [(1,)])
+                status, said, _ = await served.ask("/Told/headers", 1, x_user=LONG)
+                self.assertEqual((status, said["message"]), (400, "the header x-user has 1001 bytes in UTF-8, and 1000 are allowed"))
+                self.assertEqual(await served.rows("SELECT COUNT(*) FROM invocations"), [(1,)])
+
+        asyncio.run(go())
+
+    def test_names_that_are_refused(self):
+        for names, why in (
+            ("x-tenant", "a list of names"),
+            (["a b"], "'a b' is no name of a header"),
+            ([""], "'' is no name"),
+            ([5], "5 is no name"),
+            (["Authorization"], "can't get the header authorization"),
+            (["palqytun-priority"], "can't get the header palqytun-priority"),
+        ):
+            with self.subTest(names), self.assertRaisesRegex(ValueError, why):
+                App(told, headers=names)
+
+
 class Understood(support.OnADatabase, unittest.TestCase):
     """Requests as bytes."""
 

@@ -1,11 +1,13 @@
 """What nobody waits for any more, and what is too large to be handed out with each attempt."""
 
 import asyncio
+import gc
 import unittest
+import weakref
 from unittest import mock
 
 import support  # isort: skip
-from palqytun.runtime import App, Context, Retry, Service, VirtualObject, invocations, select
+from palqytun.runtime import App, Context, Retry, Service, VirtualObject, invocations, operate, select
 from palqytun.runtime.attempt import Attempt
 from support import Runtime
 
@@ -68,6 +70,29 @@ async def waits(ctx: Context, _: None) -> int:
     return 1
 
 
+class Given:
+    """What a run is given."""
+
+
+@service.handler()
+async def gives(ctx: Context, n: int) -> int:
+    """How many of the values that runs were given are still held, once each later run has ended."""
+    held = 0
+    before: list[weakref.ref[Given]] = []
+    for _ in range(n):
+        it = Given()
+        before.append(weakref.ref(it))
+        await ctx.run("takes", takes, it)
+        del it
+        gc.collect()
+        held += sum(one() is not None for one in before[:-1])
+    return held
+
+
+async def takes(it: Given) -> int:
+    return 1
+
+
 app = App(service, thing)
 
 
@@ -102,6 +127,45 @@ class Timers(support.OnADatabase):
             self.assertEqual(len(tries), 3 if runtime.engine.idle else 4)
 
         self.with_runtime(60, test)
+
+
+@support.on_each_database
+class Purges(support.OnADatabase):
+    def test_one_without_an_end_stops_nobody(self):
+        """A purge that finds more each time: calls end meanwhile, and the worker keeps its lease, which on SQLite is for good."""
+        batches = 0
+
+        async def purge(db, older):
+            nonlocal batches
+            batches += 1
+            await db.rows("SELECT id FROM invocations WHERE status='done' AND ended<? LIMIT 200", (db.now() - older,))
+            return 200
+
+        async def go():
+            with mock.patch.object(operate, "purge", purge):
+                async with Runtime(app, self.url, idle=60, keep=0) as runtime:
+                    leases = "SELECT lease FROM workers"
+                    first = await runtime.rows(leases)
+                    for n in range(5):
+                        before = batches
+                        self.assertEqual(await runtime.call("Left/echo", n), n)
+                        while batches < before + 5:
+                            await asyncio.sleep(0.01)
+                    while self.kind == "postgres" and await runtime.rows(leases) == first:
+                        await asyncio.sleep(0.01)
+                    self.assertEqual(await runtime.call("Left/echo", 5), 5)
+
+        asyncio.run(asyncio.wait_for(go(), support.LONG))
+
+
+@support.on_each_database
+class Runs(support.OnADatabase):
+    def test_what_a_run_was_given_is_held_until_its_end_alone(self):
+        async def go():
+            async with Runtime(app, self.url, idle=60) as runtime:
+                self.assertEqual(await runtime.call("Left/gives", 4), 0)
+
+        asyncio.run(asyncio.wait_for(go(), support.LONG))
 
 
 @support.on_each_database

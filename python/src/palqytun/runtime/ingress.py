@@ -251,9 +251,17 @@ class Ingress:
         told = ((queues.PRIORITY, request.query_params.get("priority")), (queues.KEY, request.query_params.get("queue-key")))
         headers = tuple((name, it) for name, it in told if it is not None)
         queues.asked(headers, key)
+        headers += self._passed(request)
         new = New(service, names[-1], key, b"", headers, once, time.time() + delay if delay else 0, trace=trace)
         invocations.check(new, await self.engine.target(service, new.handler))
         return new, is_sent
+
+    def _passed(self, request: Request) -> tuple[tuple[str, str], ...]:
+        """The headers of a request that the handler gets."""
+        found = tuple((name, it) for name in self.engine.app.headers if (it := request.headers.get(name)) is not None)
+        for name, it in found:
+            check_name(f"the header {name}", it)
+        return found
 
     def _check(self, body: bytes, new: New) -> None:
         """The body has to be of the type that the handler takes, if it is one of this app."""

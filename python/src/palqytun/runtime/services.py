@@ -13,6 +13,7 @@ from collections.abc import Awaitable, Callable, Iterable, Mapping
 from dataclasses import dataclass, field
 from typing import TYPE_CHECKING, Any, Generic, TypeVar
 
+from . import headers as request_headers
 from .codec import Codec, JsonCodec, decoded, encoded
 from .extras import needed
 from .texts import plain, said
@@ -230,9 +231,10 @@ class Workflow(VirtualObject):
 
 
 class App:
-    """The services of a program, its schedules, and the codec of its values."""
+    """The services of a program, its schedules, and the codec of its values. `headers` are names of request headers, as "x-tenant", which a handler
+    gets by `ctx.headers` if a request has them; no others are stored."""
 
-    def __init__(self, *services: Service, codec: Codec | None = None, schedules: Iterable[Schedule] = ()):
+    def __init__(self, *services: Service, codec: Codec | None = None, schedules: Iterable[Schedule] = (), headers: Iterable[str] = ()):
         self.services: dict[str, Service] = {}
         for it in services:
             if it.name in self.services:
@@ -240,6 +242,7 @@ class App:
             self.services[it.name] = it
         self.queues = self._queues()
         self.codec: Codec = JsonCodec() if codec is None else codec
+        self.headers = request_headers.checked(headers)
         self.schedules: dict[str, Schedule] = {}
         self.scheduled: dict[str, bytes] = {}  # the arguments of the schedules
         for one in schedules:
