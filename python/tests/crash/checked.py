@@ -68,6 +68,19 @@ def wait(db: Plain, seconds: float) -> int:
     return resumed
 
 
+def _leftover(db: Plain) -> dict[str, int]:
+    """How many rows there are of what is there only as long as something goes on, by table."""
+    return {table: rows(db, f"SELECT COUNT(*) FROM {table}{f' WHERE {NO_TICK}' if table == 'locks' else ''}")[0][0] for table in LEFTOVERS}
+
+
+def settle(db: Plain, seconds: float = 120.0) -> None:
+    """All have ended: waits until the workers have removed what came for those that had ended already, which they look for by and by. What isn't
+    removed in this time is left over, and `check` says so."""
+    until = time.monotonic() + seconds
+    while any(_leftover(db).values()) and time.monotonic() < until:
+        time.sleep(0.05)
+
+
 def _compared(frame: bytes, handler: str) -> str:
     """A command without what depends on time: when a sleep or a send is due; and for coroutines side by side, which go on in the order of what
     arrives, the ids of completions."""
@@ -131,7 +144,7 @@ def check(db: Plain, count: int, effects: pathlib.Path, reference: Found | None,
     _check_ticks(db)
     if is_ordered:
         _check_sleeps(db)
-    leftover = {table: rows(db, f"SELECT COUNT(*) FROM {table}{f' WHERE {NO_TICK}' if table == 'locks' else ''}")[0][0] for table in LEFTOVERS}
+    leftover = _leftover(db)
     if any(leftover.values()):
         raise Wrong(f"something is left over: {leftover}")
     it = found(db, effects)

@@ -20,9 +20,9 @@ HERE = pathlib.Path(__file__).parent
 sys.path[:0] = [str(HERE.parent.parent / "src"), str(HERE.parent), str(HERE)]
 
 import postgres  # noqa: E402
-from checked import Found, Wrong, check, left, rows, submit, wait  # noqa: E402
+from checked import Found, Wrong, check, left, rows, settle, submit, wait  # noqa: E402
 from palqytun.runtime.database.plain import Plain  # noqa: E402
-from scenarios import LEASE, Report, Workers, emptied, logged_without_errors, until_work  # noqa: E402
+from scenarios import Report, Workers, emptied, logged_without_errors, until_work  # noqa: E402
 
 SETTINGS = {"wal_log_hints": "on", "wal_keep_size": "256MB"}  # so that a server that was a primary can follow the next
 EACH = 8  # workflows, one of each kind, are submitted before each fault
@@ -177,7 +177,7 @@ class Load:
         """Waits until all have ended."""
         with Plain(self.servers.url) as db:
             resumed = wait(db, seconds)
-            time.sleep(LEASE / 3 + 0.5)  # after the last beats
+            settle(db)
             return Report(resumed=resumed)
 
     def left(self, reference: Found | None) -> Report:

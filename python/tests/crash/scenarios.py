@@ -35,7 +35,7 @@ SOURCES = HERE.parent.parent / "src"
 sys.path[:0] = [str(SOURCES), str(HERE)]
 
 import faulty  # noqa: E402
-from checked import Found, Wrong, check, left, rows, submit, wait  # noqa: E402
+from checked import Found, Wrong, check, left, rows, settle, submit, wait  # noqa: E402
 from palqytun.runtime.database.plain import Plain  # noqa: E402
 from palqytun.runtime.database.schema import TABLES  # noqa: E402
 
@@ -408,12 +408,12 @@ def _full(log: pathlib.Path) -> int:
 
 
 class Workers:
-    lease = LEASE
+    lease, grace = LEASE, 10.0
 
     def __init__(self, url: str, count: int, folder: pathlib.Path, *, idle: float, wrong: str = ""):
         program = [sys.executable, "-m", "palqytun"] if not wrong else [sys.executable, str(HERE / "wrong_worker.py"), wrong]
         self.command = [*program, "run", str(HERE / "crash_app.py"), "--db", url, "--port", "-1", "--idle", str(idle)]
-        self.command += ["--lease", str(self.lease)]
+        self.command += ["--lease", str(self.lease), "--grace", str(self.grace)]
         self.environment = {**os.environ, "PYTHONPATH": f"{SOURCES}:{HERE}", "CRASH_EFFECTS": str(folder / "effects")}
         self.log = (folder / "log").open("a")
         self.all = [self.start(at) for at in range(count)]
@@ -453,11 +453,18 @@ class Workers:
         self.log.close()
 
 
+class Steady(Workers):
+    """A crew whose workers end in an orderly way, so nobody waits for the end of a lease. Their times are so long that on a busy host too no lease ends
+    by itself, and each effect ends within the grace: else one would be executed twice."""
+
+    lease, grace = 30.0, 120.0
+
+
 class Mixed(Workers):
     """A crew in which each second worker is one of the SDK in TypeScript. Its handlers and Python's call each other. A send to what no worker serves that is
     alive is dropped, so one of each language has to be alive, and on a busy host a lease may not end by itself."""
 
-    lease = 12.0
+    lease = 20.0
 
     def __init__(self, sdk: pathlib.Path, url: str, count: int, folder: pathlib.Path, *, idle: float, wrong: str = ""):
         """`sdk` is the folder in which the SDK and its tests are built."""
@@ -493,6 +500,7 @@ class Mixed(Workers):
 def emptied(url: str) -> None:
     with Plain(url) as db:
         if db.db.is_shared:
+            db.change("SET lock_timeout='300s'")  # a vacuum of the server's own may be at a table
             db.done(lambda to: to.change(f"TRUNCATE {', '.join(TABLES)}"))
 
 
@@ -598,7 +606,7 @@ def kills(
                     report.kills += 1
                 logged_without_errors(folder)
             report.resumed = wait(db, seconds)
-            time.sleep(running.lease / 3 + 0.5)  # after the last beats
+            settle(db)
         finally:
             running.end()
         log = logged_without_errors(folder)
@@ -617,7 +625,7 @@ def undisturbed(url: str, folder: pathlib.Path, count: int, seconds: float = _LO
         try:
             submit(db, 0, count)
             wait(db, seconds)
-            time.sleep(running.lease / 3 + 0.5)
+            settle(db)
         finally:
             running.end()
         return check(db, count, folder / "effects", None)

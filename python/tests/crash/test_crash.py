@@ -87,7 +87,7 @@ class Kills(InAFolder):
     def test_one_worker_on_sqlite_that_is_told_to_stop(self) -> None:
         faults = 20 if IS_THOROUGH else 4
         reference = scenarios.undisturbed(str(self.folder / "reference.db"), self.folder / "reference", 3 * faults)
-        report = scenarios.kills(str(self.folder / "db"), self.folder / "stops", faults=faults, stops=True, reference=reference)
+        report = scenarios.kills(str(self.folder / "db"), self.folder / "stops", faults=faults, stops=True, reference=reference, crew=scenarios.Steady)
         print(report, file=sys.stderr)
         self.assertEqual(report.stops, faults)
 
@@ -135,7 +135,8 @@ class KillsOfMany(OnAServer):
         self.assertEqual((report.pauses, report.disconnects), (3, 6))
 
     def test_workers_that_are_told_to_stop(self) -> None:
-        report = scenarios.kills(self.url, self.folder / "stops", faults=30, workers=3, stops=True, reference=self.reference)
+        options = {"workers": 3, "stops": True, "reference": self.reference, "crew": scenarios.Steady}
+        report = scenarios.kills(self.url, self.folder / "stops", faults=30, **options)
         print(report, file=sys.stderr)
         self.assertEqual(report.stops, 30)
 
