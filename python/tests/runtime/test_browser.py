@@ -16,11 +16,10 @@ import needs
 if lacks := needs.lacks_server() or needs.lacks_browser():
     raise unittest.SkipTest(lacks)
 from selenium import webdriver
+from selenium.common.exceptions import StaleElementReferenceException, WebDriverException
 from selenium.webdriver.chrome.service import Service as Driver
 from selenium.webdriver.common.by import By
 from selenium.webdriver.common.keys import Keys
-from selenium.webdriver.support import expected_conditions
-from selenium.webdriver.support.wait import WebDriverWait
 
 from palqytun.runtime import App, Context, Queue, Retry, Schedule, Service, TerminalError, VirtualObject
 from palqytun.runtime.serving import Settings
@@ -105,6 +104,19 @@ def contrast(one, other):
     return (high + 0.05) / (low + 0.05)
 
 
+def has_gone(element):
+    """Whether the page of an element isn't there any more. While it goes, the driver has other words for that than later."""
+    try:
+        element.is_enabled()
+    except StaleElementReferenceException:
+        return True
+    except WebDriverException as error:
+        if "does not belong to the document" not in str(error):
+            raise
+        return True
+    return False
+
+
 class InABrowser(support.OnADatabase, unittest.TestCase):
     """One browser for all tests, and for each a worker on an empty database."""
 
@@ -153,7 +165,7 @@ class InABrowser(support.OnADatabase, unittest.TestCase):
         """Does what leads to another page, and waits until it is there."""
         before = self.one("html")
         does(*given)
-        WebDriverWait(self.browser, support.LONG).until(expected_conditions.staleness_of(before))
+        self.until(lambda: has_gone(before))
 
     def press(self, text):
         """Presses the button with this text."""
