@@ -40,8 +40,14 @@ def emptied(kind, folder):
         return str(folder / "db")
     url = postgres.url()
     with Plain(url) as db:
+        patient(db)
         db.done(lambda to: to.change(f"TRUNCATE {', '.join(TABLES)}"))
     return url
+
+
+def patient(db):
+    """A statement of this connection waits for locks, as of a vacuum of the server's own, which is given up after a second."""
+    db.change(f"SET lock_timeout='{LONG:.0f}s'")
 
 
 class InAFolder:

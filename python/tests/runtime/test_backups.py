@@ -72,7 +72,7 @@ class Lost(support.InAFolder):
     async def lost(self, url, backup):
         """What a worker does before a backup and after it, until its database is lost: the ids of a trip and a sleep from before, and of a trip from
         after."""
-        async with Runtime(app, url, idle=0) as runtime:
+        async with Runtime(app, url, idle=0, lease=5) as runtime:  # in the copy this worker lives until its lease ends
             ann, sleep = await begun(runtime, "ann"), await runtime.send("Trip/sleeps", 0.5)
             await asyncio.to_thread(backup)
             ben = await begun(runtime, "ben")

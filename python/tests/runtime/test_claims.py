@@ -393,6 +393,7 @@ class Plans(OnOne):
             (self.ENDED,),
         )
         if self.kind == "postgres":  # each test begins with an empty table, which the planner has to be told of
+            support.patient(self.db)
             self.addCleanup(self.db.change, "VACUUM invocations")
             self.addCleanup(self.db.change, "TRUNCATE invocations")
         self.db.change("ANALYZE")

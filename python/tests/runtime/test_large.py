@@ -163,6 +163,7 @@ class Large(support.OnADatabase, unittest.TestCase):
         statements = block.strip().removesuffix(";").split(";\n")
         self.assertGreater(len(statements), 4)
         with Plain(self.url) as db:
+            support.patient(db)
             for it in statements:
                 table, names = re.fullmatch(r"ALTER TABLE (\w+) SET \((.*)\)", it).groups()
                 db.change(it)
@@ -178,6 +179,7 @@ class Large(support.OnADatabase, unittest.TestCase):
 
     def change(self, sql):
         with Plain(self.url) as db:
+            support.patient(db)
             db.change(sql)
 
 
