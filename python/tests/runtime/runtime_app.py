@@ -51,7 +51,7 @@ async def spawns(ctx: Context, it):
     order = []
 
     async def part(n):
-        await ctx.sleep(0.05 * (3 - n))
+        await ctx.sleep(3600 * (3 - n))
         order.append(n)
         return await ctx.call(echo, n)
 

@@ -28,7 +28,12 @@ class Handlers(support.OnADatabase):
 
     @with_runtime
     async def test_coroutines_side_by_side(self, runtime):
-        assert await runtime.call("S/spawns") == [[0, 1, 2], [2, 1, 0]]
+        """They go on in the order in which their sleeps are over."""
+        id = await runtime.send("S/spawns")
+        await runtime.until_rows([(3,)], "SELECT COUNT(*) FROM timers")
+        await runtime.engine.transact(lambda db: db.change("UPDATE timers SET due=due-100000"))
+        runtime.engine.look()
+        assert await runtime.result(id) == [[0, 1, 2], [2, 1, 0]]
 
     @with_runtime
     async def test_timeout(self, runtime):
