@@ -200,9 +200,10 @@ class Versions(support.OnADatabase):
         async def go():
             async with Runtime(made(OLD), self.url, version=OLD) as runtime:
                 await self._begun(runtime)
-                await runtime.rows("UPDATE invocations SET version=4")
 
         self.run_to(go)
+        with Plain(self.url) as db:
+            db.done(lambda to: to.change("UPDATE invocations SET version=4"))
         [found] = checked(self.url, made(OLD))
         self.assertEqual((found.outcome, found.command), (ReplayOutcome.UNSUPPORTED_VERSION, -1))
         self.assertEqual(found.difference, "the journal has protocol version 4, which this package doesn't support (415 UNSUPPORTED_MEDIA_TYPE)")
