@@ -370,6 +370,17 @@ class Clocks(support.OnADatabase, unittest.TestCase):
 
     clock = "extract(epoch from clock_timestamp())::float8"
 
+    def test_what_is_kept_by_a_clock_that_is_ahead(self):
+        async def kept():
+            async with Runtime(app, self.url) as runtime:
+                self.assertEqual(await runtime.call("Claims/echoes", 1), 1)
+                for older, left in ((1800, 1), (-10, 0)):
+                    await runtime.engine.transact(lambda db: operate.purge(db, older))
+                    self.assertEqual(await runtime.rows("SELECT COUNT(*) FROM invocations"), [(left,)])
+
+        with self.at(3600):
+            asyncio.run(kept())
+
 
 @support.on_each_database
 class Plans(OnOne):
