@@ -1,6 +1,7 @@
-"""Runs the tests of a folder: suite.py [--only DATABASE | --but DATABASE] [--files NAME,..] FOLDER. A line for each, with its seconds, and those of a
-processor; then what failed and why, the slowest, and what was skipped. The last line is 'N passed, M failed, K skipped'. With --only just the tests on
-this database are run, sqlite or postgres, and with --but all others, also those on none. With --files just those of these files are run."""
+"""Runs the tests of a folder: suite.py [--only DATABASE | --but DATABASE] [--files NAME,..] [--stalls CHANCE] FOLDER. A line for each, with its seconds, and
+those of a processor; then what failed and why, the slowest, and what was skipped. The last line is 'N passed, M failed, K skipped'. With --only just the
+tests on this database are run, sqlite or postgres, and with --but all others, also those on none. With --files just those of these files are run. With
+--stalls each iteration of an event loop begins late by this chance (stalls.py), which shows tests that go by chance."""
 
 from __future__ import annotations
 
@@ -13,6 +14,8 @@ import unittest
 from collections import Counter
 from collections.abc import Iterator
 from types import TracebackType
+
+import stalls
 
 SLOW = 5.0  # seconds; the tests that take longer are named
 MOST = 10  # of them
@@ -93,6 +96,7 @@ def main() -> int:
     which.add_argument("--only", choices=DATABASES, help="only the tests on this database")
     which.add_argument("--but", choices=DATABASES, help="all tests but those on this database")
     parser.add_argument("--files", type=lambda it: it.split(","), default=[], metavar="NAME,..", help="only the tests of these files")
+    parser.add_argument("--stalls", type=float, default=0.0, metavar="CHANCE", help="event loops go on late, by this chance at each iteration")
     options = parser.parse_args()
     if not options.folder.is_dir():
         parser.error(f"there is no folder {options.folder}")
@@ -100,6 +104,8 @@ def main() -> int:
     if unknown := [it for it in options.files if not (folder / f"{it}.py").is_file()]:
         parser.error(f"{folder.name} has no file {unknown[0]}.py")
     sys.path.insert(0, str(folder.parent))
+    if options.stalls:
+        stalls.begin(options.stalls)
     found = unittest.TestLoader().discover(str(folder))
     result = Result()
     unittest.TestSuite(tests_of(found, options)).run(result)
