@@ -32,7 +32,7 @@ def go(it: Bindings) -> None:
     it.checks.prints("the example of bindings/go/README.md", [f"{made}example"], printed, it.env())
     it.checks.build("the bench in Go", [f"{made}bench", "1"], env)
     it.checks.build("go vet of bindings/go", ["go", "vet", "./..."], env, folder)
-    ran = ended(["go", "test", "-v", "-vet=off", "."], env, folder, SECONDS)
+    ran = ended(["go", "test", "-v", "-vet=off", f"-timeout={SECONDS}s", "."], env, folder, SECONDS)
     ends = TEST.findall(ran.output)
     found = counting.with_status(counting.Counts(ends.count("PASS"), len(ends) - ends.count("PASS")), 1 if ran.status is None else ran.status)
     it.checks.counts += found
