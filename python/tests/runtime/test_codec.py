@@ -5,6 +5,7 @@ import datetime
 import enum
 import unittest
 import uuid
+from decimal import Decimal
 from typing import Any, Literal, Optional
 
 import support  # noqa: F401  isort: skip
@@ -46,13 +47,15 @@ WHOLE = Whole([Part("a"), Part("b", 2.5)], Colour.RED, datetime.datetime(2026, 1
 
 VALUES = [
     (None, Any), (None, None), (1, int), ("é", str), ([1, None], Any), ({"a": 1}, dict[str, int]), ((1, 2, 3), tuple[int, ...]), ({1, 2}, set[int]),
+    (Decimal("19.90"), Decimal), ({"price": Decimal("-1E+3")}, dict[str, Decimal]), (b"\xff\x00", bytes), (b"", bytes | None),
     (WHOLE, Whole), ([WHOLE], list[Whole]), (Colour.RED, Colour), ("a", Literal["a", "b"]), (None, int | None), (Part("a"), Part | None), (True, bool),
 ]  # fmt: skip
 REFUSED = [
     (b"1", str, "1 is no str"), (b"true", int, "no int"), (b'"a"', float, "no float"), (b"", int, "null is no int"), (b"{}", Part, "name"),
     (b'{"name":"a","size":1}', Part, "Part has no field size"), (b'{"name":1}', Part, "1 is no str"), (b"[1]", tuple[int, int], "tuple of 2"),
     (b'"c"', Literal["a", "b"], "one of"), (b"[]", dict[str, int], "no dict"), (b"{}", list[int], "no list"), (b'"blue"', Colour, "blue"),
-    (b"{", Any, "Expecting"), (b'"x"', int | None, "none of the types"), (b"1", tuple, "no tuple"),
+    (b"1.5", Decimal, "1.5 is no Decimal"), (b"true", Decimal, "no Decimal"), (b'"NaN"', Decimal, "NaN is no JSON"), (b'"1,5"', Decimal, "'1,5' is no decimal number"),
+    (b'"*"', bytes, ""), (b"1", bytes, "no bytes"), (b"{", Any, "Expecting"), (b'"x"', int | None, "none of the types"), (b"1", tuple, "no tuple"),
 ]  # fmt: skip
 
 
@@ -67,8 +70,9 @@ class Codec(unittest.TestCase):
             with self.subTest(data=data, kind=kind), self.assertRaisesRegex(ValueError, said):
                 codec.decode(data, kind)
 
-    def test_an_int_is_a_float(self):
+    def test_an_int_is_a_float_and_a_decimal(self):
         self.assertIsInstance(codec.decode(b"1", float), float)
+        self.assertEqual(repr(codec.decode(b"-12", Decimal)), "Decimal('-12')")
 
     def test_a_union_is_the_first_of_its_types_that_takes_the_value(self):
         rows = [(b"1", float | int, 1), (b"1", str | float, 1.0), (b'{"name":"a"}', Whole | Part, Part("a")), (b'{"name":"a"}', Part | Other, Part("a"))]
@@ -80,8 +84,8 @@ class Codec(unittest.TestCase):
     def test_what_is_not_json_is_refused(self):
         with self.assertRaisesRegex(TypeError, "type object is not JSON"):
             codec.encode(object())
-        for number in (float("nan"), float("inf"), float("-inf")):
-            with self.subTest(number), self.assertRaisesRegex(ValueError, "not JSON compliant"):
+        for number in (float("nan"), float("inf"), float("-inf"), Decimal("NaN"), Decimal("-Infinity")):
+            with self.subTest(number), self.assertRaisesRegex(ValueError, "not JSON compliant|is no JSON"):
                 codec.encode({"n": [number]})
         for text in (b"NaN", b'{"n":Infinity}', b"[-Infinity]"):
             with self.subTest(text), self.assertRaises(ValueError):

@@ -142,6 +142,24 @@ async def headers(ctx: Context, it: object) -> dict[str, str]:
     return ctx.headers
 
 
+@told.handler()
+async def nothing(ctx: Context, it: object) -> object:
+    return it
+
+
+@support.on_each_database
+class Values(support.OnADatabase):
+    def test_nothing_is_null(self):
+        async def go():
+            async with Served(App(told), self.url) as served:
+                for body in (b"", b"null"):
+                    status, said, headers = await served.ask("/Told/nothing", body)
+                    self.assertEqual((status, said, headers["content-type"]), (200, "null", "application/json"))
+                self.assertEqual((await served.ask("/Told/nothing", b'""'))[:2], (200, ""))
+
+        asyncio.run(go())
+
+
 @support.on_each_database
 class Headers(support.OnADatabase):
     """Those of a request that a handler gets."""

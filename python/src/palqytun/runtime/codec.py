@@ -1,14 +1,16 @@
 """Values as bytes: arguments, results and state. JSON by default; `App(.., codec=..)` takes another one.
 
-`JsonCodec` writes what `json` writes, and dataclasses, enums, dates, UUIDs and pydantic's models (if pydantic is installed). It reads a
-value by the type that the handler's annotations name: a dataclass from an object, a tuple from a list, and so on. Without an annotation,
-and for `Any`, a value is what `json` reads. `None` is no bytes at all.
+`JsonCodec` writes what `json` writes, and dataclasses, enums, dates, UUIDs, `Decimal` (as a text), `bytes` (as base64) and pydantic's models (if
+pydantic is installed). It reads a value by the type that the handler's annotations name: a dataclass from an object, a tuple from a list, and so on. Without
+an annotation, and for `Any`, a value is what `json` reads. `None` is no bytes at all.
 """
 
 from __future__ import annotations
 
+import base64
 import dataclasses
 import datetime
+import decimal
 import enum
 import json
 import types
@@ -30,7 +32,22 @@ class Codec(Protocol):
     def decode(self, data: bytes, kind: Any) -> Any: ...
 
 
+def _finite(number: decimal.Decimal) -> decimal.Decimal:
+    if not number.is_finite():
+        raise ValueError(f"{number} is no JSON")
+    return number
+
+
+def _decimal(text: str) -> decimal.Decimal:
+    try:
+        return _finite(decimal.Decimal(text))
+    except decimal.InvalidOperation:
+        raise ValueError(f"{text[:40]!r} is no decimal number") from None
+
+
 _TEXTS: dict[Any, Callable[[str], Any]] = {
+    bytes: lambda text: base64.b64decode(text, validate=True),
+    decimal.Decimal: _decimal,
     datetime.datetime: datetime.datetime.fromisoformat,
     datetime.date: datetime.date.fromisoformat,
     datetime.time: datetime.time.fromisoformat,
@@ -48,6 +65,10 @@ def _plain(value: Any) -> Any:
         return value.isoformat()
     if isinstance(value, uuid.UUID):
         return str(value)
+    if isinstance(value, decimal.Decimal):
+        return str(_finite(value))
+    if isinstance(value, bytes):
+        return base64.b64encode(value).decode()
     if isinstance(value, (set, frozenset)):
         return sorted(value)
     dump = getattr(value, "model_dump", None) or getattr(value, "dict", None)  # pydantic 2 and 1
@@ -148,6 +169,8 @@ def typed(kind: Any, value: Any) -> Any:
     if issubclass(kind, enum.Enum):
         return kind(value)
     if kind in _TEXTS:
+        if kind is decimal.Decimal and type(value) is int:
+            return decimal.Decimal(value)
         if not isinstance(value, str):
             raise _mismatch(kind, value)
         return _TEXTS[kind](value)

@@ -334,7 +334,12 @@ class Ingress:
             value = sealing.opened(self.engine.app.codec, it) if kind == "value" else b""
         except (ValueError, Unreadable) as error:
             return _fault(500, f"the result can't be read: {error}")
-        return Response(value, 200, {"content-type": self.engine.app.codec.content_type})
+        return self._valued(value)
+
+    def _valued(self, data: bytes) -> Response:
+        """A value as the body of a response. None has no bytes, and JSON has no empty text: there it is `null`."""
+        kind = self.engine.app.codec.content_type
+        return Response(b"null" if not data and kind == "application/json" else data, 200, {"content-type": kind})
 
     async def _result(self, request: Request) -> Response:
         return await self._answered(request, request.path_params["id"], _number(request, "wait", _LONGEST_WAIT))
@@ -443,7 +448,7 @@ class Ingress:
             if name is not None and name not in state:
                 raise TerminalError(f"the state of {service}/{key} has no {name}", 404)
             if name is not None:
-                return Response(state[name], 200, {"content-type": self.engine.app.codec.content_type})
+                return self._valued(state[name])
             return JSONResponse({it: _readable(value) for it, value in state.items()})
         value = keyed.checked(self.engine.app.codec, await self._body(request)) if request.method == "PUT" else None
         value = None if value is None else sealing.renewed(self.engine.app.codec, value)
