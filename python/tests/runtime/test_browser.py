@@ -239,7 +239,7 @@ class InABrowser(support.OnADatabase, unittest.TestCase):
         self.press("restart")  # the first such button: from the start
         self.assertEqual(self.one("h1").text, "Shop/order")
         self.follow(pen)  # made again from it
-        self.follow("Who did what")
+        self.follow("The audit: who did what")
         self.assertEqual([it.text.split()[3] for it in self.all("table tr")[1:]], ["restart", "kill", "resume", "pause"])
         self.open(f"/{cup}")
         self.leave(self.one("button[aria-label='restart from entry 1']").click)
