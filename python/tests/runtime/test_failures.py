@@ -44,6 +44,14 @@ async def gives_up(ctx: Context, it):
     raise ValueError("a bug")
 
 
+@service.handler()
+async def sends_to_nobody(ctx: Context, it):
+    ctx.send("None/such", it)
+    await ctx.run("one", lambda: 1)
+    ctx.send("Fails/none", it, delay=60)
+    return await ctx.call("None/such", it)
+
+
 tries = []
 
 
@@ -170,6 +178,17 @@ class Failures(support.OnADatabase):
         await runtime.result(id)
         [note] = await self.notes(id)
         self.assertEqual((note.levelname, note.getMessage()), ("INFO", f"Fails/refuses {id} failed: 404 no such"))
+
+    @with_worker
+    async def test_a_send_that_reaches_nobody_is_a_line(self, runtime):
+        id = await runtime.send("Fails/sends_to_nobody", 1)
+        self.assertEqual((await runtime.result(id))[:1], (404,))
+        first, second, ended = await self.notes(id, 3)
+        why = "404 there is no handler {}, of this app or of a worker that is alive"
+        self.assertEqual((first.levelname, first.event, first.error), ("WARNING", "send dropped", why.format("None/such")))
+        self.assertRegex(first.getMessage(), rf"^Fails/sends_to_nobody {id} attempt \d has sent what nobody gets: 404 there is no handler None/such")
+        self.assertEqual((second.event, second.error, ended.event), ("send dropped", why.format("Fails/none"), "failed"))
+        self.assertEqual(await runtime.rows("SELECT handler FROM invocations"), [("sends_to_nobody",)])
 
     @with_worker
     async def test_a_run_that_fails_is_a_line(self, runtime):

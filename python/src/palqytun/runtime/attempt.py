@@ -10,7 +10,7 @@ from types import TracebackType
 from typing import Any, Protocol, TypeVar
 
 from .. import core
-from . import heartbeats, journal, replay, sealing, spans, storing, transactions
+from . import heartbeats, journal, notes, replay, sealing, spans, storing, transactions
 from .codec import BadValue, Codec, decoded, encoded
 from .committer import Stopped
 from .context import Action, AttemptEnds, CaughtTooMuch, Context, OutsideHandler, given_failure, running
@@ -526,7 +526,7 @@ class Attempt:
 
     def _noted(self, out: Outcome) -> None:
         """Keeps what the spans say of the attempt's end."""
-        own = [it.error for it in out.notes if it.invocation == self.claim.invocation]
+        own = [it.error for it in out.notes if it.invocation == self.claim.invocation and it.event != notes.DROPPED]
         self.error = own[-1] if own else self.error
         if out.ends and self._has_ended:
             self.ended = out.ends[-1]

@@ -54,6 +54,7 @@ class Performer:
         self.db, self.app, self.out, self.growth, self.service, self.key, self.trace = db, app, out, growth, service, key, trace
         self.own = growth.lease.invocation
         self.clears = False  # some command clears a name of the state
+        self.dropped: list[TerminalError] = []  # why sends reach nobody
 
     def needs_fence(self, it: Command) -> bool:
         """Whether the invocation's row has to be kept before this command is performed. On a server the changes of rows that are alike come after the
@@ -90,6 +91,8 @@ class Performer:
             self.growth.complete(it.invocation_id, journal.invocation(id))
             if it.id is not None:
                 self.growth.complete(it.id, journal.failure(error.code, error.message))
+            else:
+                self.dropped.append(error)
             return
         self.growth.complete(it.invocation_id, journal.invocation(id))
         if it.id is not None and is_new:

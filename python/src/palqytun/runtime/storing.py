@@ -55,6 +55,7 @@ async def store(
     if not found and (isinstance(stored.end, Suspension) or any(map(performer.needs_fence, stored.commands))):
         await growth.fence(db)  # else the first statement that changes something is that of `write`, which fences
     await performer.perform(stored.commands)
+    out.notes += [claim.note(notes.DROPPED, f"{it.code} {it.message}") for it in performer.dropped]
     for id in timers:
         db.each(_NO_TIMER, (claim.invocation, id))
     if stored.end is None:
