@@ -143,7 +143,7 @@ class Purges(support.OnADatabase):
 
         async def go():
             with mock.patch.object(operate, "purge", purge):
-                async with Runtime(app, self.url, idle=60, keep=0) as runtime:
+                async with Runtime(app, self.url, idle=60, keep=0, lease=5) as runtime:  # which is kept each third of that
                     leases = "SELECT lease FROM workers"
                     first = await runtime.rows(leases)
                     for n in range(5):
