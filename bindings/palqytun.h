@@ -1,22 +1,22 @@
 /* The invocation VM for callers of C.
 
-   A call of the VM is made in one of two ways. As a line of text, whose answer is a line too: docs/VMSCRIPT.md has all lines and
-   answers. Or, faster, by a function of its own, on numbers and byte strings: the typed calls below. Both may be mixed on one VM.
+   A call of the VM is made in one of two ways. The first is a line of text, whose reply is a line too: docs/VMSCRIPT.md has all lines and
+   replies. The second is faster: each call has a function, on numbers and byte strings, the typed calls below. Both may be mixed on one VM.
    Bytes of input and output go in and out as they are.
 
-   Memory. A session is a block of the heap and what hangs on it, by the program's malloc, realloc and free, which must belong
+   Memory. A session is a block of the heap and what it refers to, by the program's malloc, realloc and free, which must belong
    together, and give blocks aligned as C asks. The library keeps nothing that it is passed: lines and bytes are copied, and
-   what it writes goes to the caller's buffers alone. Out of memory is answered, and never ends the program.
+   what it writes goes to the caller's buffers alone. Out of memory is a status, and never ends the program.
 
    Handles. A palqytun_vm * is a handle: a number in the form of a pointer, which palqytun_open gives and palqytun_close ends. It may be
-   copied, and nothing is read where it seems to point to. One that is NULL, closed, a journal's, or no handle at all is answered by a
-   status, and nothing is done.
+   copied, and nothing is read where it seems to point to. With a handle that is NULL, closed, a journal's, or no handle at all, a call returns
+   a status, and does nothing.
 
    Pointers. A pointer is valid for its length. NULL is allowed where the length is 0, and where a call says what it then means; else it is
    PALQYTUN_BAD_POINTER. The buffers of one call don't overlap. A flag is false if it is 0.
 
-   Threads. Sessions may be used at once, and each from any thread. A session has one call at a time: a call of one that another call is in
-   returns PALQYTUN_BUSY, and does nothing. So a race is never more than that; a lock lets each call be made. No call is made from a
+   Threads. Several sessions may be used at once, and each from any thread. A session has one call at a time: a second call at the same time
+   returns PALQYTUN_BUSY, and does nothing. So a race does no harm; with a lock each call is made. Make no call from a
    signal handler, or in the forked child of a process with threads. No call blocks.
 
    Stack. A call takes at most PALQYTUN_STACK bytes of it. */
@@ -38,13 +38,13 @@ extern "C" {
 /* How much stack a call takes at most, in bytes. */
 #define PALQYTUN_STACK 32768
 
-/* A session: at most one VM, the answer to the last line, and the reply to the last typed call. */
+/* A session: at most one VM, the reply to the last line, and the reply to the last typed call. */
 typedef struct palqytun_vm palqytun_vm;
 
-/* How a call ended. Calls of a journal and calls on frames have further numbers, below; no number says two things. */
+/* How a call ended. Calls of a journal and calls on frames have further numbers, below; each number has one meaning. */
 enum {
     PALQYTUN_DONE = 0,
-    /* No memory was found. Each call below says what then stands. */
+    /* No memory was found. Each call below says what holds then. */
     PALQYTUN_NO_MEMORY = 1,
     /* There is no session: the handle is NULL, or was closed. Nothing was done. */
     PALQYTUN_NO_SESSION = 2,
@@ -58,13 +58,13 @@ enum {
     PALQYTUN_BAD_TEXT = 6,
     /* Nodes are not one tree. Nothing was done. */
     PALQYTUN_BAD_TREE = 7,
-    /* A number names no case of what it is to name. Nothing was done. */
+    /* A number names no variant of its type. Nothing was done. */
     PALQYTUN_BAD_NUMBER = 8,
     /* The reply has no such part. */
     PALQYTUN_NO_PART = 9,
     /* Another call of the same session or journal has not ended yet. Nothing was done. */
     PALQYTUN_BUSY = 25,
-    /* The handle is none of what the call is of: a journal's for a session, or the other way round, or no handle at all. Nothing was done. */
+    /* The handle is of another kind than the call's: a journal's for a session, or the other way round, or no handle at all. Nothing was done. */
     PALQYTUN_BAD_HANDLE = 26,
     /* A pointer is NULL that may not be, or a length is longer than anything in memory. Nothing was done. */
     PALQYTUN_BAD_POINTER = 27
@@ -80,21 +80,21 @@ typedef struct {
    PALQYTUN_NO_MEMORY: there is none, and the handle is NULL. */
 uint32_t palqytun_open(palqytun_vm **vm);
 
-/* Performs one line, without its end, and tells how long its answer is. A line that isn't understood is answered too, by
-   `bad`. PALQYTUN_NO_MEMORY: the last answer stays, and the line may have been performed: let the session go. (Where the VM
-   itself finds no memory it has failed, and the line is answered by `err 500 ""`.) */
+/* Performs one line, without its end, and returns how long its reply is. A line that isn't understood has a reply too,
+   `bad`. PALQYTUN_NO_MEMORY: the last reply stays, and the line may have been performed: close the session. (If the VM
+   itself finds no memory it has failed, and the reply is `err 500 ""`.) */
 palqytun_told palqytun_line(palqytun_vm *vm, const uint8_t *line, size_t line_len);
 
-/* Writes the last answer to the front of out, and tells how long it is. It has no line end, and no 0 after it. It stays, and can
+/* Writes the last reply to the front of out, and returns how long it is. It has no line end, and no 0 after it. It stays, and can
    be read again. PALQYTUN_NO_ROOM: len is the length that it needs. */
 palqytun_told palqytun_answer(palqytun_vm *vm, uint8_t *out, size_t out_len);
 
-/* Feeds the VM the next bytes of its input, cut anywhere: the line `input` without hex digits. What they spell may fail the VM,
-   which the next call of it answers. PALQYTUN_NO_MEMORY: the same bytes may be fed again: a VM that took none of them takes them
+/* Feeds the VM the next bytes of its input, cut anywhere: the line `input` without hex digits. If what they say fails the VM,
+   its next call returns the error. PALQYTUN_NO_MEMORY: the same bytes may be fed again: a VM that took none of them takes them
    then, and one that failed drops them. */
 uint32_t palqytun_feed(palqytun_vm *vm, const uint8_t *bytes, size_t bytes_len);
 
-/* Moves all bytes that wait to be sent to the front of out, and tells how many there are: the line `output` without hex digits.
+/* Moves all bytes that wait to be sent to the front of out, and returns how many there are: the line `output` without hex digits.
    They are whole frames. PALQYTUN_NO_ROOM: len is the room that they need; so a call with out_len 0 asks for it.
    PALQYTUN_NO_MEMORY: they still wait. */
 palqytun_told palqytun_take_output(palqytun_vm *vm, uint8_t *out, size_t out_len);
@@ -105,10 +105,10 @@ uint32_t palqytun_close(palqytun_vm *vm);
 
 /* ---- Typed calls
 
-   Each makes one call of the VM, and returns what it is answered: a palqytun_replied. Its numbers are there at once. Its texts and
-   bytes are its parts: they stay in the session until the next typed call, and palqytun_part copies them out. Where the status is
-   neither PALQYTUN_DONE nor PALQYTUN_REFUSED the call was not made, and the last reply stays. PALQYTUN_NO_MEMORY says that of a text
-   or bytes that could not be copied; if the VM itself finds no memory it has failed, and the error's code is 500.
+   Each makes one call of the VM, and returns its reply, a palqytun_replied. Its numbers are there at once. Its texts and
+   bytes are its parts: they stay in the session until the next typed call, and palqytun_part copies them out. If the status is
+   neither PALQYTUN_DONE nor PALQYTUN_REFUSED the call was not made, and the last reply stays. PALQYTUN_NO_MEMORY says that a text
+   or bytes could not be copied; if the VM itself finds no memory it has failed, and the error's code is 500.
 
    A name may be empty: then the command has none. */
 
@@ -152,7 +152,7 @@ typedef struct {
 } palqytun_target;
 
 /* A node of a tree that is awaited. A row of nodes has each node after the trees of its children: it takes the last of the trees in
-   front of it, as many as its number says. So a node names none that comes later. */
+   front of it, as many as its number says. So a node refers to none that comes later. */
 typedef struct {
     uint32_t kind;
     uint32_t number;
@@ -160,7 +160,7 @@ typedef struct {
 
 /* The kind of a node. */
 enum {
-    /* A handle: number is it. */
+    /* A handle, which is the number. */
     PALQYTUN_SINGLE = 0,
     PALQYTUN_FIRST_COMPLETED = 1,
     PALQYTUN_ALL_COMPLETED = 2,
@@ -172,7 +172,7 @@ enum {
 /* The versions of the messages that a VM may have. A version's content type is "application/vnd.restate.invocation.v" and its number. */
 enum { PALQYTUN_MINIMUM_VERSION = 5, PALQYTUN_MAXIMUM_VERSION = 8 };
 
-/* What a VM is asked to do in another way: `palqytun_options options = {0};` are the defaults, and so is NULL. */
+/* The options of a VM: `palqytun_options options = {0};` are the defaults, and so is NULL. */
 typedef struct {
     /* A PALQYTUN_CANCEL_. */
     uint32_t cancellation;
@@ -213,7 +213,7 @@ enum {
     PALQYTUN_AWAITING_DONT_SEND = 2
 };
 
-/* What becomes of an invocation whose journal doesn't fit its handler. */
+/* What happens to an invocation whose journal doesn't fit its handler. */
 enum {
     PALQYTUN_MISMATCH_FOLLOW_RETRY_POLICY = 0,
     PALQYTUN_MISMATCH_PAUSE = 1,
@@ -410,7 +410,7 @@ enum {
     PALQYTUN_STATE_CLOSED = 3
 };
 
-/* What a call is answered: how it ended, what the reply is, the numbers in it, how many rows of parts it has, and the length of part 0,
+/* The reply to a call: how it ended, what the reply is, the numbers in it, how many rows of parts it has, and the length of part 0,
    or 0 without one. */
 typedef struct {
     uint32_t status;
@@ -423,14 +423,14 @@ typedef struct {
     size_t len;
 } palqytun_replied;
 
-/* Writes a part of the last reply to the front of out, and tells how long it is. PALQYTUN_NO_ROOM: len is the length that it needs. */
+/* Writes a part of the last reply to the front of out, and returns how long it is. PALQYTUN_NO_ROOM: len is the length that it needs. */
 palqytun_told palqytun_part(palqytun_vm *vm, size_t at, uint8_t *out, size_t out_len);
 
-/* Makes a VM in the place of the session's last one, for the version that the content type names, and answers that version; or the error
-   says why there is none. */
+/* Makes a VM, which replaces the session's last one, for the version that the content type names. The reply is that version, or the error
+   that says why there is none. */
 palqytun_replied palqytun_make(palqytun_vm *vm, palqytun_optional content_type, const palqytun_options *options);
 
-/* Of the attempt: whether the handler may be run (a flag), the head of the response, that no more input comes, the bytes that wait to be
+/* About the attempt: whether the handler may be run (a flag), the head of the response, that no more input comes, the bytes that wait to be
    sent, the state, and the index of the last command. */
 palqytun_replied palqytun_is_ready(palqytun_vm *vm);
 palqytun_replied palqytun_head(palqytun_vm *vm);
@@ -562,7 +562,7 @@ uint32_t palqytun_journal_open(palqytun_journal **journal);
    PALQYTUN_BUSY: it stays. */
 uint32_t palqytun_journal_close(palqytun_journal *journal);
 
-/* How many entries it has, as the length that is told. */
+/* How many entries it has, as the length that is returned. */
 palqytun_told palqytun_journal_entries(palqytun_journal *journal);
 
 /* The next entry of a journal that is loaded. */
@@ -572,8 +572,8 @@ palqytun_row palqytun_journal_entry(palqytun_journal *journal, const uint8_t *en
 palqytun_row palqytun_journal_arrive(palqytun_journal *journal, const uint8_t *entry, size_t entry_len);
 
 /* Stores what an attempt wrote since the last store: whole frames, as palqytun_take_output gives them. The version is that of the VM, 5 to
-   8. The rows are the commands, and a completion for each proposal; they stay until the next store, undo or fault. What answers the
-   proposals is to be fed after the commit. */
+   8. The rows are the commands, and a completion for each proposal; they stay until the next store, undo or fault. The replies to the
+   proposals are to be fed after the commit. */
 palqytun_stored palqytun_journal_store(palqytun_journal *journal, uint32_t version, const uint8_t *output, size_t output_len);
 
 /* A row of the last store, and its bytes, which are written to the front of out. PALQYTUN_NO_ROOM: len is the length that they need.
@@ -623,15 +623,15 @@ typedef struct {
     bool is_awake;
 } palqytun_judged;
 
-/* Writes the line of a frame to the front of out, and tells how long it is. It has no line end, and no 0 after it. PALQYTUN_NO_ROOM: len is
+/* Writes the line of a frame to the front of out, and returns how long it is. It has no line end, and no 0 after it. PALQYTUN_NO_ROOM: len is
    the length that it needs. */
 palqytun_told palqytun_frame_line(const uint8_t *frame, size_t frame_len, uint8_t *out, size_t out_len);
 
-/* Writes the frame that a line shows to the front of out, and tells how long it is. PALQYTUN_BAD_TEXT: the line isn't UTF-8.
+/* Writes the frame that a line shows to the front of out, and returns how long it is. PALQYTUN_BAD_TEXT: the line isn't UTF-8.
    PALQYTUN_NO_ROOM: len is the length that it needs. */
 palqytun_told palqytun_line_frame(const uint8_t *line, size_t line_len, uint8_t *out, size_t out_len);
 
-/* Writes the notification of an id, with the result that a frame has, to the front of out, and tells how long it is. The frame is an output,
+/* Writes the notification of an id, with the result that a frame has, to the front of out, and returns how long it is. The frame is an output,
    a notification, the proposal of a run, or the completion of an awakeable, of a signal or of a promise. The id is the number, or the name
    of a named signal. PALQYTUN_NO_ROOM: len is the length that it needs. */
 palqytun_told palqytun_notification(uint32_t kind, uint32_t id, const uint8_t *name, size_t name_len, const uint8_t *frame, size_t frame_len,
@@ -713,7 +713,7 @@ typedef struct {
 
 palqytun_frame_row palqytun_frame_read(const uint8_t *frame, size_t frame_len);
 
-/* Writes a part of a frame's message, a text or bytes, to the front of out, and tells how long it is. PALQYTUN_NO_PART: it has none there.
+/* Writes a part of a frame's message, a text or bytes, to the front of out, and returns how long it is. PALQYTUN_NO_PART: it has none there.
    PALQYTUN_NO_ROOM: len is the length that it needs. The parts by their places:
 
    Input, Call, OneWayCall        0 the value; of a call 1 the service, 2 the handler, 3 the key, 4 the idempotency key, 5 the scope, 6 the
@@ -730,12 +730,12 @@ palqytun_frame_row palqytun_frame_read(const uint8_t *frame, size_t frame_len);
                                   keys */
 palqytun_told palqytun_frame_part(const uint8_t *frame, size_t frame_len, size_t at, uint8_t *out, size_t out_len);
 
-/* Writes the notification of completion 0 with this value to the front of out, and tells how long it is: a frame that has it as its result.
+/* Writes the notification of completion 0 with this value to the front of out, and returns how long it is: a frame that has it as its result.
    PALQYTUN_NO_ROOM: len is the length that it needs. */
 palqytun_told palqytun_value_frame(const uint8_t *value, size_t value_len, uint8_t *out, size_t out_len);
 
-/* Writes the frame of an input, with this value in the place of its own, to the front of out, and tells how long it is.
-   PALQYTUN_NOT_A_FRAME: the frame is none of an input. PALQYTUN_NO_ROOM: len is the length that it needs. */
+/* Writes the frame of an input, with this value instead of its own, to the front of out, and returns how long it is.
+   PALQYTUN_NOT_A_FRAME: it isn't an input's frame. PALQYTUN_NO_ROOM: len is the length that it needs. */
 palqytun_told palqytun_input_frame(
     const uint8_t *frame, size_t frame_len, const uint8_t *value, size_t value_len, uint8_t *out, size_t out_len);
 

@@ -57,7 +57,7 @@ func ValueFrame(value []byte) ([]byte, error) {
 	})
 }
 
-// InputFrame is the frame of an input, with this value in the place of its own.
+// InputFrame is the frame of an input, with this value instead of its own.
 func InputFrame(frame, value []byte) ([]byte, error) {
 	return writtenByLibrary(func(out *C.uint8_t, most C.size_t, told *C.palqytun_told) {
 		C.pq_input_frame(at(frame), size(frame), at(value), size(value), out, most, told)

@@ -60,7 +60,7 @@ pub fn value_frame(value: &[u8]) -> Result<Vec<u8>> {
     written(|at, len| unsafe { call(value.as_ptr(), value.len(), at, len) })
 }
 
-/// The frame of an input, with this value in the place of its own.
+/// The frame of an input, with this value instead of its own.
 pub fn input_frame(frame: &[u8], value: &[u8]) -> Result<Vec<u8>> {
     let call = library()?.functions.input_frame;
     written(|at, len| unsafe { call(frame.as_ptr(), frame.len(), value.as_ptr(), value.len(), at, len) })

@@ -70,7 +70,7 @@ async def of(db: Database, ids: Iterable[str]) -> dict[str, dict[str, str]]:
 
 
 def go_over(db: Database, before: str, id: str) -> None:
-    """An invocation that goes on in the place of another one has its attributes."""
+    """An invocation that goes on instead of another one has its attributes."""
     db.put("INSERT INTO attributes(invocation, name, value) SELECT ?, name, value FROM attributes WHERE invocation=?", (id, before))
 
 

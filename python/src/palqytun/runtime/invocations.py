@@ -113,21 +113,21 @@ async def attach(db: Database, growth: Growth, invocation: str | None, id: int) 
 
 _LAST = "(SELECT id FROM invocations WHERE chain=COALESCE((SELECT chain FROM invocations WHERE id=?), ?) ORDER BY seq DESC LIMIT 1)"
 NEWEST = f"COALESCE({_LAST}, ?)"
-"""The invocation that goes on in the place of another one, or else that one. It is given the other's id three times."""
+"""The invocation that goes on instead of another one, or else that one. It is given the other's id three times."""
 
 
 async def newest(db: Database, id: str) -> str:
-    """The invocation that goes on in the place of this one, or else this one."""
+    """The invocation that goes on instead of this one, or else this one."""
     return str((await db.rows(f"SELECT {NEWEST}", (id, id, id)))[0][0])
 
 
 def goes_over(frame: bytes) -> bool:
-    """Whether a notification is also for the invocation that goes on in the place of another one: a signal by its name, or a cancellation."""
+    """Whether a notification is also for the invocation that goes on instead of another one: a signal by its name, or a cancellation."""
     return frame == journal.cancellation() or journal.signal_name(frame) is not None
 
 
 async def last_of(db: Database, id: str) -> list[Any]:
-    """The id and the result of the invocation that goes on in the place of this one, or else of this one; its row is kept until the commit. Nothing, if
+    """The id and the result of the invocation that goes on instead of this one, or else of this one; its row is kept until the commit. Nothing, if
     there is none."""
     while True:
         found = await db.rows(f"SELECT id, result, continued FROM invocations WHERE id=?{db.lock}", (await newest(db, id),))
@@ -195,7 +195,7 @@ async def end(
 
 @dataclass(frozen=True)
 class Continues:
-    """What a new invocation that goes on in the place of another one takes over from its attempt. `asked` is how many signals of a name that one's handler
+    """What a new invocation that goes on instead of another one takes over from its attempt. `asked` is how many signals of a name that one's handler
     has asked for: as many of those that came are its own."""
 
     headers: tuple[tuple[str, str], ...]

@@ -1,7 +1,7 @@
 """What operators do with schedules: pause, resume, trigger, backfill. Each is a transaction with a row in the audit. It asks for no app: the row of
 a schedule has what its calls need.
 
-Each answers in words what it did, or raises a `TerminalError`, and then nothing is stored.
+Each returns in words what it did, or raises a `TerminalError`, and then nothing is stored.
 """
 
 from __future__ import annotations
