@@ -19,7 +19,7 @@ void *__libc_realloc(void *old, size_t size);
 void *__libc_memalign(size_t align, size_t size);
 
 /* How many seconds a child has, and the most that run at a time. */
-enum { SECONDS = 20, MOST = 64 };
+enum { SECONDS = 300, MOST = 64 };
 
 /* A child: which allocation it lacks, and what the program had written before. */
 struct run {

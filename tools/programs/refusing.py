@@ -11,7 +11,7 @@ from collections.abc import Mapping
 from dataclasses import dataclass
 from pathlib import Path
 
-SECONDS = 300  # for all runs of a program; refuse.c has those of one
+SECONDS = 3000  # for all runs of a program; refuse.c has those of one
 
 
 @dataclass(frozen=True)

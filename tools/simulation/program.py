@@ -5,7 +5,7 @@ from dataclasses import dataclass, field
 from .plan import Step
 from .texts import notification_of
 
-SECONDS = 60  # a run has no more
+SECONDS = 300  # a run has no more
 
 
 @dataclass
