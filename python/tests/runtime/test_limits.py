@@ -63,6 +63,11 @@ async def holds(ctx: ObjectContext, it: float) -> str:
     return "held"
 
 
+@box.handler(timeout=100_000)
+async def itself(ctx: ObjectContext, it: object) -> None:
+    await ctx.call(itself, key=ctx.key)
+
+
 @box.handler(queue_timeout=0.3)
 async def turn(ctx: ObjectContext, it: object) -> None: ...
 
@@ -120,6 +125,21 @@ class Times(support.OnADatabase):
         with self.assertLogs("palqytun", "INFO") as logged:
             self.runs(test)
         self.assertTrue(any("Slow/late" in it and "408 timed out" in it for it in logged.output), logged.output)
+
+    def test_one_that_waits_for_itself(self):
+        """What it calls waits for its key, and is cancelled when its time is over. The key is free then."""
+
+        async def test(runtime):
+            id = await runtime.send("Box/itself", key="k")
+            await runtime.until(id, "suspended")
+            [(called, status)] = await runtime.rows("SELECT id, status FROM invocations WHERE parent=?", id)
+            self.assertEqual(status, "ready")
+            await self.overdue(runtime, id)
+            self.assertEqual(await runtime.result(id), UNENDED)
+            self.assertEqual((await runtime.result(called))[0], 409)
+            self.assertEqual(await runtime.call("Box/holds", 0, "k"), "held")
+
+        self.runs(test, idle=0)
 
     def test_the_times_of_one_that_begins_later(self):
         async def test(runtime):
