@@ -24,6 +24,8 @@ FIGURES: dict[str, Callable[[Path], int]] = {
     "core-lines": lambda root: _lines(root, "crates/*/src/**/*.rt"),
     "definition-lines": lambda root: _lines(root, "crates/*/specs/**/*.antt"),
     "runtime-lines": lambda root: _lines(root, "python/src/palqytun/runtime/**/*.py"),
+    "handle-lines": lambda root: sum(_lines(root, f"bindings/{it}.c") for it in ("handles", "lending")),
+    "python-c-lines": lambda root: sum(_lines(root, f"python/extension/{it}.c") for it in ("vm", "glue", "module")),
     "must-fail": lambda root: _files(root, "crates/*/must-fail/*.edit"),
     "wrong-bodies": lambda root: _files(root, "crates/*/must-fail/*.edit") + _files(root, "crates/*/wrong-bodies/*.edit"),
 }
