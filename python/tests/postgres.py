@@ -36,7 +36,7 @@ _FOLDERS = ("/usr/lib/postgresql/*/bin", "/usr/pgsql-*/bin", "/usr/local/pgsql*/
 _PROGRAMS = ("initdb", "pg_ctl", "postgres")
 _USERS = ("postgres", "nobody")  # who run the server for root
 _LONGEST_PATH = 107  # bytes of a Unix socket's path
-_SECONDS = 120  # that the server may take to start, on a host that is busy with other things
+_SECONDS = 600  # that the server may take to start, or to end, on a host that is busy with other things
 _OWNER = "palqytun"  # the database's superuser
 _KEPT = pathlib.Path(__file__).resolve().parents[2] / "out/postgres"  # new clusters, of which others are copies
 
@@ -308,7 +308,7 @@ def _kept(make: Callable[[pathlib.Path, str | None], Cluster]) -> Iterator[Clust
         yield make(folder, user)
     finally:
         with contextlib.suppress(BrokenPipeError):
-            guard.communicate(b".", timeout=60)  # a child of this process may have the pipe too, so closing it isn't enough
+            guard.communicate(b".", timeout=_SECONDS)  # a child of this process may have the pipe too, so closing it isn't enough
 
 
 def cluster(settings: Mapping[str, str] | None = None) -> contextlib.AbstractContextManager[Cluster]:
