@@ -75,7 +75,7 @@ class Temporary(support.InAFolder, unittest.TestCase):
             server = int((room / "data" / "postmaster.pid").read_text().splitlines()[0])
             self.assertNotEqual(os.stat(f"/proc/{server}").st_uid, 0)
             os.kill(int(parent), signal.SIGKILL)
-        until = time.monotonic() + 120
+        until = time.monotonic() + support.LONG
         while time.monotonic() < until and (list(deep.iterdir()) or postgres.is_running(server)):
             time.sleep(0.05)
         self.assertEqual((list(deep.iterdir()), postgres.is_running(server)), ([], False))
