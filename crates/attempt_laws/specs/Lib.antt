@@ -1,2 +1,3 @@
 pub mod Suspensions
 pub mod Limits
+pub mod Reports
