@@ -140,13 +140,13 @@ noted_proposed None handle r = refl
 
 -- ---- one call after another
 
-all_map : {A : Type 0} (P Q : A → Type 0) → ((x : A) → P x → Q x) → (xs : List A) → AllByRecursion P xs → AllByRecursion Q xs
-all_map P Q f [] h = tt
-all_map P Q f (x ∷ xs) h = (f x h.0, all_map P Q f xs h.1)
+-- what holds of each element after a step, when more come
+grown : {A : Type 0} (P Q : A → Type 0) → ((x : A) → P x → Q x) → (xs ys : List A) → AllByRecursion P xs → AllByRecursion Q ys → AllByRecursion Q (xs ++ ys)
+grown P Q f [] ys h k = k
+grown P Q f (x ∷ xs) ys h k = (f x h.0, grown P Q f xs ys h.1 k)
 
-all_append : {A : Type 0} (P : A → Type 0) (xs ys : List A) → AllByRecursion P xs → AllByRecursion P ys → AllByRecursion P (xs ++ ys)
-all_append P [] ys h k = k
-all_append P (x ∷ xs) ys h k = (h.0, all_append P xs ys h.1 k)
+each : {A : Type 0} (P Q : A → Type 0) (f : (x : A) → P x → Q x) (xs : List A) (h : AllByRecursion P xs) → AllByRecursion Q xs
+each P Q f xs h = subst (AllByRecursion Q) (append-nil xs) (grown P Q f xs [] h tt)
 
 leads_more : (m : StepFunction) (n : ℕ) (first mid last : Record) → Leads m n first mid → OneCall m mid last → Leads m (suc n) first last
 leads_more m zero first mid last is call = (last, subst (λ (r : Record). OneCall m r last) is call, refl)
@@ -176,7 +176,7 @@ module _ (m : StepFunction) (first : Record) where
     }
 
     still : AllByRecursion (WasReported m first new) old.proposed
-    still = all_map (WasReported m first old) (WasReported m first new) later old.proposed all
+    still = each (WasReported m first old) (WasReported m first new) later old.proposed all
 
     same : new.proposed ≡ old.proposed → Reported new
     same is = subst (AllByRecursion (WasReported m first new)) (sym is) still
@@ -205,8 +205,8 @@ module _ (m : StepFunction) (first : Record) where
       completes (Ok t) reports (w, does, is) =
           let more = newly_proposed old.vm.machine w.machine in
           subst (AllByRecursion (WasReported m first new)) (sym (ap (λ (r : Record). r.proposed) is))
-          (all_append (WasReported m first new) old.proposed more still
-          (all_map (Becomes handle exit policy old.vm.machine) (WasReported m first new) (newly reports) more (reported handle exit policy old.vm.machine t w.machine does.0)))
+          (grown (WasReported m first old) (WasReported m first new) later old.proposed more all
+          (each (Becomes handle exit policy old.vm.machine) (WasReported m first new) (newly reports) more (reported handle exit policy old.vm.machine t w.machine does.0)))
 
       tells : (b : Bool) (result : Result Unit Error) → old.starved ≡ b → FinishDoes old.starved handle exit policy old result new → FinishDoes b handle exit policy old result new → Reported new
       tells true result is reports d = same (of_same old new d.1)
