@@ -123,6 +123,24 @@ class OnAServer(support.OnADatabase, unittest.TestCase):
 
         asyncio.run(go())
 
+    def test_a_worker_has_six_connections_at_most(self):
+        """Those for transactions, which are all at work, one that listens, and one for the lease."""
+        counted = "SELECT COUNT(*) FROM pg_stat_activity WHERE application_name='counted'"
+
+        async def slow(db):
+            [(count,)] = await db.rows(counted)
+            await db.rows("SELECT pg_sleep(0.5)")
+            return count
+
+        async def go():
+            async with Runtime(runtime_app.app, with_settings(self.url, {"application_name": "counted"})) as runtime:
+                found = await asyncio.gather(*[runtime.engine._committer.submit(slow, is_slow=True) for _ in range(24)])
+                [(after,)] = await runtime.rows(counted)
+                self.assertLessEqual(max(*found, after), 6)
+                self.assertGreaterEqual(after, 3)
+
+        asyncio.run(go())
+
     def test_a_reader_that_is_taken_away(self):
         """Somebody else has removed the reader of a connection's socket from the loop: its group goes on, and so does the worker."""
 
