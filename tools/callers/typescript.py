@@ -63,5 +63,6 @@ def example(it: Bindings, env: dict[str, str], folder: str) -> None:
     if it.checks.build("types of the example of typescript/README.md", ["tsc", "-p", "test"], env, folder):
         run = f"DATABASE=\"$PALQYTUN_TEST_POSTGRES\" exec node {folder}/out/test/readme.js"
         it.checks.prints("the example of typescript/README.md", beside_a_database("sh", "-c", run), printed, env)
-    names = "import('@palqytun/sdk').then((it) => console.log(Object.keys(it).filter((name) => name !== 'default').length === Object.keys(require('@palqytun/sdk')).length))"
-    it.checks.prints("import and require give the same names", ["node", "-e", names], "true\n", env, folder)
+    for module in ("@palqytun/sdk", "@palqytun/sdk/testing"):
+        names = f"import('{module}').then((it) => console.log(Object.keys(it).filter((name) => name !== 'default').length === Object.keys(require('{module}')).length))"
+        it.checks.prints(f"import and require give the same names of {module}", ["node", "-e", names], "true\n", env, folder)

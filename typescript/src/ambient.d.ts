@@ -27,6 +27,10 @@ declare module 'node:http' {
   export function createServer(serves: (request: { url?: string }, response: ServerResponse) => void): Server;
 }
 
+declare module 'node:util' {
+  export function inspect(value: unknown, how: { depth: number; sorted: boolean; breakLength: number }): string;
+}
+
 declare module 'node:worker_threads' {
   export class Worker {
     constructor(file: string, options: { workerData: unknown });
@@ -113,6 +117,7 @@ declare function setImmediate(call: () => void): void;
 declare const performance: { now(): number };
 declare const process: {
   readonly pid: number;
+  readonly execPath: string;
   readonly env: Record<string, string | undefined>;
   readonly stderr: { write(text: string): void };
   exitCode: number | undefined;

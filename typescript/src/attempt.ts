@@ -3,7 +3,7 @@
 import { VM, VMError, contentType, unknown } from 'palqytun';
 import type { Future, Handle, Input, RetryPolicy } from 'palqytun';
 import { Context, contextOf, failureOf } from './context';
-import type { Action } from './context';
+import type { Action, Run } from './context';
 import { Cancelled, NotDurable, OutsideHandler, TerminalError, isOf, said, traced } from './errors';
 import { isStep, split } from './frames';
 import type { Frame } from './frames';
@@ -28,6 +28,8 @@ export interface Host {
   release(claim: Claim): Promise<Outcome>;
   /** Executes an effect once there is room for it. */
   effect<T>(does: () => Promise<T>): Promise<T>;
+  /** What is executed instead of runs, by their names: a test's fakes. */
+  readonly instead: ReadonlyMap<string, (run: Run) => unknown>;
 }
 
 /** The attempt was told to stop: nothing more of it is stored. */
@@ -266,8 +268,9 @@ export class Attempt {
     const abort = new AbortController();
     this.#aborts.add(abort);
     try {
-      const place = { fields: this.fields, run: action.name };
-      const run = (): Promise<unknown> => within.run(place, async () => action.does({ key: action.key, signal: abort.signal }));
+      const place = { fields: this.fields, run: action.name, key: action.key };
+      const does = this.host.instead.get(action.name) ?? action.does;
+      const run = (): Promise<unknown> => within.run(place, async () => does({ key: action.key, signal: abort.signal }));
       const value = await this.host.effect(() => timed(run, action, abort));
       try {
         return { kind: 'value', value: encoded(value) };

@@ -2,13 +2,13 @@
 
 import { randomBytes } from 'node:crypto';
 import { frames } from 'palqytun';
-import { CHANNEL, Database } from './database';
-import type { Statements } from './tables';
+import { CHANNEL } from './database';
+import type { Ends, Place, Statements, Store } from './tables';
 import { create, deliver, newest } from './effects';
 import { BadValue, TerminalError } from './errors';
 import { CANCEL, VOID, awakeableOf, failure, failureIn, valueIn } from './frames';
-import { Hearing } from './hearing';
 import { Log } from './log';
+import { Postgres } from './postgres';
 import { servicesOf } from './services';
 import type { About, AnyService, Fixed, Handler } from './services';
 import { PAYLOAD, checkName, checkPayload, decoded, encoded } from './values';
@@ -32,6 +32,7 @@ export interface ClientCall {
 }
 
 const LOOK = 1000; // milliseconds between two looks for a result
+const CONNECTIONS = 4;
 
 /** An invocation, as its client knows it. */
 export class Sent<O> {
@@ -61,21 +62,24 @@ function resultOf(value: unknown): Uint8Array {
 
 export class Client {
   readonly #heard = new Map<string, Set<() => void>>();
-  #hearing: Hearing | undefined;
+  #hearing: Ends | undefined;
 
-  private constructor(private readonly db: Database, private readonly services: ReadonlyMap<string, About>, private readonly payload: number) {}
+  /** @internal */
+  protected constructor(private readonly db: Store, private readonly services: ReadonlyMap<string, About>, private readonly payload: number) {}
 
   /** Connects to a database, which has the tables of Palqytun. */
   static async connect({ url, services = [], payload = PAYLOAD }: ClientOptions): Promise<Client> {
-    const log = new Log();
-    const db = await Database.open(url, 4, log);
-    const found = new Client(db, servicesOf(services), payload);
-    const heard = (word: string): void => {
-      const [what, ...ids] = word.split(' ');
-      if (what === 'ended') for (const id of ids) for (const it of found.#heard.get(id) ?? []) it();
-    };
-    found.#hearing = await Hearing.begun(url, CHANNEL, db, heard, log);
+    const place = new Postgres(url, new Log());
+    const found = new Client(await place.open(CONNECTIONS), servicesOf(services), payload);
+    await found.#hearsBy(place);
     return found;
+  }
+
+  async #hearsBy(place: Place): Promise<void> {
+    this.#hearing = await place.hears(CHANNEL, this.db, (word) => {
+      const [what, ...ids] = word.split(' ');
+      if (what === 'ended') for (const id of ids) for (const it of this.#heard.get(id) ?? []) it();
+    });
   }
 
   async close(): Promise<void> {
@@ -93,12 +97,17 @@ export class Client {
     if (options.key !== undefined) checkName('the key', options.key);
     const { id } = await this.db.transact((to) =>
       create(to, this.services, {
-        id: `inv_${randomBytes(12).toString('hex')}`, seed: randomBytes(8).readBigUInt64BE(0) >> 1n, service, handler, key: options.key ?? '',
+        ...this.named(), service, handler, key: options.key ?? '',
         argument: data, headers: Object.entries(options.headers ?? {}), idempotencyKey: options.idempotencyKey ?? null,
         due: options.delay === undefined ? null : to.now + options.delay / 1000, parent: null, trace: options.headers?.['traceparent'] ?? null,
       }),
     ); // prettier-ignore
     return new Sent<O>(this, id);
+  }
+
+  /** The id and the seed of an invocation to make. @internal */
+  protected named(): { id: string; seed: bigint } {
+    return { id: `inv_${randomBytes(12).toString('hex')}`, seed: randomBytes(8).readBigUInt64BE(0) >> 1n };
   }
 
   /** Calls a handler, and waits for its result. */
@@ -130,7 +139,7 @@ export class Client {
     const until = performance.now() + wait;
     for (;;) {
       const ended = this.#hears(id);
-      const found = await this.db.transact((to) => looked(to, id));
+      const found = await this.look(id);
       if (found !== undefined) {
         ended.forget();
         return read(found, gives);
@@ -143,6 +152,11 @@ export class Client {
       await ended.within(Math.min(LOOK, left));
       ended.forget();
     }
+  }
+
+  /** The result of one that has ended, as a frame. @internal */
+  look(id: string): Promise<Uint8Array | undefined> {
+    return this.db.transact((to) => looked(to, id));
   }
 
   /** Hears that an invocation has ended. */
@@ -169,7 +183,8 @@ async function looked(to: Statements, id: string): Promise<Uint8Array | undefine
   return (found[1] as Uint8Array | null) ?? undefined;
 }
 
-function read<O>(frame: Uint8Array, gives: Parse<O> | undefined): O {
+/** The value of a result; a failure is thrown as a `TerminalError`. */
+export function read<O>(frame: Uint8Array, gives: Parse<O> | undefined): O {
   const failed = failureIn(frame);
   if (failed !== undefined) throw new TerminalError(failed.message, failed.code, failed.metadata);
   try {

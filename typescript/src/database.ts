@@ -10,7 +10,8 @@ import { Unsuitable, said } from './errors';
 import type { Log } from './log';
 import { STATEMENTS, VERSION } from './statements';
 import type { StatementName } from './statements';
-import type { Row, Statements, Values } from './tables';
+import { Lost } from './tables';
+import type { Committed, Row, Statements, Store, Values } from './tables';
 
 /** The channel of all workers. Each has one of its own too, named by the last characters of its name. */
 export const CHANNEL = 'palqytun';
@@ -31,11 +32,6 @@ const LOST = /^(08|57P|53300)/;
 const LONGEST_WAIT = 1000; // milliseconds between two tries of an operation
 const PATIENCE = 10_000; // milliseconds that a connection may take to be made
 const TRIED = new Set([20, 200, 2000]);
-
-/** The database can't be reached any more. */
-export class Lost extends Error {
-  override readonly name = 'Lost';
-}
 
 /** A statement that can't be made. */
 export class StatementFailed extends Error {
@@ -123,7 +119,7 @@ class Connection {
 }
 
 /** A transaction over a connection. */
-export class Transaction implements Statements {
+export class Transaction implements Statements, Committed {
   readonly #words = new Set<string>();
   readonly #touched = new Set<string>();
   readonly #ended = new Set<string>();
@@ -182,19 +178,16 @@ export class Transaction implements Statements {
 }
 
 /** Transactions over a database. */
-export class Database {
+export class Database implements Store {
   readonly #idle: Connection[] = [];
   readonly #waiting: ((connection: Connection | Lost) => void)[] = [];
   readonly #all = new Set<Connection>();
   #making = 0;
   #clock = 0; // the server's time, in seconds, at 0 of the monotonic clock
   #lost: Lost | undefined;
-  /** Hears of each commit: how many milliseconds it took. */
-  committed: (milliseconds: number) => void = () => undefined;
-  /** Hears of what a transaction did once it is committed: whom it touched, and whether something is ready. */
-  told: (transaction: Transaction) => void = () => undefined;
-  /** Hears once that the database is lost. */
-  onLost: (lost: Lost) => void = () => undefined;
+  committed: Store['committed'] = () => undefined;
+  told: Store['told'] = () => undefined;
+  onLost: Store['onLost'] = () => undefined;
 
   private constructor(readonly config: Config, private readonly most: number, private readonly log: Log) {}
 
@@ -237,15 +230,14 @@ export class Database {
     return this.#clock + performance.now() / 1000;
   }
 
-  async #ask(to: Transaction): Promise<void> {
+  async #ask(to: Statements): Promise<void> {
     const asked = performance.now() / 1000;
     const time = (await to.rows('now', {}))[0]?.[0] as number;
     const [earliest, latest] = [time - performance.now() / 1000, time - asked];
     this.#clock = Math.min(Math.max(this.#clock, earliest), latest);
   }
 
-  /** Asks for the database's time. */
-  async asksTime(to: Transaction): Promise<number> {
+  async asksTime(to: Statements): Promise<number> {
     await this.#ask(to);
     return this.now();
   }
@@ -307,9 +299,7 @@ export class Database {
 
   // ---- transactions
 
-  /** Commits an operation. One that something is in the way of is made again, so it has to begin anew each time. One of a single statement is a
-   * transaction by itself. */
-  async transact<T>(operation: (to: Transaction) => Promise<T>, isSingle = false): Promise<T> {
+  async transact<T>(operation: (to: Statements) => Promise<T>, isSingle = false): Promise<T> {
     for (let tries = 1; ; tries++) {
       try {
         return await this.#once(operation, isSingle);
@@ -321,7 +311,7 @@ export class Database {
     }
   }
 
-  async #once<T>(operation: (to: Transaction) => Promise<T>, isSingle: boolean): Promise<T> {
+  async #once<T>(operation: (to: Statements) => Promise<T>, isSingle: boolean): Promise<T> {
     const begun = performance.now();
     const connection = await this.#reached();
     const to = new Transaction(connection, this.now());

@@ -1,10 +1,11 @@
 /** The words of other workers. */
 
 import { Client as Connection } from 'pg';
-import { CHANNEL, Lost, channelOf, configOf } from './database';
-import type { Database } from './database';
+import { CHANNEL, channelOf, configOf } from './database';
 import { said } from './errors';
 import type { Log } from './log';
+import { Lost } from './tables';
+import type { Ends } from './tables';
 
 const AGAIN = 500; // milliseconds until a connection that is lost is made again
 const LAST = 1000; // milliseconds that its end may take
@@ -14,7 +15,7 @@ function after(milliseconds: number): Promise<void> {
 }
 
 /** A connection that hears words. A lost one is made again. */
-export class Hearing {
+export class Hearing implements Ends {
   #client: Connection | undefined;
   #isOver = false;
 
@@ -26,8 +27,9 @@ export class Hearing {
     private readonly log: Log,
   ) {}
 
-  static async begun(url: string, worker: string, db: Database, heard: (word: string) => void, log: Log): Promise<Hearing> {
-    const found = new Hearing(url, [CHANNEL, channelOf(worker)], () => db.processes, heard, log);
+  /** `processes` are the server's own, whose words are known here. */
+  static async begun(url: string, worker: string, processes: () => ReadonlySet<number | null>, heard: (word: string) => void, log: Log): Promise<Hearing> {
+    const found = new Hearing(url, [CHANNEL, channelOf(worker)], processes, heard, log);
     try {
       await found.#listen();
     } catch (error) {

@@ -3,7 +3,7 @@
 import { createServer } from 'node:http';
 import { Unsuitable, said } from './errors';
 import { Log } from './log';
-import { Worker } from './worker';
+import { GRACE, Worker } from './worker';
 import type { WorkerOptions } from './worker';
 
 export interface ServeOptions extends WorkerOptions {
@@ -24,6 +24,7 @@ export async function serve(options: ServeOptions): Promise<void> {
   const stop = (): void => {
     if (isAsked) process.exit(130);
     isAsked = true;
+    log.info(`the worker stops, and runs that are executed may end within ${options.grace ?? GRACE} ms; a second signal ends it at once`);
     worker.stop();
   };
   process.on('unhandledRejection', rejected as () => void);

@@ -1,4 +1,4 @@
-/** What a transaction's code needs of the database: the statements of the protocol by their names. */
+/** What a worker and a client need of a database: transactions of the protocol's statements by their names, and the words that go with them. */
 
 import type { StatementName } from './statements';
 
@@ -21,4 +21,52 @@ export interface Statements {
   isDue(at: number): void;
   /** An invocation has ended. */
   ended(invocation: string): void;
+}
+
+/** A transaction that is committed: whom it touched, what is ready or due by it, and what has ended. */
+export interface Committed {
+  readonly touched: ReadonlySet<string>;
+  readonly isReady: boolean;
+  readonly due: number | undefined;
+  readonly endings: ReadonlySet<string>;
+}
+
+/** A database that is open. */
+export interface Store {
+  readonly connections: number;
+  /** The database's time, in seconds since the epoch. */
+  now(): number;
+  /** Asks for the database's time. */
+  asksTime(to: Statements): Promise<number>;
+  /** Commits an operation. One that something is in the way of is made again, so it has to begin anew each time. One of a single statement is a
+   * transaction by itself. */
+  transact<T>(operation: (to: Statements) => Promise<T>, isSingle?: boolean): Promise<T>;
+  /** Hears of each commit: how many milliseconds it took. */
+  committed: (milliseconds: number) => void;
+  /** Hears of what a transaction did once it is committed. */
+  told: (transaction: Committed) => void;
+  /** Hears once that the database is lost. */
+  onLost: (lost: Lost) => void;
+  close(): Promise<void>;
+}
+
+/** The database can't be reached any more. */
+export class Lost extends Error {
+  override readonly name = 'Lost';
+}
+
+/** Something that goes on beside, until it is ended. */
+export interface Ends {
+  end(): Promise<void>;
+}
+
+/** How a worker and a client get to their database. */
+export interface Place {
+  /** Milliseconds until a lost database is opened again for the first time. */
+  readonly again: number;
+  open(connections: number): Promise<Store>;
+  /** Hears the words of others; `own` is a worker's name, or that of the channel of all. */
+  hears(own: string, store: Store, heard: (word: string) => void): Promise<Ends>;
+  /** Keeps a worker's lease. `kept` hears that it was. */
+  beats(worker: string, kept: () => void): Ends;
 }

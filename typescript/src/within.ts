@@ -7,6 +7,8 @@ export interface Place {
   readonly fields: Readonly<Record<string, unknown>>;
   /** The name of the run that this code is executed for; undefined in a handler. */
   readonly run: string | undefined;
+  /** The key of that run. */
+  readonly key?: string;
 }
 
 export const within = new AsyncLocalStorage<Place>();

@@ -1,24 +1,22 @@
 /** The worker: it takes leases, makes attempts, and commits what they write. It goes on when its database is lost and comes back. */
 
 import { randomBytes } from 'node:crypto';
-import { Worker as Thread } from 'node:worker_threads';
 import { Attempt, Stopped } from './attempt';
 import type { Host } from './attempt';
-import type { BeatsData, BeatsWord } from './beats';
 import { look } from './claiming';
 import type { Claimer, Look } from './claiming';
-import { Database, Lost, StatementFailed } from './database';
-import type { Transaction } from './database';
+import { StatementFailed } from './database';
 import { said, storable } from './errors';
-import { Hearing } from './hearing';
 import { Log } from './log';
 import type { LogOptions } from './log';
 import { Meter } from './metrics';
+import { Postgres } from './postgres';
 import { servesText, servicesOf, versionOf } from './services';
 import type { About, AnyService } from './services';
 import { Fenced, isSteps, pull, release, store } from './storing';
 import type { Claim, Outcome } from './storing';
-import type { Statements } from './tables';
+import { Lost } from './tables';
+import type { Committed, Ends, Place, Statements, Store } from './tables';
 
 /** Times are in milliseconds. */
 export interface WorkerOptions {
@@ -48,8 +46,8 @@ export interface WorkerOptions {
   log?: LogOptions | Log;
 }
 
-const SHORTEST = 100; // milliseconds between connections
-const LONGEST = 5_000;
+export const GRACE = 10_000; // milliseconds
+const LONGEST = 5_000; // milliseconds between connections
 const AT_ONCE = 20; // claims of one transaction, so that other workers get some too
 const MOMENT = 5; // milliseconds, in which several words are one look
 const LAST = 5_000; // milliseconds that each part of a shutdown may take, beside the grace
@@ -91,17 +89,25 @@ class Room {
   }
 }
 
+/** What a test gives a worker: its store, and what is executed instead of runs, by their names. */
+export interface Inside {
+  readonly place?: Place;
+  readonly instead?: Host['instead'];
+}
+
 /** A worker of some services. */
 export class Worker implements Host {
   readonly meter = new Meter();
   readonly log: Log;
   readonly version: string;
+  readonly instead: Host['instead'];
   readonly #options: Required<Omit<WorkerOptions, 'log' | 'services' | 'version'>>;
   readonly #services: ReadonlyMap<string, About>;
   readonly #live = new Map<string, Attempt>();
   readonly #effects: Room;
   readonly #pulse = new Int32Array(new SharedArrayBuffer(4));
-  #db: Database | undefined;
+  readonly #place: Place;
+  #db: Store | undefined;
   #former = '';
   #lookAt = 0;
   #wakeUp: () => void = () => undefined;
@@ -116,17 +122,28 @@ export class Worker implements Host {
   /** Ends when the database can be used for the first time. */
   readonly isOpen: Promise<void>;
 
-  constructor(options: WorkerOptions) {
+  /** @internal */
+  constructor(options: WorkerOptions, inside: Inside);
+  constructor(options: WorkerOptions);
+  constructor(options: WorkerOptions, inside: Inside = {}) {
     checked(options);
     this.#services = servicesOf(options.services);
     this.version = options.version ?? versionOf(this.#services);
     this.log = options.log instanceof Log ? options.log : new Log(options.log);
-    const defaults = { name: 'node', limit: 500, idle: 1000, lease: 10_000, poll: 1000, grace: 10_000, stuck: 60_000, effects: 1000, connections: 8 };
+    const defaults = { name: 'node', limit: 500, idle: 1000, lease: 10_000, poll: 1000, grace: GRACE, stuck: 60_000, effects: 1000, connections: 8 };
     this.#options = { ...defaults, ...Object.fromEntries(Object.entries(options).filter(([, it]) => it !== undefined)), url: options.url };
+    const { lease, stuck } = this.#options;
+    this.instead = inside.instead ?? new Map<string, never>();
+    this.#place = inside.place ?? new Postgres(options.url, this.log, { lease, stuck, pulse: this.#pulse });
     this.#effects = new Room(this.#options.effects);
     this.isOpen = new Promise((opened) => {
       this.#opened = opened;
     });
+  }
+
+  /** How many attempts there are. @internal */
+  get live(): number {
+    return this.#live.size;
   }
 
   // ---- what attempts need
@@ -222,7 +239,8 @@ export class Worker implements Host {
   /** Until `stop`. A lost database is connected to again; one that can't be used as it is set up is `Unsuitable`. */
   async run(): Promise<void> {
     const counts = setInterval(() => Atomics.add(this.#pulse, 0, 1), 50).unref();
-    let delay = SHORTEST;
+    const shortest = this.#place.again;
+    let delay = shortest;
     try {
       while (!this.drains) {
         const begun = performance.now();
@@ -231,7 +249,7 @@ export class Worker implements Host {
         } catch (error) {
           if (!(error instanceof Lost)) throw error;
           this.log.warning(`the database is lost: ${error.message}`);
-          delay = performance.now() - begun > LONGEST ? SHORTEST : Math.min(LONGEST, delay * 2);
+          delay = performance.now() - begun > LONGEST ? shortest : Math.min(LONGEST, delay * 2);
           await this.#pause(delay * (0.5 + Math.random()));
         }
       }
@@ -254,11 +272,11 @@ export class Worker implements Host {
 
   /** As long as the database can be used. Each session is a worker of its own, so what an earlier one left is claimed like any other's. */
   async #session(): Promise<void> {
-    const db = await Database.open(this.#options.url, this.#options.connections, this.log);
+    const db = await this.#place.open(this.#options.connections);
     const claimer: Claimer = { worker: `${this.#options.name}-${randomBytes(6).toString('hex')}`, code: this.version, services: this.#services, suspected: 0 };
     let lost: Lost | undefined;
-    let hears: Hearing | undefined;
-    let beats: Thread | undefined;
+    let hears: Ends | undefined;
+    let beats: Ends | undefined;
     db.onLost = (error) => {
       lost = error;
       this.#wakeUp();
@@ -268,8 +286,9 @@ export class Worker implements Host {
     try {
       await this.#enter(db, claimer);
       this.#db = db;
-      beats = this.#beats(claimer.worker);
-      hears = await Hearing.begun(this.#options.url, claimer.worker, db, (word) => this.#heard(word), this.log);
+      this.#lastBeat = performance.now();
+      beats = this.#place.beats(claimer.worker, () => (this.#lastBeat = performance.now()));
+      hears = await this.#place.hears(claimer.worker, db, (word) => this.#heard(word));
       this.meter.count('sessions');
       this.#opened();
       while (!this.drains && lost === undefined) await this.#look(db, claimer);
@@ -280,7 +299,7 @@ export class Worker implements Host {
     }
   }
 
-  async #enter(db: Database, claimer: Claimer): Promise<void> {
+  async #enter(db: Store, claimer: Claimer): Promise<void> {
     const lease = this.#options.lease / 1000;
     await db.transact(async (to) => {
       if (this.#former !== '') await to.change('leave', { worker: this.#former });
@@ -291,7 +310,7 @@ export class Worker implements Host {
   }
 
   /** The session ends: what the grace wasn't enough for is given back, if the database is there. */
-  async #leave(db: Database, claimer: Claimer, isThere: boolean, hears: Hearing | undefined, beats: Thread | undefined): Promise<void> {
+  async #leave(db: Store, claimer: Claimer, isThere: boolean, hears: Ends | undefined, beats: Ends | undefined): Promise<void> {
     const left = [...this.#live.values()];
     for (const it of left) it.stop();
     const until = performance.now() + LAST;
@@ -307,7 +326,7 @@ export class Worker implements Host {
       this.#former = '';
     }
     this.#db = undefined;
-    beats?.postMessage('end');
+    await beats?.end();
     await hears?.end();
     await db.close();
   }
@@ -319,24 +338,9 @@ export class Worker implements Host {
     while (this.#live.size > 0 && performance.now() < until && this.#db !== undefined) await after(5);
   }
 
-  #beats(worker: string): Thread {
-    this.#lastBeat = performance.now();
-    const { url, lease, stuck } = this.#options;
-    const data: BeatsData = { url, worker, lease, stuck, pulse: this.#pulse };
-    const thread = new Thread(`${__dirname}/beats.js`, { workerData: data });
-    thread.on('message', (message) => {
-      const word = message as BeatsWord;
-      if ('beat' in word) this.#lastBeat = performance.now();
-      if ('failed' in word) this.log.warning(`a beat wasn't stored: ${word.failed}`);
-    });
-    thread.on('error', (error) => this.log.error(`the thread of beats has ended: ${said(error)}`));
-    thread.unref();
-    return thread;
-  }
-
   // ---- looks
 
-  async #look(db: Database, claimer: Claimer): Promise<void> {
+  async #look(db: Store, claimer: Claimer): Promise<void> {
     this.#lookAt = performance.now() + this.#options.poll;
     const room = Math.min(Math.max(0, this.#options.limit - this.#live.size), AT_ONCE);
     const [live, isWhole] = [new Set(this.#live.keys()), performance.now() >= this.#wholeAt];
@@ -382,7 +386,7 @@ export class Worker implements Host {
     }
   }
 
-  #told(it: Transaction): void {
+  #told(it: Committed): void {
     for (const id of it.touched) this.#touched(id);
     if (it.isReady) this.#wake(MOMENT);
     if (it.due !== undefined) this.#wakeAt(it.due);

@@ -24,3 +24,14 @@ declare module 'node:fs' {
   export function appendFileSync(file: string, text: string): void;
   export function readFileSync(file: string, encoding: 'utf8'): string;
 }
+
+declare module 'node:child_process' {
+  interface ChildProcess {
+    readonly stderr: { on(event: 'data', heard: (data: Buffer) => void): void };
+    on(event: 'close', heard: (status: number | null) => void): void;
+    kill(signal: string): boolean;
+  }
+  export function spawn(command: string, words: readonly string[], options: { env: Record<string, string | undefined>; stdio: readonly string[] }): ChildProcess;
+}
+
+declare function fetch(url: string): Promise<{ readonly status: number; text(): Promise<string> }>;

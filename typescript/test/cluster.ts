@@ -2,6 +2,8 @@
 
 import { Client, Worker } from '@palqytun/sdk';
 import type { AnyService, WorkerOptions } from '@palqytun/sdk';
+import { Client as Connection } from 'pg';
+import { configOf } from '../database';
 
 export const URL = process.env['PALQYTUN_TEST_POSTGRES'] ?? '';
 export const LONG = 300_000; // milliseconds after which a test that waits has failed, however busy its host is
@@ -39,4 +41,14 @@ export async function until(holds: () => boolean | Promise<boolean>): Promise<vo
     if (performance.now() > last) throw new Error('it took too long');
     await new Promise<void>((done) => setTimeout(done, 20));
   }
+}
+
+/** The URL of an empty database of the same server. */
+export async function empty(name: string): Promise<string> {
+  const connection = new Connection(configOf(URL));
+  await connection.connect();
+  await connection.query(`DROP DATABASE IF EXISTS ${name}`);
+  await connection.query(`CREATE DATABASE ${name}`);
+  await connection.end();
+  return URL.replace('/postgres?', `/${name}?`);
 }

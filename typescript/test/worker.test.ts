@@ -5,7 +5,7 @@ import { test } from 'node:test';
 import { Cancelled, Unsuitable, Worker, service } from '@palqytun/sdk';
 import type { ServiceContext } from '@palqytun/sdk';
 import { Client as Connection } from 'pg';
-import { LONG, URL, stage, until } from './cluster';
+import { LONG, URL, empty, stage, until } from './cluster';
 import { configOf } from '../database';
 
 let executed = 0;
@@ -38,16 +38,6 @@ const work = service('Grace', {
     return [applies, ctx.patched('mail')];
   },
 });
-
-/** The URL of an empty database of the same server. */
-async function empty(name: string): Promise<string> {
-  const connection = new Connection(configOf(URL));
-  await connection.connect();
-  await connection.query(`DROP DATABASE IF EXISTS ${name}`);
-  await connection.query(`CREATE DATABASE ${name}`);
-  await connection.end();
-  return URL.replace('/postgres?', `/${name}?`);
-}
 
 test('databases that a worker refuses, each in one line', { timeout: LONG }, async () => {
   const url = await empty('without_tables');

@@ -1,0 +1,530 @@
+/** A store in memory for tests: the protocol's statements over tables of its own, a clock that can be moved on, and a loss at a commit. */
+
+import type { StatementName } from './statements';
+import { Lost } from './tables';
+import type { Committed, Ends, Place, Row, Statements, Store, Values } from './tables';
+
+/** What the statements are given, by its names in PROTOCOL. Times are in seconds since the epoch. */
+interface Given {
+  readonly id: string;
+  readonly invocation: string;
+  readonly next: string;
+  readonly service: string;
+  readonly handler: string;
+  readonly handlers: readonly string[];
+  readonly key: string;
+  readonly name: string;
+  readonly value: Uint8Array;
+  readonly worker: string;
+  readonly serves: string;
+  readonly code: string;
+  readonly most: number;
+  readonly epoch: number;
+  readonly before: number;
+  readonly entries: number;
+  readonly now: number;
+  readonly due: number | null;
+  readonly exclusive: number;
+  readonly idem: string | null;
+  readonly seed: bigint;
+  readonly parent: string | null;
+  readonly trace: string | null;
+  readonly deadline: number | null;
+  readonly expires: number | null;
+  readonly queue: string | null;
+  readonly chain: string;
+  readonly frame: Uint8Array;
+  readonly frames: readonly Uint8Array[];
+  readonly at: number;
+  readonly completes: number;
+  readonly seqs: readonly number[];
+  readonly status: Status;
+  readonly how: string;
+  readonly suspension: Uint8Array;
+  readonly shielded: number;
+  readonly result: Uint8Array;
+  readonly failed: number | null;
+  readonly error: string | null;
+  readonly retries: number;
+  readonly failing_since: number | null;
+  readonly failures: number;
+  readonly failed_since: number | null;
+}
+
+type Status = 'ready' | 'running' | 'suspended' | 'paused' | 'done';
+
+interface Invocation {
+  readonly seq: number;
+  readonly id: string;
+  readonly service: string;
+  readonly handler: string;
+  readonly key: string;
+  readonly exclusive: number;
+  readonly idem: string | null;
+  readonly seed: bigint;
+  readonly parent: string | null;
+  readonly trace: string | null;
+  readonly created: number;
+  readonly status: Status;
+  readonly due: number;
+  readonly epoch: number;
+  readonly entries: number;
+  readonly worker: string | null;
+  readonly code: string | null;
+  readonly suspension: Uint8Array | null;
+  readonly shielded: number;
+  readonly cancelled: number | null;
+  readonly result: Uint8Array | null;
+  readonly failed: number | null;
+  readonly error: string | null;
+  readonly retries: number;
+  readonly failing_since: number | null;
+  readonly failures: number;
+  readonly failed_since: number | null;
+  readonly deaths: number;
+  readonly chain: string | null;
+  readonly continued: string | null;
+}
+
+const ANEW = {
+  status: 'ready', epoch: 0, entries: 1, worker: null, code: null, suspension: null, shielded: 0, cancelled: null, result: null, failed: null, error: null,
+  retries: 0, failing_since: null, failures: 0, failed_since: null, deaths: 0, chain: null, continued: null,
+} as const; // prettier-ignore
+const PROGRESS = { retries: 0, failing_since: null, failures: 0, failed_since: null, deaths: 0 } as const;
+
+type Undo = (() => void)[];
+
+/** Rows by their keys. Each change can be taken back. */
+class Table<R> {
+  readonly #rows = new Map<string | number, R>();
+
+  constructor(private readonly undo: Undo) {}
+
+  get(key: string | number): R | undefined {
+    return this.#rows.get(key);
+  }
+
+  has(key: string | number): boolean {
+    return this.#rows.has(key);
+  }
+
+  put(key: string | number, row: R): void {
+    const former = this.#rows.get(key);
+    this.undo.push(() => (former === undefined ? this.#rows.delete(key) : this.#rows.set(key, former)));
+    this.#rows.set(key, row);
+  }
+
+  /** Takes the rows of which something holds, and returns them. */
+  take(holds: (row: R, key: string | number) => boolean): R[] {
+    const taken = [...this.#rows].filter(([key, row]) => holds(row, key));
+    for (const [key, row] of taken) {
+      this.undo.push(() => this.#rows.set(key, row));
+      this.#rows.delete(key);
+    }
+    return taken.map(([, row]) => row);
+  }
+
+  where(holds: (row: R) => boolean = () => true): R[] {
+    return [...this.#rows.values()].filter(holds);
+  }
+}
+
+interface Arrived { readonly seq: number; readonly invocation: string; readonly frame: Uint8Array; readonly fresh: boolean }
+interface Timer { readonly seq: number; readonly due: number; readonly invocation: string; readonly completes: number }
+interface Waiter { readonly invocation: string; readonly waiter: string; readonly completes: number }
+interface Promised { readonly service: string; readonly key: string; readonly name: string; readonly result: Uint8Array | null }
+interface Kept { readonly service: string; readonly key: string; readonly name: string; readonly value: Uint8Array }
+
+function placed(...parts: readonly string[]): string {
+  return JSON.stringify(parts);
+}
+
+/** The tables, and the statements over them. */
+export class Tables {
+  readonly undo: Undo = [];
+  readonly invocations = new Table<Invocation>(this.undo);
+  readonly journal = new Table<readonly Uint8Array[]>(this.undo);
+  readonly inbox = new Table<Arrived>(this.undo);
+  readonly timers = new Table<Timer>(this.undo);
+  readonly waiters = new Table<Waiter>(this.undo);
+  readonly state = new Table<Kept>(this.undo);
+  readonly promises = new Table<Promised>(this.undo);
+  readonly promiseWaiters = new Table<Waiter>(this.undo);
+  readonly locks = new Table<string>(this.undo);
+  readonly workers = new Table<string>(this.undo);
+  readonly attributes = new Table<readonly [invocation: string, name: string, value: string]>(this.undo);
+  #numbers = 0;
+
+  /** A number that is greater than those before. */
+  number(): number {
+    return (this.#numbers += 1);
+  }
+
+  /** Changes a row, if it is there and this holds of it. */
+  set(id: string, holds: (it: Invocation) => boolean, change: (it: Invocation) => Partial<Invocation>): number {
+    const it = this.invocations.get(id);
+    if (it === undefined || !holds(it)) return 0;
+    this.invocations.put(id, { ...it, ...change(it) });
+    return 1;
+  }
+
+  /** Those of one service that a worker may claim, by their status. */
+  candidates(it: Given, status: Status): Invocation[] {
+    return this.invocations.where((one) => one.status === status && one.service === it.service && it.handlers.includes(one.handler) && (one.code === null || one.code === it.code));
+  }
+
+  /** Whether one may have its key: it holds it, or nobody does and it is the first of those that wait. */
+  mayHaveKey(it: Invocation): boolean {
+    if (it.exclusive === 0) return true;
+    const holder = this.locks.get(placed(it.service, it.key));
+    if (holder !== undefined) return holder === it.id;
+    const rivals = this.invocations.where((one) => one.exclusive === 1 && one.status === 'ready' && one.service === it.service && one.key === it.key);
+    return rivals.every((one) => one.due > it.due || (one.due === it.due && one.seq >= it.seq));
+  }
+
+  /** The newest of those that go on one after the other. */
+  newest(id: string): string {
+    const chain = this.invocations.get(id)?.chain ?? id;
+    return inOrder(this.invocations.where((it) => it.chain === chain)).pop()?.id ?? id;
+  }
+}
+
+function inOrder<R extends { readonly seq: number }>(rows: R[]): R[] {
+  return rows.sort((one, other) => one.seq - other.seq);
+}
+
+function byDue(rows: Invocation[]): Invocation[] {
+  return rows.sort((one, other) => one.due - other.due || one.seq - other.seq);
+}
+
+interface Made {
+  readonly rows: Row[];
+  readonly count: number;
+}
+
+function rows(found: Row[]): Made {
+  return { rows: found, count: found.length };
+}
+
+function changed(count: number): Made {
+  return { rows: [], count };
+}
+
+type Does = (tables: Tables, it: Given) => Made;
+
+const isHeld = (it: Given) => (one: Invocation): boolean => one.epoch === it.epoch && one.status === 'running';
+const isFenced = (it: Given) => (one: Invocation): boolean => isHeld(it)(one) && one.entries === it.before;
+
+/** Appends to a journal. */
+function append(tables: Tables, it: Given): Made {
+  tables.journal.put(it.id, [...(tables.journal.get(it.id) ?? []), ...it.frames]);
+  return changed(it.frames.length);
+}
+
+/** What the `ready`, `suspended` and `orphaned` statements give of a row. */
+function candidate(it: Invocation, ...more: unknown[]): Row {
+  return [it.id, it.epoch, it.exclusive, it.key, ...more];
+}
+
+function lease(tables: Tables, it: Given): Made {
+  const holds = (one: Invocation): boolean => one.epoch === it.epoch;
+  const count = tables.set(it.id, holds, (one) => ({
+    status: 'running', epoch: one.epoch + 1, worker: it.worker, suspension: null, deaths: one.deaths + Number(one.status === 'running'), code: one.code ?? it.code,
+  }));
+  const one = tables.invocations.get(it.id);
+  if (count === 0 || one === undefined) return rows([]);
+  return rows([[
+    one.key, one.seed, one.entries, one.retries, one.failing_since, one.idem, one.cancelled, one.shielded, one.exclusive, one.trace, one.failures,
+    one.failed_since, one.created, one.due, one.handler,
+  ]]); // prettier-ignore
+}
+
+function create(tables: Tables, it: Given): Made {
+  const isTaken = tables.invocations.has(it.id) || (it.idem !== null && named(tables, it) !== undefined);
+  if (isTaken) return changed(0);
+  const { id, service, handler, key, exclusive, idem, seed, parent, trace } = it;
+  tables.invocations.put(id, { ...ANEW, seq: tables.number(), id, service, handler, key, exclusive, idem, seed, parent, trace, created: it.now, due: it.due ?? it.now });
+  return changed(1);
+}
+
+function named(tables: Tables, it: Given): Invocation | undefined {
+  return tables.invocations.where((one) => one.service === it.service && one.handler === it.handler && one.key === it.key && one.idem === it.idem)[0];
+}
+
+function gone(tables: Tables, it: Given): Made {
+  tables.timers.take((one) => one.invocation === it.id);
+  tables.inbox.take((one) => one.invocation === it.id);
+  tables.waiters.take((one) => one.waiter === it.id);
+  tables.promiseWaiters.take((one) => one.waiter === it.id);
+  return changed(tables.locks.take((holder, key) => key === placed(it.service, it.key) && holder === it.id).length);
+}
+
+function continues(tables: Tables, it: Given): Made {
+  const count = tables.set(it.id, isFenced(it), () => ({ entries: it.entries, status: 'done', idem: null, chain: it.chain, continued: it.next }));
+  for (const [, name, value] of tables.attributes.where(([invocation]) => invocation === it.id)) tables.attributes.put(placed(it.next, name), [it.next, name, value]);
+  for (const one of tables.waiters.take(({ invocation }) => invocation === it.id)) tables.waiters.put(tables.number(), { ...one, invocation: it.next });
+  const lock = placed(it.service, it.key);
+  if (tables.locks.get(lock) === it.id) tables.locks.put(lock, it.next);
+  return changed(count);
+}
+
+function reach(tables: Tables, it: Given): Made {
+  const holds = ({ status, due }: Invocation): boolean => status === 'paused' || (status === 'ready' && due > it.now);
+  return changed(tables.set(it.id, holds, ({ status }) => ({ status: 'ready', due: it.now, ...(status === 'paused' ? PROGRESS : {}) })));
+}
+
+function promise(tables: Tables, it: Given): Made {
+  const place = placed(it.service, it.key, it.name);
+  if (!tables.promises.has(place)) tables.promises.put(place, { service: it.service, key: it.key, name: it.name, result: null });
+  return rows([[tables.promises.get(place)?.result ?? null]]);
+}
+
+function completePromise(tables: Tables, it: Given): Made {
+  const place = placed(it.service, it.key, it.name);
+  tables.promises.put(place, { service: it.service, key: it.key, name: it.name, result: it.result });
+  return rows(tables.promiseWaiters.take((one) => one.invocation === place).map((one) => [one.waiter, one.completes]));
+}
+
+const nothing: Does = () => changed(0);
+
+/** Each statement of the protocol. Times of attempts, and attempts that are over, are left out: they are for people. */
+const STATEMENTS: Readonly<Record<Exclude<StatementName, 'now'>, Does>> = {
+  session: nothing,
+  enter: (to, it) => (to.workers.put(it.worker, it.serves), changed(1)),
+  beat: nothing,
+  leave: (to, it) => changed(to.workers.take((_, worker) => worker === it.worker).length),
+  serves: (to) => rows([...new Set(to.workers.where())].map((it) => [it])),
+  create,
+  input: (to, it) => append(to, { ...it, frames: [it.frame] }),
+  named: (to, it) => rows([named(to, it)].flatMap((one) => (one === undefined ? [] : [[one.id]]))),
+  next: (to, it) => {
+    const due = [...to.timers.where(), ...to.invocations.where((one) => one.status === 'ready')].map((one) => one.due).filter((at) => at > it.now);
+    return rows([[due.length === 0 ? null : Math.min(...due)]]);
+  },
+  timers: (to, it) => rows(to.timers.take((one) => one.due <= it.now).sort((one, other) => one.due - other.due).map((one) => [one.invocation, one.completes, one.due])),
+  ready: (to, it) => rows(byDue(to.candidates(it, 'ready').filter((one) => one.due <= it.now && to.mayHaveKey(one))).slice(0, it.most).map((one) => candidate(one))),
+  suspended: (to, it) => {
+    const reached = new Set(to.inbox.where((one) => one.fresh).map((one) => one.invocation));
+    return rows(to.candidates(it, 'suspended').filter((one) => reached.has(one.id)).slice(0, it.most).map((one) => candidate(one, one.suspension, one.shielded)));
+  },
+  inbox: (to, it) => rows(inOrder(to.inbox.where((one) => one.invocation === it.id)).map((one) => [one.seq, one.frame])),
+  seen: (to, it) => {
+    for (const one of to.inbox.where(({ seq }) => it.seqs.includes(seq))) to.inbox.put(one.seq, { ...one, fresh: false });
+    return changed(it.seqs.length);
+  },
+  orphaned: (to, it) => rows(to.candidates(it, 'running').filter((one) => !to.workers.has(one.worker ?? '')).slice(0, it.most).map((one) => candidate(one, one.deaths))),
+  deadly: (to, it) => changed(to.set(it.id, isHeld(it), (one) => ({ status: 'paused', deaths: one.deaths + 1, error: it.error }))),
+  lock: (to, it) => {
+    const place = placed(it.service, it.key);
+    if (!to.locks.has(place)) to.locks.put(place, it.id);
+    return rows([[to.locks.get(place)]]);
+  },
+  lease,
+  journal: (to, it) => rows((to.journal.get(it.id) ?? []).map((one) => [one])),
+  state: (to, it) => rows(to.state.where((one) => one.service === it.service && one.key === it.key).map((one) => [one.name, one.value])),
+  fence: (to, it) => rows(to.invocations.where((one) => one.id === it.id && isFenced(it)(one)).map(() => [1])),
+  append: (to, it) => append(to, { ...it, frames: [it.frame] }),
+  appends: append,
+  attribute: (to, it) => (to.attributes.put(placed(it.id, it.name), [it.id, it.name, String(it.value)]), changed(1)),
+  'no-attribute': (to, it) => changed(to.attributes.take(([id, name]) => id === it.id && name === it.name).length),
+  timer: (to, it) => {
+    const seq = to.number();
+    to.timers.put(seq, { seq, due: it.due ?? 0, invocation: it.id, completes: it.completes });
+    return changed(1);
+  },
+  set: ({ state }, { service, key, name, value }) => (state.put(placed(service, key, name), { service, key, name, value }), changed(1)),
+  clear: (to, it) => changed(to.state.take((one) => one.service === it.service && one.key === it.key && one.name === it.name).length),
+  'clear-all': (to, it) => changed(to.state.take((one) => one.service === it.service && one.key === it.key).length),
+  promise,
+  'await-promise': (to, it) => {
+    to.promiseWaiters.put(to.number(), { invocation: placed(it.service, it.key, it.name), waiter: it.id, completes: it.completes });
+    return changed(1);
+  },
+  'complete-promise': completePromise,
+  grow: (to, it) => changed(to.set(it.id, isFenced(it), () => ({ entries: it.entries }))),
+  progress: (to, it) => changed(to.set(it.id, (one) => one.epoch === it.epoch, () => PROGRESS)),
+  steps: (to, it) => (to.set(it.id, isFenced(it), () => ({ entries: it.entries, ...PROGRESS })) === 0 ? changed(0) : append(to, it)),
+  deliver: (to, it) => {
+    const isOpen = (to.invocations.get(it.invocation)?.status ?? 'done') !== 'done';
+    const seq = to.number();
+    if (isOpen) to.inbox.put(seq, { seq, invocation: it.invocation, frame: it.frame, fresh: true });
+    return changed(Number(isOpen));
+  },
+  newest: (to, it) => rows([[to.newest(it.invocation)]]),
+  result: (to, it) => rows(to.invocations.where((one) => one.id === it.invocation).map((one) => [one.result])),
+  look: (to, it) => rows(to.invocations.where((one) => one.id === it.invocation).map((one) => [one.status, one.result])),
+  wait: (to, it) => (to.waiters.put(to.number(), { invocation: it.invocation, waiter: it.id, completes: it.completes }), changed(1)),
+  delivered: (to, it) => changed(to.inbox.take((one) => it.seqs.includes(one.seq)).length),
+  cancelled: (to, it) => changed(to.set(it.id, (one) => one.epoch === it.epoch, () => ({ cancelled: it.now }))),
+  suspend: (to, it) => changed(to.set(it.id, isFenced(it), () => ({ entries: it.entries, status: it.status, due: it.now, suspension: it.suspension, shielded: it.shielded, deaths: 0 }))),
+  end: (to, it) => changed(to.set(it.id, isFenced(it), () => ({ entries: it.entries, status: 'done', result: it.result, failed: it.failed, error: it.error }))),
+  ended: (to, it) => rows(to.waiters.take((one) => one.invocation === it.id).map((one) => [one.waiter, one.completes])),
+  gone,
+  continue: continues,
+  fail: (to, { id, entries, status, due, error, retries, failing_since, failures, failed_since, ...it }) =>
+    changed(to.set(id, isFenced({ id, entries, status, due, error, retries, failing_since, failures, failed_since, ...it }), () => ({
+      entries, status, due: due ?? 0, error, deaths: 0, retries, failing_since, failures, failed_since,
+    }))), // prettier-ignore
+  pause: (to, it) => changed(to.set(it.id, isHeld(it), () => ({ status: 'paused', error: it.error }))),
+  release: (to, it) => changed(to.set(it.id, isHeld(it), () => ({ status: 'ready', due: it.now }))),
+  notify: nothing,
+  tell: nothing,
+  reach,
+};
+
+/** A transaction: the words of its commit, and its statements. */
+class InMemory implements Statements, Committed {
+  readonly touched = new Set<string>();
+  readonly endings = new Set<string>();
+  isReady = false;
+  due: number | undefined;
+
+  constructor(private readonly tables: Tables, readonly now: number) {}
+
+  #made(name: StatementName, values: Values): Made {
+    return name === 'now' ? rows([[this.now]]) : STATEMENTS[name](this.tables, values as unknown as Given);
+  }
+
+  async rows(name: StatementName, values: Values): Promise<readonly Row[]> {
+    return this.#made(name, values).rows;
+  }
+
+  async change(name: StatementName, values: Values): Promise<number> {
+    return this.#made(name, values).count;
+  }
+
+  say(): void {
+    this.isReady = true;
+  }
+
+  touch(invocation: string): void {
+    this.touched.add(invocation);
+  }
+
+  isDue(at: number): void {
+    this.due = Math.min(this.due ?? at, at);
+  }
+
+  ended(invocation: string): void {
+    this.endings.add(invocation);
+  }
+
+  /** What others hear of it. */
+  get words(): string[] {
+    const some = (what: string, ids: ReadonlySet<string>): string[] => (ids.size === 0 ? [] : [`${what} ${[...ids].join(' ')}`]);
+    return [...(this.isReady ? ['ready'] : []), ...some('ended', this.endings), ...some('to', this.touched)];
+  }
+}
+
+/** One who works with it: a worker's session, or a client. */
+class Session implements Store {
+  readonly connections = 1;
+  committed: Store['committed'] = () => undefined;
+  told: Store['told'] = () => undefined;
+  onLost: Store['onLost'] = () => undefined;
+
+  /** `isMortal`: it may be lost at a commit. */
+  constructor(private readonly memory: Memory, readonly isMortal: boolean) {}
+
+  /** Why nothing more of it is stored. */
+  lost: Lost | undefined;
+
+  now(): number {
+    return this.memory.now();
+  }
+
+  async asksTime(): Promise<number> {
+    return this.memory.now();
+  }
+
+  transact<T>(operation: (to: Statements) => Promise<T>): Promise<T> {
+    return this.memory.transact(this, operation);
+  }
+
+  isLost(lost: Lost): void {
+    this.lost = lost;
+    this.onLost(lost);
+  }
+
+  async close(): Promise<void> {
+    // the next session goes on with what is there
+  }
+}
+
+/** The store, for a worker and its clients within one process. It stays when a session with it ends. */
+export class Memory implements Place {
+  readonly again = 1;
+  readonly tables = new Tables();
+  /** Milliseconds by which its clock is ahead. */
+  skipped = 0;
+  commits = 0;
+  /** The number of the commit at which it is lost, and whether that one is stored. */
+  dies = 0;
+  isStored = false;
+  readonly #hears = new Map<Store, Set<(word: string) => void>>();
+  #last: Promise<unknown> = Promise.resolve();
+
+  /** Its time, in seconds since the epoch. */
+  now(): number {
+    return (Date.now() + this.skipped) / 1000;
+  }
+
+  async open(): Promise<Store> {
+    return new Session(this, true);
+  }
+
+  /** For who isn't lost with the worker. */
+  beside(): Store {
+    return new Session(this, false);
+  }
+
+  async hears(_: string, store: Store, heard: (word: string) => void): Promise<Ends> {
+    const all = this.#hears.get(store) ?? new Set();
+    this.#hears.set(store, all.add(heard));
+    return { end: async () => void this.#hears.delete(store) };
+  }
+
+  beats(): Ends {
+    return { end: async () => undefined };
+  }
+
+  /** All hear a word. */
+  say(word: string): void {
+    for (const all of this.#hears.values()) for (const heard of all) heard(word);
+  }
+
+  /** Commits an operation, one after the other. */
+  transact<T>(by: Session, operation: (to: Statements) => Promise<T>): Promise<T> {
+    const made = this.#last.then(() => this.#once(by, operation));
+    this.#last = made.catch(() => undefined);
+    return made;
+  }
+
+  async #once<T>(by: Session, operation: (to: Statements) => Promise<T>): Promise<T> {
+    if (by.lost !== undefined) throw by.lost;
+    const begun = performance.now();
+    const to = new InMemory(this.tables, this.now());
+    try {
+      const result = await operation(to);
+      this.#commit(by);
+      by.committed(performance.now() - begun);
+      by.told(to);
+      for (const [store, all] of this.#hears) if (store !== by) for (const word of to.words) for (const heard of all) heard(word);
+      return result;
+    } catch (error) {
+      for (const back of this.tables.undo.splice(0).reverse()) back();
+      throw error;
+    }
+  }
+
+  /** What has changed something counts, of those that may be lost. */
+  #commit(by: Session): void {
+    const { undo } = this.tables;
+    this.commits += Number(by.isMortal && undo.length > 0);
+    const dies = by.isMortal && undo.length > 0 && this.commits === this.dies;
+    if (!dies || this.isStored) undo.length = 0;
+    if (!dies) return;
+    by.isLost(new Lost('the test lets the worker die here'));
+    throw by.lost;
+  }
+}

@@ -1,0 +1,165 @@
+// The test kit: handlers in plain unit tests, without a server. Time is skipped, effects are fakes, others only give answers, and a worker dies at each commit.
+
+import assert from 'node:assert/strict';
+import { test } from 'node:test';
+import { Cancelled, TerminalError, handler, main, object, service, shared, workflow } from '@palqytun/sdk';
+import type { ObjectContext, ServiceContext, SharedObjectContext, SharedWorkflowContext, WorkflowContext } from '@palqytun/sdk';
+import { Testing, crashEverywhere, fake } from '@palqytun/sdk/testing';
+import { LONG } from './cluster';
+
+const DAY = 86_400_000; // milliseconds
+const bank = { pay: (item: string, key: string): string => `${item} is paid by ${key}` };
+const fails = { until: 0 };
+
+const stock = object('Stock', {
+  take: async (ctx: ObjectContext, count: number): Promise<number> => {
+    const left = ((await ctx.get<number>('left')) ?? 100) - count;
+    ctx.set('left', left);
+    return left;
+  },
+  look: shared(async (ctx: SharedObjectContext, _: null): Promise<number | null> => ctx.get<number>('left')),
+  slow: async (ctx: ObjectContext, _: null): Promise<string[]> => {
+    await ctx.sleep(DAY);
+    return ctx.keys();
+  },
+});
+
+const shop = service('Shop', {
+  order: async (ctx: ServiceContext, item: string): Promise<string> => {
+    const left = await ctx.call(stock.take, 1, { key: item });
+    const paid = await ctx.run('pay', (run) => bank.pay(item, run.key));
+    await ctx.sleep(30 * DAY);
+    await ctx.send(stock.take, 2, { key: item, delay: DAY });
+    return `${paid}, ${left} are left`;
+  },
+  waits: async (ctx: ServiceContext, _: null): Promise<unknown> => {
+    const { id, promise } = ctx.awakeable<number>();
+    await ctx.run('tell', () => id);
+    return promise;
+  },
+  fails: handler(async (ctx: ServiceContext, _: null): Promise<string> => {
+    await ctx.sleep(1000);
+    if (Date.now() < fails.until) throw new Error('not yet');
+    throw new TerminalError('never', 418);
+  }, { retry: { initial: 1, attempts: 3 } }),
+  undoes: async (ctx: ServiceContext, _: null): Promise<string> => {
+    try {
+      await ctx.sleep(DAY);
+      return 'slept';
+    } catch (error) {
+      if (!(error instanceof Cancelled)) throw error;
+      return ctx.run('undo', () => 'undone');
+    }
+  },
+  forgets: async (ctx: ServiceContext, _: null): Promise<string> => {
+    const by = Math.random(); // a handler that breaks the rules: each attempt has another number
+    await ctx.run('first', () => 1);
+    return ctx.run('second', () => bank.pay(`${by}`, ''));
+  },
+});
+
+const gate = workflow('Gate', {
+  main: main(async (ctx: WorkflowContext, _: null): Promise<string> => ctx.promise<string>('opened').value()),
+  open: async (ctx: SharedWorkflowContext, word: string): Promise<null> => ctx.promise('opened').resolve(word),
+});
+
+const silent = { write: (): void => undefined };
+
+test('a month takes no time', { timeout: LONG }, async () => {
+  const pay = fake('receipt');
+  await Testing.run([shop, stock], async (it) => {
+    const began = it.now;
+    const sent = await it.send(shop.order, 'pen');
+    await it.skip(29 * DAY);
+    assert.deepEqual([await it.state('Stock', 'pen'), pay.calls.length], [{ left: 99 }, 1]);
+    await it.skip(DAY);
+    assert.equal(await sent.result(), 'receipt, 99 are left');
+    assert.deepEqual(await it.state('Stock', 'pen'), { left: 99 });
+    await it.skip(DAY);
+    assert.deepEqual(await it.state('Stock', 'pen'), { left: 97 });
+    assert(it.now - began >= 31 * DAY && it.now - began < 32 * DAY);
+  }, { runs: { pay } });
+});
+
+test('the clock moves on by itself for a result, if the test likes', { timeout: LONG }, async () => {
+  await Testing.run([shop, stock], async (it) => assert.match(await it.call(shop.order, 'pen'), /^pen is paid by inv_\w+-2, 99 are left$/));
+  await Testing.run([shop, stock], async (it) => {
+    const sent = await it.send(shop.order, 'pen');
+    await assert.rejects(sent.result(), { message: `${sent.id} waits for what doesn't come by itself: suspended` });
+    assert.equal(await it.skipToNext(), true);
+    assert.match(await sent.result(), /99 are left$/);
+    assert.equal(await it.skipToNext(), true); // the call that was sent for later
+    assert.equal(await it.skipToNext(), false);
+  }, { skips: false });
+});
+
+test('one handler by itself, and its state', { timeout: LONG }, async () => {
+  const asked = fake((count: unknown) => 98 + (count as number));
+  await Testing.run([shop, stock], async (it) => {
+    assert.match(await it.call(shop.order, 'pen'), /, 99 are left$/);
+    assert.deepEqual(asked.calls[0], { key: undefined, given: [1] });
+  }, { answers: { 'Stock/take': asked } });
+  await Testing.run([shop, stock], async (it) => {
+    await assert.rejects(it.call(shop.order, 'pen'), { name: 'TerminalError', code: 410, message: 'sold out' });
+  }, { answers: { 'Stock/take': new TerminalError('sold out', 410) } });
+  await Testing.run([stock], async (it) => {
+    await it.setState('Stock', 'ink', { left: 5, note: { of: ['a', null] } });
+    assert.equal(await it.call(stock.take, 2, { key: 'ink' }), 3);
+    assert.equal(await it.call(stock.look, null, { key: 'ink' }), 3);
+    assert.deepEqual(await it.state('Stock', 'ink'), { left: 3, note: { of: ['a', null] } });
+  });
+  await assert.rejects(Testing.begin([stock], { answers: { 'Stock/none': 1 } }), { message: /there is no handler Stock\/none/ });
+});
+
+test('one that has its key to itself lets others wait while time is skipped', { timeout: LONG }, async () => {
+  await Testing.run([stock], async (it) => {
+    const first = await it.send(stock.slow, null, { key: 'ink' });
+    const second = await it.send(stock.take, 1, { key: 'ink' });
+    assert.equal(await second.result(), 99);
+    assert.deepEqual(await first.result(), []);
+  });
+});
+
+test('what others complete, and what fails', { timeout: LONG }, async () => {
+  const tell = fake('told');
+  const told = fake(() => undefined);
+  await Testing.run([shop, gate], async (it) => {
+    const sent = await it.send(shop.waits, null);
+    await assert.rejects(sent.result(), /waits for what doesn't come by itself: suspended/);
+    assert.equal(tell.calls.length, 1);
+    const opened = await it.send(gate.main, null, { key: 'a' });
+    await it.call(gate.open, 'sesame', { key: 'a' });
+    assert.equal(await opened.result(), 'sesame');
+    const cancelled = await it.send(shop.undoes, null);
+    await it.skip(1000);
+    await cancelled.cancel();
+    assert.equal(await cancelled.result(), 'undone');
+    fails.until = Date.now() + 50;
+    await assert.rejects(it.call(shop.fails, null), { code: 418, message: 'never' });
+    await assert.rejects(it.call('Shop/none'), { code: 404 });
+  }, { runs: { tell, told }, log: silent });
+});
+
+test('a fake gives its results one after the other, and knows the key of its run', () => {
+  const pay = fake<[string], string>(new Error('no bank'), 'receipt', (name) => `for ${name}`);
+  assert.throws(() => pay('ann'), { message: 'no bank' });
+  assert.deepEqual([pay('ann'), pay('bob'), pay('eve')], ['receipt', 'for bob', 'for eve']);
+  assert.deepEqual(pay.calls.map((it) => it.given), [['ann'], ['ann'], ['bob'], ['eve']]);
+  assert.deepEqual(pay.byKey().get(undefined), { key: undefined, given: ['eve'] });
+});
+
+test('a worker dies at each commit, and what is left is the same', { timeout: LONG }, async () => {
+  const pay = fake<[string, string], string>('receipt');
+  const before = bank.pay;
+  bank.pay = pay;
+  try {
+    const deaths = await crashEverywhere([shop, stock], shop.order, 'pen', { fakes: [pay], settles: LONG });
+    assert(deaths >= 10, `${deaths} deaths`);
+    assert.deepEqual([...pay.byKey()], [['inv_test-2', { key: 'inv_test-2', given: ['pen', 'inv_test-2'] }]]);
+    assert(await crashEverywhere([stock], stock.take, 3, { key: 'ink', settles: LONG }) > 2);
+    assert(await crashEverywhere([shop, stock], shop.order, 'pen', { runs: { pay: fake('paid') }, settles: LONG, most: 3 }) === 6);
+    await assert.rejects(crashEverywhere([shop], shop.forgets, null, { fakes: [pay], settles: LONG }), /^Error: with a death (at|after) commit \d+ the effects differ:/);
+  } finally {
+    bank.pay = before;
+  }
+});

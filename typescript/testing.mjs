@@ -1,0 +1,3 @@
+import testing from './out/testing.js';
+
+export const { Testing, crashEverywhere, fake } = testing;
