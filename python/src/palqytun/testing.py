@@ -49,6 +49,9 @@ _CALLS = (  # a schedule has a call to make
     "EXISTS (SELECT 1 FROM schedules WHERE paused=0 AND (due<=?"
     " OR (queued IS NOT NULL AND NOT EXISTS (SELECT 1 FROM invocations WHERE id=called AND status<>'done'))))"
 )
+_WAITS_FOR_KEY = (  # another invocation has its key
+    "(exclusive=1 AND EXISTS (SELECT 1 FROM locks WHERE locks.service=invocations.service AND locks.key=invocations.key AND holder<>id))"
+)
 
 __all__ = ["Called", "Fake", "Testing", "crash_everywhere", "faked"]
 
@@ -268,7 +271,7 @@ class Testing:
         is_held = f"(epoch=0 AND COALESCE(queue, '') IN ({','.join('?' * len(held))}))"
         sql = (
             "SELECT EXISTS (SELECT 1 FROM timers WHERE due<=?)"
-            f" OR EXISTS (SELECT 1 FROM invocations WHERE status='running' OR (status='ready' AND due<=? AND NOT {is_held}))"
+            f" OR EXISTS (SELECT 1 FROM invocations WHERE status='running' OR (status='ready' AND due<=? AND NOT {is_held} AND NOT {_WAITS_FOR_KEY}))"
             " OR EXISTS (SELECT 1 FROM inbox JOIN invocations ON id=invocation WHERE fresh=1 AND status='suspended')"
             f" OR EXISTS (SELECT 1 FROM invocations WHERE deadline<=? AND status<>'done') OR {_CALLS}, {_NEXT.format('')}"
         )

@@ -31,6 +31,12 @@ async def order(ctx: Context, count: int) -> list:
 
 
 @stock.handler()
+async def sleeps(ctx: Context, seconds: int) -> str:
+    await ctx.sleep(seconds)
+    return "slept"
+
+
+@stock.handler()
 async def take(ctx: Context, count: int) -> int:
     left = (await ctx.get("left", int) or 10) - count
     if left < 0:
@@ -94,6 +100,17 @@ class Kit(unittest.TestCase):
                 await it.call(stamp, "stamped", key="soon")
                 self.assertEqual(await sent.result(), "stamped")
             self.assertLess(time.monotonic() - begun, 1800)
+
+        asyncio.run(go())
+
+    def test_one_that_waits_for_its_key_lets_time_be_skipped(self):
+        async def go():
+            async with Testing(app) as shop:
+                first = await shop.send(sleeps, 86400, key="pen")
+                second = await shop.send(take, 1, key="pen")
+                await shop.skip(3600)
+                self.assertTrue(await shop.is_settled())
+                self.assertEqual([await second.result(), await first.result()], [9, "slept"])
 
         asyncio.run(go())
 
