@@ -11,7 +11,7 @@ from pathlib import Path
 
 from tools.kit.errors import Refused
 
-from . import between, flat, glue, go, loading, node, python, ruby, rust, sources, text
+from . import between, flat, glue, go, java, loading, node, python, ruby, rust, sources, text
 from .header import HEADER, Header, read_header
 
 OWN_STATUSES = {"PALQYTUN_BUSY", "PALQYTUN_BAD_HANDLE", "PALQYTUN_BAD_POINTER"}
@@ -34,6 +34,7 @@ def written(top: Path, header: Header) -> dict[str, str]:
         node.MODULE: node.module_of(header),
         node.TYPES: node.types_of(header),
         ruby.MODULE: ruby.module_of(header),
+        **java.modules_of(header),
         **{f"{folder}/calls.c": glue.calls_of(header, it) for folder, it in glue.FOLDERS.items()},
         **{f"{folder}/palqytun_abi.h": loading.header_of(header) for folder in loading.FOLDERS},
         **{f"{folder}/palqytun_abi.c": loading.code_of(header) for folder in loading.FOLDERS},

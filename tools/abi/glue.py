@@ -31,6 +31,7 @@ class Folder:
 
 
 FOLDERS = {
+    "bindings/java/src/main/c": Folder(),
     "bindings/node/src": Folder(),
     "bindings/ruby/ext/palqytun": Folder(),
     "python/extension": Folder("UNLOCKED({size}, {call})", OWN),

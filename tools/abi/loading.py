@@ -10,7 +10,7 @@ from tools.kit.exports import Prototype
 from . import flat, words
 from .header import Header
 
-FOLDERS = ("bindings/go", "bindings/node/src", "bindings/ruby/ext/palqytun", "python/extension")
+FOLDERS = ("bindings/go", "bindings/java/src/main/c", "bindings/node/src", "bindings/ruby/ext/palqytun", "python/extension")
 PREFIX = "palqytun_"
 HANDLES = {"palqytun_vm *": "uintptr_t", "palqytun_journal *": "uintptr_t", "palqytun_vm **": "uintptr_t *", "palqytun_journal **": "uintptr_t *"}
 SAID = "/* tools/header --write writes this file, from palqytun.h. */\n"

@@ -59,6 +59,13 @@ def node(room: Path, library: Path) -> Words:
     return ["node", f"{room}/node/examples/bench.js"]
 
 
+def java(room: Path, library: Path) -> Words:
+    _run([str(BINDINGS / "java/build.sh"), f"{room}/java"], room)
+    classes = ["-cp", f"{room}/java/palqytun.jar:{room}/java"]
+    _run(["javac", *classes, "-d", f"{room}/java", str(BINDINGS / "java/examples/Bench.java")], room)
+    return ["java", *classes, "Bench"]
+
+
 def ruby(room: Path, library: Path) -> Words:
     shutil.copytree(BINDINGS / "ruby", room / "ruby")
     ext = room / "ruby/ext/palqytun"
@@ -76,6 +83,7 @@ LANGUAGES: dict[str, tuple[str, Callable[[Path, Path], Words]]] = {
     "C": ("cc", c),
     "Rust": ("cargo", rust),
     "Go": ("go", go),
+    "Java": ("javac", java),
     "JavaScript": ("node", node),
     "Ruby": ("ruby", ruby),
     "Python": ("python3", python),

@@ -18,9 +18,10 @@ from pathlib import Path
 TABLE = Path(__file__).resolve().parents[1] / "packages"
 SERVERS = "/usr/lib/postgresql/*/bin"
 SYSTEM = "/usr/bin/python3"  # the Python that Debian's packages are for
-KINDS = ("command", "version", "header", "mkmf", "library", "server", "module", "modules", "include", "sanitizer")
+KINDS = ("command", "version", "header", "mkmf", "library", "server", "module", "modules", "include", "jar", "sanitizer")
 INCLUDES = "import pathlib, sys, sysconfig; sys.exit(not pathlib.Path(sysconfig.get_path('include'), sys.argv[1]).is_file())"
 SECONDS = 300  # for one tool to say its version
+JARS = "/usr/share/java"
 NODE_MODULES = "/usr/share/nodejs", "/usr/local/share/nodejs"  # Debian's of Node, and those that another Node than Debian's is given
 
 
@@ -57,6 +58,8 @@ class Tool:
                 return bool(shutil.which("node")) and all(_succeeds(["node", "-e", f"require({it!r})"], env) for it in self.names)
             case "module":
                 return not missing_modules(python, list(self.names))
+            case "jar":
+                return all(Path(JARS, f"{it}.jar").is_file() for it in self.names)
             case "include":
                 return all(_succeeds([python, "-c", INCLUDES, it]) for it in self.names)
             case _:

@@ -59,7 +59,7 @@ def said(house: House) -> dict[str, tuple[str, str, list[str], list[int]]]:
     found = {it.name: (it.title, it.about, members[it.name], passing(members[it.name])) for it in FAMILIES if members[it.name]}
     found.pop("test", None)
     callers = [stop.place for course in COURSES for stop in course.stops if stop.is_python]
-    found[CALLERS] = ("Callers", "C programs, Java, Rust, Go, Node, Ruby, the Python package and its durable runtime.", ["bindings/", "python/"], passing(callers))
+    found[CALLERS] = ("Callers", "C programs, Rust, Go, Java, Node, Ruby, the Python package and its durable runtime.", ["bindings/", "python/"], passing(callers))
     return found
 
 

@@ -40,8 +40,8 @@ class Group:
 # After the crates, in this order. A path belongs to the first group that it begins with.
 GROUPS = (
     Group("C: the header and what is built with it", ("bindings/palqytun.h", "bindings/palqytun.map", "bindings/packaging/", "bindings/build")),
-    Group("Rust, Go, Node and Ruby: the crate and the packages", ("bindings/rust/", "bindings/go/", "bindings/node/", "bindings/ruby/")),
-    Group("C, Java and Python: examples and their output", ("bindings/",)),
+    Group("Rust, Go, Java, Node and Ruby: the crate and the packages", ("bindings/rust/", "bindings/go/", "bindings/java/", "bindings/node/", "bindings/ruby/")),
+    Group("C and Python: examples and their output", ("bindings/",)),
     Group("Python: the package", ("python/src/", "python/extension/")),
     Group("Python: tests, examples, benches", ("python/tests/", "python/examples/", "python/bench/")),
     Group("the simulation", ("tools/simulation/", "tools/simulate")),

@@ -79,6 +79,12 @@ class Finding(unittest.TestCase):
             self.assertTrue(Path(folder, "one", "index.js").exists())
         self.assertEqual([it[-2:] for it in ran], [["node-one", "node-two"], ["one.deb", "unpacked"]])
 
+    def test_archives_of_classes(self) -> None:
+        with tempfile.TemporaryDirectory() as folder, mock.patch.object(packages, "JARS", folder):
+            Path(folder, "one.jar").touch()
+            self.assertTrue(self.tool("jar", "one").is_found(sys.executable))
+            self.assertFalse(self.tool("jar", "one", "two").is_found(sys.executable))
+
     def test_modules(self) -> None:
         self.assertTrue(self.tool("module", "json").is_found(sys.executable))
         self.assertFalse(self.tool("module", "json", "no_such_module").is_found(sys.executable))

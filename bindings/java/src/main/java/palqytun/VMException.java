@@ -1,0 +1,82 @@
+package palqytun;
+
+import java.util.Optional;
+
+/** The VM refused a call. It has failed, or is suspended or closed, and each later call throws the same. */
+public class VMException extends PalqytunException {
+    private static final long serialVersionUID = 1L;
+    private final int code;
+    private final String text;
+    private final String stacktrace;
+    private final transient Related related;
+
+    VMException(int code, String text, String stacktrace, Related related) {
+        super(code + " " + text + (related == null ? "" : " (" + related + ")"), null);
+        this.code = code;
+        this.text = text;
+        this.stacktrace = stacktrace;
+        this.related = related;
+    }
+
+    static VMException of(int code, String text, String stacktrace, Related related) {
+        return switch (code) {
+            case Abi.CODE_SUSPENDED -> new Suspended(code, text, stacktrace, related);
+            case Abi.CODE_CLOSED -> new Closed(code, text, stacktrace, related);
+            case Abi.CODE_JOURNAL_MISMATCH -> new JournalMismatch(code, text, stacktrace, related);
+            default -> new VMException(code, text, stacktrace, related);
+        };
+    }
+
+    public int code() {
+        return code;
+    }
+
+    /** What the error says. */
+    public String text() {
+        return text;
+    }
+
+    public String stacktrace() {
+        return stacktrace;
+    }
+
+    /** The command that it relates to. */
+    public Optional<Related> related() {
+        return Optional.ofNullable(related);
+    }
+
+    /** A command: its index, the type of its message, and its name. */
+    public record Related(int index, MessageType type, String name) {
+        @Override
+        public String toString() {
+            return "command " + index + ": " + type + " \"" + name + "\"";
+        }
+    }
+
+    /** The invocation is suspended: what is awaited can't come in this attempt. */
+    public static final class Suspended extends VMException {
+        private static final long serialVersionUID = 1L;
+
+        Suspended(int code, String text, String stacktrace, Related related) {
+            super(code, text, stacktrace, related);
+        }
+    }
+
+    /** The handler has ended, so no call comes after. */
+    public static final class Closed extends VMException {
+        private static final long serialVersionUID = 1L;
+
+        Closed(int code, String text, String stacktrace, Related related) {
+            super(code, text, stacktrace, related);
+        }
+    }
+
+    /** The handler makes another call than the journal has recorded. */
+    public static final class JournalMismatch extends VMException {
+        private static final long serialVersionUID = 1L;
+
+        JournalMismatch(int code, String text, String stacktrace, Related related) {
+            super(code, text, stacktrace, related);
+        }
+    }
+}

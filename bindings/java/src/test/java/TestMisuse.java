@@ -1,0 +1,201 @@
+import java.util.ArrayList;
+import java.util.Arrays;
+import java.util.List;
+import java.util.OptionalLong;
+import palqytun.*;
+
+/** What a caller may do wrong is an exception, and the VM goes on. */
+public final class TestMisuse {
+    private static final byte[] EMPTY = {};
+
+    private static void status(Status wanted, Common.Test test) {
+        Common.equal(wanted, Common.thrown(StatusException.class, test).status());
+    }
+
+    private static void whatWasClosed() {
+        VM vm = Common.begun();
+        vm.close();
+        vm.close();
+        Common.refused(StatusException.class, "NO_SESSION: the VM was closed", () -> vm.sysSleep(1));
+        status(Status.NO_SESSION, () -> vm.notifyInput(EMPTY));
+        status(Status.NO_SESSION, vm::takeOutput);
+        Journal journal = new Journal();
+        journal.close();
+        journal.close();
+        status(Status.NO_JOURNAL, journal::keep);
+        VM other;
+        try (VM it = Common.begun()) {
+            other = it;
+        }
+        status(Status.NO_SESSION, other::state);
+    }
+
+    private static void argumentsAreNamed() {
+        VM vm = Common.begun();
+        Common.refused(NullPointerException.class, "value is null, and not a byte[]", () -> vm.sysStateSet("key", null));
+        Common.refused(NullPointerException.class, "key is null, and not a String", () -> vm.sysStateGet(null));
+        Common.refused(NullPointerException.class, "value is null, and not a Result", () -> vm.sysWriteOutput(null));
+        Common.refused(NullPointerException.class, "target is null, and not an InvocationTarget", () -> vm.sysAttachInvocation(null));
+        Common.refused(NullPointerException.class, "target.service is null, and not a String", () -> vm.sysCall(Target.of(null, "h"), EMPTY));
+        Common.refused(NullPointerException.class, "a child is null", () -> Future.allCompleted(Future.of(17), null));
+        Common.refused(IllegalArgumentException.class, "value.code is from 0 to 65535, and not 65536", () -> vm.sysWriteOutput(Value.failure(65_536, "")));
+        Common.refused(IllegalArgumentException.class, "name has half of a surrogate pair, and so no UTF-8", () -> vm.createSignalHandle("\ud800"));
+        Common.refused(IllegalArgumentException.class, "name has half of a surrogate pair, and so no UTF-8", () -> vm.createSignalHandle("\udc00x"));
+        Common.equal(0L, vm.lastCommandIndex());
+        vm.createSignalHandle("\ud83d\ude00");
+    }
+
+    private static void contentTypes() {
+        VMException error = Common.thrown(VMException.class, () -> new VM("application/json"));
+        Common.equal(415, error.code());
+        Common.equal(415, Common.thrown(VMException.class, () -> new VM(null)).code());
+    }
+
+    private static void threadsShareAVm() throws InterruptedException {
+        VM vm = Common.begun();
+        List<Throwable> wrong = new ArrayList<>();
+        List<Thread> threads = new ArrayList<>();
+        for (int at = 0; at < 8; at++) {
+            Thread thread = new Thread(() -> {
+                for (int turn = 0; turn < 200; turn++) {
+                    vm.sysSleep(1000, "nap");
+                    Common.holds(vm.sysAwakeable().id(), it -> it.startsWith("sign_"));
+                    vm.takeOutput();
+                }
+            });
+            thread.setUncaughtExceptionHandler((it, error) -> wrong.add(error));
+            threads.add(thread);
+        }
+        threads.forEach(Thread::start);
+        for (Thread it : threads) {
+            it.join();
+        }
+        Common.equal(List.of(), wrong);
+        Common.equal(1600L, vm.lastCommandIndex());
+    }
+
+    private static void threadsCloseAVm() throws InterruptedException {
+        for (int at = 0; at < 50; at++) {
+            VM vm = Common.begun();
+            List<Throwable> wrong = new ArrayList<>();
+            Thread calls = new Thread(() -> {
+                try {
+                    while (true) {
+                        vm.sysSleep(1000);
+                    }
+                } catch (StatusException error) {
+                    Common.equal(Status.NO_SESSION, error.status());
+                }
+            });
+            calls.setUncaughtExceptionHandler((it, error) -> wrong.add(error));
+            calls.start();
+            vm.close();
+            calls.join();
+            Common.equal(List.of(), wrong);
+        }
+    }
+
+    private static void largeCopies() {
+        VM vm = Common.begun();
+        byte[] large = new byte[3_000_000];
+        Arrays.fill(large, (byte) 'x');
+        vm.sysStateSet("key", large);
+        Common.holds(vm.takeOutput().length, it -> it > large.length);
+        Common.equal(0, vm.takeOutput().length);
+        VM other = Common.fed("Start id=\"abc\" debug_id=\"abc\" known_entries=1");
+        other.notifyInput(Frames.inputFrame(Frames.frameOf("Input value=\"\""), large));
+        Common.holds(other.sysInput().input(), it -> Arrays.equals(it, large));
+    }
+
+    private static void aHandleOfAnotherVm() {
+        VM one = Common.begun();
+        VM other = Common.begun();
+        int handle = 0;
+        for (int at = 0; at < 5; at++) {
+            handle = one.createSignalHandle("go");
+        }
+        Common.equal(false, other.isCompleted(handle));
+        Common.equal(true, other.takeNotification(handle).isEmpty());
+        Common.equal(new Awaited.Waiting(true, false), other.doAwait(handle));
+        Common.equal(new Awaited.Waiting(true, false), other.doAwait(-1));
+    }
+
+    private static void whatNamesNoCase() {
+        VM vm = Common.begun();
+        VM.Run run = vm.sysRun("charge");
+        RetryPolicy policy = RetryPolicy.exponential(1, 3, 0);
+        status(Status.BAD_NUMBER, () -> vm.proposeRetryableFailure(run.handle(), 1, HandlerError.of(503, "later"), policy));
+        Common.equal(new Awaited.Awake(), vm.doAwait(Future.allCompleted()));
+        Common.equal(State.PROCESSING, vm.state());
+    }
+
+    private static void errorsHaveAllTheirFields() {
+        VM vm = Common.fed("Start id=\"a\" debug_id=\"a\" known_entries=2", "Input value=\"\"", "Sleep wake_up_time=1000 result_completion_id=1 name=\"nap\"");
+        vm.sysInput();
+        VMException error = Common.thrown(VMException.JournalMismatch.class, () -> vm.sysCall(Target.of("Greeter", "greet"), EMPTY, "call", false));
+        VMException.Related related = error.related().orElseThrow();
+        Common.equal(List.of(570, 1, "call"), List.of(error.code(), related.index(), related.name()));
+        VM own = Common.begun();
+        own.notifyError(HandlerError.of(418, "no tea").withStacktrace("at 1"), new RelatedCommand.Last());
+        error = Common.thrown(VMException.class, own::sysEnd);
+        Common.equal(List.of(418, "no tea", "at 1"), List.of(error.code(), error.text(), error.stacktrace()));
+    }
+
+    private static void aSuspensionAndAnEnd() {
+        VM vm = Common.begun();
+        int slept = vm.sysSleep(Long.MIN_VALUE); // 2^63 ms: numbers have no sign
+        vm.notifyInputClosed();
+        Future either = Future.firstCompleted(Future.of(slept), Future.of(Palqytun.CANCEL_HANDLE));
+        Common.refused(VMException.Suspended.class, "599 SUSPENDED", () -> vm.doAwait(either));
+        VM other = Common.begun();
+        other.sysWriteOutput(Value.success("done"));
+        other.sysEnd();
+        Common.thrown(VMException.Closed.class, () -> other.sysSleep(1));
+    }
+
+    private static void aJournalAndItsEffects() {
+        Journal journal = new Journal(List.of(Frames.frameOf("Input value=\"Till\""), Frames.frameOf("Sleep wake_up_time=1000 result_completion_id=1")));
+        byte[] slept = Frames.frameOf("Notification id=completion(1) result=void");
+        Common.equal(OptionalLong.of(1), journal.arrive(slept).completes());
+        journal.keep();
+        status(Status.SECOND_COMPLETION, () -> journal.arrive(slept));
+        byte[] run = Frames.frameOf("Run name=\"a\" result_completion_id=2");
+        byte[] proposed = Frames.frameOf("ProposeRunCompletion id=2 result=value(\"x\")");
+        byte[] output = Arrays.copyOf(run, run.length + proposed.length);
+        System.arraycopy(proposed, 0, output, run.length, proposed.length);
+        Journal.Stored stored = journal.store(7, output);
+        Common.equal(List.of(OptionalLong.empty(), OptionalLong.of(2)), stored.rows().stream().map(Journal.Row::completes).toList());
+        Common.holds(stored.feed().length, it -> it > 0);
+        Frames.Message effect = stored.rows().get(0).effect();
+        Common.equal(List.of(MessageType.RUN_COMMAND, 2, "a"), List.of(effect.type(), effect.id(), effect.text(0)));
+        journal.undo();
+        Common.equal(3L, journal.entries());
+        status(Status.BAD_NUMBER, () -> journal.store(4, EMPTY));
+    }
+
+    private static void frames() {
+        byte[] completed = Frames.completion(3, Frames.frameOf("Output result=value(\"Till\")"));
+        Common.equal("Notification id=completion(3) result=value(\"Till\")", Frames.lineOf(completed));
+        byte[] suspension = Frames.frameOf("Suspension future=(kind=FirstCompleted completions=[3])");
+        Common.equal(List.of(false, true), List.of(Frames.isAwake(suspension, EMPTY), Frames.isAwake(suspension, completed)));
+        Common.holds(Frames.lineOf(Frames.namedSignal("go", Frames.valueFrame(new byte[100_000]))), it -> it.contains("name(\"go\")"));
+        status(Status.NOT_A_FRAME, () -> Frames.lineOf(new byte[] {1}));
+        status(Status.BAD_LINE, () -> Frames.frameOf("Sleep soundly"));
+    }
+
+    public static void main(String[] arguments) {
+        Common.test("what was closed", TestMisuse::whatWasClosed);
+        Common.test("arguments are named", TestMisuse::argumentsAreNamed);
+        Common.test("content types", TestMisuse::contentTypes);
+        Common.test("threads share a VM", TestMisuse::threadsShareAVm);
+        Common.test("threads close a VM", TestMisuse::threadsCloseAVm);
+        Common.test("large copies", TestMisuse::largeCopies);
+        Common.test("a handle of another VM", TestMisuse::aHandleOfAnotherVm);
+        Common.test("what names no case", TestMisuse::whatNamesNoCase);
+        Common.test("errors have all their fields", TestMisuse::errorsHaveAllTheirFields);
+        Common.test("a suspension and an end", TestMisuse::aSuspensionAndAnEnd);
+        Common.test("a journal and its effects", TestMisuse::aJournalAndItsEffects);
+        Common.test("frames", TestMisuse::frames);
+        Common.end();
+    }
+}
