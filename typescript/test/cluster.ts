@@ -16,11 +16,11 @@ export interface Stage {
   end(): Promise<void>;
 }
 
-/** A worker of some services, and a client. */
+/** A worker of some services, and a client. However busy its host is, the worker isn't thought dead. */
 export async function stage(services: readonly AnyService[], options: Partial<WorkerOptions> = {}): Promise<Stage> {
   const lines: Record<string, unknown>[] = [];
   const log = { format: 'json' as const, write: (line: string) => void lines.push(JSON.parse(line) as Record<string, unknown>) };
-  const worker = new Worker({ url: URL, services, idle: 200, poll: 500, log, ...options });
+  const worker = new Worker({ url: URL, services, idle: 200, poll: 500, lease: LONG, log, ...options });
   const running = worker.run();
   await Promise.race([worker.isOpen, running]);
   const client = await Client.connect({ url: URL, services });
@@ -51,4 +51,15 @@ export async function empty(name: string): Promise<string> {
   await connection.query(`CREATE DATABASE ${name}`);
   await connection.end();
   return URL.replace('/postgres?', `/${name}?`);
+}
+
+/** The rows of a statement. */
+export async function asked(text: string, ...values: unknown[]): Promise<unknown[][]> {
+  const connection = new Connection(configOf(URL));
+  await connection.connect();
+  try {
+    return (await connection.query({ text, values, rowMode: 'array' })).rows;
+  } finally {
+    await connection.end();
+  }
 }

@@ -4,25 +4,13 @@ import assert from 'node:assert/strict';
 import { test } from 'node:test';
 import { service } from '@palqytun/sdk';
 import type { ServiceContext } from '@palqytun/sdk';
-import { Client as Connection } from 'pg';
-import { configOf } from '../database';
-import { LONG, URL, stage, until } from './cluster';
+import { LONG, URL, asked, stage, until } from './cluster';
 
 const MOST_LOST = 5; // attempts of an invocation in a row
 
 /** The URL for connections that the server knows by this name. */
 function named(name: string): string {
   return `${URL}${URL.includes('?') ? '&' : '?'}application_name=${name}`;
-}
-
-async function asked(text: string, ...values: unknown[]): Promise<unknown[][]> {
-  const connection = new Connection(configOf(URL));
-  await connection.connect();
-  try {
-    return (await connection.query({ text, values, rowMode: 'array' })).rows;
-  } finally {
-    await connection.end();
-  }
 }
 
 /** Ends all connections of this name. */

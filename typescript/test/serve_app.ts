@@ -18,4 +18,4 @@ const served = service('Served', {
   },
 });
 
-void serve({ url: process.env['SERVE_URL'] ?? '', services: [served], idle: 0, grace: 3_600_000, metricsPort: 0, log: { format: 'json' } });
+void serve({ url: process.env['SERVE_URL'] ?? '', services: [served], idle: 0, lease: 300_000, grace: 3_600_000, metricsPort: 0, log: { format: 'json' } });
