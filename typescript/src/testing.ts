@@ -175,7 +175,7 @@ export class Testing extends Client {
   }
 
   async #to(at: number): Promise<void> {
-    this.#memory.skipped += Math.max(0, (at - this.#memory.now()) * 1000);
+    this.#memory.skipped += Math.max(0, Math.ceil((at - this.#memory.now()) * 1000) + 1); // past it, whatever a float makes of both
     this.#memory.say('ready');
     await this.#settle();
   }

@@ -148,7 +148,7 @@ test('a fake gives its results one after the other, and knows the key of its run
   assert.deepEqual(pay.byKey().get(undefined), { key: undefined, given: ['eve'] });
 });
 
-test('a worker dies at each commit, and what is left is the same', { timeout: LONG }, async () => {
+test('a worker dies at each commit, and what is left is the same', { timeout: 3 * LONG }, async () => {
   const pay = fake<[string, string], string>('receipt');
   const before = bank.pay;
   bank.pay = pay;
