@@ -9,7 +9,7 @@ import { LONG } from './cluster';
 
 const DAY = 86_400_000; // milliseconds
 const bank = { pay: (item: string, key: string): string => `${item} is paid by ${key}` };
-const fails = { until: 0 };
+const fails = { times: 0 };
 
 const stock = object('Stock', {
   take: async (ctx: ObjectContext, count: number): Promise<number> => {
@@ -39,7 +39,8 @@ const shop = service('Shop', {
   },
   fails: handler(async (ctx: ServiceContext, _: null): Promise<string> => {
     await ctx.sleep(1000);
-    if (Date.now() < fails.until) throw new Error('not yet');
+    fails.times -= 1;
+    if (fails.times >= 0) throw new Error('not yet');
     throw new TerminalError('never', 418);
   }, { retry: { initial: 1, attempts: 3 } }),
   undoes: async (ctx: ServiceContext, _: null): Promise<string> => {
@@ -134,7 +135,7 @@ test('what others complete, and what fails', { timeout: LONG }, async () => {
     await it.skip(1000);
     await cancelled.cancel();
     assert.equal(await cancelled.result(), 'undone');
-    fails.until = Date.now() + 50;
+    fails.times = 2;
     await assert.rejects(it.call(shop.fails, null), { code: 418, message: 'never' });
     await assert.rejects(it.call('Shop/none'), { code: 404 });
   }, { runs: { tell, told }, log: silent });
