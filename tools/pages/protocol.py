@@ -21,7 +21,7 @@ _TYPES = {
     "text[]": "handlers ids",
     "bigint[]": "seqs places completions",
     "bytea[]": "frames",
-    "text": "worker code serves id service handler key idem parent trace queue queue_key invocation name status error how chain next channel word",
+    "text": "worker code serves id service handler key idem parent trace queue queue_key invocation name status error how chain next channel word said",
 }
 _TYPE_OF = {name: kind for kind, names in _TYPES.items() for name in names.split()}
 

@@ -9,6 +9,7 @@ import { isStep, split } from './frames';
 import type { Frame } from './frames';
 import { traceOf } from './hash';
 import type { Log } from './log';
+import type { AnyHandler } from './services';
 import { VM_VERSION } from './storing';
 import type { Claim, Outcome, Status } from './storing';
 import { decoded, encoded } from './values';
@@ -152,14 +153,14 @@ export class Attempt {
       return;
     }
     try {
-      await this.#steps(context, () => handler.run(context as never, argument));
+      await this.#steps(context, handler, () => handler.run(context as never, argument));
     } finally {
       context.end();
     }
   }
 
   /** Until the handler is done: its code runs until it waits, and then what it awaits is awaited. */
-  async #steps(context: Context, begins: () => unknown): Promise<void> {
+  async #steps(context: Context, handler: AnyHandler, begins: () => unknown): Promise<void> {
     const begun = (): void => {
       const ended = (made: Ending): void => {
         this.#ending = made;
@@ -171,7 +172,7 @@ export class Attempt {
     for (;;) {
       this.claim.isShielded = context.isShielded;
       if (this.#isOver(context)) return;
-      if (this.#ending !== undefined) return this.#ends(context, this.#ending);
+      if (this.#ending !== undefined) return this.#ends(context, handler, this.#ending);
       const waiters = context.waiters;
       if (waiters.length === 0) return this.#fails(new NotDurable(`the handler awaits ${FOREIGN}`));
       const trees = [...new Set(waiters.map((it) => it.durable))].map((it) => it.tree());
@@ -205,7 +206,11 @@ export class Attempt {
   }
 
   /** The handler has ended: its result is written, or its failure, or the attempt has failed. */
-  #ends(context: Context, ending: NonNullable<Ending>): void {
+  #ends(context: Context, handler: AnyHandler, ending: NonNullable<Ending>): void {
+    const { continues } = context;
+    const isCaught = continues !== undefined && !('thrown' in ending && ending.thrown === continues);
+    if (isCaught) return this.#fails(new Error('the handler caught what ctx.continueAsNew throws: it has to be thrown again'));
+    if (continues !== undefined) return this.#goesOn(context, handler, continues.argument);
     if ('value' in ending) {
       let value: Uint8Array;
       try {
@@ -217,6 +222,18 @@ export class Attempt {
     }
     if (!isOf(ending.thrown, TerminalError)) return this.#fails(ending.thrown);
     context.write(failureOf(ending.thrown));
+  }
+
+  /** The invocation goes on as a new one, if its handler takes the argument. */
+  #goesOn(context: Context, handler: AnyHandler, argument: Uint8Array): void {
+    try {
+      decoded(argument, handler.takes);
+    } catch (error) {
+      const why = said(error).replace(/^BadValue: /, '');
+      return context.write({ code: 400, message: `the argument of ctx.continueAsNew in ${handler.service}/${handler.name}: ${why}` });
+    }
+    context.write(argument, true);
+    this.claim.continues = { headers: Object.entries(context.headers), asked: context.signals };
   }
 
   // ---- awaits

@@ -4,13 +4,13 @@ import { JournalMismatch, StatusError, VMError } from 'palqytun';
 import type { Failure, Handle, Input, Pair, RetryPolicy, Target, Value, VM } from 'palqytun';
 import { Call, Durable, Leaf, idOf, select } from './durable';
 import type { Scope, Waiter } from './durable';
-import { AttemptEnds, BadValue, OutsideHandler, TerminalError, TimedOut, said } from './errors';
+import { AttemptEnds, BadValue, ContinuedAsNew, OutsideHandler, TerminalError, TimedOut, said } from './errors';
 import type { Trace } from './hash';
 import type { Fields, Level, Log } from './log';
 import { Random } from './random';
 import { checkRetry } from './services';
 import type { Fixed, Handler, Retry } from './services';
-import { checkName, decoded, encoded } from './values';
+import { attributeOf, checkName, decoded, encoded } from './values';
 import type { Parse } from './values';
 import { within } from './within';
 
@@ -78,6 +78,8 @@ export interface Begun {
 /** What a run's name begins with that is none of a handler's: the command itself is a record. */
 export const OWN = 'palqytun.';
 const PATCHED = `${OWN}patched `;
+const ATTRIBUTE = `${OWN}attribute `;
+const CONTINUED = `${OWN}continued`;
 
 function given(value: unknown): Uint8Array | Failure {
   return value instanceof TerminalError ? failureOf(value) : encoded(value);
@@ -133,6 +135,10 @@ export class Context implements Scope {
   readonly asked = new Set<Handle>();
   /** The context was used outside the handler's own code. @internal */
   misused: OutsideHandler | undefined;
+  /** What `continueAsNew` has thrown. @internal */
+  continues: ContinuedAsNew | undefined;
+  /** How many signals of each name the handler has asked for. @internal */
+  readonly signals = new Map<string, number>();
   readonly invocationId: string;
 
   constructor(begun: Begun) {
@@ -392,11 +398,32 @@ export class Context implements Scope {
     }
   }
 
-  /** The handler has ended with this result. @internal */
-  write(result: Uint8Array | Failure): void {
+  /** The handler has ended with this result; or it goes on as a new invocation, which has this argument. @internal */
+  write(result: Uint8Array | Failure, hasNext = false): void {
     this.#passPatches();
+    if (hasNext) this.#begun.vm.sysRun(CONTINUED);
     this.#begun.vm.sysWriteOutput(result);
     this.#begun.vm.sysEnd();
+  }
+
+  /**
+   * Says something of this invocation by which people find it: on the page, and by `palqytun invocations list --attribute customer=ann`. It stays until it is
+   * set again; null takes it away. A name and a value have at most 1,000 bytes, and a name no = and no &. What is secret doesn't belong here.
+   */
+  setAttribute(name: string, value: string | number | boolean | null): void {
+    const said = attributeOf(name, value);
+    this.#tells((vm) => vm.sysRun(ATTRIBUTE + JSON.stringify(said === null ? [name] : [name, said])));
+  }
+
+  /**
+   * Ends this invocation, and begins a new one of the same handler with this argument in its place: with the same key, headers, idempotency key and caller, and
+   * an empty journal. It throws what ends the handler. Those who wait for this invocation get the result of the last one, and its key stays held meanwhile.
+   * Signals that came and weren't asked for go over; what comes for this one's sleeps, calls and awakeables doesn't.
+   */
+  continueAsNew(argument: unknown = null): never {
+    this.#own('ctx.continueAsNew');
+    this.continues = new ContinuedAsNew(encoded(argument));
+    throw this.continues;
   }
 
   // ---- other handlers
@@ -458,6 +485,7 @@ export class Context implements Scope {
 
   /** The next signal of this name. */
   signal<T = unknown>(name: string, gives?: Parse<T>): Durable<T> {
+    this.signals.set(name, (this.signals.get(name) ?? 0) + 1);
     return this.leaf((vm) => vm.createSignalHandle(name), results(gives));
   }
 

@@ -3,7 +3,7 @@
 import { frames } from 'palqytun';
 import type { Statements } from './tables';
 import { TerminalError } from './errors';
-import { Kind, VOID, awakeableOf, failure, inputCommand, invocationId, isCancel, keys } from './frames';
+import { Kind, VOID, awakeableOf, failure, inputCommand, invocationId, isAttribute, isCancel, keys } from './frames';
 import type { Frame } from './frames';
 import { idOfCall, seedOf } from './hash';
 import type { About } from './services';
@@ -42,6 +42,8 @@ export interface New {
   readonly due: number | null;
   readonly parent: string | null;
   readonly trace: string | null;
+  /** What another invocation had, in whose place this one goes on. */
+  readonly queued?: { readonly queue: string | null; readonly queue_key: string | null; readonly priority: number };
 }
 
 /** Puts a notification into an invocation's inbox, if it has one. */
@@ -91,7 +93,7 @@ export async function create(to: Statements, own: ReadonlyMap<string, About>, it
   const begins = it.due ?? to.now;
   const [deadline, expires] = [0, 1].map((at) => (target.times[at] == null ? null : begins + (target.times[at] as number)));
   const idem = target.isMain ? '' : it.idempotencyKey || null;
-  const queued = { queue: target.queue, queue_key: target.queue === null ? null : queueKey, priority: priorityOf(headers) };
+  const queued = it.queued ?? { queue: target.queue, queue_key: target.queue === null ? null : queueKey, priority: priorityOf(headers) };
   const place = { service: it.service, handler: it.handler, key: it.key, idem };
   const row = { ...place, id: it.id, exclusive: Number(target.exclusive), seed: it.seed, due: it.due, now: to.now, parent: it.parent, trace: it.trace };
   if ((await to.change('create', { ...row, deadline, expires, ...queued })) === 0) {
@@ -116,6 +118,7 @@ export interface Own {
 
 /** Does what a command asks for; returns the notifications that it brings at once. */
 export async function perform(to: Statements, own: Own, frame: Frame): Promise<Uint8Array[]> {
+  if (isAttribute(frame)) return attributes(to, own, new frames.Message(frame.bytes).text(0));
   const performs = PERFORMED[frame.kind];
   return performs === undefined ? [] : performs(to, own, new frames.Message(frame.bytes), frame.bytes);
 }
@@ -125,6 +128,14 @@ type Performs = (to: Statements, own: Own, it: Message, frame: Uint8Array) => Pr
 /** A time of a command, which is by this process's clock, by the database's. */
 function dueOf(to: Statements, it: Message): number {
   return to.now + (Number(it.number) - Date.now()) / 1000;
+}
+
+/** An attribute of the invocation is set, or taken away; the name of its run has both as JSON. */
+async function attributes(to: Statements, own: Own, run: string): Promise<Uint8Array[]> {
+  const [name, said] = JSON.parse(run.slice(run.indexOf('['))) as [string, string?];
+  if (said === undefined) await to.change('no-attribute', { id: own.id, name });
+  else await to.change('attribute', { id: own.id, name, said });
+  return [];
 }
 
 async function sleeps(to: Statements, own: Own, it: Message): Promise<Uint8Array[]> {

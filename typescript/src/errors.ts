@@ -49,6 +49,15 @@ export class AttemptEnds extends Error {
   override readonly name = 'AttemptEnds';
 }
 
+/** The handler ends, and a new invocation goes on in the place of its own. */
+export class ContinuedAsNew extends Error {
+  override readonly name = 'ContinuedAsNew';
+
+  constructor(readonly argument: Uint8Array) {
+    super('ctx.continueAsNew ends the handler: whoever catches this has to throw it again');
+  }
+}
+
 /** A value that JSON can't carry, or that isn't what is wanted. */
 export class BadValue extends Error {
   override readonly name = 'BadValue';

@@ -11,6 +11,7 @@ export const Kind = {
 } as const; // prettier-ignore
 
 const HEAD = 10;
+const NAMED_SIGNAL = 2; // the kind of such a notification
 /** Commands that ask nothing of the runtime but to be stored. */
 const STEPS = new Set<number>([Kind.proposal, Kind.awaitingOn, Kind.eagerState, Kind.eagerKeys, Kind.run]);
 
@@ -31,8 +32,16 @@ export function split(output: Uint8Array): Frame[] {
   return found;
 }
 
+const SETS = Buffer.from('palqytun.attribute ');
+const NAMED = 18; // the place of a run's name in its frame
+
+/** Whether a command is a run that sets an attribute. */
+export function isAttribute({ kind, bytes }: Frame): boolean {
+  return kind === Kind.run && bytes.subarray(NAMED, NAMED + SETS.length).equals(SETS);
+}
+
 export function isStep(frame: Frame): boolean {
-  return STEPS.has(frame.kind);
+  return STEPS.has(frame.kind) && !isAttribute(frame);
 }
 
 function hex(text: string | Uint8Array): string {
@@ -79,6 +88,13 @@ export function inputCommand(data: Uint8Array, headers: Pairs): Uint8Array {
 
 export function isCancel(frame: Uint8Array): boolean {
   return Buffer.from(frame).equals(CANCEL());
+}
+
+/** The name of the signal that a notification is; undefined if it is something else, or a signal by its number. */
+export function signalName(frame: Uint8Array): string | undefined {
+  if (frame[0] !== 0 || frame[1] !== Kind.notification) return undefined;
+  const it = new frames.Message(frame);
+  return it.kind === NAMED_SIGNAL ? it.text(0) : undefined;
 }
 
 /** The code and the text of a failure; undefined if the result is none. */

@@ -15,6 +15,7 @@ interface Given {
   readonly key: string;
   readonly name: string;
   readonly value: Uint8Array;
+  readonly said: string;
   readonly worker: string;
   readonly serves: string;
   readonly code: string;
@@ -325,7 +326,7 @@ const STATEMENTS: Readonly<Record<Exclude<StatementName, 'now'>, Does>> = {
   fence: (to, it) => rows(to.invocations.where((one) => one.id === it.id && isFenced(it)(one)).map(() => [1])),
   append: (to, it) => append(to, { ...it, frames: [it.frame] }),
   appends: append,
-  attribute: (to, it) => (to.attributes.put(placed(it.id, it.name), [it.id, it.name, String(it.value)]), changed(1)),
+  attribute: (to, it) => (to.attributes.put(placed(it.id, it.name), [it.id, it.name, it.said]), changed(1)),
   'no-attribute': (to, it) => changed(to.attributes.take(([id, name]) => id === it.id && name === it.name).length),
   timer: (to, it) => {
     const seq = to.number();
@@ -360,7 +361,9 @@ const STATEMENTS: Readonly<Record<Exclude<StatementName, 'now'>, Does>> = {
   end: (to, it) => changed(to.set(it.id, isFenced(it), () => ({ entries: it.entries, status: 'done', result: it.result, failed: it.failed, error: it.error }))),
   ended: (to, it) => rows(to.waiters.take((one) => one.invocation === it.id).map((one) => [one.waiter, one.completes])),
   gone,
+  continued: (to, it) => rows(to.invocations.where((one) => one.id === it.id).map((one) => [one.idem, one.chain ?? one.id, one.parent, one.trace, null, null, 0])),
   continue: continues,
+  chain: (to, it) => changed(to.set(it.id, () => true, () => ({ chain: it.chain }))),
   fail: (to, { id, entries, status, due, error, retries, failing_since, failures, failed_since, ...it }) =>
     changed(to.set(id, isFenced({ id, entries, status, due, error, retries, failing_since, failures, failed_since, ...it }), () => ({
       entries, status, due: due ?? 0, error, deaths: 0, retries, failing_since, failures, failed_since,

@@ -84,7 +84,7 @@ export const STATEMENTS = {
     { text: "INSERT INTO journal(invocation, at, completes, frame, stored) SELECT $1::text, at, completes, frame, $2::float8 FROM unnest($3::bigint[]::bigint[], $4::bigint[]::bigint[], $5::bytea[]::bytea[]) AS entry(at, completes, frame)", names: ["id", "now", "places", "completions", "frames"] },
   ],
   'attribute': [
-    { text: "INSERT INTO attributes(invocation, name, value) VALUES ($1::text, $2::text, $3::bytea) ON CONFLICT(invocation, name) DO UPDATE SET value=excluded.value", names: ["id", "name", "value"] },
+    { text: "INSERT INTO attributes(invocation, name, value) VALUES ($1::text, $2::text, $3::text) ON CONFLICT(invocation, name) DO UPDATE SET value=excluded.value", names: ["id", "name", "said"] },
   ],
   'no-attribute': [
     { text: "DELETE FROM attributes WHERE invocation=$1::text AND name=$2::text", names: ["id", "name"] },
@@ -158,11 +158,17 @@ export const STATEMENTS = {
     { text: "DELETE FROM promise_waiters WHERE waiter=$1::text", names: ["id"] },
     { text: "DELETE FROM locks WHERE service=$1::text AND key=$2::text AND holder=$3::text", names: ["service", "key", "id"] },
   ],
+  'continued': [
+    { text: "SELECT idem, COALESCE(chain, id), parent, trace, queue, queue_key, priority FROM invocations WHERE id=$1::text", names: ["id"] },
+  ],
   'continue': [
     { text: "UPDATE invocations SET entries=$1::bigint, status='done', ended=$2::float8, stopped=$2::float8, how='continued', idem=NULL, chain=$3::text, continued=$4::text WHERE id=$5::text AND epoch=$6::bigint AND entries=$7::bigint AND status='running'", names: ["entries", "now", "chain", "next", "id", "epoch", "before"] },
     { text: "INSERT INTO attributes(invocation, name, value) SELECT $1::text, name, value FROM attributes WHERE invocation=$2::text", names: ["next", "id"] },
     { text: "UPDATE waiters SET invocation=$1::text WHERE invocation=$2::text", names: ["next", "id"] },
     { text: "UPDATE locks SET holder=$1::text WHERE service=$2::text AND key=$3::text AND holder=$4::text", names: ["next", "service", "key", "id"] },
+  ],
+  'chain': [
+    { text: "UPDATE invocations SET chain=$1::text WHERE id=$2::text", names: ["chain", "id"] },
   ],
   'fail': [
     { text: "UPDATE invocations SET entries=$1::bigint, status=$2::text, due=$3::float8, error=$4::text, stopped=$5::float8, how=$6::text, deaths=0, retries=$7::integer, failing_since=$8::float8, failures=$9::integer, failed_since=$10::float8 WHERE id=$11::text AND epoch=$12::bigint AND entries=$13::bigint AND status='running'", names: ["entries", "status", "due", "error", "now", "how", "retries", "failing_since", "failures", "failed_since", "id", "epoch", "before"] },

@@ -3,11 +3,12 @@
 import { frames } from 'palqytun';
 import type { Journal, Row } from 'palqytun';
 import type { Statements } from './tables';
-import { deliver, perform } from './effects';
+import { create, deliver, perform } from './effects';
 import type { Own } from './effects';
 import { storable } from './errors';
-import { Kind, failureIn, isCancel, isStep, split } from './frames';
+import { Kind, failureIn, isCancel, isStep, signalName, split, valueIn } from './frames';
 import type { Frame } from './frames';
+import { idOfCall, seedOf } from './hash';
 import { delayOf, isOver } from './services';
 import type { Retry } from './services';
 
@@ -52,6 +53,8 @@ export interface Claim extends Own {
   isShielded: boolean;
   /** The attempt has failed by a run, which has its own policy. */
   byRun: boolean;
+  /** A new invocation goes on in its place: the headers of both, and how many signals of each name its handler has asked for. */
+  continues?: { readonly headers: readonly (readonly [string, string])[]; readonly asked: ReadonlyMap<string, number> };
 }
 
 export type Status = 'running' | 'suspended' | 'ready' | 'paused' | 'done';
@@ -144,7 +147,8 @@ async function stops(to: Statements, claim: Claim, it: Growth): Promise<Outcome>
   const last = it.written.find(isEnd) as Frame;
   if (last.kind === Kind.suspension) return suspend(to, claim, it, last.bytes);
   if (last.kind === Kind.error) return fail(to, claim, it, last.bytes);
-  return end(to, claim, it.before, it.written.find(({ kind }) => kind === Kind.output)?.bytes ?? (await storedOutput(to, claim)));
+  const result = it.written.find(({ kind }) => kind === Kind.output)?.bytes ?? (await storedOutput(to, claim));
+  return claim.continues === undefined ? end(to, claim, it.before, result) : goesOnAs(to, claim, it.before, result, claim.continues);
 }
 
 type Stops = 'grow' | 'suspend' | 'end' | 'fail';
@@ -235,6 +239,39 @@ async function leaves(to: Statements, claim: Claim, result: Uint8Array): Promise
   await to.change('gone', { id: claim.id, service: claim.service, key: claim.key });
   if (claim.exclusive) to.say('ready');
   to.ended(claim.id);
+}
+
+/** The invocation ends, and another one goes on in its place: who waits for this one waits for that one, and the key stays held. */
+async function goesOnAs(to: Statements, claim: Claim, before: number, result: Uint8Array, { headers, asked }: NonNullable<Claim['continues']>): Promise<Outcome> {
+  const [id, next] = [claim.id, idOfCall(claim.id, -1)];
+  const [idem, chain, parent, trace, queue, queueKey, priority] = (await to.rows('continued', { id }))[0] as [
+    string | null, string, string | null, string | null, string | null, string | null, number,
+  ]; // prettier-ignore
+  const left = [...(await unasked(to, id, asked)), ...(await to.rows('inbox', { id })).map(frameOf).filter((it) => isCancel(it) || signalName(it) !== undefined)];
+  const fenced = { id, epoch: claim.epoch, before, entries: claim.journal.entries, now: to.now };
+  const { service, handler, key } = claim;
+  await to.change('continue', { ...fenced, chain, next, service, key }); // the row is kept since the store's fence
+  await create(to, claim.services, {
+    id: next, seed: seedOf(next), service, handler, key, argument: valueIn(result) ?? new Uint8Array(), headers, idempotencyKey: idem, due: null, parent, trace,
+    queued: { queue, queue_key: queueKey, priority },
+  }); // prettier-ignore
+  await to.change('chain', { id: next, chain });
+  await to.change('gone', { id, service, key });
+  for (const it of left) await deliver(to, next, it);
+  to.say('ready');
+  to.ended(id);
+  return outcome('done');
+}
+
+/** Signals by name that came to the journal, and for which the handler hasn't asked. */
+async function unasked(to: Statements, id: string, asked: ReadonlyMap<string, number>): Promise<Uint8Array[]> {
+  const counts = new Map(asked);
+  return (await to.rows('journal', { id })).map(([frame]) => frame as Uint8Array).filter((frame) => {
+    const name = signalName(frame);
+    const count = name === undefined ? 0 : counts.get(name) ?? 0;
+    if (name !== undefined && count > 0) counts.set(name, count - 1);
+    return name !== undefined && count <= 0;
+  });
 }
 
 /** What hasn't begun, and is cancelled, ends so. */

@@ -117,6 +117,17 @@ export function checkName(what: string, name: unknown): asserts name is string {
   if (name.includes('\0')) throw new TerminalError(`${what} has the character NUL, which isn't allowed`, 400);
 }
 
+/** The text of an attribute's value; null takes it away. Throws a `TerminalError` with code 400 for a name or a value that is none. */
+export function attributeOf(name: unknown, value: unknown): string | null {
+  checkName('the name of an attribute', name);
+  if (name === '' || /[=&]/.test(name)) throw new TerminalError(`the name of an attribute is a text without = and &, and not ${JSON.stringify(name).slice(0, 100)}`, 400);
+  if (value === null) return null;
+  if (!['string', 'number', 'boolean'].includes(typeof value)) throw new TerminalError(`the attribute ${name} is a text, a number, a boolean or null, and not of type ${typeof value}`, 400);
+  const said = String(value);
+  checkName(`the attribute ${name}`, said);
+  return said;
+}
+
 /** Throws a `TerminalError` with code 413 if a value has too many bytes. */
 export function checkPayload(what: string, size: number, most = PAYLOAD): void {
   if (size > most) throw new TerminalError(`${what} has ${size} bytes, and may have ${most}`, 413);

@@ -4,7 +4,7 @@ import assert from 'node:assert/strict';
 import { test } from 'node:test';
 import { TerminalError, TimedOut, all, allSettled, any, handler, main, object, race, select, service, shared, workflow } from '@palqytun/sdk';
 import type { ObjectContext, ServiceContext, SharedObjectContext, SharedWorkflowContext, WorkflowContext } from '@palqytun/sdk';
-import { LONG, stage } from './cluster';
+import { LONG, asked, stage } from './cluster';
 
 const tries = new Map<string, number>();
 const bodies = new Map<string, number>();
@@ -26,6 +26,16 @@ const cell = object('Cell', {
     if (all) ctx.clearAll();
     else ctx.clear('last');
     return ctx.keys();
+  },
+});
+
+const counts = object('Counting', {
+  to: async (ctx: ObjectContext, [at, end]: [number, number]): Promise<unknown> => {
+    ctx.setAttribute('stage', at);
+    if (at === 0) ctx.setAttribute('customer', 'ann');
+    await ctx.sleep(10);
+    if (at < end) ctx.continueAsNew([at + 1, end]);
+    return [at, await ctx.signal<string>('last')];
   },
 });
 
@@ -113,7 +123,7 @@ const work2 = service('Answers', {
 
 for (const idle of [1000, 0]) {
   test(`handlers whose attempts wait for ${idle} ms`, { timeout: LONG }, async () => {
-    const on = await stage([cell, gate, work, work2], { idle });
+    const on = await stage([cell, counts, gate, work, work2], { idle });
     const key = `key ${idle}`;
     try {
       assert.deepEqual(await on.client.call(work.runs, key), [[1, true], 30, true]);
@@ -126,6 +136,11 @@ for (const idle of [1000, 0]) {
       assert.deepEqual(await on.client.call(cell.look, null, { key }), [['last', 'sum'], 15, null]);
       assert.deepEqual(await on.client.call(cell.forget, false, { key }), ['sum']);
       assert.deepEqual(await on.client.call(cell.forget, true, { key }), []);
+      const counting = await on.client.send(counts.to, [0, 3], { key });
+      await counting.signal('last', 'word');
+      assert.deepEqual(await counting.result(LONG), [3, 'word']);
+      const said = await asked("SELECT a.name, a.value FROM attributes a JOIN invocations i ON i.id=a.invocation WHERE i.service='Counting' AND i.key=$1 AND i.result IS NOT NULL ORDER BY 1", key);
+      assert.deepEqual(said, [['customer', 'ann'], ['stage', '3']]);
       const waits = await on.client.send(gate.waits, 4, { key });
       assert.equal(await on.client.call(gate.opens, 'sesame', { key }), 'opened');
       assert.equal(await on.client.call(gate.opens, 'other', { key }), '409');

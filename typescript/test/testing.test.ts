@@ -59,6 +59,33 @@ const shop = service('Shop', {
   },
 });
 
+const counts = object('Counts', {
+  /** It goes on as a new invocation, until it has counted to an end. */
+  to: async (ctx: ObjectContext, [at, end]: [number, number]): Promise<unknown> => {
+    ctx.setAttribute('stage', at);
+    if (at === 0) ctx.setAttribute('customer', 'ann');
+    ctx.set('seen', [...((await ctx.get<number[]>('seen')) ?? []), at]);
+    await ctx.sleep(DAY);
+    if (at < end) ctx.continueAsNew([at + 1, end]);
+    ctx.setAttribute('stage', null);
+    return [at, await ctx.signal<string>('last')];
+  },
+  one: async (ctx: ObjectContext, more: boolean | null): Promise<boolean> => {
+    ctx.setAttribute('customer', 'ann');
+    ctx.setAttribute('stage', more ?? true);
+    await ctx.sleep(DAY);
+    if (more === null) ctx.continueAsNew(false);
+    return more;
+  },
+  catches: async (ctx: ObjectContext, _: null): Promise<string> => {
+    try {
+      return ctx.continueAsNew(1);
+    } catch {
+      return 'caught';
+    }
+  },
+});
+
 const gate = workflow('Gate', {
   main: main(async (ctx: WorkflowContext, _: null): Promise<string> => ctx.promise<string>('opened').value()),
   open: async (ctx: SharedWorkflowContext, word: string): Promise<null> => ctx.promise('opened').resolve(word),
@@ -141,6 +168,19 @@ test('what others complete, and what fails', { timeout: LONG }, async () => {
   }, { runs: { tell, told }, log: silent });
 });
 
+test('one that goes on as a new invocation has an empty journal, and who waits gets the last result', { timeout: LONG }, async () => {
+  await Testing.run([counts], async (it) => {
+    const sent = await it.send(counts.to, [0, 3], { key: 'a' });
+    const other = await it.send(counts.to, [7, 7], { key: 'a' }); // the key stays held
+    await sent.signal('last', 'word');
+    assert.deepEqual(await sent.result(), [3, 'word']);
+    await other.signal('last', 'other');
+    assert.deepEqual(await other.result(), [7, 'other']);
+    assert.deepEqual(await it.state('Counts', 'a'), { seen: [0, 1, 2, 3, 7] });
+    await assert.rejects(it.call(counts.catches, null, { key: 'b' }), /paused, 500 Error: the handler caught what ctx.continueAsNew throws: it has to be thrown again/);
+  }, { log: silent });
+});
+
 test('a fake gives its results one after the other, and knows the key of its run', () => {
   const pay = fake<[string], string>(new Error('no bank'), 'receipt', (name) => `for ${name}`);
   assert.throws(() => pay('ann'), { message: 'no bank' });
@@ -149,7 +189,7 @@ test('a fake gives its results one after the other, and knows the key of its run
   assert.deepEqual(pay.byKey().get(undefined), { key: undefined, given: ['eve'] });
 });
 
-test('a worker dies at each commit, and what is left is the same', { timeout: 3 * LONG }, async () => {
+test('a worker dies at each commit, and what is left is the same', { timeout: 2 * LONG }, async () => {
   const pay = fake<[string, string], string>('receipt');
   const before = bank.pay;
   bank.pay = pay;
@@ -157,10 +197,14 @@ test('a worker dies at each commit, and what is left is the same', { timeout: 3 
     const deaths = await crashEverywhere([shop, stock], shop.order, 'pen', { fakes: [pay], settles: LONG });
     assert(deaths >= 10, `${deaths} deaths`);
     assert.deepEqual([...pay.byKey()], [['inv_test-2', { key: 'inv_test-2', given: ['pen', 'inv_test-2'] }]]);
-    assert(await crashEverywhere([stock], stock.take, 3, { key: 'ink', settles: LONG }) > 2);
-    assert(await crashEverywhere([shop, stock], shop.order, 'pen', { runs: { pay: fake('paid') }, settles: LONG, most: 3 }) === 6);
     await assert.rejects(crashEverywhere([shop], shop.forgets, null, { fakes: [pay], settles: LONG }), /^Error: with a death (at|after) commit \d+ the effects differ:/);
   } finally {
     bank.pay = before;
   }
+});
+
+test('a worker dies at commits of objects, and of one that goes on as a new invocation', { timeout: 2 * LONG }, async () => {
+  assert(await crashEverywhere([stock], stock.take, 3, { key: 'ink', settles: LONG }) > 2);
+  assert(await crashEverywhere([counts], counts.one, null, { key: 'a', settles: LONG }) > 10);
+  assert.equal(await crashEverywhere([shop, stock], shop.order, 'pen', { runs: { pay: fake('paid') }, settles: LONG, most: 2 }), 4);
 });
