@@ -80,9 +80,10 @@ def until_all_ended(
     wrong: str = "",
     version: str = "",
     app: App = crash_app.app,
+    serves_all: bool = False,
 ) -> None:
     """Runs a worker until each invocation has ended, or it dies at commit number `dies`; or when a wrong runtime has committed a first part,
-    the `dies_between`th time. It is the whole of a process."""
+    the `dies_between`th time. What waits for a worker that serves it is waited for if this one `serves_all`. It is the whole of a process."""
     global _left
     random.seed(seed)
     _left = dies_between
@@ -107,7 +108,7 @@ def until_all_ended(
         task = asyncio.create_task(engine.run())
         await engine.is_open()
         last, looks = time.monotonic(), 0
-        while not task.done() and await _count(engine, _UNFINISHED):
+        while not task.done() and await _count(engine, f"{_UNFINISHED} OR how='unserved'" if serves_all else _UNFINISHED):
             if any(it.claim.service != "Ticks" for it in engine.live.values()) or await _count(engine, _TO_DO, time.time() + _SOON):
                 last, looks = time.monotonic(), 0
             elif (looks := looks + 1) > 40 and time.monotonic() - last > _PATIENCE:  # also if the host was busy with other things

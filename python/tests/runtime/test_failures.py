@@ -21,7 +21,7 @@ from support import Runtime
 
 service = Service("Fails")
 HERE = pathlib.Path(__file__).name
-TWICE = Retry(initial=0.01, attempts=2, pause=True)
+TWICE = Retry(initial=0.01, attempts=2, pause=True, jitter=0)
 
 
 @service.handler()
@@ -180,15 +180,16 @@ class Failures(support.OnADatabase):
         self.assertEqual((note.levelname, note.getMessage()), ("INFO", f"Fails/refuses {id} failed: 404 no such"))
 
     @with_worker
-    async def test_a_send_that_reaches_nobody_is_a_line(self, runtime):
+    async def test_a_send_that_nobody_serves_is_a_line(self, runtime):
         id = await runtime.send("Fails/sends_to_nobody", 1)
         self.assertEqual((await runtime.result(id))[:1], (404,))
-        first, second, ended = await self.notes(id, 3)
-        why = "404 there is no handler {}, of this app or of a worker that is alive"
-        self.assertEqual((first.levelname, first.event, first.error), ("WARNING", "send dropped", why.format("None/such")))
-        self.assertRegex(first.getMessage(), rf"^Fails/sends_to_nobody {id} attempt \d has sent what nobody gets: 404 there is no handler None/such")
-        self.assertEqual((second.event, second.error, ended.event), ("send dropped", why.format("Fails/none"), "failed"))
-        self.assertEqual(await runtime.rows("SELECT handler FROM invocations"), [("sends_to_nobody",)])
+        rows = await runtime.rows("SELECT id, service, handler, status FROM invocations WHERE how='unserved' ORDER BY seq")
+        self.assertEqual([row[1:] for row in rows], [("None", "such", "paused"), ("Fails", "none", "paused")])
+        for sent, name, handler, _ in rows:
+            [note] = await self.notes(sent)
+            why = f"404 there is no handler {name}/{handler}, of this app or of a worker that is alive"
+            self.assertEqual((note.levelname, note.event, note.handler, note.error), ("WARNING", "unserved", f"{name}/{handler}", why))
+            self.assertEqual(note.getMessage(), f"{name}/{handler} {sent} waits for a worker that serves it: {why}")
 
     @with_worker
     async def test_a_run_that_fails_is_a_line(self, runtime):

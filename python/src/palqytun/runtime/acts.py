@@ -17,6 +17,7 @@ from .journal import Result
 from .lease import PROGRESS
 from .meter import Ended
 from .outcome import Outcome
+from .refused import UNSERVED
 from .services import App, TerminalError
 
 AT_ONCE = 100  # invocations that one transaction acts on, at most
@@ -36,6 +37,7 @@ class _Row:
     due: float
     cancelled: float | None
     created: float
+    how: str | None
 
 
 _COLUMNS = ", ".join(it.name for it in fields(_Row))
@@ -151,6 +153,8 @@ async def resume(db: Database, app: App | None, out: Outcome, id: str, who: str)
     it = await _kept(db, id)
     if it.status != "paused":
         raise TerminalError(f"{id} is {it.status}, and not paused", 409)
+    if it.how == UNSERVED:
+        raise TerminalError(f"{id} waits for a worker that serves {it.service}/{it.handler}, and goes on by itself once there is one", 409)
     fresh = ", ".join(f"{name}=?" for name in PROGRESS)
     due = it.due if it.epoch == 0 else min(it.due, db.now())
     await db.change(f"UPDATE invocations SET status='ready', error=NULL, due=?, {fresh} WHERE id=?", (due, *PROGRESS.values(), id))

@@ -22,6 +22,11 @@ class Target:
     queue_timeout: float | None = None
     queue: str | None = None
 
+    @property
+    def is_main(self) -> bool:
+        """Whether it is a workflow's `main`, which runs once a key."""
+        return self.workflow and self.exclusive
+
     def until(self, begins: float) -> tuple[float | None, float | None]:
         """Until when an invocation that is due then has to have ended, and to have begun."""
         return None if self.timeout is None else begins + self.timeout, None if self.queue_timeout is None else begins + self.queue_timeout

@@ -8,7 +8,7 @@ from collections.abc import AsyncIterator, Collection, Sequence
 from dataclasses import dataclass, field
 from typing import Any
 
-from . import acts, announced, deadlines, inbox, invocations, journal, queueing, schedules
+from . import acts, announced, deadlines, inbox, invocations, journal, queueing, schedules, unserved
 from .database import Asked, Claiming, Database
 from .invocations import CLAIMED, MOST_LOST, SUSPECT, Claim, Claimable
 from .outcome import Outcome
@@ -113,6 +113,12 @@ class Claimer:
     async def sweep(self, db: Database) -> None:
         """Removes what was delivered while its target ended elsewhere. The inbox is looked through, and no invocation that isn't in it."""
         await db.change("DELETE FROM inbox WHERE fresh=1 AND (SELECT status FROM invocations WHERE id=inbox.invocation)='done'")
+
+    async def serve(self, db: Database) -> Outcome:
+        """Some of what waits for a worker that serves it go on by this one; `has_more` says whether there may be others."""
+        out = Outcome()
+        out.has_more = await unserved.serve(db, self.app, out)
+        return out
 
     async def leave(self, db: Database) -> None:
         """The worker ends; others may go on with what it had at once."""

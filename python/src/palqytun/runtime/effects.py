@@ -9,7 +9,7 @@ import time
 from collections.abc import Sequence
 from typing import Any
 
-from . import announced, inbox, invocations, journal, sealing
+from . import announced, inbox, invocations, journal, refused, sealing
 from .database import Database, Each
 from .invocations import New
 from .journal import Attach, Attribute, Call, Change, Command, CompleteAwakeable, Promise, Read, Result, SendSignal, Sleep
@@ -54,7 +54,6 @@ class Performer:
         self.db, self.app, self.out, self.growth, self.service, self.key, self.trace = db, app, out, growth, service, key, trace
         self.own = growth.lease.invocation
         self.clears = False  # some command clears a name of the state
-        self.dropped: list[TerminalError] = []  # why sends reach nobody
 
     def needs_fence(self, it: Command) -> bool:
         """Whether the invocation's row has to be kept before this command is performed. On a server the changes of rows that are alike come after the
@@ -66,7 +65,7 @@ class Performer:
     def _is_new(self, it: Call) -> bool:
         """Whether a call makes an invocation of this app without a look at what is there."""
         target = announced.own(self.app, it.service, it.handler)
-        return target is not None and it.idempotency_key is None and not (target.workflow and target.exclusive)
+        return target is not None and it.idempotency_key is None and not target.is_main
 
     async def perform(self, commands: Sequence[Command]) -> None:
         """Does what these commands ask for, in their order."""
@@ -92,7 +91,7 @@ class Performer:
             if it.id is not None:
                 self.growth.complete(it.id, journal.failure(error.code, error.message))
             else:
-                self.dropped.append(error)
+                await refused.keep(self.db, self.out, new, error)
             return
         self.growth.complete(it.invocation_id, journal.invocation(id))
         if it.id is not None and is_new:

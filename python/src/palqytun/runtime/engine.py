@@ -354,11 +354,17 @@ class Engine(Desk):
 
     async def _sweeps(self, committer: Committer, claimer: Claimer) -> None:
         """Takes back what this worker has by the database, and no attempt here: none of it is lost, whatever has left it so. It is looked
-        at twice, since a claim may be on its way to its attempt."""
+        at twice, since a claim may be on its way to its attempt. What waits for a worker that serves it goes on, if this one does."""
         before = set[tuple[str, int]]()
+        await self._is_open.wait()
         while True:
-            await asyncio.sleep(self.lease / 3)
             try:
+                has_more = True
+                while has_more:
+                    out = await committer.submit(claimer.serve, is_slow=True)
+                    self.tell(out)
+                    has_more = out.has_more
+                await asyncio.sleep(self.lease / 3)
                 await committer.submit(claimer.sweep, is_slow=True)
                 held = await committer.submit(lambda db: storing.held(db, claimer.worker))
                 alone = {it for it in held if it[0] not in self.live}
@@ -371,6 +377,7 @@ class Engine(Desk):
                 return
             except StatementFailed as error:
                 log.warning("what has no attempt wasn't looked for: %s", error)
+                await asyncio.sleep(self.lease / 3)
 
     async def _adopts(self, committer: Committer, claimer: Claimer) -> None:
         """Goes on with invocations of other versions that have no worker, if this code makes their journals."""

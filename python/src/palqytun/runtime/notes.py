@@ -1,4 +1,4 @@
-"""What the log says of invocations: an attempt that failed, a pause, an end by a failure, a send that reached nobody. A transaction makes notes, and they are
+"""What the log says of invocations: an attempt that failed, a pause, an end by a failure, a send that nobody serves. A transaction makes notes, and they are
 logged once it is committed.
 
 Each is one line, and has its parts as fields of the record too, for a formatter that writes JSON.
@@ -10,8 +10,8 @@ import logging
 from dataclasses import dataclass
 
 log = logging.getLogger("palqytun")
-FAILED, LOST, PAUSED, ENDED, DROPPED = "attempt failed", "attempt lost", "paused", "failed", "send dropped"
-_LEVELS = {FAILED: logging.WARNING, LOST: logging.WARNING, PAUSED: logging.ERROR, ENDED: logging.INFO, DROPPED: logging.WARNING}
+FAILED, LOST, PAUSED, ENDED, UNSERVED = "attempt failed", "attempt lost", "paused", "failed", "unserved"
+_LEVELS = {FAILED: logging.WARNING, LOST: logging.WARNING, PAUSED: logging.ERROR, ENDED: logging.INFO, UNSERVED: logging.WARNING}
 
 
 @dataclass(frozen=True)
@@ -36,8 +36,8 @@ class Note:
         Shop/order inv_1 attempt 2 failed in the run 'pay', next in 0.40 s: OSError: gone (shop.py:95)
         >>> print(Note(ENDED, "inv_1", "Shop/order", 2, "404 no such address"))
         Shop/order inv_1 failed: 404 no such address
-        >>> print(Note(DROPPED, "inv_1", "Shop/order", 2, "404 there is no handler Mail/send"))
-        Shop/order inv_1 attempt 2 has sent what nobody gets: 404 there is no handler Mail/send
+        >>> print(Note(UNSERVED, "inv_1", "Mail/send", 0, "404 there is no handler Mail/send"))
+        Mail/send inv_1 waits for a worker that serves it: 404 there is no handler Mail/send
         """
         who = f"{self.handler} {self.invocation}"
         within = "" if self.run is None else f" in the run {self.run!r}"
@@ -47,7 +47,7 @@ class Note:
             LOST: f"attempt {self.attempt} was lost{next}",
             PAUSED: f"attempt {self.attempt} failed{within}, and it is paused until it is resumed" if self.attempt else "is paused until it is resumed",
             ENDED: "failed",
-            DROPPED: f"attempt {self.attempt} has sent what nobody gets",
+            UNSERVED: "waits for a worker that serves it",
         }
         where = "" if self.where is None else f" ({self.where})"
         return f"{who} {what[self.event]}: {self.error.partition(chr(10))[0]}{where}"

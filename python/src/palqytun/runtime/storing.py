@@ -55,7 +55,6 @@ async def store(
     if not found and (isinstance(stored.end, Suspension) or any(map(performer.needs_fence, stored.commands))):
         await growth.fence(db)  # else the first statement that changes something is that of `write`, which fences
     await performer.perform(stored.commands)
-    out.notes += [claim.note(notes.DROPPED, f"{it.code} {it.message}") for it in performer.dropped]
     for id in timers:
         db.each(_NO_TIMER, (claim.invocation, id))
     if stored.end is None:
@@ -112,6 +111,7 @@ async def _fail(db: Database, app: App, out: Outcome, claim: Claim, growth: Grow
         return
     out.status = "paused" if is_over or error.behaviour == "pause" else "ready"
     delay = retry.delay(counted.retries if claim.by_run else counted.failures) if error.delay is None else error.delay / 1000
+    delay = (retry if claim.retry is None else claim.retry).jittered(delay)
     why = error.message if claim.parted is None else f"{error.message}: {claim.parted}"
     text = storable(f"{error.code} {why}\n{error.stacktrace}".rstrip())
     how = "paused" if out.status == "paused" else "failed"
