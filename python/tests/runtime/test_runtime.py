@@ -128,7 +128,7 @@ class Handlers(support.OnADatabase):
 
     @with_runtime
     async def test_idempotency_keys(self, runtime):
-        ids = {await runtime.send("S/echo", n, idempotency_key="same") for n in range(3)}
+        ids = {await runtime.send("S/echo", 0, idempotency_key="same") for _ in range(3)}
         assert len(ids) == 1 and await runtime.result(ids.pop()) == 0
 
     @with_runtime

@@ -14,7 +14,7 @@ from .heartbeats import GivenUp, heartbeat, last_progress
 from .queues import Queue
 from .schedules import Schedule
 from .sealing import Sealed
-from .services import App, Cancelled, Handler, Retry, Service, TerminalError, TimedOut, VirtualObject, Workflow
+from .services import App, Cancelled, Handler, IdempotencyConflict, Retry, Service, TerminalError, TimedOut, VirtualObject, Workflow
 from .steps import Step, step
 from .transactions import Transaction
 
@@ -29,6 +29,7 @@ __all__ = [
     "Engine",
     "GivenUp",
     "Handler",
+    "IdempotencyConflict",
     "Invocation",
     "JsonCodec",
     "NotDurable",

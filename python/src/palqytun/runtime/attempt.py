@@ -10,7 +10,7 @@ from types import TracebackType
 from typing import Any, Protocol, TypeVar
 
 from .. import core
-from . import heartbeats, journal, notes, replay, sealing, spans, storing, transactions
+from . import heartbeats, journal, replay, sealing, spans, storing, transactions
 from .codec import BadValue, Codec, decoded, encoded
 from .committer import Stopped
 from .context import Action, AttemptEnds, CaughtTooMuch, Context, OutsideHandler, given_failure, running
@@ -446,7 +446,7 @@ class Attempt:
                 self._has_dropped = True
             elif isinstance(result, core.Retryable):
                 if not failed:  # the first one fails the attempt
-                    self.claim.run, self.claim.fault = context.actions[handle].name, raised
+                    self.claim.run, self.claim.retry, self.claim.fault = context.actions[handle].name, context.actions[handle].retry, raised
                 failed.append((handle, result))
             else:
                 self._vm.propose_run_completion(handle, result, policy=context.actions[handle].policy)
@@ -526,7 +526,7 @@ class Attempt:
 
     def _noted(self, out: Outcome) -> None:
         """Keeps what the spans say of the attempt's end."""
-        own = [it.error for it in out.notes if it.invocation == self.claim.invocation and it.event != notes.DROPPED]
+        own = [it.error for it in out.notes if it.invocation == self.claim.invocation]
         self.error = own[-1] if own else self.error
         if out.ends and self._has_ended:
             self.ended = out.ends[-1]

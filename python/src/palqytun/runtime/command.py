@@ -350,6 +350,7 @@ def _run_options(one: argparse.ArgumentParser) -> None:
     of.add_argument("--wait-for-database", type=_seconds, default=30.0, help="seconds for which a database that can't be reached is tried at first")
     of.add_argument("--log-format", choices=logs.FORMATS, default="text", help="lines, or an object a line, which needs the extra json")
     of.add_argument("--log-level", choices=logs.LEVELS, default="info", help="what is logged: this and worse")
+    of.add_argument("--redact", action="append", default=[], metavar="REGEX", help="what this finds in the log is shown as [redacted]; may be repeated")
     of = one.add_argument_group("the ingress")
     of.add_argument("--host", default="127.0.0.1", help="where it listens; another than 127.0.0.1, ::1 and localhost needs a token")
     of.add_argument("--port", type=int, default=8080, help="0 is a free one, and -1 is no ingress")
@@ -427,10 +428,17 @@ def _parser() -> argparse.ArgumentParser:
     return parser
 
 
+def _log_as(options: argparse.Namespace) -> None:
+    try:
+        logs.set_up(getattr(options, "log_format", "text"), getattr(options, "log_level", "info"), getattr(options, "redact", ()))
+    except ValueError as error:
+        raise Refused(error) from error
+
+
 def main() -> int:
     options = _parser().parse_args()
     try:
-        logs.set_up(getattr(options, "log_format", "text"), getattr(options, "log_level", "info"))
+        _log_as(options)
         return int(options.does(options))
     except (Refused, TerminalError, Conflict, Lost, Unsuitable, InUse, NewerSchema, NotMigrated, OlderSchema, MissingExtra, NoDriver) as error:
         print(f"palqytun: {' '.join(str(error).split())}", file=sys.stderr)

@@ -72,6 +72,7 @@ class Action:
     timeout: float | None = None
     heartbeat: float | None = None
     is_transaction: bool = False
+    retry: Retry = Retry()
 
 
 running: contextvars.ContextVar[Action | None] = contextvars.ContextVar("palqytun_run", default=None)
@@ -83,6 +84,12 @@ _FOREVER = core.retry_forever()
 
 def _ms(seconds: float) -> int:
     return int(seconds * 1000)
+
+
+def _check_names(service: str, handler: str, key: str | None, idempotency_key: str | None) -> None:
+    """`TerminalError` with code 400 for a call that no database can store."""
+    for what, name in (("the service's name", service), ("the handler's name", handler), ("the key", key), ("the idempotency key", idempotency_key)):
+        check_name(what, name or "")
 
 
 def given_failure(error: TerminalError, codec: Codec) -> core.Failure:
@@ -457,7 +464,7 @@ class Context:
         if named:
             function = functools.partial(function, **named)
         key = f"{self.invocation_id}-{index}"
-        action = Action(step.name, function, given, policy, key, index, step.timeout, step.heartbeat, is_transaction)
+        action = Action(step.name, function, given, policy, key, index, step.timeout, step.heartbeat, is_transaction, step.retry or Retry())
         self.actions[run.handle] = action
         self.asked.add(run.handle)
         return Leaf(run.handle, self._result(_result_of(step.function) if gives is None else gives))
@@ -589,8 +596,7 @@ class Context:
     ) -> Call[O]:
         """Calls a handler, or `"Service/handler"`. Awaited, it gives the handler's result. `priority` and `queue_key` are for its `Queue`, if it has one."""
         service, name, gives = self._target(target)
-        check_name("the key", key or "")
-        check_name("the idempotency key", idempotency_key or "")
+        _check_names(service, name, key, idempotency_key)
         told = to_text_headers(queues.headers(headers, priority, queue_key))
         options = {"key": key, "idempotency_key": idempotency_key, "headers": told}
         id, handle = self._vm_call("sys_call", service, name, encoded(self._codec, argument), **options)
@@ -609,10 +615,9 @@ class Context:
         queue_key: str | None = None,
     ) -> Durable[str]:
         """Calls a handler, at once or after a delay in seconds, and doesn't wait for it. Awaited, it gives the invocation's id. `priority` and
-        `queue_key` are for its `Queue`, if it has one."""
+        `queue_key` are for its `Queue`, if it has one. If no worker that is alive serves the handler, the invocation waits for one."""
         service, name, _ = self._target(target)
-        check_name("the key", key or "")
-        check_name("the idempotency key", idempotency_key or "")
+        _check_names(service, name, key, idempotency_key)
         told = to_text_headers(queues.headers(headers, priority, queue_key))
         options = {"key": key, "idempotency_key": idempotency_key, "headers": told}
         at = _ms(time.time() + delay) if delay else None

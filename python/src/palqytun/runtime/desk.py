@@ -89,14 +89,24 @@ class Desk:
         return known.keyed if known is not None else await self.transact(lambda db: announced.is_keyed(db, service))
 
     async def submit(self, new: New) -> str:
-        """Makes an invocation. It is stored once this returns its id."""
+        """Makes an invocation. It is stored once this returns its id. Raises a `TerminalError` if nobody serves it (404), if it isn't called so (400), or if
+        its idempotency key is that of another call (409)."""
         if self.drains:
             raise Unavailable("the worker stops, and takes no new calls")
         invocations.check(new, await self.target(new.service, new.handler))  # what is refused isn't in a transaction with others
         out = Outcome()
-        id, _ = await self.transact(lambda db: invocations.create(db, self.app, out, new))
+
+        async def made(db: Database) -> str | TerminalError:
+            try:
+                return (await invocations.create(db, self.app, out, new))[0]
+            except TerminalError as refused:  # which has stored nothing; raised here it would undo what is in the same transaction
+                return refused
+
+        found = await self.transact(made)
+        if isinstance(found, TerminalError):
+            raise found
         self.tell(out)
-        return id
+        return found
 
     async def result(self, invocation: str, wait: float | None = None) -> Result | None:
         """What an invocation ends with, or the last one that goes on in its place; none if there is no such invocation. `TimeoutError` if it hasn't ended after `wait` seconds, and

@@ -81,7 +81,7 @@ def _fault(code: int, message: str, **more: Any) -> Response:
 
 async def _of_handler(request: Request, error: Exception) -> Response:
     assert isinstance(error, TerminalError)
-    return _fault(error.code, error.message)
+    return _fault(error.code, error.message, **({"metadata": dict(error.metadata)} if error.metadata else {}))
 
 
 async def _of_routes(request: Request, error: Exception) -> Response:

@@ -10,7 +10,7 @@ from collections.abc import Iterable, Mapping, Sequence
 from dataclasses import dataclass, field, fields
 from typing import Any
 
-from . import announced, inbox, journal, notes, places, queues
+from . import announced, inbox, journal, notes, places, queues, repeated
 from .announced import Target
 from .database import Asked, Database, Each, Listed, Reading, StatementFailed
 from .journal import Begin, Journal, Result
@@ -18,7 +18,7 @@ from .lease import ENTRY, FREE, GONE, MADE, WAITING, Fenced, Growth, Lease
 from .names import check_name
 from .notes import Note
 from .outcome import Outcome
-from .services import App, TerminalError
+from .services import App, Retry, TerminalError
 from .texts import storable
 from .traces import Trace
 from .turns import Turn
@@ -42,6 +42,7 @@ class New:
     id: str | None = None
     parent: str | None = None
     trace: str | None = None  # the header `traceparent` of whoever makes it
+    may_differ: bool = False  # from what its idempotency key has made before, as a schedule's argument by newer code
 
 
 def seed_of(id: str | None) -> int:
@@ -76,15 +77,26 @@ def _made(clock: str) -> Each:
     return Each(MADE, sql, *(it.partition(" ")[2] for it in _COLUMNS))
 
 
+def begins(db: Database, new: New) -> float | None:
+    """When an invocation is due by the database's time; none if that is when the server makes its row."""
+    return db.now() + new.due - time.time() if new.due else None if db.is_shared else db.now()
+
+
+async def named(db: Database, new: New, idem: str) -> str | None:
+    """The invocation of the same handler and key that has this idempotency key; none if there isn't one."""
+    sql = "SELECT id FROM invocations WHERE service=? AND handler=? AND key=? AND idem=?"
+    found = await db.rows(sql, (new.service, new.handler, new.key, idem))
+    return str(found[0][0]) if found else None
+
+
 async def create(db: Database, app: App, out: Outcome, new: New) -> tuple[str, bool]:
     """Makes an invocation, of this app or of another one that a worker serves; returns its id and True. If there is one with this idempotency key, or
-    a workflow with this key, its id and False. `TerminalError` with code 404 if nobody serves it."""
+    a workflow with this key, its id and False. `TerminalError` with code 404 if nobody serves it, and `IdempotencyConflict` if the one that is there has
+    another argument; then nothing is stored."""
     target = await announced.find(db, app, new.service, new.handler)
     check(new, target)
-    is_main = target.workflow and target.exclusive
-    idem = "" if is_main else new.idempotency_key or None  # a workflow's main runs once a key
-    now = db.now()
-    due = now + new.due - time.time() if new.due else None if db.is_shared else now
+    idem = "" if target.is_main else new.idempotency_key or None  # a workflow's main runs once a key
+    now, due = db.now(), begins(db, new)
     id = new.id or f"inv_{secrets.token_hex(12)}"
     times, (priority, queue_key) = target.until(now if due is None else due), queues.asked(new.headers, new.key)
     queued = (target.queue, None if target.queue is None else queue_key, priority)
@@ -92,8 +104,10 @@ async def create(db: Database, app: App, out: Outcome, new: New) -> tuple[str, b
     if idem is None:  # no other has its name
         db.each(_made(db.clock), row)
     elif not await db.change(f"{_made(db.clock).one} WHERE true ON CONFLICT DO NOTHING", row):
-        found = await db.rows("SELECT id FROM invocations WHERE service=? AND handler=? AND key=? AND idem=?", (new.service, new.handler, new.key, idem))
-        return str(found[0][0]) if found else id, False
+        found = await named(db, new, idem) or id
+        if idem and not new.may_differ:
+            await repeated.check(db, app.codec, found, idem, new.argument)
+        return found, False
     db.each(ENTRY, (id, 0, None, journal.input_command(new.argument, new.headers), now))
     out.is_due(new.due or time.time())
     db.ready(is_own=announced.own(app, new.service, new.handler) is not None)
@@ -222,6 +236,7 @@ class Claim:
     is_shielded: bool = False  # the handler may not be cancelled now
     by_run: bool = False  # the attempt has failed by a run, which has its own policy
     run: str | None = None  # the name of that run
+    retry: Retry | None = None  # how that run is tried again
     continues: Continues | None = None  # the handler goes on as a new invocation
     fault: BaseException | None = None  # what the handler or the run raised
     parted: str | None = None  # how the handler's call parts from the recorded one, if the core has refused it for that

@@ -113,7 +113,7 @@ async def stored(db: Database, where: str = "1=1", *values: object) -> list[Stor
 def call(name: str, service: str, handler: str, key: str, argument: bytes, at: float) -> New:
     """A schedule's call for a time. A second one for the same time is none."""
     time = datetime.datetime.fromtimestamp(at, datetime.timezone.utc).isoformat()
-    return New(service, handler, key, argument, (("schedule", name), ("scheduled-for", time)), f"schedule {name} {at}")
+    return New(service, handler, key, argument, (("schedule", name), ("scheduled-for", time)), f"schedule {name} {at}", may_differ=True)
 
 
 async def enter(db: Database, app: App, services: Collection[str]) -> None:

@@ -8,6 +8,7 @@ import inspect
 import math
 import operator
 import pathlib
+import random
 import typing
 from collections.abc import Awaitable, Callable, Iterable, Mapping
 from dataclasses import dataclass, field
@@ -70,6 +71,14 @@ class Cancelled(TerminalError):
         super().__init__(message, 409)
 
 
+class IdempotencyConflict(TerminalError):
+    """The idempotency key is that of `invocation`, which was called with another argument. Nothing was stored."""
+
+    def __init__(self, key: str, invocation: str):
+        super().__init__(f"the idempotency key {key[:200]!r} is that of {invocation}, which was called with another argument", 409, {"invocation": invocation})
+        self.invocation = invocation
+
+
 class TimedOut(TerminalError, TimeoutError):
     """What was awaited didn't come in its time."""
 
@@ -82,7 +91,9 @@ class Retry:
     """When a failed run, or a failed attempt of a handler, is tried again. Times are in seconds.
 
     The first delay is `initial`. Each next one is larger by `factor` (numerator, denominator), up to `longest`. It is tried `attempts` times at most,
-    and for `duration` seconds at most; without them there is no bound. Then `pause` pauses the invocation, and without it the error is the result."""
+    and for `duration` seconds at most; without them there is no bound. Then `pause` pauses the invocation, and without it the error is the result.
+
+    Each delay is shorter by chance, by at most this part of it (`jitter`), so that what failed together isn't tried again all at once."""
 
     initial: float = 0.05
     factor: tuple[int, int] = (2, 1)
@@ -90,8 +101,11 @@ class Retry:
     attempts: int | None = None
     duration: float | None = None
     pause: bool = False
+    jitter: float = 0.2
 
     def __post_init__(self) -> None:
+        if not 0 <= self.jitter <= 1:
+            raise ValueError(f"jitter is a part of a delay, from 0 to 1, and not {self.jitter}")
         times = {"initial": self.initial, "longest": self.longest, "duration": 0.0 if self.duration is None else self.duration}
         for name, seconds in times.items():
             if not 0 <= seconds < math.inf:
@@ -109,6 +123,14 @@ class Retry:
             return float(min(self.longest, self.initial * (numerator / denominator) ** (failures - 1)))
         except OverflowError:
             return self.longest
+
+    def jittered(self, delay: float) -> float:
+        """A delay in seconds, shortened by chance.
+
+        >>> 0.8 <= Retry().jittered(1.0) <= 1.0, Retry(jitter=0).jittered(1.0)
+        (True, 1.0)
+        """
+        return delay * (1 - self.jitter * random.random())
 
     def is_over(self, failures: int, failing: float) -> bool:
         """Whether it isn't tried again after this number of failures within `failing` seconds."""
