@@ -71,6 +71,8 @@ class Kept(support.InAFolder, unittest.TestCase):
 
 @support.on_each_database
 class Migrations(support.OnADatabase):
+    versions = tuple(it for it in KEPT if it >= 3)
+
     def tearDown(self):
         if self.kind == "postgres":
             self._dropped()
@@ -132,7 +134,7 @@ class Migrations(support.OnADatabase):
             self.assertEqual([await runtime.call("Seat/taken", key=key) for key in ("a", "late")], [10, 1])
 
     def test_invocations_in_flight_go_on(self):
-        for version in (it for it in KEPT if it >= 3):
+        for version in self.versions:
             with self.subTest(version):
                 self._made(version)
                 status, said = palqytun("invocations", "list", "--db", self.url)
@@ -143,6 +145,42 @@ class Migrations(support.OnADatabase):
                 self.assertEqual(palqytun("migrate", "--db", self.url), (0, f"the database has schema version {NEWEST}, and had {version}; 8 invocations haven't ended\n"))
                 self.assertEqual(palqytun("migrate", "--db", self.url), (0, f"the database has schema version {NEWEST} already; 8 invocations haven't ended\n"))
                 asyncio.run(self._ends())
+
+
+class OwnSchema(Migrations, unittest.TestCase):
+    """The tables are in the schema that the URL names, beside those of another application of the same names, which stay as they are."""
+
+    kind = "postgres"
+    versions = (3, NEWEST - 1)
+
+    def setUp(self):
+        super().setUp()
+        self.public = self.url
+        with Plain(self.public) as db:
+            db.done(lambda to: to.change("DROP SCHEMA IF EXISTS own CASCADE"))
+            db.done(lambda to: to.change("CREATE SCHEMA own"))
+        self.url += "&options=-csearch_path%3Down"
+
+    def tearDown(self):
+        super().tearDown()
+        sql = "SELECT table_name FROM information_schema.tables WHERE table_schema='own' AND table_type='BASE TABLE'"
+        with Plain(self.public) as db:
+            db.done(lambda to: to.change("DROP SCHEMA own CASCADE"))
+            self.assertEqual(db.rows("SELECT COUNT(*) FROM invocations"), [(0,)])
+            self.assertEqual(db.rows(sql), [])
+
+    def test_a_new_database(self):
+        """A worker sets it up by itself, and the views are there too."""
+
+        async def go():
+            async with Runtime(flight_app.app, self.url) as runtime:
+                self.assertEqual(await runtime.call("Trip/quick", "ann"), "ANN")
+
+        asyncio.run(asyncio.wait_for(go(), LONG))
+        with Plain(self.public) as db:
+            self.assertEqual(db.rows("SELECT status FROM own.palqytun_invocations"), [("done",)])
+            there = {name for name, in db.rows("SELECT table_name FROM information_schema.tables WHERE table_schema='own' AND table_type='BASE TABLE'")}
+            self.assertEqual(there, {*schema.TABLES, "schema_versions"})
 
 
 if __name__ == "__main__":
