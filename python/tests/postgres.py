@@ -28,8 +28,9 @@ import time
 import urllib.parse
 from collections.abc import Callable, Iterator, Mapping
 from dataclasses import dataclass
-from typing import Any
+from typing import Any, TypeVar
 
+T = TypeVar("T")
 VARIABLE = "PALQYTUN_TEST_POSTGRES"
 INSTALL = "no PostgreSQL server: apt-get install postgresql"
 _FOLDERS = ("/usr/lib/postgresql/*/bin", "/usr/pgsql-*/bin", "/usr/local/pgsql*/bin", "/opt/*/bin", "/opt/*/*/bin")
@@ -73,7 +74,7 @@ def programs() -> pathlib.Path:
     raise NoServer(INSTALL)
 
 
-def _user() -> str | None:
+def server_user() -> str | None:
     """Who runs the server: another user if this is root."""
     if os.geteuid() != 0:
         return None
@@ -155,7 +156,7 @@ class Cluster:
         """Starts the server, and waits until it can be connected to."""
         said = shlex.join(it for name, value in self.place.settings().items() for it in ("-c", f"{name}={value}"))
         words = [programs() / "pg_ctl", "start", "-w", "-t", str(_SECONDS), "-D", self.folder / "data", "-l", self.folder / "log", "-o", said]
-        _ran(words, _user(), self.folder)
+        _ran(words, server_user(), self.folder)
 
     def kill(self) -> None:
         """Kills each process of the server, as if its host stopped. Like a host that starts again, it leaves no file that names a process: one that
@@ -165,7 +166,7 @@ class Cluster:
         os.kill(server, signal.SIGSTOP)  # so it begins no process, and ends none in an orderly way
         while state(server) not in "TZX":  # until then it may still begin one
             time.sleep(0.005)
-        killed = [*_children(server), server]
+        killed = [*children(server), server]
         for it in killed:
             with contextlib.suppress(ProcessLookupError):
                 os.kill(it, signal.SIGKILL)
@@ -178,32 +179,32 @@ class Cluster:
     def promote(self) -> None:
         """A standby becomes a primary."""
         words = [programs() / "pg_ctl", "promote", "-w", "-t", str(_SECONDS), "-D", self.folder / "data"]
-        _ran(words, _user(), self.folder)
+        _ran(words, server_user(), self.folder)
 
     def follow(self, primary: Cluster) -> None:
         """Begins as the standby of another that was its own, without what that one hasn't."""
         words = [programs() / "pg_rewind", "-D", self.folder / "data", f"--source-server={primary.url}", "-R"]
-        _ran(words, _user(), self.folder)
+        _ran(words, server_user(), self.folder)
         self.start()
 
     def base(self) -> pathlib.Path:
         """A base backup, made while the server goes on."""
         made = self.folder / "base"
-        _ran([programs() / "pg_basebackup", "-d", self.url, "-D", made, "-c", "fast", "--no-sync"], _user(), self.folder)
+        _ran([programs() / "pg_basebackup", "-d", self.url, "-D", made, "-c", "fast", "--no-sync"], server_user(), self.folder)
         return made
 
     def program(self, name: str, *words: str | pathlib.Path) -> None:
         """Runs a program of the server's package on its database, as its user and in its folder."""
-        _ran([programs() / name, *words, "-d", self.url], _user(), self.folder)
+        _ran([programs() / name, *words, "-d", self.url], server_user(), self.folder)
 
     def restart(self, mode: str) -> None:
         """Ends the server and starts it again. `mode` is pg_ctl's: `fast` ends the sessions, `immediate` is like a crash."""
         words = [programs() / "pg_ctl", "restart", "-w", "-t", str(_SECONDS), "-D", self.folder / "data", "-l", self.folder / "log", "-m", mode]
-        _ran(words, _user(), self.folder)
+        _ran(words, server_user(), self.folder)
 
     def owned(self, folder: pathlib.Path) -> None:
         """Gives a folder to the server's user."""
-        if (user := _user()) is not None:
+        if (user := server_user()) is not None:
             shutil.chown(folder, user)
 
 
@@ -260,7 +261,7 @@ def _copied(folder: pathlib.Path, user: str | None, primary: Cluster) -> Cluster
     return found
 
 
-def _children(process: int) -> list[int]:
+def children(process: int) -> list[int]:
     """The processes that a process has begun."""
     found = []
     for it in pathlib.Path("/proc").glob("[0-9]*/stat"):
@@ -297,9 +298,10 @@ def _removed(folder: pathlib.Path) -> None:
 
 
 @contextlib.contextmanager
-def _kept(make: Callable[[pathlib.Path, str | None], Cluster]) -> Iterator[Cluster]:
-    """A cluster in a new folder. A process of its own removes it at the end, or when this one has ended, even by SIGKILL."""
-    user = _user()
+def kept(make: Callable[[pathlib.Path, str | None], T]) -> Iterator[T]:
+    """What is made in a new folder, which belongs to the server's user. A process of its own removes it at the end, or when this one has ended, even by
+    SIGKILL."""
+    user = server_user()
     programs()
     folder = _room(user)
     words = [sys.executable, __file__, "--remove", str(folder)]
@@ -313,12 +315,12 @@ def _kept(make: Callable[[pathlib.Path, str | None], Cluster]) -> Iterator[Clust
 
 def cluster(settings: Mapping[str, str] | None = None) -> contextlib.AbstractContextManager[Cluster]:
     """A cluster with these settings beside the server's defaults, which is removed at the end."""
-    return _kept(lambda folder, user: _made(folder, user, settings or {}))
+    return kept(lambda folder, user: _made(folder, user, settings or {}))
 
 
 def standby(primary: Cluster) -> contextlib.AbstractContextManager[Cluster]:
     """A standby that follows a cluster, which is removed at the end."""
-    return _kept(lambda folder, user: _copied(folder, user, primary))
+    return kept(lambda folder, user: _copied(folder, user, primary))
 
 
 ARCHIVES = {"archive_mode": "on", "archive_command": "mkdir -p ../archive && cp %p ../archive/%f"}  # beside the folder of the data
@@ -327,7 +329,7 @@ ARCHIVES = {"archive_mode": "on", "archive_command": "mkdir -p ../archive && cp 
 def recovered(base: pathlib.Path, point: str) -> contextlib.AbstractContextManager[Cluster]:
     """A cluster of a base backup, with what the archive beside it has up to a restore point. It is removed at the end."""
     settings = {"restore_command": f"cp {shlex.quote(str(base.parent / 'archive'))}/%f %p", "recovery_target_name": point, "recovery_target_action": "promote"}
-    return _kept(lambda folder, user: _brought_forward(folder, user, base, {**settings, "archive_mode": "off"}))
+    return kept(lambda folder, user: _brought_forward(folder, user, base, {**settings, "archive_mode": "off"}))
 
 
 def _brought_forward(folder: pathlib.Path, user: str | None, base: pathlib.Path, settings: Mapping[str, str]) -> Cluster:

@@ -104,9 +104,18 @@ def kills_postgres(it: Options) -> Job:
     return kills("kills-postgres", "postgres", it)
 
 
+def failovers_by(name: str, it: Options, *more: str) -> Job:
+    words = ("tools/chaos", "--failovers", str(FAILOVERS), "--seed", str(it.seed), "--db", "postgres", *more)
+    return replace(job(name, *words), env={"PALQYTUN_LIBRARY": it.library}, counts=counts.of_status)
+
+
 def failovers(it: Options) -> Job:
-    words = ("tools/chaos", "--failovers", str(FAILOVERS), "--seed", str(it.seed), "--db", "postgres")
-    return replace(job("failovers", *words), env={"PALQYTUN_LIBRARY": it.library}, counts=counts.of_status)
+    return failovers_by("failovers", it)
+
+
+def failovers_patroni(it: Options) -> Job:
+    """The same, but Patroni promotes the standby, and each server is a host of its own."""
+    return failovers_by("failovers-patroni", it, "--patroni")
 
 
 def hostile(it: Options) -> Job:
@@ -134,6 +143,10 @@ def failovers_of(it: Options) -> str:
     return f"{FAILOVERS} failovers to each kind of standby, {it.kind}"
 
 
+def failovers_patroni_of(it: Options) -> str:
+    return f"{FAILOVERS} failovers under Patroni with etcd, {it.kind}"
+
+
 PARTS = [
     Part("tests", "rt ci over the whole repository, so the crates of tests are proved too", tests, lambda it: "", last_line),
     Part(
@@ -148,6 +161,13 @@ PARTS = [
     Part("kills-sqlite", "1,000 kills of the durable runtime on SQLite", kills_sqlite, kills_of, last_line),
     Part("kills-postgres", "the same on PostgreSQL", kills_postgres, kills_of, last_line),
     Part("failovers", "PostgreSQL fails over to a synchronous standby, and to an asynchronous one", failovers, failovers_of, last_line),
+    Part(
+        "failovers-patroni",
+        "under Patroni with etcd PostgreSQL's primary is killed, loses its power, and is cut off",
+        failovers_patroni,
+        failovers_patroni_of,
+        lambda said: "; ".join(said.strip().splitlines()[-2:]),
+    ),
     Part("hostile", "time and memory on input that is deep, long or many", hostile, lambda it: it.kind, line_before_counts),
     Part("sanitizers", "the examples in C and Python with sanitizers and under valgrind", sanitizers, lambda it: it.kind, last_line),
 ]

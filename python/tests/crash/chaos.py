@@ -27,8 +27,10 @@ from collections.abc import Callable, Iterator
 HERE = pathlib.Path(__file__).parent
 sys.path[:0] = [str(HERE), str(HERE.parent)]
 import failover  # noqa: E402
+import hosts  # noqa: E402
 import postgres  # noqa: E402
 import scenarios  # noqa: E402
+import under_patroni  # noqa: E402
 from checked import Found, Wrong  # noqa: E402
 from scenarios import Report  # noqa: E402
 
@@ -98,6 +100,17 @@ def of_failovers(folder: pathlib.Path, seed: int, count: int) -> Iterator[Report
         yield found.report
 
 
+def under_patronis(folder: pathlib.Path, seed: int, count: int) -> Iterator[Report]:
+    """A round on servers under Patroni, whose log is kept if something is wrong."""
+    begun = time.monotonic()
+    with (folder / "servers.log").open("w") as log, under_patroni.servers(log) as servers:
+        reference = under_patroni.undisturbed(servers, folder / "reference", count)
+        found = under_patroni.failovers(servers, folder / "failovers", count=count, seed=seed, reference=reference, seconds=3600)
+    failed = ", ".join(under_patroni.kinds(count, seed))
+    print(f"under Patroni, where {failed} failed, {time.monotonic() - begun:.0f} s: {found}", flush=True)
+    yield found.report
+
+
 def played(folder: pathlib.Path, reports: Iterator[Report]) -> int:
     """Plays rounds, and says what they found."""
     total, count = Report(), 0
@@ -112,6 +125,14 @@ def played(folder: pathlib.Path, reports: Iterator[Report]) -> int:
     return 0
 
 
+def enter_networks() -> None:
+    """Goes on in networks of this program's own. Where that isn't allowed, only processes are killed, and it says why."""
+    if refused := "" if hosts.is_own() else hosts.refused():
+        print(f"no host is cut off or loses its power, since there are no network namespaces here: {refused}", flush=True)
+    else:
+        hosts.enter()
+
+
 def main() -> int:
     parser = argparse.ArgumentParser("tools/chaos", description="Crash tests of the durable runtime, round after round.")
     parser.add_argument("minutes", nargs="?", type=float, default=10.0)
@@ -119,17 +140,24 @@ def main() -> int:
     parser.add_argument("--seed", type=int, default=1, help="of the first round")
     parser.add_argument("--kills", type=int, default=0, help="instead of rounds one run with this many kills")
     parser.add_argument("--failovers", type=int, default=0, help="instead of rounds this many failovers of PostgreSQL with each kind of standby")
+    parser.add_argument("--patroni", action="store_true", help="with --failovers: under Patroni and etcd, each server in a network of its own")
     parser.add_argument("--sdk", type=pathlib.Path, help="with --kills on PostgreSQL: a folder in which the SDK in TypeScript is built, with its tests")
     options = parser.parse_args()
     if options.sdk and not (options.kills and options.db != "sqlite"):
         parser.error("--sdk goes with --kills, and with a database of PostgreSQL")
     if options.failovers and options.db != "postgres":
         parser.error("--failovers makes servers of its own: it goes with --db postgres")
+    if options.patroni and not options.failovers:
+        parser.error("--patroni goes with --failovers")
     if options.db not in ("sqlite", "postgres") and not options.db.startswith(("postgres://", "postgresql://")):
         parser.error(f"--db is sqlite, postgres or postgresql://.., and not {options.db}")
     signal.signal(signal.SIGTERM, lambda *_: sys.exit(1))  # so the workers end with it
+    if options.patroni:
+        enter_networks()
     folder = pathlib.Path(tempfile.mkdtemp(prefix="palqytun-chaos-"))
     try:
+        if options.patroni:
+            return played(folder, under_patronis(folder, options.seed, options.failovers))
         if options.failovers:
             return played(folder, of_failovers(folder, options.seed, options.failovers))
         with postgres.cluster() if options.db == "postgres" else contextlib.nullcontext() as made:

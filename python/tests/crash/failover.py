@@ -15,37 +15,54 @@ import threading
 import time
 from collections.abc import Callable, Iterator
 from dataclasses import dataclass
+from typing import TypeVar
 
 HERE = pathlib.Path(__file__).parent
 sys.path[:0] = [str(HERE.parent.parent / "src"), str(HERE.parent), str(HERE)]
 
 import postgres  # noqa: E402
 from checked import Found, Wrong, check, left, rows, settle, submit, wait  # noqa: E402
+from palqytun.runtime.database import Conflict, Lost  # noqa: E402
 from palqytun.runtime.database.plain import Plain  # noqa: E402
 from scenarios import Report, Workers, emptied, logged_without_errors, until_work  # noqa: E402
 
+T = TypeVar("T")
 SETTINGS = {"wal_log_hints": "on", "wal_keep_size": "256MB"}  # so that a server that was a primary can follow the next
 EACH = 8  # workflows, one of each kind, are submitted before each fault
 SPLIT = 5.0  # seconds for which two servers are primaries
 _STEP = 600.0  # seconds that one step of the servers may take
+_PATIENCE = 10  # seconds for a server to take a connection
 _FOLLOWERS = "SELECT COUNT(*) FROM pg_stat_replication"
 _FOLLOWS = f"{_FOLLOWERS} WHERE state='streaming'"
 _IN_STEP = f"{_FOLLOWS} AND sync_state='sync'"
 
 
-def _until(is_so: Callable[[], bool], what: str, seconds: float = _STEP) -> None:
-    until = time.monotonic() + seconds
+def until(is_so: Callable[[], bool], what: str, seconds: float = _STEP, pause: float = 0.02) -> None:
+    """Waits until it is so, and looks again after each pause. `Wrong` if it isn't so in time."""
+    last = time.monotonic() + seconds
     while not is_so():
-        if time.monotonic() > until:
+        if time.monotonic() > last:
             raise Wrong(f"{what}: not within {seconds:.0f} s")
-        time.sleep(0.02)
+        time.sleep(pause)
 
 
-def _asked(server: postgres.Cluster, sql: str) -> int:
+def lasting(call: Callable[[], T], what: str, seconds: float = _STEP) -> T:
+    """What a call returns. It is made again as long as it loses its server."""
+    last = time.monotonic() + seconds
+    while True:
+        try:
+            return call()
+        except (Lost, Conflict) as error:
+            if time.monotonic() > last:
+                raise Wrong(f"{what}: not within {seconds:.0f} s: {error}") from error
+        time.sleep(0.2)
+
+
+def asked(url: str, sql: str) -> int:
     """The number that a statement returns, or 0. It is made outside of a transaction, and of the runtime's connections."""
     import psycopg  # where it is missing, these tests are skipped
 
-    with psycopg.connect(server.url, autocommit=True) as connection:
+    with psycopg.connect(url, autocommit=True, connect_timeout=_PATIENCE) as connection:
         done = connection.execute(sql)
         row = done.fetchone() if done.description else None
         return int(row[0]) if row else 0
@@ -53,8 +70,8 @@ def _asked(server: postgres.Cluster, sql: str) -> int:
 
 def _set(server: postgres.Cluster, name: str, value: str) -> None:
     """Sets a setting of a server that runs."""
-    _asked(server, f"ALTER SYSTEM SET {name}='{value}'")
-    _asked(server, "SELECT pg_reload_conf()")
+    asked(server.url, f"ALTER SYSTEM SET {name}='{value}'")
+    asked(server.url, "SELECT pg_reload_conf()")
 
 
 @dataclass
@@ -72,15 +89,15 @@ class Pair:
 
     def keep_in_step(self) -> None:
         """Waits until the standby follows. From then on commits wait for it, if it is synchronous."""
-        _until(lambda: _asked(self.primary, _FOLLOWS) > 0, "the standby follows")
+        until(lambda: asked(self.primary.url, _FOLLOWS) > 0, "the standby follows")
         if self.is_synchronous:
             _set(self.primary, "synchronous_standby_names", "*")
-            _until(lambda: _asked(self.primary, _IN_STEP) > 0, "the standby is synchronous")
+            until(lambda: asked(self.primary.url, _IN_STEP) > 0, "the standby is synchronous")
 
     def cut(self) -> None:
         """The standby is given nothing more, as if its link were slow."""
         _set(self.standby, "primary_conninfo", "")
-        _until(lambda: _asked(self.primary, _FOLLOWERS) == 0, "the standby is cut off")
+        until(lambda: asked(self.primary.url, _FOLLOWERS) == 0, "the standby is cut off")
 
     def fail_over(self) -> None:
         """The primary's host stops, and the standby becomes primary. Until the other is back, nobody waits for a standby."""
@@ -104,7 +121,7 @@ class Pair:
 
     def come_back(self) -> None:
         """The server that was killed begins again, as the standby of the other."""
-        _asked(self.primary, "CHECKPOINT")  # until its first one, pg_rewind doesn't see that it was promoted
+        asked(self.primary.url, "CHECKPOINT")  # until its first one, pg_rewind doesn't see that it was promoted
         self.standby.follow(self.primary)
         self.keep_in_step()
 
@@ -114,7 +131,7 @@ def _commits(server: postgres.Cluster, ended: threading.Event) -> None:
     import psycopg
 
     with contextlib.suppress(psycopg.OperationalError):
-        _asked(server, "CREATE TABLE split (n INT)")
+        asked(server.url, "CREATE TABLE split (n INT)")
         ended.set()
 
 
@@ -127,7 +144,7 @@ def pair(is_synchronous: bool) -> Iterator[Pair]:
         yield found
 
 
-def _entries(db: Plain) -> int:
+def entries(db: Plain) -> int:
     return int(rows(db, "SELECT COUNT(*) FROM journal")[0][0])
 
 
@@ -139,8 +156,8 @@ def _failed_over(servers: Pair, is_split: bool) -> float:
     if not is_split:
         servers.fail_over()
     with Plain(servers.primary.url) as db:
-        before = _entries(db)
-        _until(lambda: _entries(db) > before or not left(db), "work goes on")
+        before = entries(db)
+        until(lambda: entries(db) > before or not left(db), "work goes on")
     return time.monotonic() - killed
 
 
@@ -148,7 +165,7 @@ def _failed_over(servers: Pair, is_split: bool) -> float:
 class Load:
     """Workers over both servers, and the workflows that were submitted to them."""
 
-    servers: Pair
+    url: str
     folder: pathlib.Path
     chance: random.Random
     each: int
@@ -156,17 +173,20 @@ class Load:
 
     def submit(self) -> int:
         """Submits the next workflows, and waits until some are at work. Returns how many haven't ended."""
+        self.submitted += self.each
+        return lasting(self._submitted, "workflows are submitted")
+
+    def _submitted(self) -> int:
         begun = time.time()
-        with Plain(self.servers.url) as db:
-            submit(db, self.submitted, self.each)
-            self.submitted += self.each
+        self.again()
+        with Plain(self.url) as db:
             time.sleep(self.chance.uniform(0.15, 0.9))
             until_work(db, begun)
             return left(db)
 
     def again(self) -> int:
         """Submits again what isn't there. Returns how many that were."""
-        with Plain(self.servers.url) as db:
+        with Plain(self.url) as db:
             there = {id for (id,) in rows(db, "SELECT id FROM invocations")}
             missing = [n for n in range(self.submitted) if f"inv_{n:06d}" not in there]
             for n in missing:
@@ -175,14 +195,17 @@ class Load:
 
     def end(self, seconds: float) -> Report:
         """Waits until all have ended."""
-        with Plain(self.servers.url) as db:
+        return Report(resumed=lasting(lambda: self._ended(seconds), "all end", seconds))
+
+    def _ended(self, seconds: float) -> int:
+        with Plain(self.url) as db:
             resumed = wait(db, seconds)
             settle(db)
-            return Report(resumed=resumed)
+            return resumed
 
     def left(self, reference: Found | None) -> Report:
         """Looks at everything that is left, once no worker runs."""
-        with Plain(self.servers.url) as db:
+        with Plain(self.url) as db:
             log = logged_without_errors(self.folder)
             lost = rows(db, "SELECT COUNT(*) FROM attempts WHERE how='lost'")[0][0]
             report = Report(lost_attempts=lost, lost=log.count("the database is lost"), fenced=log.count("fenced:"))
@@ -217,7 +240,7 @@ def failovers(
     folder.mkdir(parents=True, exist_ok=True)
     (folder / "effects").touch()
     emptied(servers.primary.url)
-    load, found = Load(servers, folder, random.Random(seed), each), Failovers(Report(), [])
+    load, found = Load(servers.url, folder, random.Random(seed), each), Failovers(Report(), [])
     running = Workers(servers.url, workers, folder, idle=0.0)
     try:
         for number in range(count):

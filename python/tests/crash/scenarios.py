@@ -41,7 +41,7 @@ from palqytun.runtime.database.schema import TABLES  # noqa: E402
 
 _FORK = multiprocessing.get_context("fork")  # this process has no threads, and has imported what workers need
 COUNT = 8  # workflows, one of each kind
-_LONG = 600.0  # seconds that a worker may take, which needs some two, on a host that is busy with other things
+LONG = 600.0  # seconds that a worker may take, which needs some two, on a host that is busy with other things
 LEASE = 3.0  # seconds; on a host that is busy with other things a shorter one ends by itself
 
 
@@ -55,7 +55,7 @@ def _told(call: Callable[[], Any], to: multiprocessing.connection.Connection) ->
         to.send((None, traceback.format_exc()))
 
 
-def side_by_side(calls: Iterable[Callable[[], Any]], seconds: float = 3 * _LONG) -> Iterator[Any]:
+def side_by_side(calls: Iterable[Callable[[], Any]], seconds: float = 3 * LONG) -> Iterator[Any]:
     """Makes the calls in processes of their own, as many at a time as there are processors, and answers what they answer, in order. What one
     of them raises is raised as `Wrong`; those that still run then are waited for, so that none of them is left without its folder."""
     waiting, running, begun = iter(calls), [], time.monotonic()
@@ -98,7 +98,7 @@ def _heard(process: Any, from_it: Any, seconds: float) -> tuple[Any, str | None]
 # ---- one worker on SQLite, in a process of its own
 
 
-def _worker(path: pathlib.Path, effects: pathlib.Path, seconds: float = _LONG, **options: Any) -> int:
+def _worker(path: pathlib.Path, effects: pathlib.Path, seconds: float = LONG, **options: Any) -> int:
     """The exit status of a worker that runs until all has ended. -1: it was killed after some time."""
     process = _FORK.Process(target=_quiet, args=(str(path), str(effects)), kwargs=options)
     process.start()
@@ -261,7 +261,7 @@ def _served(url: str, place: pathlib.Path, **options: Any) -> int:
     arguments = (str(place / "worker.log"), url, str(place / "effects"))
     process = _FORK.Process(target=_logged, args=arguments, kwargs=options)
     process.start()
-    process.join(_LONG)
+    process.join(LONG)
     if process.exitcode is None:
         process.kill()
         process.join()
@@ -381,7 +381,7 @@ def full_disk(room: Room, seed: int, is_mounted: bool) -> Report:
             process.join(chance.uniform(0.02, 0.2))
             _joined(process, lambda: _full(log) > 0)  # the first time until it is met
             disk.empty()
-        process.join(_LONG)
+        process.join(LONG)
         status = process.exitcode
         if status is None:
             process.kill()
@@ -393,7 +393,7 @@ def full_disk(room: Room, seed: int, is_mounted: bool) -> Report:
 
 def _joined(process: Any, holds: Callable[[], bool]) -> None:
     """Waits until it is so, or the process has ended, or for long."""
-    until = time.monotonic() + _LONG
+    until = time.monotonic() + LONG
     while process.exitcode is None and not holds() and time.monotonic() < until:
         process.join(0.01)
 
@@ -431,7 +431,7 @@ class Workers:
         """SIGTERM, within whose grace each effect ends. A worker that has just begun, and doesn't listen for signals yet, ends by this one: it
         has claimed nothing."""
         self.all[at].terminate()
-        status = self.all[at].wait(_LONG)
+        status = self.all[at].wait(LONG)
         if status not in (0, -signal.SIGTERM):
             raise Wrong(f"a worker that was told to stop ended with {status}")
         self.all[at] = self.start(at)
@@ -489,7 +489,7 @@ class Mixed(Workers):
     def _entered(self, at: int) -> None:
         """Waits until each worker of the same language has entered. What a killed one has announced stays in the table."""
         sql = f"SELECT COUNT(*) FROM serving WHERE serves LIKE '%\"{('Ticks', 'Counter')[at % 2]}\"%'"
-        until = time.monotonic() + _LONG
+        until = time.monotonic() + LONG
         with Plain(self._url) as db:
             while rows(db, sql)[0][0] < self._begun[at % 2]:
                 if time.monotonic() > until:
@@ -509,7 +509,7 @@ def _disconnect(db: Plain) -> None:
     rows(db, "SELECT pg_terminate_backend(pid) FROM pg_stat_activity WHERE datname=current_database() AND pid<>pg_backend_pid()")
 
 
-def until_work(db: Plain, since: float, seconds: float = _LONG) -> None:
+def until_work(db: Plain, since: float, seconds: float = LONG) -> None:
     """Until an attempt has begun since this time, so that the next fault meets a worker at work; or until all have ended."""
     until = time.monotonic() + seconds
     while time.monotonic() < until and left(db) and (rows(db, "SELECT MAX(begun) FROM invocations WHERE service<>'Ticks'")[0][0] or 0) < since:
@@ -527,7 +527,7 @@ def logged_without_errors(folder: pathlib.Path) -> str:
 
 def _stopped(worker: subprocess.Popen[bytes]) -> None:
     """Waits until a worker has stopped itself."""
-    until = time.monotonic() + _LONG
+    until = time.monotonic() + LONG
     while os.waitid(os.P_PID, worker.pid, os.WSTOPPED | os.WNOHANG) is None:
         if worker.poll() is not None or time.monotonic() > until:
             raise Wrong(f"a worker that was to stop before a store hasn't, and has ended with {worker.returncode}")
@@ -547,11 +547,11 @@ def late_store(url: str, folder: pathlib.Path, reference: Found, fault: str = "l
             _stopped(late.all[0])
             other = Workers(url, 1, folder, idle=0.0)
             try:
-                wait(db, _LONG)
+                wait(db, LONG)
             finally:
                 other.end()
             late.all[0].send_signal(signal.SIGCONT)
-            if (status := late.all[0].wait(_LONG)) != faulty.DIED:
+            if (status := late.all[0].wait(LONG)) != faulty.DIED:
                 raise Wrong(f"the worker that stopped before a store ended with {status}: {folder / 'log'}")
         finally:
             late.all[0].send_signal(signal.SIGCONT)
@@ -573,7 +573,7 @@ def kills(
     stops: bool = False,
     reference: Found | None = None,
     wrong: str = "",
-    seconds: float = _LONG,
+    seconds: float = LONG,
     crew: Callable[..., Workers] = Workers,
 ) -> Report:
     """Workflows are submitted, `each` before each fault, while workers die; or with `stops` while they are told to stop, and no effect is executed
@@ -615,7 +615,7 @@ def kills(
         return report + Report.of(check(db, faults * each, folder / "effects", reference, is_exact=stops))
 
 
-def undisturbed(url: str, folder: pathlib.Path, count: int, seconds: float = _LONG, crew: Callable[..., Workers] = Workers, workers: int = 1) -> Found:
+def undisturbed(url: str, folder: pathlib.Path, count: int, seconds: float = LONG, crew: Callable[..., Workers] = Workers, workers: int = 1) -> Found:
     """What a run of `count` workflows leaves without faults."""
     folder.mkdir(parents=True, exist_ok=True)
     (folder / "effects").touch()

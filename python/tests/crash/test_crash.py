@@ -5,6 +5,7 @@ With PALQYTUN_TEST_THOROUGH=1 there is a death at each commit, and more of all e
 import functools
 import os
 import pathlib
+import subprocess
 import sys
 import tempfile
 import unittest
@@ -15,6 +16,7 @@ import failover  # noqa: E402
 import needs  # noqa: E402
 import postgres  # noqa: E402
 import scenarios  # noqa: E402
+import under_patroni  # noqa: E402
 from checked import Wrong  # noqa: E402
 
 IS_THOROUGH = os.environ.get("PALQYTUN_TEST_THOROUGH") == "1"
@@ -164,6 +166,22 @@ class FailsOver(InAFolder):
 
     def test_to_an_asynchronous_standby(self) -> None:
         self.assertGreater(self.fails_over(is_synchronous=False).report.missing, 0)
+
+    def test_under_patroni(self) -> None:
+        """Patroni promotes the standby of a primary that is cut off from it and from etcd. Each is a host of its own; where that isn't allowed, the primary
+        is killed. It is a program of its own, which begins in a network of its own."""
+        if lacks := next(filter(None, [needs.lacks_postgres(), *map(needs.lacks_command, under_patroni.PROGRAMS)]), ""):
+            self.skipTest(lacks)
+        count = 3 if IS_THOROUGH else 1
+        words = [sys.executable, str(HERE / "chaos.py"), "--db", "postgres", "--failovers", str(count), "--patroni", "--seed", "2"]
+        with subprocess.Popen(words, stdout=subprocess.PIPE, stderr=subprocess.STDOUT, text=True) as running:
+            try:
+                said, _ = running.communicate(timeout=4 * scenarios.LONG)
+            finally:
+                running.terminate()  # then it ends what it has begun
+        print(said, file=sys.stderr)
+        self.assertEqual(running.returncode, 0, said)
+        self.assertRegex(said, f"nothing wrong: failovers {count},")
 
 
 if __name__ == "__main__":
