@@ -1,13 +1,14 @@
 """What a large PostgreSQL database costs a worker: large.py [--ended N..] [--db URL]
 
 For each N, a database has N invocations that have ended and a tenth of it that wait for a sleep, a call and a notification. Without --db it is
-one of a temporary cluster. Printed is the table of docs/SCALE.md: pages that are looked at, of tables and indexes, and milliseconds, for a
-claim of ten invocations, and for what operators ask; and bytes of the disk for an invocation. A row of the last table is an index, with its
-bytes for an invocation."""
+one of a temporary cluster, which doesn't flush, so that it is filled sooner. Printed is the table of docs/SCALE.md: pages that are looked at, of tables and
+indexes, and milliseconds, for a claim of ten invocations, for a worker's beat, and for what operators ask; how many a purge deletes in a second; and
+bytes of the disk for an invocation. A row of the last table is an index, with its bytes for an invocation. The load of the machine is printed first."""
 
 from __future__ import annotations
 
 import argparse
+import os
 import pathlib
 import statistics
 import sys
@@ -64,6 +65,9 @@ _SIZES = (
 )
 
 
+_QUICK = {"fsync": "off", "full_page_writes": "off", "max_wal_size": "4GB", "maintenance_work_mem": "256MB"}
+
+
 def emptied(db: Plain) -> None:
     """The tables are empty, and so the planner knows them."""
     db.change(_PATIENT)
@@ -101,6 +105,11 @@ def pages(db: Plain, operation: Callable[[Database], Awaitable[Any]]) -> tuple[i
 
 def claims(db: Plain) -> int:
     """How many pages a claim of ten ready invocations looks at."""
+    return claim(db)[0]
+
+
+def claim(db: Plain) -> tuple[int, float]:
+    """How many pages a claim of ten ready invocations looks at, and its milliseconds."""
     worker = Claimer("one", app, 600)
     db.done(worker.enter)
     db.change(_READY)
@@ -108,7 +117,7 @@ def claims(db: Plain) -> int:
     try:
         count, found = pages(db, lambda to: worker.claim(to, (), OPEN))
         assert len(found.claims) == OPEN, found
-        return count
+        return count, milliseconds(db, lambda to: worker.claim(to, (), OPEN))
     finally:
         for sql in ("DELETE FROM invocations WHERE status='ready'", "DELETE FROM journal WHERE invocation LIKE 'ready%'", "DELETE FROM workers"):
             db.change(sql)
@@ -118,8 +127,9 @@ INPUT = journal.input_command(b"1", ())
 
 
 def asked(db: Plain) -> dict[str, Callable[[Database], Awaitable[Any]]]:
-    """What operators ask for."""
+    """What a worker does all the time, and what operators ask for."""
     return {
+        "a beat": lambda to: to.change("UPDATE workers SET lease=lease+1 WHERE id='one'"),
         "the first screen of a list": lambda to: operate.invocations(to, Filter()),
         "those of a service that wait": lambda to: operate.invocations(to, Filter(status="suspended", service="Large")),
         "how many have each status": operate.by_status,
@@ -137,12 +147,21 @@ def milliseconds(db: Plain, operation: Callable[[Database], Awaitable[Any]]) -> 
     return statistics.median(took)
 
 
+def purged(db: Plain) -> float:
+    """How many invocations a purge deletes in a second, in ten batches that are committed."""
+    begun = time.perf_counter()
+    count = sum(db.done(lambda to: operate.purge(to, 1.0)) for _ in range(10))
+    return count / (time.perf_counter() - begun)
+
+
 def measured(db: Plain, ended: int) -> dict[str, str]:
     emptied(db)
     filled(db, ended, ended // 10)
-    found = {f"a claim of {OPEN}": f"{claims(db)}"}
+    found = {f"a claim of {OPEN}": "{:,} ({:.0f} ms)".format(*claim(db))}
+    db.change("INSERT INTO workers(id, lease) VALUES ('one', 1)")
     for name, operation in asked(db).items():
-        found[name] = f"{pages(db, operation)[0]} ({milliseconds(db, operation):.0f} ms)"
+        found[name] = f"{pages(db, operation)[0]:,} ({milliseconds(db, operation):.0f} ms)"
+    found["purged in a second"] = f"{purged(db):,.0f}"
     sizes = db.rows(_SIZES, (0,))
     found["bytes of an invocation: tables"] = f"{sum(size for _, kind, size in sizes if kind == 'r') / (1.1 * ended):,.0f}"
     found["bytes of an invocation: indexes"] = f"{sum(size for _, kind, size in sizes if kind == 'i') / (1.1 * ended):,.0f}"
@@ -167,12 +186,13 @@ def main() -> None:
     parser.add_argument("--ended", nargs="+", type=int, default=[1000, 100_000], help="invocations that have ended; a tenth of them wait beside them")
     parser.add_argument("--db", default="", help="a PostgreSQL database, which is emptied")
     options = parser.parse_args()
+    print(f"The load is {os.getloadavg()[0]:.0f}.\n")
     if options.db:
         tables(options.db, options.ended)
         return
     import postgres
 
-    with postgres.cluster() as cluster:
+    with postgres.cluster(_QUICK) as cluster:
         tables(cluster.url, options.ended)
 
 
