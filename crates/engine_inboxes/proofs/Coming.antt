@@ -1,6 +1,6 @@
 -- That what waits can be delivered lasts: over a command, over a proposal, and as it comes.
 use Rattle.std.proofs.Common.{◌≡◌, zero, suc, slice_index_or, ℕ, ◌+◌, ◌<◌, ◌≤◌, Bool, true, false, List, [], ◌∷◌, ◌++◌, length, Option, Some, None, refl, sym, ap, ◌∙◌, subst, arith, append-nil}
-use Rattle.std.specs.Prelude.{OnOk, Result, Ok, Err, ◌==◌, ◌||◌, if◌then◌else◌, cond, is_some, nat_le, nat_lt}
+use Rattle.std.specs.Prelude.{IfErr, OnOk, Result, Ok, Err, ◌==◌, ◌||◌, if◌then◌else◌, cond, is_some, nat_le, nat_lt}
 use Rattle.std.specs.List.{AllByRecursion, remove}
 use Rattle.std.specs.Option.{option_and_then}
 use Rattle.std.proofs.lemmas.Bool.Decides.{nat_tests}
@@ -19,6 +19,7 @@ use Rattle.engine_effects.specs.Effects.{awoken, effect_of, timer_of}
 use Rattle.journal_protocol.specs.Signal.{Signal}
 use Rattle.journal_protocol.specs.Signal.TheVariants as signal
 use Rattle.journal_protocol.specs.Bodies.{message_in, notification_in}
+use Rattle.journal_entries.specs.Carried.{carried}
 use Rattle.journal_entries.specs.Journal.{read_before}
 use Rattle.journal_entries.specs.JournalFrames.{is_command_frame, is_notification, notified_by}
 use Rattle.journal_entries.specs.declared.completions.Completes.{Completes}
@@ -28,17 +29,19 @@ use Rattle.journal_entries.specs.declared.fault.JournalFault.TheVariants as jour
 use Rattle.journal_entries.specs.Arrivals.{arrival_fault, completes_among, completes_by, completes_id, completion_fault, if_same, is_invocation_id, is_of, read_fault, room_fault}
 use Rattle.journal_entries.specs.Entries.{frame_in, note_in, note_of, notes_in, read_from, said_at, said_by, said_in}
 use Rattle.journal_entries.proofs.Framing.{command_no_note, note_no_command, notes_append}
+use Rattle.engine_inboxes.specs.declared.types.InboxFault.{InboxFault}
+use Rattle.engine_inboxes.specs.declared.types.InboxFault.TheVariants as fault
 use Rattle.engine_inboxes.specs.declared.types.Waiting.{Waiting}
 use Rattle.engine_inboxes.specs.declared.types.Waiting.TheVariants as waiting
 use Rattle.engine_inboxes.specs.declared.types.Brought.{Brought}
 use Rattle.engine_inboxes.specs.declared.types.Brought.TheVariants as brought
 use Rattle.engine_inboxes.specs.Notes.{completion, note_by, signal_id}
 use Rattle.engine_inboxes.specs.Ids.{carried_pair, past_new}
-use Rattle.engine_inboxes.specs.Deliverable.{WaitForOthers, CanAllCome, CanCome, Commanded, Deliverable, Entered, IsPendingId, IsCarriedId, IsCarriedNote, IsUnknownFrom, IsProposedApart, IsUnwaited, Known, MayBeStored, WaitOnce, effect_said, id_is_waited, waits_for_id, is_waited, kind_of, kinds_in, known_in, past_said, waited_by}
+use Rattle.engine_inboxes.specs.Deliverable.{WaitForOthers, CanAllCome, CanCome, CommandFaults, Commanded, Deliverable, Entered, EntryFaults, IsPendingId, IsCarriedId, IsCarriedNote, IsUnknownFrom, IsProposedApart, IsUnwaited, Known, MayBeStored, WaitOnce, completes_waited, effect_said, id_is_waited, waits_for_id, is_waited, kind_of, kinds_in, known_in, past_said, waited_by}
 
 -- ---- one entry more
 
-said_append : (xs ys : List (List ℕ)) → said_in (xs ++ ys) ≡ said_in xs ++ said_in ys
+pub said_append : (xs ys : List (List ℕ)) → said_in (xs ++ ys) ≡ said_in xs ++ said_in ys
 said_append [] ys = refl
 said_append (x ∷ xs) ys = ap (read_before (said_at x)) (said_append xs ys) ∙ by_said (said_at x)
   where
@@ -577,6 +580,46 @@ other_adds journal entry ws next said c =
 pub on_ok_then : {A E : Type 0} (r : Result A E) (P Q : Type 0) → (P → Q) → OnOk r P → OnOk r Q
 on_ok_then (Ok a) P Q f h = f h
 on_ok_then (Err e) P Q f h = tt
+
+-- ---- the ids that a command carries
+
+-- the ids of a command, as a list
+abbrev pub id_listed : Option ℕ → List ℕ
+id_listed None = []
+id_listed (Some id) = id ∷ []
+
+abbrev pub both_listed : Option ℕ × Option ℕ → List ℕ
+both_listed p = id_listed p.0 ++ id_listed p.1
+
+pub listed : (m : Message) → carried m ≡ both_listed (carried_pair m)
+listed (message.Sleep c) = refl
+listed (message.GetLazyState c) = refl
+listed (message.GetLazyStateKeys c) = refl
+listed (message.Call c) = refl
+listed (message.OneWayCall c) = refl
+listed (message.GetPromise c) = refl
+listed (message.PeekPromise c) = refl
+listed (message.CompletePromise c) = refl
+listed (message.Run c) = refl
+listed (message.AttachInvocation c) = refl
+listed (message.GetInvocationOutput c) = refl
+listed m = refl
+
+-- ---- faults
+
+pub if_err_then : {A E : Type 0} (r : Result A E) (P Q : E → Type 0) → ((e : E) → P e → Q e) → IfErr r P → IfErr r Q
+if_err_then (Ok a) P Q f h = tt
+if_err_then (Err e) P Q f h = f e h
+
+-- the fault of a command is that of its entry
+pub command_faults : (entry : List ℕ) (m : Message) (ws : List Waiting) (next : ℕ) → said_at entry ≡ Some m → (f : InboxFault) → CommandFaults m next f → EntryFaults entry ws next f
+command_faults entry m ws next said fault.Memory h = tt
+command_faults entry m ws next said fault.IdNotNew h = ap (past_said next) said ∙ h
+command_faults entry m ws next said fault.NotARun h = absurd h
+
+-- and that of a proposal
+pub proposal_faults : (entry : List ℕ) (ws : List Waiting) (next : ℕ) → said_at entry ≡ None → completes_waited (note_in entry) ws ≡ true → (f : InboxFault) → f ≡ fault.NotARun → EntryFaults entry ws next f
+proposal_faults entry ws next said waited f is = subst (EntryFaults entry ws next) (sym is) (said, waited)
 
 -- ---- a signal waits
 

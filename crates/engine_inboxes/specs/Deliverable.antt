@@ -13,6 +13,8 @@ use Rattle.journal_entries.specs.declared.completions.Completes.{Completes}
 use Rattle.journal_entries.specs.declared.completions.Completes.TheVariants as completes
 use Rattle.journal_entries.specs.Arrivals.{arrival_fault, completes_among, completes_id, room_fault}
 use Rattle.journal_entries.specs.Entries.{note_in, notes_in, said_at, said_in}
+use Rattle.engine_inboxes.specs.declared.types.InboxFault.{InboxFault}
+use Rattle.engine_inboxes.specs.declared.types.InboxFault.TheVariants as fault
 use Rattle.engine_inboxes.specs.declared.types.Waiting.{Waiting}
 use Rattle.engine_inboxes.specs.declared.types.Waiting.TheVariants as waiting
 use Rattle.engine_inboxes.specs.Ids.{past_new_ids}
@@ -110,6 +112,12 @@ pub record Commanded (m : Message) (old : List Waiting) (next : ℕ) (new : List
   pub past : past_new_ids next m ≡ Some next'
   pub waits : new ≡ old ++ waited_by (effect_of m)
 
+-- the fault of a command, out of memory aside: one of its ids isn't new
+abbrev pub CommandFaults : Message → ℕ → InboxFault → Type 0
+CommandFaults m next fault.Memory = Unit {0}
+CommandFaults m next fault.IdNotNew = past_new_ids next m ≡ None
+CommandFaults m next fault.NotARun = ⊥
+
 -- what an entry asks for, if it is a command
 abbrev pub effect_said : Option Message → Option Effect
 effect_said None = None
@@ -148,6 +156,14 @@ IsUnwaited note ws = completes_waited note ws ≡ false
 -- an entry that is no command completes none that waits
 abbrev pub IsProposedApart : List ℕ → List Waiting → Type 0
 IsProposedApart entry ws = said_at entry ≡ None → IsUnwaited (note_in entry) ws
+
+-- The fault of an entry that an attempt wrote, out of memory aside: a command carries an id that
+-- isn't new, or a completion is of what waits.
+abbrev pub EntryFaults : List ℕ → List Waiting → ℕ → InboxFault → Type 0
+EntryFaults entry ws next fault.Memory = Unit {0}
+EntryFaults entry ws next fault.IdNotNew = past_said next (said_at entry) ≡ None
+EntryFaults entry ws next fault.NotARun =
+    (said_at entry ≡ None) × (completes_waited (note_in entry) ws ≡ true)
 
 -- a notification that an attempt's proposal became is of an id that a stored command carries
 abbrev pub IsCarriedId : NotificationId → Known → Type 0

@@ -1,5 +1,5 @@
 -- The completion ids that commands carry, as new ones in order.
-use Rattle.std.specs.Prelude.{ℕ, ◌+◌, nat_lt, if◌then◌else◌, Option, Some, None}
+use Rattle.std.specs.Prelude.{ℕ, ◌+◌, nat_lt, if◌then◌else◌, List, [], ◌∷◌, Option, Some, None}
 use Rattle.std.specs.Option.{option_and_then}
 use Rattle.journal_protocol.specs.Message.{Message}
 use Rattle.journal_protocol.specs.Message.TheVariants as message
@@ -29,3 +29,9 @@ past_new next (Some id) = if nat_lt id next then None else Some (id + 1)
 abbrev pub past_new_ids : ℕ → Message → Option ℕ
 past_new_ids next m =
     option_and_then (λ mid. past_new mid (carried_pair m).1) (past_new next (carried_pair m).0)
+
+-- what is next past the ids of these commands, if each one's are new ones in order
+abbrev pub past_new_along : ℕ → List Message → Option ℕ
+past_new_along next [] = Some next
+past_new_along next (m ∷ ms) =
+    option_and_then (λ mid. past_new_along mid ms) (past_new_ids next m)

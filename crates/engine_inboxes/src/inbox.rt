@@ -1,11 +1,12 @@
 //! An inbox: what waits, and what is next past all completion ids that the stored commands carry.
-ghost use Rattle.std.specs.Prelude.{◌≡◌, ◌<◌, ◌++◌, ◌∷◌, [], ℕ, List, length, slice_index_or, IfOk, OnOk};
+ghost use Rattle.std.specs.Prelude.{◌≡◌, ◌<◌, ◌++◌, ◌∷◌, [], ℕ, List, None, length, slice_index_or, true, IfErr, IfOk, OnOk};
 ghost use Rattle.engine_effects.specs.Effects.{effect_of};
 ghost use Rattle.engine_inboxes.specs.Ids.{past_new_ids};
 ghost use Rattle.engine_inboxes.specs.Notes.{note_by};
+ghost use Rattle.engine_inboxes.specs.declared.types.InboxFault.TheVariants as fault;
 ghost use Rattle.engine_inboxes.specs.declared.types.Waiting as W;
 ghost use Rattle.engine_inboxes.specs.declared.types.Waiting.TheVariants as waiting;
-ghost use Rattle.engine_inboxes.specs.Deliverable.{Arrives, Commanded, Deliverable, Entered, IsProposedApart, IsUnwaited, MayBeStored, TakesOut, completes_waited, effect_at, waits_for_id, is_waited, waited_by};
+ghost use Rattle.engine_inboxes.specs.Deliverable.{Arrives, CommandFaults, Commanded, Deliverable, Entered, EntryFaults, IsProposedApart, IsUnwaited, MayBeStored, TakesOut, completes_waited, effect_at, waits_for_id, is_waited, waited_by};
 
 use crate::ids::past_all;
 use crate::notes::note_by;
@@ -77,6 +78,7 @@ fn commanded(
     ensures ok { OnOk result (Commanded command.now inbox.old.waiting.items inbox.old.next
         inbox.new.waiting.items inbox.new.next) }
     ensures effect { IfOk result (λ e. e ≡ effect_of command.now) }
+    ensures err { IfErr result (CommandFaults command.now inbox.old.next) }
 {
     let Some(past) = past_all(inbox.next, command) else {
         return Err(InboxFault::IdNotNew);
@@ -106,7 +108,9 @@ fn completes_waited(waiting: &[Waiting], note: &Option<Notification>) -> bool
 
 /// A completion that was proposed is of nothing that waits.
 fn proposed(waiting: &[Waiting], note: &Option<Notification>) -> Result<(), InboxFault>
-    ensures { OnOk result (IsUnwaited note.now waiting.now) }
+    ensures ok { OnOk result (IsUnwaited note.now waiting.now) }
+    ensures err { IfErr result
+        (λ f. (f ≡ fault.NotARun) × (completes_waited note.now waiting.now ≡ true)) }
 {
     if completes_waited(waiting, note) {
         Err(InboxFault::NotARun)
@@ -149,6 +153,9 @@ impl Inbox {
         // What a command waits for is there after all that waited, and nothing else changes.
         ensures entered { OnOk result (Entered entry.now self.old.waiting.items self.old.next
             self.new.waiting.items self.new.next) }
+        // A fault has its reason.
+        ensures err { IfErr result
+            (EntryFaults entry.now self.old.waiting.items self.old.next) }
     {
         let said = match said_at(alloc, entry) {
             Ok(said) => said,

@@ -21,7 +21,8 @@ use Rattle.vm_model.specs.Calls.{Meaning}
 use Rattle.engine_effects.specs.declared.effect.Effect.{Effect}
 use Rattle.engine_inboxes.specs.declared.types.Brought.{Brought}
 use Rattle.engines.specs.Members.{Delivers, GoesBy, MemberView, StoresNextEntry, stopped, with_signal}
-use Rattle.engines.specs.Engines.{AddsCallee, AllHappen, BeginsIf, ChangesAt, ChangesOne, DeliversAt, DeliversIf, DeliversTo, DeliversUnless, DoesEffect, EndsWith, FindsOrMakes, GoesIn, HappeningDoes, IsWholeInput, MakesInvocation, MemberGoes, NoneAt, Orders, OrdersOf, PerformsIf, Sends, SendsToPlace, StoresAndPerforms, StoresIn, StoresInMember, StoresUnless, brought_at, entry_of_input, new_setting, stopped_in, whole_round}
+use Rattle.engines.specs.Beginnings.{IsWholeInput, entry_of_input}
+use Rattle.engines.specs.Engines.{AddsCallee, AllHappen, BeginsIf, ChangesAt, ChangesOne, DeliversAt, DeliversIf, DeliversTo, DeliversUnless, DoesEffect, EndsWith, FindsOrMakes, GoesIn, HappeningDoes, MakesInvocation, MemberGoes, NoneAt, Orders, OrdersOf, PerformsIf, Sends, SendsToPlace, StoresAndPerforms, StoresIn, StoresInMember, StoresUnless, brought_at, new_setting, stopped_in, whole_round}
 
 module _ {H : Type 0} (R : MemberView H → MemberView H → Type 0) (old : List (Invocation H)) (place : ℕ) (it : Invocation H) (lt : place < length old) (is : it ≡ slice_index_or old place it) where
   -- its rounds are away, so nothing happens

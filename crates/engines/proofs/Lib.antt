@@ -4,3 +4,5 @@ pub mod Among
 pub mod Books
 pub mod Growing
 pub mod Keeping
+pub mod Beginnings
+pub mod Replaying

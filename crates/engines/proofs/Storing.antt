@@ -35,7 +35,7 @@ use Rattle.engine_inboxes.specs.declared.types.Waiting.{Waiting}
 use Rattle.engine_inboxes.specs.Notes.{note_by}
 use Rattle.engine_inboxes.specs.Deliverable.{Arrives, Deliverable, IsCarriedNote, IsUnknownFrom, MayBeStored, TakesOut, effect_at, effect_said, known_in}
 use Rattle.engines.specs.Members.{Delivers, IsOwn, MayStoreOne, MemberView}
-use Rattle.engines.specs.Engines.{entry_of_input}
+use Rattle.engines.specs.Beginnings.{entry_of_input}
 
 -- ---- frames
 

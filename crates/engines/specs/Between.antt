@@ -21,7 +21,7 @@ use Rattle.engines.specs.declared.types.Begun.{Begun}
 use Rattle.engines.specs.declared.types.Callee.{Callee}
 use Rattle.engines.specs.Lookups.{callee_of, callee_id, is_before, is_same, callee_result, handler_named}
 use Rattle.engines.specs.Members.{MemberView}
-use Rattle.engines.specs.Engines.{entry_of_input}
+use Rattle.engines.specs.Beginnings.{entry_of_input}
 
 -- it is one of them
 abbrev pub IsOneOf : {A : Type 0} → A → List A → Type 0

@@ -1,8 +1,6 @@
 -- What each event does to the invocations of an engine.
 use Rattle.std.specs.Prelude.{◌≡◌, ◌⊎◌, ℕ, ◌<◌, ◌≤◌, max, Bool, true, false, List, [], ◌∷◌, ◌++◌, length, map, slice_get, slice_index_or, slice_set, Option, Some, None, is_some}
 use Rattle.std.specs.Option.{option_and_then, option_map}
-use Rattle.journal_protocol.specs.Message.TheVariants as message
-use Rattle.journal_protocol.specs.Frames.{IsWhole, encoding}
 use Rattle.engines.specs.declared.engine.Engine.{Engine}
 use Rattle.engines.specs.declared.engine.Invocation.{Invocation}
 use Rattle.engines.specs.declared.types.Begun.{Begun}
@@ -22,6 +20,7 @@ use Rattle.journal_protocol.specs.ValueOrFailure.{ValueOrFailure}
 use Rattle.engine_inboxes.specs.declared.types.Brought.{Brought}
 use Rattle.engines.specs.declared.types.Happening.{Happening}
 use Rattle.engines.specs.declared.types.Happening.TheVariants as happening
+use Rattle.engines.specs.Beginnings.{IsWholeInput, entry_of_input}
 use Rattle.engines.specs.Lookups.{brought_for, id_of_place, may_begin, place_of, same_as, handler_named}
 use Rattle.engines.specs.Members.{Acts, Delivers, GoesBy, MemberView, StoresNextEntry, with_signal, stopped}
 
@@ -78,14 +77,6 @@ new_setting e id order = record {
   version = e.version;
   base = [];
 }
-
--- the first entry of a journal: its input
-abbrev pub entry_of_input : List ℕ → List ℕ
-entry_of_input parameter = encoding (message.Input (record { headers = []; value = parameter }))
-
--- that entry can be read back
-abbrev pub IsWholeInput : List ℕ → Type 0
-IsWholeInput parameter = IsWhole (message.Input (record { headers = []; value = parameter }))
 
 -- a new invocation by itself: its journal is its input, no round has begun, and nothing waits
 abbrev pub new_member : {H : Type 0} → Engine H → H → List ℕ → Order → MemberView H

@@ -10,6 +10,7 @@ use Rattle.journal_entries.specs.Entries.{note_in}
 use Rattle.engine_inboxes.specs.declared.types.Brought.{Brought}
 use Rattle.engine_inboxes.specs.Notes.{note_by}
 use Rattle.world_rounds.specs.Course.{CourseView, HappensTo}
+use Rattle.world_rounds.specs.Guarantees.{Case}
 use Rattle.world_rounds.specs.declared.types.Event.{Event}
 use Rattle.world_rounds.specs.declared.types.Event.TheVariants as event
 use Rattle.engine_inboxes.specs.Deliverable.{Entered, IsProposedApart, MayBeStored, effect_at}
@@ -21,6 +22,10 @@ pub record MemberView (H : Type 0) : Type 0 where
   pub course : CourseView H
   pub waiting : List Waiting
   pub next : ℕ
+
+-- what is fixed over all rounds: what the handler calls, and with what its attempts are made
+abbrev pub case_in : {H : Type 0} → Meaning → CourseView H → Case
+case_in m c = record { handler = m; setting = c.setting }
 
 -- an event of the attempt's own
 abbrev pub IsOwn : Event → Type 0

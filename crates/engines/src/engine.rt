@@ -1,15 +1,15 @@
 //! An engine's state: its invocations, and the clock.
 ghost use Rattle.std.specs.Prelude.{◌≡◌, ◌<◌, ◌≤◌, ◌∷◌, [], length, position, None, Some, IfOk, IfErr, IfSome, OnOk};
-ghost use Rattle.engines.specs.Engines.{FindsOrMakes, IsWholeInput, MakesInvocation, Orders, entry_of_input, new_identity, whole_round};
+ghost use Rattle.engines.specs.Beginnings.{BeganWithInput, IsPastAll, IsWholeInput, entry_of_input};
+ghost use Rattle.engines.specs.Engines.{FindsOrMakes, MakesInvocation, Orders, new_identity, whole_round};
 ghost use Rattle.std.specs.List.{list_any};
 ghost use Rattle.engines.specs.Lookups.{has_turn, id_of_place, is_before, is_kept, is_same, is_text, may_begin, place_of, same_as, share, handler_named};
 ghost use Rattle.engine_inboxes.specs.Deliverable.{IsUnknownFrom, known_in};
-ghost use Rattle.engines.specs.Faults.{IsNoArrival};
+ghost use Rattle.engines.specs.Faults.{IsMemoryOrFull};
 
 use crate::member::Member;
 use crate::types::{Begun, Callee, EngineFault, Order, Target};
 use bytes::Bytes;
-use journal_entries::JournalFault;
 use journal_protocol::{ValueOrFailure, Version};
 use plain::{Items, Text};
 use std::alloc::{AllocError, Global};
@@ -141,15 +141,6 @@ fn new_id(alloc: Global, place: usize) -> Result<Text, AllocError>
     Ok(Text::from_string(format!(in alloc; "inv_{place}")?))
 }
 
-fn world_fault(fault: JournalFault) -> EngineFault
-    ensures { IsNoArrival result }
-{
-    match fault {
-        JournalFault::Memory => EngineFault::Memory,
-        other => EngineFault::Stored(other),
-    }
-}
-
 /// The world of a new invocation: its input is the parameter.
 fn world_of(
     alloc: Global,
@@ -167,8 +158,10 @@ fn world_of(
         }) }
     ensures journal { IfOk result (λ w. w.journal ≡ entry_of_input order.now.parameter ∷ []) }
     ensures new { IfOk result (λ w. IsUnknownFrom (known_in w.journal) 0) }
+    ensures began { IfOk result (λ w. BeganWithInput (length w.journal) w.journal) }
+    ensures ids { IfOk result (λ w. IsPastAll w.journal 0) }
     ensures whole { OnOk result (IsWholeInput order.now.parameter) }
-    ensures err { IfErr result IsNoArrival }
+    ensures err { IfErr result IsMemoryOrFull }
 {
     let Ok(identity) = identity(alloc, id, order) else {
         return Err(EngineFault::Memory);
@@ -178,7 +171,7 @@ fn world_of(
     };
     match World::new(alloc, identity, options, version, input, Vec::new(alloc)) {
         Ok(world) => Ok(world),
-        Err(fault) => Err(world_fault(fault)),
+        Err(_) => Err(EngineFault::Memory),
     }
 }
 
@@ -192,7 +185,9 @@ fn new_invocation<'a, H: Handler>(
     begun: Option<Begun>,
     world: World,
 ) -> Invocation<'a, H>
-    requires { IsUnknownFrom (known_in world.journal) 0 }
+    requires new { IsUnknownFrom (known_in world.journal) 0 }
+    requires began { BeganWithInput (length world.journal) world.journal }
+    requires ids { IsPastAll world.journal 0 }
     ensures made { result
         ≡ record {
           id = id;
@@ -244,7 +239,8 @@ impl<'a, H: Handler + Drop> Engine<'a, H> {
         options: VMOptions,
         version: Version,
     ) -> Self
-        ensures { result.invocations.items ≡ [] }
+        ensures none { result.invocations.items ≡ [] }
+        ensures options { result.options ≡ options }
     {
         Engine {
             alloc,
@@ -303,7 +299,7 @@ impl<'a, H: Handler + Drop> Engine<'a, H> {
         requires { target < length self.old.targets.now }
         ensures made { OnOk result (MakesInvocation target order begun self.old self.new) }
         ensures place { IfOk result (λ place. place ≡ length self.old.invocations.items) }
-        ensures err { IfErr result IsNoArrival }
+        ensures err { IfErr result IsMemoryOrFull }
     {
         let place = self.invocations.len();
         let Ok(id) = new_id(self.alloc, place) else {
@@ -339,7 +335,7 @@ impl<'a, H: Handler + Drop> Engine<'a, H> {
         ensures does { IfOk result
             (λ place. FindsOrMakes (same_as self.old.invocations.items target order) target order
             begun (Some place) self.old self.new) }
-        ensures err { IfErr result IsNoArrival }
+        ensures err { IfErr result IsMemoryOrFull }
     {
         match self.same_as(target, &order) {
             Some(place) => Ok(place),
@@ -355,7 +351,7 @@ impl<'a, H: Handler + Drop> Engine<'a, H> {
         begun: Option<Begun>,
     ) -> Result<Option<usize>, EngineFault>
         ensures does { IfOk result (λ place. Orders order begun place self.old self.new) }
-        ensures err { IfErr result IsNoArrival }
+        ensures err { IfErr result IsMemoryOrFull }
     {
         match self.handler_named(&order.service, &order.handler) {
             None => Ok(None),

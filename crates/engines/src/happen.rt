@@ -4,7 +4,9 @@ ghost use Rattle.engines.specs.Between.{AllKept};
 ghost use Rattle.engines.specs.Lookups.{may_begin};
 ghost use Rattle.engines.specs.Members.{Acts, MemberView, stopped};
 ghost use Rattle.engines.specs.Engines.{AllHappen, BeginsIf, ChangesAt, DeliversAt, HappeningDoes, MemberGoes, Orders, StoresAndPerforms, StoresIn, brought_at, stopped_in};
-ghost use Rattle.engines.specs.Faults.{IsNoArrival};
+ghost use Rattle.engines.specs.Faults.{IsMemoryOrFull, IsNoArrival, IsNoIdFault};
+ghost use Rattle.engines.specs.Replaying.{AllReplay};
+ghost use Rattle.world_rounds.specs.Rounds.{ReplaysAndQueues};
 
 use crate::engine::{Engine, whole_round};
 use crate::types::{EngineFault, Happening, Order, Target};
@@ -32,7 +34,7 @@ impl<'a, H: Handler + Drop> Engine<'a, H> {
     fn submit(&mut self, order: &Order) -> Result<(), EngineFault>
         ensures does { OnOk result
             ((place : Option ℕ) × Orders order.now None place self.old self.new) }
-        ensures err { IfErr result IsNoArrival }
+        ensures err { IfErr result IsMemoryOrFull }
     {
         let Ok(order) = copy_order(order) else {
             return Err(EngineFault::Memory);
@@ -45,7 +47,7 @@ impl<'a, H: Handler + Drop> Engine<'a, H> {
 
     fn begin(&mut self, place: usize) -> Result<(), EngineFault>
         ensures does { OnOk result (BeginsIf (may_begin self.old place) place self.old self.new) }
-        ensures err { IfErr result IsNoArrival }
+        ensures err { IfErr result IsMemoryOrFull }
     {
         if !self.may_begin(place) {
             return Ok(());
@@ -70,7 +72,7 @@ impl<'a, H: Handler + Drop> Engine<'a, H> {
             (ChangesAt place (MemberGoes
             (λ (m : MemberView _). Acts (H.meaning m.course.handler) event.now m)) self.old
             self.new) }
-        ensures err { IfErr result IsNoArrival }
+        ensures err { IfErr result IsMemoryOrFull }
     {
         let Some(it) = self.invocations.get_mut(place) else {
             return Ok(());
@@ -105,7 +107,7 @@ impl<'a, H: Handler + Drop> Engine<'a, H> {
 
     fn deliver(&mut self, place: usize, at: usize) -> Result<(), EngineFault>
         ensures does { OnOk result (DeliversAt (λ h. H.meaning h) place at self.old self.new) }
-        ensures err { IfErr result IsNoArrival }
+        ensures err { IfErr result IsMemoryOrFull }
     {
         let brought = match self.brought_at(place, at) {
             Err(_) => return Err(EngineFault::Memory),
@@ -137,6 +139,7 @@ impl<'a, H: Handler + Drop> Engine<'a, H> {
         ensures none { IfOk result (λ asks. length self.old.invocations.items ≤ place → asks
             ≡ None) }
         ensures err { IfErr result IsNoArrival }
+        ensures ids { IfErr result (λ f. AllReplay self.old → IsNoIdFault f) }
     {
         let Some(it) = self.invocations.get_mut(place) else {
             return Ok(None);
@@ -160,6 +163,7 @@ impl<'a, H: Handler + Drop> Engine<'a, H> {
     fn store(&mut self, place: usize) -> Result<(), EngineFault>
         ensures does { OnOk result (StoresAndPerforms (λ h. H.meaning h) place self.old self.new) }
         ensures err { IfErr result IsNoArrival }
+        ensures ids { IfErr result (λ f. AllReplay self.old → IsNoIdFault f) }
     {
         match self.store_next(place) {
             Ok(Some(effect)) => self.perform(place, effect),
@@ -193,6 +197,8 @@ impl<'a, H: Handler + Drop> Engine<'a, H> {
         ensures does { OnOk result
             (HappeningDoes (λ h. H.meaning h) happening.now self.old self.new) }
         ensures err { IfErr result IsNoArrival }
+        // If all attempts replay and queue, each command that is stored carries new ids.
+        ensures ids { IfErr result (λ f. AllReplay self.old → IsNoIdFault f) }
     {
         match happening {
             Happening::Submit(order) => self.submit(order),
@@ -225,6 +231,8 @@ pub fn run_engine<'a, H: Handler + Drop>(
     ensures does { IfOk result (AllHappen (λ h. H.meaning h) events.now engine.entry) }
     // No arrival has a fault.
     ensures err { IfErr result IsNoArrival }
+    // If all attempts replay and queue, each command that is stored carries new ids.
+    ensures ids { IfErr result (λ f. AllReplay engine.entry → IsNoIdFault f) }
 {
     let mut engine = engine;
     for event in events {
@@ -249,6 +257,8 @@ pub fn play_engine<'a, H: Handler + Drop>(
     ensures kept { IfOk result AllKept }
     // No arrival has a fault.
     ensures err { IfErr result IsNoArrival }
+    // If recorded commands are replayed and signals queue, each command that is stored carries new ids.
+    ensures ids { IfErr result (λ f. ReplaysAndQueues options → IsNoIdFault f) }
 {
     run_engine(Engine::new(alloc, targets, options, version), events)
 }

@@ -3,10 +3,13 @@ ghost use Rattle.std.specs.Prelude.{◌≡◌, ◌<◌, ◌++◌, ◌∷◌, [],
 ghost use Rattle.engine_inboxes.specs.Deliverable.{Deliverable, IsUnknownFrom, known_in};
 ghost use Rattle.journal_entries.specs.Arrivals.{arrival_fault, room_fault};
 ghost use Rattle.journal_entries.specs.Entries.{note_in};
-ghost use Rattle.engines.specs.Faults.{IsMemoryOrFull, IsNoArrival};
-ghost use Rattle.engines.specs.Members.{Acts, CantCome, Delivers, GoesBy, IsOwn, MayStoreOne, StoresNextEntry, with_signal, stopped};
-ghost use Rattle.engine_inboxes.specs.Deliverable.{Entered, IsProposedApart, effect_at};
+ghost use Rattle.engines.specs.Beginnings.{BeganWithInput, IsPastAll};
+ghost use Rattle.engines.specs.Faults.{IsMemoryOrFull, IsNoArrival, IsNoIdFault, fault_of_entry};
+ghost use Rattle.engines.specs.Members.{Acts, CantCome, Delivers, GoesBy, IsOwn, MayStoreOne, StoresNextEntry, case_in, with_signal, stopped};
+ghost use Rattle.engine_inboxes.specs.Deliverable.{Entered, EntryFaults, IsProposedApart, effect_at};
 ghost use Rattle.world_rounds.specs.Course.{BeginsRound, HappensTo};
+ghost use Rattle.world_rounds.specs.Guarantees.{HasOneResultEach, HasRightKinds, IsExactlyOnce, IsReplayable};
+ghost use Rattle.world_rounds.specs.Rounds.{ReplaysAndQueues};
 ghost use Rattle.world_rounds.specs.declared.types.Event.TheVariants as event;
 
 use crate::types::{EngineFault, arrival_of, inbox_of, stored_of};
@@ -27,8 +30,8 @@ pub struct Member<'a, H: Handler> {
 }
 
 impl<'a, H: Handler> Model for Member<'a, H> {
+    ghost use Rattle.engines.specs.Beginnings.{MemberLasts};
     ghost use Rattle.engines.specs.Members.{MemberView};
-    ghost use Rattle.engine_inboxes.specs.Deliverable.{Deliverable};
     ghost use Rattle.await_trees.specs.contracts.tree.UnresolvedFuture as future;
     ghost use Rattle.std.specs.Coded.{codes};
 
@@ -38,7 +41,7 @@ impl<'a, H: Handler> Model for Member<'a, H> {
 
     ghost view = { λ a. record { course = a.course; waiting = a.inbox.waiting.items; next = a.inbox.next } };
 
-    ghost invariant = { λ a. Deliverable a.course.journal a.inbox.waiting.items a.inbox.next };
+    ghost invariant = { λ a. MemberLasts a.course.given a.course.journal a.inbox.waiting.items a.inbox.next };
 }
 
 /// Written out, as for a setting.
@@ -84,6 +87,7 @@ fn store_one<'a, H: Handler>(course: Course<'a, H>) -> Result<Course<'a, H>, Eng
         (HappensTo (H.meaning course.entry.handler) (event.Store 1) course.entry.live
         course.entry) }
     ensures err { IfErr result IsNoArrival }
+    ensures ids { IfErr result IsNoIdFault }
 {
     match course.happen(&Event::Store(1)) {
         Ok(course) => Ok(course),
@@ -113,6 +117,9 @@ fn stored_at(
         → journal.now ≡ old ++ x ∷ [] → IsProposedApart x inbox.old.waiting.items) }
     ensures effect { IfOk result (λ e. (old : List (List ℕ)) (x : List ℕ) → length old ≡ before
         → journal.now ≡ old ++ x ∷ [] → e ≡ effect_at x) }
+    ensures fault { IfErr result (λ f. (old : List (List ℕ)) (x : List ℕ) → length old ≡ before
+        → journal.now ≡ old ++ x ∷ [] → EntryFaults x inbox.old.waiting.items inbox.old.next f) }
+    ensures faulty { IfErr result (λ f. length journal.now ≡ before → ⊥) }
 {
     match journal.get(before) {
         None => Ok(None),
@@ -130,11 +137,13 @@ fn act_in<'a, H: Handler>(
     ensures happens { IfOk result
         (HappensTo (H.meaning course.entry.handler) event.now course.entry.live
         course.entry) }
-    ensures err { IfErr result IsNoArrival }
+    ensures given { IfOk result (λ c. c.given ≡ course.entry.given) }
+    ensures err { IfErr result IsMemoryOrFull }
 {
+    // Out of memory is the only fault of such an event.
     match course.happen(event) {
         Ok(course) => Ok(course),
-        Err(fault) => Err(stored_of(fault)),
+        Err(_) => Err(EngineFault::Memory),
     }
 }
 
@@ -152,7 +161,9 @@ fn is_own(event: &Event) -> bool
 impl<'a, H: Handler> Member<'a, H> {
     /// An invocation before its first round.
     pub fn new(alloc: Global, course: Course<'a, H>) -> Self
-        requires { IsUnknownFrom (known_in course.journal) 0 }
+        requires new { IsUnknownFrom (known_in course.journal) 0 }
+        requires began { BeganWithInput course.given course.journal }
+        requires ids { IsPastAll course.journal 0 }
         ensures { result ≡ record { course = course.entry; waiting = []; next = 0 } }
     {
         Member {
@@ -170,7 +181,20 @@ impl<'a, H: Handler> Member<'a, H> {
 
     /// The journal, one frame an entry.
     pub fn journal(&self) -> &[Bytes]
-        ensures { result.now ≡ self.now.course.journal }
+        ensures value { result.now ≡ self.now.course.journal }
+        // At each moment, after any attempts, one run of the handler made it, each command once;
+        ensures one_run { ReplaysAndQueues self.now.course.setting.options
+            → IsExactlyOnce (case_in (H.meaning self.now.course.handler) self.now.course)
+            self.now.course.journal }
+        // it can be replayed; no completion id has two results; and what completes an invocation's id is one.
+        ensures replayable { ReplaysAndQueues self.now.course.setting.options
+            → IsReplayable (case_in (H.meaning self.now.course.handler) self.now.course)
+            self.now.course.journal }
+        ensures once { ReplaysAndQueues self.now.course.setting.options
+            → HasOneResultEach (case_in (H.meaning self.now.course.handler) self.now.course)
+            self.now.course.journal }
+        ensures kinds { ReplaysAndQueues self.now.course.setting.options
+            → HasRightKinds self.now.course.journal }
     {
         self.course.journal()
     }
@@ -185,15 +209,16 @@ impl<'a, H: Handler> Member<'a, H> {
     /// A new attempt begins.
     pub fn begin(self, round: &Round) -> Result<Self, EngineFault>
         ensures ok { IfOk result (GoesBy (BeginsRound round.now) self.entry) }
-        ensures err { IfErr result IsNoArrival }
+        ensures err { IfErr result IsMemoryOrFull }
     {
         let Member {
             alloc,
             course,
             inbox,
         } = self;
+        // Out of memory is the only fault of a begin.
         match course.begin(round) {
-            Err(fault) => Err(stored_of(fault)),
+            Err(_) => Err(EngineFault::Memory),
             Ok(course) => Ok(Member {
                 alloc,
                 course,
@@ -221,7 +246,7 @@ impl<'a, H: Handler> Member<'a, H> {
     /// An event of the attempt's own. An arrival or a store is nothing here.
     pub fn act(self, event: &Event) -> Result<Self, EngineFault>
         ensures ok { IfOk result (Acts (H.meaning self.entry.course.handler) event.now self.entry) }
-        ensures err { IfErr result IsNoArrival }
+        ensures err { IfErr result IsMemoryOrFull }
     {
         if !is_own(event) {
             return Ok(self);
@@ -244,7 +269,7 @@ impl<'a, H: Handler> Member<'a, H> {
     /// A signal waits.
     pub fn signal(self, signal: Signal, brings: NotificationResult) -> Result<Self, EngineFault>
         ensures ok { IfOk result (λ new. new ≡ with_signal signal brings self.entry) }
-        ensures err { IfErr result IsNoArrival }
+        ensures err { IfErr result IsMemoryOrFull }
     {
         let Member {
             alloc,
@@ -315,6 +340,9 @@ impl<'a, H: Handler> Member<'a, H> {
         ensures ok { IfOk result
             (λ r. StoresNextEntry (H.meaning self.entry.course.handler) self.entry r.0 r.1) }
         ensures err { IfErr result IsNoArrival }
+        // An attempt that replays and queues carries new ids.
+        ensures ids { IfErr result (λ f. ReplaysAndQueues self.entry.course.setting.options
+            → IsNoIdFault f) }
     {
         let Member {
             alloc,

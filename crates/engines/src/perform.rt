@@ -4,7 +4,7 @@ ghost use Rattle.std.specs.Option.{option_map};
 ghost use Rattle.engine_inboxes.specs.declared.types.Brought.TheVariants as brought;
 ghost use Rattle.engines.specs.Engines.{AddsCallee, BeginsFor, ChangesAt, DoesEffect, Sends};
 ghost use Rattle.engines.specs.Lookups.{brought_for, callee_in, callee_of, callee_id, no_handler, callee_result};
-ghost use Rattle.engines.specs.Faults.{IsNoArrival};
+ghost use Rattle.engines.specs.Faults.{IsMemoryOrFull};
 
 use crate::engine::{Engine, Invocation};
 use crate::types::{Begun, Callee, EngineFault, Order};
@@ -52,7 +52,7 @@ impl<'a, H: Handler + Drop> Engine<'a, H> {
     /// A call has begun the invocation at this place, or none.
     fn calls(&mut self, by: usize, callee: Callee) -> Result<(), EngineFault>
         ensures row { OnOk result (ChangesAt by (AddsCallee callee) self.old self.new) }
-        ensures err { IfErr result IsNoArrival }
+        ensures err { IfErr result IsMemoryOrFull }
     {
         match self.invocations.get_mut(by) {
             None => Ok(()),
@@ -66,7 +66,7 @@ impl<'a, H: Handler + Drop> Engine<'a, H> {
     /// A call begins an invocation, or is attached to one.
     fn begin_for(&mut self, by: usize, begun: Beginning) -> Result<(), EngineFault>
         ensures does { OnOk result (BeginsFor by begun self.old self.new) }
-        ensures err { IfErr result IsNoArrival }
+        ensures err { IfErr result IsMemoryOrFull }
     {
         let Beginning {
             service,
@@ -95,7 +95,7 @@ impl<'a, H: Handler + Drop> Engine<'a, H> {
     /// What is sent waits for its invocation, if there is one.
     fn send(&mut self, sent: Sent) -> Result<(), EngineFault>
         ensures does { OnOk result (Sends sent self.old self.new) }
-        ensures err { IfErr result IsNoArrival }
+        ensures err { IfErr result IsMemoryOrFull }
     {
         let Sent { to, signal, brings } = sent;
         let Some(place) = self.place_of(to.as_slice()) else {
@@ -119,7 +119,7 @@ impl<'a, H: Handler + Drop> Engine<'a, H> {
     /// Does what a stored command of this invocation asks for.
     pub fn perform(&mut self, by: usize, effect: Effect) -> Result<(), EngineFault>
         ensures does { OnOk result (DoesEffect by effect self.old self.new) }
-        ensures err { IfErr result IsNoArrival }
+        ensures err { IfErr result IsMemoryOrFull }
     {
         match effect {
             Effect::Begin(begun) => self.begin_for(by, begun),

@@ -1,6 +1,6 @@
 //! What an engine is made of, and what happens to it.
 ghost use Rattle.std.specs.Prelude.{◌≡◌};
-ghost use Rattle.engines.specs.Faults.{IsNoArrival, fault_of_arrival};
+ghost use Rattle.engines.specs.Faults.{IsNoArrival, IsNoIdFault, fault_of_arrival, fault_of_entry, fault_of_store};
 ghost use Rattle.engines.specs.Lookups.{are_exclusive, has_names};
 
 use bytes::Bytes;
@@ -127,7 +127,9 @@ pub fn arrival_of(fault: JournalFault) -> EngineFault
 
 /// What the fault of a store is to the engine.
 pub fn stored_of(fault: JournalFault) -> EngineFault
-    ensures { IsNoArrival result }
+    ensures value { result ≡ fault_of_store fault }
+    ensures arrival { IsNoArrival result }
+    ensures ids { IsNoIdFault result }
 {
     match fault {
         JournalFault::Memory => EngineFault::Memory,
@@ -138,7 +140,8 @@ pub fn stored_of(fault: JournalFault) -> EngineFault
 
 /// What the fault of an entry's effect is to the engine.
 pub fn inbox_of(fault: InboxFault) -> EngineFault
-    ensures { IsNoArrival result }
+    ensures value { result ≡ fault_of_entry fault }
+    ensures arrival { IsNoArrival result }
 {
     match fault {
         InboxFault::Memory => EngineFault::Memory,

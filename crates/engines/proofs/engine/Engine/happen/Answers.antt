@@ -1,6 +1,8 @@
 use Rattle.std.specs.Prelude.{OnOk}
 use Rattle.std.proofs.Common.{sym, subst}
 use Rattle.engines.specs.Engines.{HappeningDoes}
+use Rattle.engines.specs.Replaying.{AllReplay}
+use Rattle.engines.proofs.Replaying.{no_arrival, no_id}
 use Rattle.engines.proofs.engine.Engine.happen.Goals as goal
 
 pub returns-in-Act-clause-does : goal.returns-in-Act-clause-does
@@ -8,3 +10,27 @@ returns-in-Act-clause-does g c = subst (λ e. OnOk c.act.result (HappeningDoes (
 
 pub returns-in-Deliver-clause-does : goal.returns-in-Deliver-clause-does
 returns-in-Deliver-clause-does g c = subst (λ e. OnOk c.deliver.result (HappeningDoes (λ h. g.H.Handler.meaning h) e c.args.self.now c.deliver.new.self)) (sym c.in-Deliver.is) c.deliver.ensures.does
+
+pub returns-in-Submit-clause-err : goal.returns-in-Submit-clause-err
+returns-in-Submit-clause-err g c = no_arrival c.submit.result c.submit.ensures.err
+
+pub returns-in-Submit-clause-ids : goal.returns-in-Submit-clause-ids
+returns-in-Submit-clause-ids g c = no_id (AllReplay c.args.self.now) c.submit.result c.submit.ensures.err
+
+pub returns-in-Begin-clause-err : goal.returns-in-Begin-clause-err
+returns-in-Begin-clause-err g c = no_arrival c.begin.result c.begin.ensures.err
+
+pub returns-in-Begin-clause-ids : goal.returns-in-Begin-clause-ids
+returns-in-Begin-clause-ids g c = no_id (AllReplay c.args.self.now) c.begin.result c.begin.ensures.err
+
+pub returns-in-Act-clause-err : goal.returns-in-Act-clause-err
+returns-in-Act-clause-err g c = no_arrival c.act.result c.act.ensures.err
+
+pub returns-in-Act-clause-ids : goal.returns-in-Act-clause-ids
+returns-in-Act-clause-ids g c = no_id (AllReplay c.args.self.now) c.act.result c.act.ensures.err
+
+pub returns-in-Deliver-clause-err : goal.returns-in-Deliver-clause-err
+returns-in-Deliver-clause-err g c = no_arrival c.deliver.result c.deliver.ensures.err
+
+pub returns-in-Deliver-clause-ids : goal.returns-in-Deliver-clause-ids
+returns-in-Deliver-clause-ids g c = no_id (AllReplay c.args.self.now) c.deliver.result c.deliver.ensures.err
