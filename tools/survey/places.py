@@ -22,6 +22,8 @@ WRITTEN = (
     *("bindings/node/lib/abi.d.ts", "bindings/node/lib/abi.js", "bindings/node/src/calls.c"),
     *("bindings/node/src/palqytun_abi.c", "bindings/node/src/palqytun_abi.h"),
     *("bindings/ruby/ext/palqytun/calls.c", "bindings/ruby/ext/palqytun/palqytun_abi.c", "bindings/ruby/ext/palqytun/palqytun_abi.h"),
+    *("bindings/java/src/main/c/calls.c", "bindings/java/src/main/c/palqytun_abi.c", "bindings/java/src/main/c/palqytun_abi.h"),
+    *(f"bindings/java/src/main/java/palqytun/{it}.java" for it in ("Abi", "Calls", "CommandType", "MessageType")),
     *("bindings/ruby/lib/palqytun/abi.rb", "docs/API.md", "docs/guarantees/", "python/src/palqytun/_abi.py", "python/src/palqytun/_structs.py"),
     *("python/extension/calls.c", "python/extension/palqytun_abi.c", "python/extension/palqytun_abi.h"),
 )
