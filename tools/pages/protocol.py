@@ -4,6 +4,7 @@ from __future__ import annotations
 
 import json
 import re
+from collections.abc import Callable, Iterator
 from pathlib import Path
 
 PAGE = "docs/PROTOCOL.md"
@@ -30,19 +31,34 @@ class BadPage(Exception):
     """The page has no version, or a value without a type."""
 
 
+def statements(page: str) -> Iterator[tuple[str, list[str]]]:
+    """The statements of each name."""
+    for name, text in _BLOCK.findall(page):
+        yield name, text.strip().split(";\n")
+
+
+def with_values(sql: str, value: Callable[[str, str], str]) -> str:
+    """A statement on one line, with what is given for each value by its name and its type."""
+
+    def given(found: re.Match[str]) -> str:
+        name = found[1]
+        if name not in _TYPE_OF:
+            raise BadPage(f"{PAGE}: the value :{name} has no type: give it one in tools/pages/protocol.py")
+        return value(name, _TYPE_OF[name])
+
+    return _VALUE.sub(given, " ".join(sql.split()))
+
+
 def _statement(sql: str) -> str:
     """One statement: its text with numbered values, and their names."""
     names: list[str] = []
 
-    def numbered(found: re.Match[str]) -> str:
-        name = found[1]
-        if name not in _TYPE_OF:
-            raise BadPage(f"{PAGE}: the value :{name} has no type: give it one in tools/pages/protocol.py")
+    def numbered(name: str, kind: str) -> str:
         if name not in names:
             names.append(name)
-        return f"${names.index(name) + 1}::{_TYPE_OF[name]}"
+        return f"${names.index(name) + 1}::{kind}"
 
-    text = _VALUE.sub(numbered, " ".join(sql.split()))
+    text = with_values(sql, numbered)
     return f"    {{ text: {json.dumps(text)}, names: {json.dumps(names)} }},"
 
 
@@ -53,8 +69,8 @@ def module(page: str) -> str:
         raise BadPage(f"{PAGE} has no line that begins with **Version N.**")
     lines = [f"// tools/protocol --write writes this file, from {PAGE}.", "", "/** The protocol's version, and the schema's. */"]
     lines += [f"export const VERSION = {version[1]};", "", "/** The statements of the protocol, by their names. */", "export const STATEMENTS = {"]
-    for name, text in _BLOCK.findall(page):
-        lines += [f"  '{name}': [", *map(_statement, text.strip().split(";\n")), "  ],"]
+    for name, those in statements(page):
+        lines += [f"  '{name}': [", *map(_statement, those), "  ],"]
     return "\n".join([*lines, "} as const;", "", "export type StatementName = keyof typeof STATEMENTS;", ""])
 
 

@@ -16,6 +16,7 @@ TOP = pathlib.Path(__file__).resolve().parents[3]
 PAGE = TOP / "docs/SCALE.md"
 sys.path.insert(0, str(TOP / "python/bench"))
 import large as bench  # noqa: E402
+import places  # noqa: E402
 
 if lacks := needs.lacks_postgres():
     raise unittest.SkipTest(lacks)
@@ -156,6 +157,13 @@ class Large(support.OnADatabase, unittest.TestCase):
             found = db.rows("SELECT indexname::text FROM pg_indexes WHERE schemaname=current_schema() AND tablename=ANY(?::text[])", (list(TABLES),))
         self.assertEqual(sorted(listed), sorted(name for name, in found))
 
+    def test_statements_that_touch_several_partitions(self):
+        """docs/SCALE.md lists those of the protocol that would, and what would name their place."""
+        listed = re.findall(r"^\| `([a-z-]+)` \| (`.*`) \| [a-z].* \|$", PAGE.read_text(), re.MULTILINE)
+        self.assertEqual(places.several(self.url), {name: re.findall(r"`(\w+)`", those) for name, those in listed})
+        [(several, count)] = re.findall(r"([0-9]+) of ([0-9]+) touch one partition of each table", PAGE.read_text())
+        names = {name for name, _ in places.statements()}
+        self.assertEqual((int(several), int(count)), (len(names) - len(listed), len(names)))
 
     def test_the_settings_of_autovacuum(self):
         """Those of docs/SCALE.md, as they stand there. A worker works beside them."""
