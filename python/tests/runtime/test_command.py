@@ -228,6 +228,14 @@ class Commands(support.InAFolder, unittest.TestCase):
         with server(self.url, self.folder, "package.app:app") as it:
             self.assertEqual(it.ask("/Words/echo", "hello"), (200, "hello"))
 
+    def test_an_app_that_has_changed_within_a_second(self):
+        """Python's own cache would give the text before: it goes by a file's size and the second of its last change."""
+        self.enterContext(mock.patch.object(sys, "dont_write_bytecode", False))
+        for name in ("Words", "Other"):
+            file = self.written("one.py", f"{APP}app = App(words)\n".replace("'Words'", repr(name)))
+            os.utime(file, (1_000_000_000, 1_000_000_000))
+            self.assertEqual(list(self.named("one.py").services), [name])
+
     def test_databases_that_cannot_be_opened(self):
         for url, why in [
             ("mysql://x/y", "mysql:// is no database that is known: it is postgresql://.. or the path of a SQLite file"),

@@ -37,7 +37,7 @@ async def refuses(ctx: Context, it):
     raise TerminalError("no", 404)
 
 
-@service.handler(retry=Retry(initial=0.01, attempts=3))
+@service.handler(retry=Retry(initial=0.01, attempts=3, jitter=0))
 async def breaks(ctx: Context, it):
     raise ValueError("a bug")
 

@@ -7,6 +7,7 @@ import asyncio
 import dataclasses
 import functools
 import importlib
+import importlib.machinery
 import importlib.util
 import json
 import logging
@@ -48,12 +49,13 @@ def _module(path: str) -> ModuleType:
     """The module of a file."""
     file = pathlib.Path(path).resolve()
     spec = importlib.util.spec_from_file_location(file.stem, file) if file.is_file() else None
-    if spec is None or spec.loader is None:
+    if spec is None or not isinstance(spec.loader, importlib.machinery.SourceFileLoader):
         raise Refused(f"{path} is no Python file: an app is FILE.py, FILE.py:NAME or MODULE:NAME")
     sys.path.insert(0, str(file.parent))
     module = importlib.util.module_from_spec(spec)
     sys.modules[file.stem] = module
-    spec.loader.exec_module(module)
+    # Python's cache goes by a file's size and the second of its last change, so it may be that of the text before.
+    exec(spec.loader.source_to_code(file.read_bytes(), str(file)), vars(module))
     return module
 
 
