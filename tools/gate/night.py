@@ -14,7 +14,7 @@ from dataclasses import dataclass, replace
 from pathlib import Path
 
 from . import counts, evidence
-from .environment import TOP, cores, environment, start_anew
+from .environment import TOP, cores, environment, lanes, start_anew
 from .jobs import Done, Job, Runner, total
 from .parts import built, job, library_path, programs, script
 from .show import Show, minutes
@@ -73,7 +73,7 @@ def line_before_counts(output: str) -> str:
 
 def tests(it: Options) -> Job:
     """rt ci at the top of the repository, where all crates are."""
-    return job("tests", "rt", "ci")
+    return replace(job("tests", "rt", "ci"), env={"RT_JOBS": str(lanes())})
 
 
 def wrong_bodies(it: Options) -> Job:

@@ -160,8 +160,7 @@ def run(options: argparse.Namespace) -> int:
     at_a_time = options.jobs or lanes()
     print(f"{len(crates)} crates, {at_a_time} at a time; logs: {OUT}/logs", flush=True)
     show = ShowProofs(those, proofs, at_a_time, options.no_skips)
-    # With no number rt ci gives a proof that nothing runs beside the processors that are idle, if memory allows it.
-    env = {**environment(TOP / OUT / "bin"), **({"RT_JOBS": str(options.jobs)} if options.jobs else {})}
+    env = {**environment(TOP / OUT / "bin"), "RT_JOBS": str(at_a_time)}
     runner = Runner(those, options.jobs or cores(SMALL), Path(OUT, "logs"), show, env)
     try:
         done = runner.run()
