@@ -26,17 +26,21 @@ abbrev pub child_next : Bool → Derived → List TrackedCall
 child_next true d = first_known (unresolved_handles d.tracked) d.tracked
 child_next false d = []
 
+-- the first of an await, and the second of all else that a step asks for
+abbrev pub of_await : {A : Type 0} → Ask → A → A → A
+of_await (ask.Await future) awaits other = awaits
+of_await (ask.Command c) awaits other = other
+of_await (ask.Commands kind first second) awaits other = other
+of_await (ask.Read r) awaits other = other
+of_await ask.Awakeable awaits other = other
+of_await (ask.Signal name) awaits other = other
+of_await (ask.Take handle) awaits other = other
+of_await (ask.Completed handle) awaits other = other
+of_await ask.End awaits other = other
+
 -- the child to which the cancel signal is sent by a move of what a step asks for, if it is one
 abbrev pub child_of : Setup → Ask → Derived → List TrackedCall
-child_of s (ask.Await future) d = child_next (is_cancelled_in s d) d
-child_of s (ask.Command c) d = []
-child_of s (ask.Commands kind first second) d = []
-child_of s (ask.Read r) d = []
-child_of s ask.Awakeable d = []
-child_of s (ask.Signal name) d = []
-child_of s (ask.Take handle) d = []
-child_of s (ask.Completed handle) d = []
-child_of s ask.End d = []
+child_of s a d = of_await a (child_next (is_cancelled_in s d) d) []
 
 -- the recorded command that a move uses, if it is one
 abbrev pub command_of : Move → List RawMessage → List RawMessage
@@ -49,27 +53,11 @@ command_of (Refuses name) left = []
 
 -- the recorded command that a move of an await uses, if it is one
 abbrev pub await_command : Setup → Ask → Point → List RawMessage
-await_command s (ask.Await future) p = command_of (asked s (ask.Await future) p.derived) p.left
-await_command s (ask.Command c) p = []
-await_command s (ask.Commands kind first second) p = []
-await_command s (ask.Read r) p = []
-await_command s ask.Awakeable p = []
-await_command s (ask.Signal name) p = []
-await_command s (ask.Take handle) p = []
-await_command s (ask.Completed handle) p = []
-await_command s ask.End p = []
+await_command s a p = of_await a (command_of (asked s a p.derived) p.left) []
 
 -- the children that there are after a move and weren't before it; an await makes none
 abbrev pub children_new : Ask → List TrackedCall → List TrackedCall → List TrackedCall
-children_new (ask.Await future) old new = []
-children_new (ask.Command c) old new = drop (length old) new
-children_new (ask.Commands kind first second) old new = drop (length old) new
-children_new (ask.Read r) old new = drop (length old) new
-children_new ask.Awakeable old new = drop (length old) new
-children_new (ask.Signal name) old new = drop (length old) new
-children_new (ask.Take handle) old new = drop (length old) new
-children_new (ask.Completed handle) old new = drop (length old) new
-children_new ask.End old new = drop (length old) new
+children_new a old new = of_await a [] (drop (length old) new)
 
 -- ---- a run
 
