@@ -282,6 +282,8 @@ def _without_fences() -> None:
 
     lease.Growth.write = write  # type: ignore[method-assign]
     committer.append = append  # type: ignore[assignment]
+    # A group that has other operations too makes its stores by `append` then, and not by the fenced statement that a server is sent with all else.
+    committer.Committer._together = staticmethod(committer.Committer._in_turn)  # type: ignore[method-assign]
 
 
 def calls_first() -> None:
