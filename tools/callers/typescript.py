@@ -16,7 +16,7 @@ from .node import COUNT
 
 TOP = Path(__file__).resolve().parents[2]
 POSTGRES, CHAOS = "python/tests/postgres.py", "python/tests/crash/chaos.py"
-KILLS = 4  # in the short form of the crash test
+A_KILL = 60  # seconds that a kill, and what goes on after it, may take on a busy machine
 
 
 def typescript(it: Bindings) -> None:
@@ -36,8 +36,14 @@ def typescript(it: Bindings) -> None:
     it.checks.counts += found
     print(f"{ran.output + ran.said if found.failed else ''}bindings tests of typescript: {found}", flush=True)
     example(it, env, folder)
-    words = [sys.executable, CHAOS, "--db", "postgres", "--kills", str(KILLS), "--sdk", folder]
-    it.checks.build(f"handlers in Python and TypeScript under {KILLS} kills", words, env)
+    killed(it, env, folder)
+
+
+def killed(it: Bindings, env: dict[str, str], folder: str) -> None:
+    """Handlers in Python and TypeScript call each other while workers of both are killed."""
+    ran = ended([sys.executable, CHAOS, "--db", "postgres", "--kills", str(it.kills), "--sdk", folder], env, None, SECONDS + it.kills * A_KILL)
+    found = ran.output.rstrip().rpartition("\n")[2]
+    it.checks.tell(f"handlers in Python and TypeScript under {it.kills} kills", None if ran.status == 0 and found else ran.shown(), f": {found}")
 
 
 def beside_a_database(*words: str) -> list[str]:

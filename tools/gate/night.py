@@ -20,7 +20,7 @@ from .parts import built, job, library_path, programs, script
 from .show import Show, minutes
 
 OUT = "out/prove"
-FAILOVERS = 10
+FAILOVERS, KILLS_OF_BOTH = 10, 200
 LONG = 24 * 3600  # seconds that a part may take
 PROVED = "bindings/out/libpalqytun.so"
 
@@ -104,6 +104,12 @@ def kills_postgres(it: Options) -> Job:
     return kills("kills-postgres", "postgres", it)
 
 
+def kills_languages(it: Options) -> Job:
+    """Workers in Python and in TypeScript on one database, whose handlers call each other."""
+    words = ("tools/bindings", "--library", it.library, "--kills", str(KILLS_OF_BOTH), "typescript")
+    return script("kills-languages", *words)
+
+
 def failovers_by(name: str, it: Options, *more: str) -> Job:
     words = ("tools/chaos", "--failovers", str(FAILOVERS), "--seed", str(it.seed), "--db", "postgres", *more)
     return replace(job(name, *words), env={"PALQYTUN_LIBRARY": it.library}, counts=counts.of_status)
@@ -139,6 +145,10 @@ def kills_of(it: Options) -> str:
     return f"{it.kills} kills, {it.kind}"
 
 
+def kills_languages_of(it: Options) -> str:
+    return f"{KILLS_OF_BOTH} kills, {it.kind}"
+
+
 def failovers_of(it: Options) -> str:
     return f"{FAILOVERS} failovers to each kind of standby, {it.kind}"
 
@@ -160,6 +170,7 @@ PARTS = [
     Part("simulate-engines", "random invocations that call each other for an hour", simulate_engines, minutes_of, last_line),
     Part("kills-sqlite", "1,000 kills of the durable runtime on SQLite", kills_sqlite, kills_of, last_line),
     Part("kills-postgres", "the same on PostgreSQL", kills_postgres, kills_of, last_line),
+    Part("kills-languages", "200 kills of workers in Python and TypeScript", kills_languages, kills_languages_of, line_before_counts),
     Part("failovers", "PostgreSQL fails over to a synchronous standby, and to an asynchronous one", failovers, failovers_of, last_line),
     Part(
         "failovers-patroni",
