@@ -93,8 +93,18 @@ async def retried(ctx: Context, n: int) -> str:
     try:
         await ctx.call("Load/fails", n)
     except TerminalError as error:
-        return error.message
+        return f"{error.message}, {await ctx.call(repeated, n)}"
     return "no error"
+
+
+@load.handler()
+async def repeated(ctx: Context, n: int) -> int:
+    """Two calls by one idempotency key, the second with another argument: a conflict."""
+    await ctx.call(leaf, n, idempotency_key=f"leaf {n}")
+    try:
+        return await ctx.call(leaf, n + 1, idempotency_key=f"leaf {n}")
+    except TerminalError as error:
+        return error.code
 
 
 @load.handler()
@@ -236,7 +246,7 @@ async def tick(ctx: Context, _: None) -> str:
 KINDS = {
     "order": lambda n: "ordered",
     "tasks": lambda n: 10,
-    "retried": lambda n: f"{n} fails",
+    "retried": lambda n: f"{n} fails, 409",
     "awaits": lambda n: [len(BIG), 0, "gone"],
     "cancels": lambda n: "cancelled",
     "opens": lambda n: ["open", "opened"],

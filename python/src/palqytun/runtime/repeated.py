@@ -14,18 +14,37 @@ _FIRST = "SELECT frame FROM journal WHERE at=0 AND invocation=COALESCE((SELECT c
 
 
 def is_same(codec: Codec, one: bytes, other: bytes) -> bool:
-    """Whether these are one value, however it is written. What is encrypted by a key that isn't there can't be told apart, and is the same.
+    """Whether these are one value, however it is written. As in JSON, `true` isn't 1, and 1 is 1.0. What is encrypted by a key that isn't there can't be
+    told apart, and is the same.
 
     >>> from palqytun.runtime import JsonCodec
-    >>> is_same(JsonCodec(), b'{"a": 1, "b": 2}', b'{"b":2,"a":1}'), is_same(JsonCodec(), b"1", b"2")
-    (True, False)
+    >>> [is_same(JsonCodec(), *pair) for pair in ((b'{"a": 1, "b": [2]}', b'{"b":[2.0],"a":1}'), (b"[1]", b"[true]"), (b"1", b'"1"'))]
+    [True, False, False]
     """
     try:
-        return one == other or bool(decoded(codec, one, Any) == decoded(codec, other, Any))
+        return one == other or _are_equal(decoded(codec, one, Any), decoded(codec, other, Any))
     except Unreadable:
         return True
     except BadValue:
         return False
+
+
+def _are_equal(one: Any, other: Any) -> bool:
+    """Equality of values that a codec has read. Python's own takes `True` and 1 as equal; and values may be nested deeper than it goes."""
+    pairs = [(one, other)]
+    while pairs:
+        one, other = pairs.pop()
+        if isinstance(one, dict) and isinstance(other, dict):
+            if one.keys() != other.keys():
+                return False
+            pairs += [(value, other[name]) for name, value in one.items()]
+        elif isinstance(one, list) and isinstance(other, list):
+            if len(one) != len(other):
+                return False
+            pairs += zip(one, other)
+        elif isinstance(one, bool) is not isinstance(other, bool) or one != other:
+            return False
+    return True
 
 
 async def check(db: Database, codec: Codec, id: str, idempotency_key: str, argument: bytes) -> None:
