@@ -33,6 +33,16 @@ class Target:
 
 
 _ALIVE = "serving JOIN workers ON workers.id=serving.worker"
+OF_SERVICE = "service || ''=?"
+"""The condition of an invocation that it is one of a service. As it stands, no database takes the index of a service for it, by which SQLite would read all
+that has ended."""
+
+
+def served(app: App) -> tuple[str, tuple[str, ...]]:
+    """The condition of an invocation that this app has its handler, and what it is given."""
+    services = [it for it in app.services.values() if it.handlers]
+    conditions = [f"{OF_SERVICE} AND handler IN ({','.join('?' * len(it.handlers))})" for it in services]
+    return f"({' OR '.join(conditions) or '1=0'})", tuple(name for it in services for name in (it.name, *it.handlers))
 
 
 def _said(app: App) -> str:

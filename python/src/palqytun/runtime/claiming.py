@@ -89,9 +89,8 @@ class Claimer:
     @functools.cached_property
     def own(self) -> Condition:
         """The condition of an invocation with which this worker may go on: it has the handler, and began by this version or not yet."""
-        services = [it for it in self.app.services.values() if it.handlers]
-        served = " OR ".join(f"service=? AND handler IN ({','.join('?' * len(it.handlers))})" for it in services) or "1=0"
-        return Condition(f"({served}) AND (code IS NULL OR code=?)", (*[name for it in services for name in (it.name, *it.handlers)], self.code))
+        served, names = announced.served(self.app)
+        return Condition(f"{served} AND (code IS NULL OR code=?)", (*names, self.code))
 
     # ---- leases
 
@@ -249,8 +248,8 @@ class Claimer:
         for it in self.app.limited():
             await db.rows(f"SELECT path FROM limits WHERE path=?{db.lock}", (it.path,))
             names = (it.service.name, it.name)
-            [(running,)] = await db.rows("SELECT COUNT(*) FROM invocations WHERE status='running' AND service=? AND handler=?", names)
-            yield Share("service=? AND handler=? AND (code IS NULL OR code=?)", (*names, self.code), (it.limit or 0) - running)
+            [(running,)] = await db.rows(f"SELECT COUNT(*) FROM invocations WHERE status='running' AND {announced.OF_SERVICE} AND handler=?", names)
+            yield Share(f"{announced.OF_SERVICE} AND handler=? AND (code IS NULL OR code=?)", (*names, self.code), (it.limit or 0) - running)
 
     @staticmethod
     def _awake(db: Database, share: Share, most: int) -> Asked:

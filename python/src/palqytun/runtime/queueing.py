@@ -9,6 +9,7 @@ from dataclasses import dataclass, field
 from itertools import zip_longest
 from typing import Any
 
+from .announced import OF_SERVICE
 from .database import Database
 from .invocations import CLAIMED, Claim
 from .queues import Queue
@@ -52,11 +53,11 @@ async def enter(db: Database, app: App) -> None:
     """A worker begins: each open invocation of its handlers is in the queue that its code says, and what its queues let through is written down."""
     limits = [(name, json.dumps(it.limits)) for name, it in app.queues.items()]
     db.many("INSERT INTO queues(name, limits) VALUES (?,?) ON CONFLICT(name) DO UPDATE SET limits=excluded.limits", limits)
-    for service, handler, was in await db.rows("SELECT DISTINCT service, handler, queue FROM invocations WHERE status<>'done'"):
+    for service, handler, was in await db.rows("SELECT DISTINCT service || '', handler, queue FROM invocations WHERE status<>'done'"):
         known = app.known(service, handler)
         name = None if known is None or known.queue is None else known.queue.name
         if known is not None and name != was:
-            sql = "UPDATE invocations SET queue=?, queue_key=COALESCE(queue_key, key) WHERE status<>'done' AND service=? AND handler=?"
+            sql = f"UPDATE invocations SET queue=?, queue_key=COALESCE(queue_key, key) WHERE status<>'done' AND {OF_SERVICE} AND handler=?"
             await db.change(sql, (name, service, handler))
 
 

@@ -20,14 +20,10 @@ _AT_ONCE = 100  # that one transaction looks at
 async def serve(db: Database, app: App, out: Outcome) -> bool:
     """Some of what waits for a worker with this app's handlers go on, as if they were made now; what these don't take has failed. Returns whether there
     may be more."""
-    services = [it for it in app.services.values() if it.handlers]
-    served = " OR ".join(f"service=? AND handler IN ({','.join('?' * len(it.handlers))})" for it in services)
-    if not served:
-        return False
-    names = tuple(name for it in services for name in (it.name, *it.handlers))
+    served, names = announced.served(app)
     columns = "id, service, handler, key, idem, queue_key, due, trace"
-    sql = f"SELECT {columns} FROM invocations WHERE status='paused' AND how='{UNSERVED}' AND ({served}) ORDER BY seq LIMIT {_AT_ONCE}{db.skip}"
-    rows = await db.rows(sql, names)
+    waits = f"status='paused' AND status<>'done' AND how='{UNSERVED}'"  # by the second SQLite knows the index
+    rows = await db.rows(f"SELECT {columns} FROM invocations WHERE {waits} AND {served} ORDER BY seq LIMIT {_AT_ONCE}{db.skip}", names)
     for id, service, handler, key, idem, queue_key, due, trace in rows:
         target = announced.own(app, service, handler)
         assert target is not None
