@@ -96,7 +96,7 @@ def statements() -> Iterator[tuple[str, str]]:
     """Each statement of the page, with values in it, and the name of those it belongs to."""
     for name, those in protocol.statements((TOP / protocol.PAGE).read_text(encoding="utf-8")):
         for sql in those:
-            if sql.startswith(_VERBS):
+            if sql.startswith(_VERBS) and name != "session":
                 yield name, protocol.with_values(sql, lambda _, kind: f"{_VALUES.get(kind, '1')}::{kind}")
 
 
@@ -104,11 +104,14 @@ def several(url: str) -> dict[str, list[str]]:
     """Of each of the page's statements that touches more than one partition of a table: these tables."""
     import psycopg
 
-    Plain(url).close()  # the tables are there
     found = defaultdict[str, set[str]](set)
-    with psycopg.connect(url, autocommit=True) as connection, partitioned(connection):
-        for name, sql in statements():
-            found[name].update(touched(connection, sql))
+    with Plain(url) as db:  # the tables are there
+        [(path,)] = db.rows("SHOW search_path")
+    with psycopg.connect(url, autocommit=True) as connection:
+        connection.execute(f"SET search_path TO {path}")
+        with partitioned(connection):
+            for name, sql in statements():
+                found[name].update(touched(connection, sql))
     return {name: sorted(those) for name, those in found.items() if those}
 
 

@@ -38,6 +38,7 @@ function begin(data: BeatsData, say: (word: BeatsWord) => void): () => void {
       client = undefined;
     });
     await made.connect();
+    for (const it of STATEMENTS.session) await made.query(it.text);
     await made.query(`SET statement_timeout=${Math.ceil(data.lease / 3)}`);
     return made;
   }

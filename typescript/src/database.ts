@@ -208,7 +208,7 @@ export class Database implements Store {
     const connection = await this.#taken();
     try {
       const ask = async (text: string): Promise<Row> => (await connection.query({ text, rowMode: 'array' })).rows[0] ?? [];
-      const [encoding, fsync, isThere] = await ask("SELECT current_setting('server_encoding'), current_setting('fsync'), to_regclass('schema_versions') IS NOT NULL");
+      const [encoding, fsync, isThere] = await ask("SELECT current_setting('server_encoding'), current_setting('fsync'), to_regclass('promise_waiters') IS NOT NULL");
       const unsafe = await ask("SELECT current_setting('palqytun.unsafe', true)");
       if (encoding !== 'UTF8') throw new Unsuitable(`the database's encoding is ${String(encoding)}, and has to be UTF8`);
       if (fsync === 'off' && unsafe[0] !== 'on') throw new Unsuitable("with fsync=off what was committed may be lost when the server's host stops; to allow it, set palqytun.unsafe=on");

@@ -12,6 +12,7 @@ export const STATEMENTS = {
     { text: "SET SESSION CHARACTERISTICS AS TRANSACTION ISOLATION LEVEL READ COMMITTED", names: [] },
     { text: "SET synchronous_commit=on", names: [] },
     { text: "SET client_encoding='UTF8'", names: [] },
+    { text: "SELECT set_config('search_path', 'palqytun, ' || setting, false) FROM pg_settings WHERE name='search_path' AND source IN ('default', 'configuration file') AND to_regclass('promise_waiters') IS NULL", names: [] },
   ],
   'enter': [
     { text: "INSERT INTO workers(id, lease) VALUES ($1::text, extract(epoch from clock_timestamp())::float8 + $2::float8)", names: ["worker", "lease"] },

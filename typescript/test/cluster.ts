@@ -4,6 +4,7 @@ import { Client, Worker } from '@palqytun/sdk';
 import type { AnyService, WorkerOptions } from '@palqytun/sdk';
 import { Client as Connection } from 'pg';
 import { configOf } from '../database';
+import { STATEMENTS } from '../statements';
 
 export const URL = process.env['PALQYTUN_TEST_POSTGRES'] ?? '';
 export const LONG = 300_000; // milliseconds after which a test that waits has failed, however busy its host is
@@ -58,6 +59,7 @@ export async function asked(text: string, ...values: unknown[]): Promise<unknown
   const connection = new Connection(configOf(URL));
   await connection.connect();
   try {
+    for (const it of STATEMENTS.session) await connection.query(it.text);
     return (await connection.query({ text, values, rowMode: 'array' })).rows;
   } finally {
     await connection.end();

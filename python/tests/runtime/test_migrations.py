@@ -14,10 +14,11 @@ import unittest
 from unittest import mock
 
 import support  # isort: skip
+import postgres
 from support import LONG, Runtime
 
 from palqytun.runtime import command, inbox, journal
-from palqytun.runtime.database import connect, schema
+from palqytun.runtime.database import Unsuitable, connect, schema
 from palqytun.runtime.database.plain import Plain
 from palqytun.runtime.outcome import Outcome
 
@@ -181,6 +182,117 @@ class OwnSchema(Migrations, unittest.TestCase):
             self.assertEqual(db.rows("SELECT status FROM own.palqytun_invocations"), [("done",)])
             there = {name for name, in db.rows("SELECT table_name FROM information_schema.tables WHERE table_schema='own' AND table_type='BASE TABLE'")}
             self.assertEqual(there, {*schema.TABLES, "schema_versions"})
+
+
+class Place(support.OnADatabase, unittest.TestCase):
+    """Where the tables of a new database are, if nobody names a place: beside those of an application that has tables of the same names, and one of its own."""
+
+    kind = "postgres"
+    name = "palqytun_place"
+
+    def setUp(self):
+        super().setUp()
+        self.first, self.url = self.url, f"{self.url}{'&' if '?' in self.url else '?'}dbname={self.name}"
+        self.change(self.first, f"DROP DATABASE IF EXISTS {self.name}", f"CREATE DATABASE {self.name}")
+        self.addCleanup(self.change, self.first, f"DROP DATABASE {self.name}")
+        theirs = postgres.with_settings(self.url, {"search_path": "theirs"})
+        with mock.patch.object(schema, "missing", lambda *_: []), mock.patch("palqytun.runtime.database.postgres.missing", lambda *_: []):
+            own = [f"CREATE TABLE public.{it}(theirs TEXT)" for it in ("invocations", "state", "schema_versions", "parcels")]
+            self.change(theirs, *own, "INSERT INTO public.parcels VALUES ('pen')")
+
+    def change(self, url, *statements):
+        with Plain(url) as db:
+            for it in statements:
+                db.change(it)
+
+    def in_schema(self, name):
+        sql = f"SELECT table_name::text FROM information_schema.tables WHERE table_schema='{name}' AND table_type='BASE TABLE'"
+        with Plain(self.url) as db:
+            return {table for table, in db.rows(sql)}
+
+    def test_a_schema_of_their_own(self):
+        async def go():
+            async with Runtime(flight_app.app, self.url) as runtime:
+                self.assertEqual(await runtime.call("Trip/quick", "ann"), "ANN")
+                return await runtime.rows("SELECT theirs FROM parcels")
+
+        self.assertEqual(palqytun("migrate", "--db", self.url), (0, f"the database has schema version {NEWEST}, and had 0; 0 invocations haven't ended\n"))
+        self.assertEqual(self.in_schema("palqytun"), {*schema.TABLES, "schema_versions"})
+        self.assertEqual(asyncio.run(asyncio.wait_for(go(), LONG)), [("pen",)])
+        self.assertEqual(self.in_schema("public"), {"invocations", "state", "schema_versions", "parcels"})
+        with Plain(self.url) as db:
+            self.assertEqual(db.rows("SELECT status FROM palqytun.palqytun_invocations"), [("done",)])
+            self.assertEqual(db.rows("SELECT COUNT(*) FROM public.invocations"), [(0,)])
+
+    def test_a_worker_makes_it(self):
+        async def go():
+            async with Runtime(flight_app.app, self.url) as runtime:
+                self.assertEqual(await runtime.call("Trip/quick", "ann"), "ANN")
+
+        asyncio.run(asyncio.wait_for(go(), LONG))
+        self.assertEqual(self.in_schema("palqytun"), {*schema.TABLES, "schema_versions"})
+
+    def test_a_place_that_the_user_or_the_database_has(self):
+        for of in (f"DATABASE {self.name}", f"ROLE CURRENT_USER IN DATABASE {self.name}"):
+            with self.subTest(of):
+                self.change(self.first, f"ALTER {of} SET search_path TO shop")
+                with mock.patch("palqytun.runtime.database.postgres.missing", lambda *_: []):
+                    self.change(self.url, "DROP SCHEMA IF EXISTS shop CASCADE", "CREATE SCHEMA shop")
+                Plain(self.url).close()
+                self.assertEqual(self.in_schema("shop"), {*schema.TABLES, "schema_versions"})
+                self.assertEqual(self.in_schema("palqytun"), set())
+                self.change(self.first, f"ALTER {of} RESET search_path")
+
+    def test_a_user_without_rights_there(self):
+        """Nothing is made a second time, in another place."""
+        Plain(self.url).close()
+        self.change(self.first, "DROP ROLE IF EXISTS palqytun_visitor", "CREATE ROLE palqytun_visitor")
+        self.addCleanup(self.change, self.first, "DROP ROLE palqytun_visitor")
+        with self.assertRaisesRegex(Unsuitable, "the user palqytun_visitor has no USAGE on the schema palqytun, in which the tables are"):
+            Plain(postgres.with_settings(self.url, {"role": "palqytun_visitor"}))
+
+    def test_a_user_who_may_make_no_schema(self):
+        """The tables are where the path leads, as by earlier packages."""
+        guest = postgres.with_settings(self.url, {"role": "palqytun_tenant"})
+        self.change(self.first, "DROP ROLE IF EXISTS palqytun_tenant", "CREATE ROLE palqytun_tenant")
+        self.addCleanup(self.change, self.first, "DROP ROLE palqytun_tenant")
+        with mock.patch("palqytun.runtime.database.postgres.missing", lambda *_: []):
+            self.change(self.url, "DROP TABLE public.invocations, public.state, public.schema_versions", "GRANT ALL ON SCHEMA public TO palqytun_tenant")
+            self.addCleanup(self.change, self.url, "DROP OWNED BY palqytun_tenant CASCADE")
+        Plain(guest).close()
+        with Plain(guest, lambda url: connect(url, worker=True)) as db:
+            self.assertEqual(db.rows("SELECT COUNT(*) FROM invocations"), [(0,)])
+        self.assertEqual(self.in_schema("public"), {*schema.TABLES, "schema_versions", "parcels"})
+        self.assertEqual(self.in_schema("palqytun"), set())
+
+
+class InPublic(Migrations, unittest.TestCase):
+    """Tables that an earlier package has made where the path leads stay there, and are found by who names no place."""
+
+    kind = "postgres"
+    versions = (3, NEWEST - 1)
+    name = "palqytun_public"
+
+    def setUp(self):
+        super().setUp()
+        self.first, self.plain = self.url, f"{self.url}{'&' if '?' in self.url else '?'}dbname={self.name}"
+        with Plain(self.first) as db:
+            db.change(f"DROP DATABASE IF EXISTS {self.name}")
+            db.change(f"CREATE DATABASE {self.name}")
+
+    def tearDown(self):
+        with Plain(self.first) as db:
+            db.change(f"DROP DATABASE {self.name}")
+
+    def _made(self, version):
+        self.url = postgres.with_settings(self.plain, {"search_path": "public"})
+        super()._made(version)
+        self.url = self.plain
+
+    async def _ends(self):
+        await super()._ends()
+        with contextlib.closing(await connect(self.url)) as db:
+            self.assertEqual(await db.rows("SELECT current_schema()::text, to_regclass('public.invocations') IS NOT NULL, to_regnamespace('palqytun') IS NULL"), [("public", True, True)])
 
 
 if __name__ == "__main__":

@@ -426,7 +426,9 @@ class Settings(support.OnADatabase, unittest.TestCase):
     def setUp(self):
         super().setUp()
         with Plain(self.url) as db:
-            [(database, self.user, version)] = db.rows("SELECT current_database(), current_user, current_setting('server_version_num')::int")
+            [(database, self.user, self.schema, version)] = db.rows(
+                "SELECT current_database(), current_user, current_schema()::text, current_setting('server_version_num')::int"
+            )
             self.of_user = f'ALTER ROLE "{self.user}" IN DATABASE "{database}"'
             self.addCleanup(self.change, f"{self.of_user} RESET ALL")
             self.defaults = {name: it for name, it in HOSTILE.items() if version >= 140000 or name != "idle_session_timeout"}
@@ -476,14 +478,15 @@ class Settings(support.OnADatabase, unittest.TestCase):
             Plain(with_settings(self.url, {"search_path": "nowhere"}))
 
     def test_a_user_without_rights(self):
-        self.change("DROP ROLE IF EXISTS palqytun_guest", "CREATE ROLE palqytun_guest")
-        self.addCleanup(self.change, "DROP ROLE palqytun_guest")
+        self.change("DROP ROLE IF EXISTS palqytun_guest", "CREATE ROLE palqytun_guest", f"GRANT USAGE ON SCHEMA {self.schema} TO palqytun_guest")
+        self.addCleanup(self.change, "DROP OWNED BY palqytun_guest", "DROP ROLE palqytun_guest")
         with self.assertRaisesRegex(Unsuitable, "permission denied .*: the user has to own the tables"):
             Plain(with_settings(self.url, {"role": "palqytun_guest"}))
 
     def test_a_user_who_may_only_read(self):
         """A worker is refused before it claims anything, and says which rights are wanted. A command reads."""
-        self.change("DROP ROLE IF EXISTS palqytun_reader", "CREATE ROLE palqytun_reader", "GRANT SELECT ON ALL TABLES IN SCHEMA public TO palqytun_reader")
+        self.change("DROP ROLE IF EXISTS palqytun_reader", "CREATE ROLE palqytun_reader", f"GRANT USAGE ON SCHEMA {self.schema} TO palqytun_reader")
+        self.change(f"GRANT SELECT ON ALL TABLES IN SCHEMA {self.schema} TO palqytun_reader")
         self.addCleanup(self.change, "DROP OWNED BY palqytun_reader", "DROP ROLE palqytun_reader")
         url = with_settings(self.url, {"role": "palqytun_reader"})
         with Plain(url) as db:
@@ -491,11 +494,11 @@ class Settings(support.OnADatabase, unittest.TestCase):
         lacks = "the user palqytun_reader has no INSERT, UPDATE, DELETE on attempts, and lacks rights on [0-9]+ more tables: a worker's user owns the tables"
         with self.assertRaisesRegex(Unsuitable, lacks):
             self.as_worker(url)
-        self.change("GRANT INSERT, UPDATE, DELETE ON ALL TABLES IN SCHEMA public TO palqytun_reader", "REVOKE UPDATE ON inbox FROM palqytun_reader")
+        self.change(f"GRANT INSERT, UPDATE, DELETE ON ALL TABLES IN SCHEMA {self.schema} TO palqytun_reader", "REVOKE UPDATE ON inbox FROM palqytun_reader")
         lacks = "the user palqytun_reader has no USAGE on audit, and lacks rights on 3 more tables: .* has SELECT, .* and USAGE on their sequences"
         with self.assertRaisesRegex(Unsuitable, lacks):
             self.as_worker(url)
-        self.change("GRANT USAGE ON ALL SEQUENCES IN SCHEMA public TO palqytun_reader")
+        self.change(f"GRANT USAGE ON ALL SEQUENCES IN SCHEMA {self.schema} TO palqytun_reader")
         with self.assertRaisesRegex(Unsuitable, "the user palqytun_reader has no UPDATE on inbox: a worker's user"):
             self.as_worker(url)
         self.change("GRANT UPDATE ON inbox TO palqytun_reader")
@@ -527,10 +530,10 @@ class Settings(support.OnADatabase, unittest.TestCase):
             self.assertEqual(db.rows("SHOW synchronous_commit"), [("off",)])
 
     def test_a_server_without_fsync(self):
-        with mock.patch.object(postgres, "_CHECKED", "SELECT 'UTF8', 'public', 'off', 'off', 'on', NULL, 150000"):
+        with mock.patch.object(postgres, "_CHECKED", "SELECT 'UTF8', 'off', 'off', 'on', NULL, 150000"):
             with self.assertRaisesRegex(Unsuitable, "with fsync=off"):
                 self.as_worker(self.url)
-        with mock.patch.object(postgres, "_CHECKED", "SELECT 'UTF8', 'public', 'off', 'off', 'on', 'on', 150000"):
+        with mock.patch.object(postgres, "_CHECKED", "SELECT 'UTF8', 'off', 'off', 'on', 'on', 150000"):
             self.as_worker(self.url)
 
     def as_worker(self, url):

@@ -11,7 +11,6 @@ import needs
 
 if lacks := needs.lacks_postgres():
     raise unittest.SkipTest(lacks)
-import psycopg
 import third
 from palqytun.frames import line_of
 from palqytun.runtime import App, Context, ObjectContext, Retry, Service, VirtualObject
@@ -79,12 +78,12 @@ class Page(support.OnADatabase, unittest.TestCase):
             table = name or table
             shown.append((table, column, kind, bool(star)))
         sql = "SELECT table_name, column_name, data_type, is_nullable='YES' FROM information_schema.columns WHERE table_name=ANY(%s) AND table_schema=current_schema() ORDER BY 1, 2"
-        with psycopg.connect(self.url) as db:
+        with third.Store(self.url).db as db:
             found = [(table, column, _TYPES[kind], star) for table, column, kind, star in db.execute(sql, ([*TABLES, "schema_versions"],))]
         self.assertEqual(sorted(shown), sorted(found))
 
     def test_the_server_understands_each_statement(self):
-        with psycopg.connect(self.url) as db:
+        with third.Store(self.url).db as db:
             for name, some in third.statements().items():
                 for sql in some:
                     with self.subTest(name):
@@ -114,12 +113,12 @@ class Workers(support.OnADatabase, unittest.TestCase):
         return worker
 
     def status(self, id):
-        with psycopg.connect(self.url) as db:
+        with third.Store(self.url).db as db:
             return db.execute("SELECT status FROM invocations WHERE id=%s", (id,)).fetchone()[0]
 
     def hour_passes(self):
         """Each sleep is over."""
-        with psycopg.connect(self.url) as db:
+        with third.Store(self.url).db as db:
             self.assertEqual(db.execute("UPDATE timers SET due=0").rowcount, 1)
 
     def ended(self, id):
@@ -156,7 +155,7 @@ class Workers(support.OnADatabase, unittest.TestCase):
     def left(self, id):
         """What an invocation leaves, without its own names and times."""
         own = "status, exclusive, version, idem, entries, retries, suspension, error, how, deaths, failures, failed, shielded, parent, code, result"
-        with psycopg.connect(self.url) as db:
+        with third.Store(self.url).db as db:
             row = db.execute(f"SELECT {own} FROM invocations WHERE id=%s", (id,)).fetchone()
             hows = db.execute("SELECT how FROM attempts WHERE invocation=%s GROUP BY how ORDER BY how", (id,)).fetchall()
             entries = db.execute("SELECT at, completes, frame FROM journal WHERE invocation=%s ORDER BY at", (id,)).fetchall()

@@ -51,7 +51,10 @@ class Refusals(support.OnADatabase, unittest.TestCase):
         return line
 
     def test_a_user_who_lacks_rights(self):
-        self.change(f"DROP ROLE IF EXISTS {ROLE}", f"CREATE ROLE {ROLE}", f"GRANT SELECT ON ALL TABLES IN SCHEMA public TO {ROLE}")
+        with Plain(self.url) as db:
+            [(schema,)] = db.rows("SELECT current_schema()::text")
+        rights = [f"GRANT USAGE ON SCHEMA {schema} TO {ROLE}", f"GRANT SELECT ON ALL TABLES IN SCHEMA {schema} TO {ROLE}"]
+        self.change(f"DROP ROLE IF EXISTS {ROLE}", f"CREATE ROLE {ROLE}", *rights)
         self.addCleanup(self.change, f"DROP OWNED BY {ROLE}", f"DROP ROLE {ROLE}")
         line = self.refused(with_settings(self.url, {"role": ROLE}))
         self.assertRegex(line, f"^palqytun: the user {ROLE} has no INSERT, UPDATE, DELETE on .*: {RIGHTS}$")

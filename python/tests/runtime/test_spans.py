@@ -1,5 +1,5 @@
-"""Spans by OpenTelemetry's API. Debian has no package of it for Python, so a stand-in has the same calls: those that docs/OPERATING.md names, with the names and
-the parameters of version 1 of the API. It refuses every other call, and keeps what was made."""
+"""Spans by OpenTelemetry's API. Debian has no package of it for Python, so a stand-in has the calls that are used, with the names, the parameters and the
+types of version 1 of the API. It refuses every other call, and a value of another type, and keeps what was made."""
 
 import asyncio
 import contextvars
@@ -23,10 +23,23 @@ from served import Served
 
 GIVEN = "00-0af7651916cd43dd8448eb211c80319c-b7ad6b7169203331-01"
 made: list = []
-current: contextvars.ContextVar[Any] = contextvars.ContextVar("current", default=None)
+
+
+class Context(dict):
+    """As the API's, it isn't changed once it is made."""
+
+    def __setitem__(self, key, value):
+        raise ValueError
+
+
+current: contextvars.ContextVar[Context] = contextvars.ContextVar("current", default=Context())
 
 
 class TraceFlags(int):
+    pass
+
+
+class TraceState(dict):
     pass
 
 
@@ -43,21 +56,29 @@ class Status:
     status_code: StatusCode = StatusCode.UNSET
     description: str | None = None
 
+    def __post_init__(self):
+        assert isinstance(self.status_code, StatusCode) and isinstance(self.description, str | None), self
+
 
 @dataclass(frozen=True)
 class SpanContext:
     trace_id: int
     span_id: int
     is_remote: bool
-    trace_flags: TraceFlags = TraceFlags(0)
+    trace_flags: TraceFlags | None = None
+    trace_state: TraceState | None = None
+
+    def __post_init__(self):
+        assert isinstance(self.trace_flags, TraceFlags | None), self
+        assert 0 < self.trace_id < 1 << 128 and 0 < self.span_id < 1 << 64, self  # else the API's is not valid, and no parent
 
 
-@dataclass(frozen=True)
 class NonRecordingSpan:
-    context: SpanContext
+    def __init__(self, context: SpanContext) -> None:
+        self._context = context
 
     def get_span_context(self):
-        return self.context
+        return self._context
 
 
 @dataclass
@@ -74,13 +95,16 @@ class Span:
     def get_span_context(self):
         return self.context
 
-    def set_attribute(self, key: str, value: Any) -> None:
+    def set_attribute(self, key: str, value: bool | str | bytes | int | float) -> None:
+        assert isinstance(key, str) and isinstance(value, bool | str | bytes | int | float), (key, value)
         self.attributes[key] = value
 
-    def set_status(self, status: Status, description: str | None = None) -> None:
+    def set_status(self, status: Status | StatusCode, description: str | None = None) -> None:
+        assert isinstance(status, Status), status
         self.status = status
 
     def end(self, end_time: int | None = None) -> None:
+        assert isinstance(end_time, int | None), end_time
         self.ends.append(end_time)
 
 
@@ -89,23 +113,41 @@ class Tracer:
         self.ids = ids
 
     def start_span(self, name, context=None, kind=SpanKind.INTERNAL, attributes=None, links=None, start_time=None, record_exception=True, set_status_on_exception=True):
-        above = (current.get() if context is None else context) or None
+        assert isinstance(name, str) and isinstance(context, Context | None) and isinstance(kind, SpanKind) and isinstance(start_time, int | None)
+        above = (current.get() if context is None else context).get("span")
         parent = None if above is None else above.get_span_context()
         trace_id = self.ids.generate_trace_id() if parent is None else parent.trace_id
-        span = Span(name, SpanContext(trace_id, self.ids.generate_span_id(), False, TraceFlags(1)), parent, kind, dict(attributes or {}), start_time)
+        span = Span(name, SpanContext(trace_id, self.ids.generate_span_id(), False, TraceFlags(1)), parent, kind, {}, start_time)
+        for key, value in (attributes or {}).items():
+            span.set_attribute(key, value)
         made.append(span)
         return span
 
 
+def set_span_in_context(span, context=None):
+    return Context({**(current.get() if context is None else context), "span": span})
+
+
+def attach(context):
+    assert isinstance(context, Context), context
+    return current.set(context)
+
+
+def detach(token):
+    current.reset(token)
+
+
 def installed(ids):
     """OpenTelemetry's API, as far as it is used."""
+
+    def get_tracer(instrumenting_module_name, instrumenting_library_version=None, tracer_provider=None, schema_url=None, attributes=None):
+        return Tracer(ids)
+
     trace, context, above = (types.ModuleType(f"opentelemetry.{it}".removesuffix(".")) for it in ("trace", "context", ""))
-    for it in (TraceFlags, SpanKind, StatusCode, Status, SpanContext, NonRecordingSpan):
+    for it in (TraceFlags, SpanKind, StatusCode, Status, SpanContext, NonRecordingSpan, get_tracer, set_span_in_context):
         setattr(trace, it.__name__, it)
-    trace.get_tracer = lambda instrumenting_module_name, instrumenting_library_version=None, tracer_provider=None: Tracer(ids)
-    trace.set_span_in_context = lambda span, context=None: span
-    context.attach = lambda it: current.set(it)
-    context.detach = lambda token: current.reset(token)
+    for it in (Context, attach, detach):
+        setattr(context, it.__name__, it)
     above.trace, above.context = trace, context
     return mock.patch.dict(sys.modules, {"opentelemetry": above, "opentelemetry.trace": trace, "opentelemetry.context": context})
 
@@ -115,7 +157,7 @@ shop = Service("Shop")
 
 def _within():
     """What a library of the run's own would make."""
-    return f"{current.get().context.span_id:016x}"
+    return f"{current.get()['span'].get_span_context().span_id:016x}"
 
 
 @shop.handler(retry=Retry(initial=0.01, attempts=3))
@@ -196,6 +238,15 @@ class Spans(support.OnADatabase):
         self.assertIsNone(refused.parent)  # it has begun its trace
         invocation = refused.attributes["palqytun.invocation"]
         self.assertEqual(f"{refused.context.trace_id:032x}", Trace.of(invocation, None).trace_id)
+
+    def test_a_worker_that_is_begun_within_a_span_of_the_programs(self):
+        """An invocation without a trace of its caller's begins one, and isn't within that span."""
+        about = SpanContext(1, 1, False, TraceFlags(1))
+        token = attach(set_span_in_context(NonRecordingSpan(about)))
+        self.addCleanup(detach, token)
+        self.ordered(spans.SpanIds())
+        self.assertNotIn(about.trace_id, {it.context.trace_id for it in made})
+        self.assertIsNone(self.named("Shop/refuses")[0].parent)
 
     def test_with_ids_of_the_sdks_own(self):
         """An invocation's span can't have its own id then, and stays in the trace."""

@@ -111,7 +111,8 @@ class Spans:
         has_own = SpanIds.is_used
         wanted = _wanted.set((int(it.trace_id, 16), int(it.span_id, 16)) if has_own else None)
         try:
-            above = None if has_own and own is None else self._api.within(it.trace_id, own or it.span_id, it.flags)
+            is_first = has_own and own is None  # of its trace, whatever span is the current one where the worker was begun
+            above = self._api.context.Context() if is_first else self._api.within(it.trace_id, own or it.span_id, it.flags)
             attributes = {**self._attributes, "palqytun.outcome": outcome}
             del attributes["palqytun.attempt"]
             name, kind = f"{attributes['palqytun.service']}/{attributes['palqytun.handler']}", self._api.trace.SpanKind.SERVER

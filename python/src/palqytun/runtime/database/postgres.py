@@ -73,14 +73,26 @@ _SETTINGS = {
 }
 _HURRY = "SET LOCAL lock_timeout='100ms'"
 _ENOUGH = ("local", "remote_write", "remote_apply")  # of synchronous_commit: what is committed is on the disk with these too
+_SCHEMA = "palqytun"  # of the tables, if nobody names another place for them
+_SIGN = "promise_waiters"  # a table of each version, whose name is that of no other application's
+# Tables that are there are used where they are. Else the tables' own schema comes first, and then what the path has, so that tables of the user's are found.
+_PLACED = (
+    f"SELECT set_config('search_path', '{_SCHEMA}, ' || setting, false) FROM pg_settings"
+    f" WHERE name='search_path' AND source IN ('default', 'configuration file') AND to_regclass('{_SIGN}') IS NULL"
+)
+_PLACE = (
+    f"SELECT left(current_setting('search_path'), {len(_SCHEMA) + 2})='{_SCHEMA}, ', has_schema_privilege(to_regnamespace('{_SCHEMA}'), 'USAGE'),"
+    " has_database_privilege(current_database(), 'CREATE'), current_schema() IS NOT NULL, current_user::text"
+)
 _SET_UP = (
     f"SET SESSION CHARACTERISTICS AS TRANSACTION {_LEVEL}",
     f"SELECT set_config(name, value, false) FROM (VALUES {', '.join(map(str, _SETTINGS.items()))}) AS wanted(name, value)"
     f" JOIN pg_settings USING (name) WHERE source<>'client' AND NOT (name='synchronous_commit' AND setting IN {_ENOUGH})",
+    _PLACED,
 )
 _UNSAFE = "palqytun.unsafe"  # a setting of a session: `on` allows what may lose commits
 _CHECKED = (
-    "SELECT current_setting('server_encoding'), current_schema()::text, current_setting('transaction_read_only'), current_setting('fsync'),"
+    "SELECT current_setting('server_encoding'), current_setting('transaction_read_only'), current_setting('fsync'),"
     f" current_setting('synchronous_commit'), current_setting('{_UNSAFE}', true), current_setting('server_version_num')::int"
 )
 _OLDEST = 140000  # the server's version that is needed
@@ -203,13 +215,11 @@ class Postgres:
 
     async def _check(self, worker: bool) -> None:
         """Refuses a database that can't be used as it is set up."""
-        [(encoding, schema, read_only, fsync, synchronous, unsafe, version)] = await self.rows(_CHECKED)
+        [(encoding, read_only, fsync, synchronous, unsafe, version)] = await self.rows(_CHECKED)
         if version < _OLDEST:
             raise Unsuitable(f"the server is PostgreSQL {version // 10000}, and has to be {_OLDEST // 10000} or newer")
         if encoding not in _ENCODINGS:
             raise Unsuitable(f"the database's encoding is {encoding}, and has to be UTF8: CREATE DATABASE .. ENCODING 'UTF8' TEMPLATE template0")
-        if schema is None:
-            raise Unsuitable("the search_path names no schema that is there and that the user may use, so there is no place for the tables")
         if worker and read_only == "on":
             raise Lost(
                 "a worker has to write, and this session may only read: the server is a standby, or default_transaction_read_only is on;"
@@ -234,16 +244,29 @@ class Postgres:
             return
         await self.begin()
         await self.rows("SELECT pg_advisory_xact_lock(?)", (_MIGRATING,))
+        found = await self._version()
+        if not found:
+            await self._make_schema()
         self.put(VERSIONS)
-        for version, statements in missing(await self._version(), migrates):
+        for version, statements in missing(found, migrates):
             for it in statements.format(**_TYPES).split(";\n"):
                 self.put(it)
             self.put("INSERT INTO schema_versions VALUES (?)", (version,))
         await self.commit()
 
+    async def _make_schema(self) -> None:
+        """Makes the schema of the tables, if nobody names another place and the user may; else they are made where the path leads."""
+        [(is_own, may_use, may_make, has_place, user)] = await self.rows(_PLACE)
+        if is_own and may_use is False:  # there may be tables, and these would be made a second time
+            raise Unsuitable(f"the user {user} has no USAGE on the schema {_SCHEMA}, in which the tables are")
+        if is_own and may_use is None and may_make:
+            self.put(f"CREATE SCHEMA {_SCHEMA}")
+        elif not has_place:
+            raise Unsuitable("the search_path names no schema that is there and that the user may use, so there is no place for the tables")
+
     async def _version(self) -> int:
-        """The schema's version; 0 if there is none."""
-        [(is_there,)] = await self.rows("SELECT to_regclass('schema_versions') IS NOT NULL")
+        """The schema's version; 0 if there are no tables."""
+        [(is_there,)] = await self.rows(f"SELECT to_regclass('{_SIGN}') IS NOT NULL")
         return int((await self.rows("SELECT COALESCE(MAX(version), 0) FROM schema_versions"))[0][0]) if is_there else 0
 
     # ---- the clock
@@ -469,7 +492,8 @@ class ThreadOfBeats:
             if self._connection is None:
                 options: dict[str, Any] = {**_OPTIONS, "connect_timeout": max(2, round(self._lease / 3))}
                 self._connection = psycopg.connect(self._url, autocommit=True, **options)
-                self._connection.execute(_SET_UP[1])
+                for it in _SET_UP[1:]:
+                    self._connection.execute(it)
                 self._connection.execute(f"SET statement_timeout='{int(self._lease * 1000 / 3)}ms'")
             is_there = self._connection.execute(self._LIVES, self._values).rowcount
             if not is_there and not self._is_over.is_set():  # it was thought dead, and is removed
