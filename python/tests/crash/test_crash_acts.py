@@ -1,19 +1,23 @@
 """What operators do, at any moment of an invocation's life: a worker dies in place of a commit, somebody cancels, kills, pauses or restarts, another worker
-dies, and a last one does the rest."""
+dies, and a last one does the rest. And what somebody does whose own process dies in place of its commit."""
 
+import contextlib
 import functools
 import os
 import pathlib
+import sqlite3
 import sys
 import tempfile
 import unittest
+from collections.abc import Awaitable, Callable
 
 HERE = pathlib.Path(__file__).parent
 sys.path[:0] = [str(HERE), str(HERE.parent)]
 import scenarios  # noqa: E402
 from checked import LEFTOVERS, Wrong  # noqa: E402
 from crash_app import effect  # noqa: E402
-from palqytun.runtime import App, Cancelled, Context, Service, acts, invocations, journal, operate, restarting  # noqa: E402
+from palqytun.runtime import App, Cancelled, Context, Schedule, Service, acts, invocations, journal, keyed, operate, restarting, schedules, scheduling  # noqa: E402
+from palqytun.runtime.database import Database  # noqa: E402
 from palqytun.runtime.database.plain import Plain  # noqa: E402
 from palqytun.runtime.invocations import New  # noqa: E402
 from palqytun.runtime.outcome import Outcome  # noqa: E402
@@ -44,6 +48,7 @@ async def waits(ctx: Context, it: None) -> None:
 
 
 app = App(trips)
+clocked = App(trips, schedules=[Schedule("daily", waits, cron="0 3 * * *")])
 
 
 def _expect(is_so: bool, what: object) -> None:
@@ -72,10 +77,11 @@ def acted(folder: pathlib.Path, act: str, commit: int) -> None:
     _expect(worker(dies=commit) in (0, scenarios.faulty.DIED, scenarios.faulty.STUCK), "the first worker has failed")
     before, id = effects.read_text(), "inv_trip"
     with Plain(str(path)) as db:
-        if act in ("kill", "restart"):
+        if act in ("kill", "restart", "step"):
             _acted(db, "kill", id)
-        if act == "restart":
-            id = db.done(lambda to: restarting.restart(to, app, Outcome(), "inv_trip", "ann"))
+        step, recorded = _last_step(db, id) if act == "step" else (0, [])
+        if act in ("restart", "step"):
+            id = db.done(lambda to: restarting.restart(to, app, Outcome(), "inv_trip", "ann", step))
         if act == "pause":
             _acted(db, "pause", id)
     if act == "pause":
@@ -91,6 +97,18 @@ def acted(folder: pathlib.Path, act: str, commit: int) -> None:
     _expect(worker() == 0, "the last worker has failed")
     with Plain(str(path)) as db:
         _looked_at(db, id, act, before, effects.read_text())
+        for name in recorded:
+            _expect(effects.read_text().count(f"did-{name}") == before.count(f"did-{name}"), f"{name} stands before the step, and was done again")
+
+
+def _frames(db: Plain, id: str) -> list[bytes]:
+    return [bytes(it) for it, in db.rows("SELECT frame FROM journal WHERE invocation=? ORDER BY at", (id,))]
+
+
+def _last_step(db: Plain, id: str) -> tuple[int, list[str]]:
+    """The number of a journal's last command, and the names of the runs before it, each of which is recorded; 0 if the handler has made none."""
+    commands = {at: it for at, frame in enumerate(_frames(db, id)) for it, _ in journal.commands_in(frame)}
+    return max(commands), [it.name for at, it in commands.items() if isinstance(it, journal.Run) and at < max(commands)]
 
 
 def _looked_at(db: Plain, id: str, act: str, before: str, after: str) -> None:
@@ -103,10 +121,9 @@ def _looked_at(db: Plain, id: str, act: str, before: str, after: str) -> None:
     if act == "kill":
         _expect(after == before, "a killed invocation went on")
         return
-    frames = b"".join(bytes(it) for it, in db.rows("SELECT frame FROM journal WHERE invocation=? ORDER BY at", (id,)))
-    begun = [it for it, _ in journal.commands_in(frames) if isinstance(it, journal.Run) and it.name != "undo"]
+    begun = [it for it, _ in journal.commands_in(b"".join(_frames(db, id))) if isinstance(it, journal.Run) and it.name != "undo"]
     _expect(len(undone) == len(begun), (undone, begun))
-    own = done if act != "restart" else {it for it in done if it not in before.split()}
+    own = done if act not in ("restart", "step") else {it for it in done if it not in before.split()}
     _expect({f"un{it}" for it in own} <= undone, (done, undone))
 
 
@@ -116,8 +133,70 @@ class Acts(unittest.TestCase):
     def test_at_commits(self) -> None:
         commits = range(1, 16, 1 if IS_THOROUGH else 4)
         with tempfile.TemporaryDirectory(prefix="palqytun-acts-", ignore_cleanup_errors=True) as folder:
-            lives = [functools.partial(acted, pathlib.Path(folder), act, it) for act in ("cancel", "kill", "pause", "restart") for it in commits]
+            kinds = ("cancel", "kill", "pause", "restart", "step")
+            lives = [functools.partial(acted, pathlib.Path(folder), act, it) for act in kinds for it in commits]
             self.assertEqual(len(list(scenarios.side_by_side(lives))), len(lives))
+
+
+async def _dying(url: str) -> Database:
+    db = scenarios.faulty.Dying(url)
+    db.dies = db.commits + 1
+    return db
+
+
+def _lost(path: str, does: Callable[[Database], Awaitable[object]]) -> None:
+    with Plain(path, _dying) as db:
+        db.done(does)
+
+
+def _stored(path: str) -> list[str]:
+    """All that a database holds."""
+    with contextlib.closing(sqlite3.connect(path)) as db:
+        return list(db.iterdump())
+
+
+def _does(name: str, id: str) -> Callable[[Database], Awaitable[object]]:
+    return lambda db: acts.known(name).act(db, app, Outcome(), id, "ann")
+
+
+# What an operator does, in this order, each with how many rows of the audit it makes.
+DONE: list[tuple[str, Callable[[Database], Awaitable[object]]]] = [
+    ("pause", _does("pause", "inv_trip")),
+    ("resume", _does("resume", "inv_trip")),
+    ("cancel", _does("cancel", "inv_trip")),
+    ("kill", _does("kill", "inv_other")),
+    ("restart", lambda db: restarting.restart(db, app, Outcome(), "inv_other", "ann")),
+    ("set", lambda db: keyed.change(db, "Stock", "pen", "left", b"5", "ann")),
+    ("clear", lambda db: keyed.change(db, "Stock", "pen", None, None, "ann")),
+    ("pause of a schedule", lambda db: scheduling.act(db, clocked, Outcome(), "pause", "daily", "ann")),
+    ("trigger", lambda db: scheduling.act(db, clocked, Outcome(), "trigger", "daily", "ann")),
+]
+
+
+class Lost(unittest.TestCase):
+    """The process of an operator dies in place of its commit: nothing is stored. Done again, it is done, and is one row of the audit."""
+
+    kind = "sqlite"
+
+    def test_each_act(self) -> None:
+        with tempfile.TemporaryDirectory(prefix="palqytun-acts-") as folder:
+            path = f"{folder}/db"
+            with Plain(path) as db:
+                for id in ("inv_trip", "inv_other"):
+                    db.done(lambda to, id=id: invocations.create(to, app, Outcome(), New("Trips", "trip", id=id, argument=b"null")))
+                db.done(lambda to: schedules.enter(to, clocked, {"Trips"}))
+            for at, (name, does) in enumerate(DONE):
+                with self.subTest(name):
+                    before = _stored(path)
+                    process = scenarios._FORK.Process(target=_lost, args=(path, does))
+                    process.start()
+                    process.join(scenarios.LONG)
+                    self.assertEqual(process.exitcode, scenarios.faulty.DIED)
+                    self.assertEqual(_stored(path), before)
+                    with Plain(path) as db:
+                        db.done(does)
+                        self.assertEqual(db.rows("SELECT COUNT(*) FROM audit"), [(at + 1,)])
+                    self.assertNotEqual(_stored(path), before)
 
 
 if __name__ == "__main__":

@@ -24,9 +24,9 @@ async def _answered(reader):
 class Served:
     """`limit=0` as an option of the worker runs no handler. `ends`: seconds in which requests that have begun may end when it stops."""
 
-    def __init__(self, app, url, settings=Settings(), *, connections=1000, ends=1.0, **worker):
+    def __init__(self, app, url, settings=Settings(), *, connections=1000, ends=1.0, certificate=None, **worker):
         self.engine = Engine(app, url, **{"idle": support.IDLE, "poll": 0.2, "lease": support.LEASE, **worker})
-        self.http = Http(self.engine, settings, "127.0.0.1", 0, connections=connections, grace=ends)
+        self.http = Http(self.engine, settings, "127.0.0.1", 0, connections=connections, grace=ends, certificate=certificate)
 
     async def __aenter__(self):
         self.running = asyncio.create_task(self.engine.run())

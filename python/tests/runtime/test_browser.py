@@ -319,6 +319,21 @@ class InABrowser(support.OnADatabase, unittest.TestCase):
         self.assertEqual(len(self.rows()), 4)
         self.assertEqual(self.one("input[name=queue]").get_attribute("value"), "parcels")
 
+    def test_versions(self):
+        pen, *_ = self.orders()
+        self.open()
+        self.follow("Versions")
+        [row] = self.rows()
+        self.assertRegex(row, r"^\w+ 1 3 [\d.]+ \w+$")  # the order and its parcel, and the one that is paused
+        self.picture("versions")
+        self.follow("3")
+        self.assertEqual(self.handlers(), ["Shop/order", "Shop/order", "Shop/parcel"])
+        self.follow(pen)
+        version = row.split()[0]
+        self.assertIn(f"Of version {version}.", self.one("main").text)
+        self.follow(version)
+        self.assertEqual(self.one("input[name=version]").get_attribute("value"), version)
+
     def test_the_picture(self):
         """Each bar has a place in it, and each kind a pattern of its own: no two are told apart by a colour alone."""
         pen, ink, glue, cup = self.orders()

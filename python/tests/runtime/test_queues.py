@@ -217,6 +217,8 @@ class Workers(support.OnADatabase):
                 self.assertEqual(await client.call(keyed, queue_key="cleo", priority=3), "cleo")
                 rows = await runtime.rows("SELECT queue, queue_key, priority FROM invocations WHERE handler<>'calls' ORDER BY seq")
                 self.assertEqual(sorted(map(tuple, rows)), sorted([("keyed", "ann", 5), ("keyed", "ben", 0), ("boxes", "k", -1), ("keyed", "cleo", 3)]))
+                once = {(await client.send(keyed, queue_key="eve", idempotency_key="once")).id for _ in range(3)}
+                self.assertEqual(await runtime.rows("SELECT id FROM invocations WHERE queue_key='eve'"), [(it,) for it in once])
                 sent = [await client.send(fills, n, key="order") for n in range(5)]
                 self.assertEqual([await it.result() for it in sent], [list(range(n + 1)) for n in range(5)])
             async with Client(App(), self.url) as client:

@@ -16,6 +16,7 @@ if lacks := needs.lacks_server():
 from prometheus_client.parser import text_string_to_metric_families
 
 from palqytun.runtime import App, Context, Queue, Retry, Service, TerminalError, logs
+from palqytun.runtime.database.plain import Plain
 from palqytun.runtime.serving import Settings
 from palqytun.runtime.traces import Trace, checked
 from served import Served
@@ -50,6 +51,19 @@ async def letter(ctx: Context, it):
 def _asked(ctx):
     own_log.warning("asked")
     return ctx.traceparent
+
+
+@service.handler()
+async def waits(ctx: Context, it):
+    return await ctx.signal("go")
+
+
+other = Service("Other")
+
+
+@other.handler()
+async def later(ctx: Context, it):
+    return it
 
 
 @service.handler()
@@ -167,6 +181,44 @@ class Queues(support.OnADatabase):
 
         asyncio.run(go())
         self.assertEqual(palqytun("queues", "--db", self.url), (0, "", "there are no queues\n"))
+
+
+@support.on_each_database
+class Versions(support.OnADatabase):
+    """The request, the page and the command say which open invocations stay with which code."""
+
+    def test_each_way(self):
+        async def go():
+            async with Served(app, self.url, Settings(), version="old") as served:
+                begun = [(await served.ask("/Seen/waits/send", it))[1]["invocation"] for it in (1, 2)]
+                await served.ask("/Seen/works", 1)
+                while await served.rows("SELECT COUNT(*) FROM invocations WHERE status='suspended'") != [(2,)]:
+                    await asyncio.sleep(0.02)
+            async with Served(App(other), self.url, Settings(), version="new") as served:
+                await served.ask("/Other/later/send?delay=1000", 1)  # nobody has begun it
+                _, found, _ = await served.ask("/-/versions", None, "GET")
+                self.assertEqual([(it["version"], it["workers"], it["open"]) for it in found], [("new", 1, 0), ("old", 0, 2)])
+                self.assertEqual((found[0]["oldest"], found[1]["oldest"] > 0), (0.0, True))
+                _, rows, _ = await served.ask("/-/invocations?version=old&status=open", None, "GET")
+                self.assertEqual(([it["id"] for it in rows], {it["version"] for it in rows}), (begun[::-1], {"old"}))
+                self.assertEqual(len((await served.ask("/-/invocations?version=old", None, "GET"))[1]), 3)
+                _, text, _ = await served.ask("/-/page/versions", None, "GET")
+                self.assertIn('<td>old<td>0<td><a href="/-/page?version=old&amp;status=open">2</a>', text)
+                _, said, _ = await asyncio.to_thread(palqytun, "versions", "--db", self.url)
+                self.assertRegex(said, r"^new +1 workers  0 open\nold +0 workers  2 open, the oldest for [\d.]+ \w+\n$")
+                _, said, _ = await asyncio.to_thread(palqytun, "versions", "--json", "--db", self.url)
+                self.assertEqual([json.loads(it)["version"] for it in said.splitlines()], ["new", "old"])
+                _, said, _ = await asyncio.to_thread(palqytun, "invocations", "kill", "--version", "old", "--status", "open", "--db", self.url)
+                self.assertEqual(sorted(it.split()[0] for it in said.splitlines()), sorted(begun))
+                _, found, _ = await served.ask("/-/versions", None, "GET")
+                self.assertEqual([it["version"] for it in found], ["new"])
+
+        asyncio.run(asyncio.wait_for(go(), support.LONG))
+
+    def test_there_are_none(self):
+        with Plain(self.url):
+            pass
+        self.assertEqual(palqytun("versions", "--db", self.url), (0, "", "there are no workers, and no open invocations\n"))
 
 
 @support.on_each_database

@@ -32,7 +32,7 @@ class Adopting:
     async def sought(self, db: Database) -> list[Stored]:
         """Some invocations that have no worker of their version, each with its journal."""
         own = self.claimer.code
-        live = await announced.versions(db)
+        live = set(await announced.versions(db))
         if self.left is None:
             self.left = {row[0] for row in await db.rows("SELECT DISTINCT code FROM invocations WHERE status<>'done' AND code IS NOT NULL")}
         self.left |= self.lived

@@ -73,9 +73,10 @@ def peers(db: Database, app: App, version: str) -> Asked:
     return f"SELECT worker FROM {_ALIVE} WHERE lease>={db.clock} AND version=? AND serves=? ORDER BY worker", (version, _said(app))
 
 
-async def versions(db: Database) -> set[str]:
-    """The versions of the workers that are alive."""
-    return {row[0] for row in await db.rows(f"SELECT DISTINCT version FROM {_ALIVE} WHERE lease>={db.clock}")}
+async def versions(db: Database) -> dict[str, int]:
+    """The versions of the workers that are alive, each with how many have it."""
+    rows = await db.rows(f"SELECT version, COUNT(*) FROM {_ALIVE} WHERE lease>={db.clock} GROUP BY version")
+    return {version: int(count) for version, count in rows}
 
 
 def own(app: App, service: str, handler: str) -> Target | None:

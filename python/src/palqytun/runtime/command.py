@@ -29,10 +29,11 @@ from .database.schema import MIGRATIONS, NewerSchema, NotMigrated, OlderSchema
 from .database.sqlite import InUse
 from .engine import Engine
 from .extras import MissingExtra, needed
-from .filters import STATUSES, Filter
+from .filters import ASKED, STATUSES, Filter
 from .limits import PAYLOAD
 from .replay import replay_all, report
 from .services import App, TerminalError
+from .tls import Certificate
 
 
 T = TypeVar("T")
@@ -169,9 +170,18 @@ def _http(engine: Engine, options: argparse.Namespace) -> Any:
         settings = serving.Settings(
             os.environ.get("PALQYTUN_TOKEN") or None, tuple(options.origin), options.payload, options.wait, tokens=os.environ.get("PALQYTUN_TOKENS") or None
         )
-        return serving.Http(engine, settings, options.host, options.port, connections=options.connections, grace=options.grace)
-    except (ValueError, OSError) as error:  # an origin that is none, no token, a port that is taken
+        more = {"connections": options.connections, "grace": options.grace, "certificate": _certificate(options)}
+        return serving.Http(engine, settings, options.host, options.port, **more)
+    except (ValueError, OSError) as error:  # an origin that is none, no token, a port that is taken, no certificate
         raise Refused(error) from error
+
+
+def _certificate(options: argparse.Namespace) -> Certificate | None:
+    """The ingress's certificate, if the options name one."""
+    chain, key = options.tls_certificate, options.tls_key
+    if (chain is None) != (key is None):
+        raise Refused("--tls-certificate and --tls-key belong together: a certificate in the form PEM, and its private key")
+    return None if chain is None else Certificate(chain, key)
 
 
 def run(options: argparse.Namespace) -> int:
@@ -275,6 +285,17 @@ def queues(options: argparse.Namespace) -> int:
     return 0
 
 
+def versions(options: argparse.Namespace) -> int:
+    """Lists versions of code."""
+    found = _done(options.db, operate.versions)
+    if not found:
+        print("there are no workers, and no open invocations", file=sys.stderr)
+    for it in found:
+        since = f", the oldest for {shown.lasted(it['oldest'])}" if it["open"] else ""
+        print(json.dumps(it) if options.json else f"{it['version']:<20}  {it['workers']} workers  {it['open']} open{since}")
+    return 0
+
+
 def replay(options: argparse.Namespace) -> int:
     app = load(options.app)
     with _stored(options.db) as db:
@@ -356,6 +377,8 @@ def _run_options(one: argparse.ArgumentParser) -> None:
     of = one.add_argument_group("the ingress")
     of.add_argument("--host", default="127.0.0.1", help="where it listens; another than 127.0.0.1, ::1 and localhost needs a token")
     of.add_argument("--port", type=int, default=8080, help="0 is a free one, and -1 is no ingress")
+    of.add_argument("--tls-certificate", metavar="FILE", help="speak TLS alone, with this certificate and those above it, in the form PEM")
+    of.add_argument("--tls-key", metavar="FILE", help="its private key; both files are read again when they change")
     of.add_argument("--origin", action="append", default=[], help="an address by which browsers know it, as https://ops.example; may be repeated")
     of.add_argument("--wait", type=_seconds, default=60.0, help="seconds that a call waits for its result, if it doesn't say; then it gets 202")
     of.add_argument("--payload", type=_count, default=PAYLOAD, help="bytes of a body, at most")
@@ -372,11 +395,12 @@ _ACTS = {
 
 
 def _filter_options(one: argparse.ArgumentParser) -> None:
-    one.add_argument("--status", choices=STATUSES, help="only those with this status")
+    one.add_argument("--status", choices=ASKED, help="only those with this status; open: that haven't ended")
     one.add_argument("--service", help="only those of this service")
     one.add_argument("--handler", help="only those of this handler")
     one.add_argument("--key", help="only those of this key")
     one.add_argument("--queue", help="only those of this queue")
+    one.add_argument("--version", help="only those that stay with this version of the code")
     one.add_argument("--older", type=_seconds, help="only those that were made more than this many seconds ago")
     one.add_argument("--newer", type=_seconds, help="only those that were made less than this many seconds ago")
     one.add_argument("--since", metavar="TIME", help="only those that were made at this time or later, as 2026-11-27T03:00; UTC, if it names no zone")
@@ -418,6 +442,8 @@ def _parser() -> argparse.ArgumentParser:
     one.add_argument("--by", default=acting.who(), help="who does it, for the audit")
     said = "how many invocations wait in each queue, for how long, how many run, and what it lets through"
     add(commands, "queues", queues, said).add_argument("--json", action="store_true", help="an object a line")
+    said = "versions of code, each with how many workers have it, and how many open invocations stay with it"
+    add(commands, "versions", versions, said).add_argument("--json", action="store_true", help="an object a line")
     said = "the calls that are made by the clock, each with its next time; or pause, resume, trigger or backfill one"
     acting.schedule_options(add(commands, "schedules", schedules, said))
     acting.state_options(add(commands, "state", lambda options: acting.state(options, _done), "list, read, set and clear the states of keys"))

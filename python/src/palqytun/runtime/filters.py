@@ -12,12 +12,16 @@ from .shown import moment_of as moment
 STATUSES = ("ready", "running", "suspended", "paused", "done", "failed")
 """What is shown of an invocation: `done` has ended with a value, and `failed` with a failure."""
 
+ASKED = (*STATUSES, "open")
+"""What may be asked for: `open` are those that haven't ended."""
+
 _WHERE = {
     "status": "status=?",
     "service": "service=?",
     "handler": "handler=?",
     "key": "key=?",
     "queue": "queue=?",
+    "version": "code=?",
     "older": "created<?",
     "newer": "created>=?",
     "since": "created>=?",
@@ -29,7 +33,7 @@ _WHERE = {
 }
 # A status as the table has it. By `status<>'done'` the index of those that haven't ended is known to have them all.
 _HAS = "id IN (SELECT invocation FROM attributes WHERE name=? AND value=?)"
-_STATUS = {"done": "status='done' AND failed IS NULL", "failed": "failed IS NOT NULL"}
+_STATUS = {"done": "status='done' AND failed IS NULL", "failed": "failed IS NOT NULL", "open": "status<>'done'"}
 
 
 def _within(text: str) -> str:
@@ -57,7 +61,7 @@ def _whole(name: str, text: str) -> int:
 
 @dataclass(frozen=True)
 class Filter:
-    """Invocations, by what is given: a status as it is shown, a service, a handler, a key, a queue; made more (`older`) or less (`newer`) than a number
+    """Invocations, by what is given: a status as it is shown, or `open`, a service, a handler, a key, a queue, a `version` of code; made more (`older`) or less (`newer`) than a number
     of seconds ago; made at a time or later (`since`), or before one (`until`), in the form of ISO 8601; with an `attribute`, as `customer=ann`, or
     several of them, as `customer=ann&stage=paid`; a text in the `error`; a `text` in the id, the key, the idempotency key or the error; made before or after the one with a number.
     Texts are compared without regard to the case of letters.
@@ -71,6 +75,7 @@ class Filter:
     handler: str | None = None
     key: str | None = None
     queue: str | None = None
+    version: str | None = None
     older: float | None = None
     newer: float | None = None
     since: str | None = None
@@ -82,8 +87,8 @@ class Filter:
     after: int | None = None
 
     def __post_init__(self) -> None:
-        if self.status is not None and self.status not in STATUSES:
-            raise TerminalError(f"status={self.status[:40]} is none: it is {', '.join(STATUSES[:-1])} or {STATUSES[-1]}", 400)
+        if self.status is not None and self.status not in ASKED:
+            raise TerminalError(f"status={self.status[:40]} is none: it is {', '.join(ASKED[:-1])} or {ASKED[-1]}", 400)
         self._checked()
 
     def _checked(self) -> None:

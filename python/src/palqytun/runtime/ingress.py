@@ -6,6 +6,7 @@
     GET  /-/ready                        200: it takes calls; 503: it doesn't, and why
     GET  /-/metrics                      for Prometheus
     GET  /-/queues                       each with how many wait in it, for how long, how many run, and its limits
+    GET  /-/versions                     of code, each with its workers and its open invocations
     GET  /-/schedules                    each with its next time
     POST /-/schedules/{name}/pause       or /resume, /trigger, or /backfill?since=2026-11-27T03:00&until=2026-11-28
     GET  /-/invocations                  by the names of `Filter`, as `?status=failed&service=Shop`; `?most=`
@@ -190,6 +191,7 @@ class Ingress:
         yield Route("/-/ready", self._ready)
         yield Route("/-/metrics", self._metrics)
         yield Route("/-/queues", self._queues)
+        yield Route("/-/versions", self._versions)
         yield Route("/-/schedules", self._schedules)
         yield Route("/-/schedules/{rest:path}", self._act_on_schedule, methods=["POST"])
         yield Route("/-/invocations", self._list)
@@ -362,6 +364,9 @@ class Ingress:
 
     async def _queues(self, request: Request) -> Response:
         return JSONResponse(await self.engine.transact(operate.queues))
+
+    async def _versions(self, request: Request) -> Response:
+        return JSONResponse(await self.engine.transact(operate.versions))
 
     async def _schedules(self, request: Request) -> Response:
         return JSONResponse(await self.engine.transact(operate.schedules))

@@ -6,14 +6,15 @@ import json
 from dataclasses import dataclass
 from typing import Any
 
-from . import attributes, audit, heartbeats, journal
+from . import announced, attributes, audit, heartbeats, journal
 from .database import Database
 from .filters import Filter
 
 _COLUMNS = (
     *("id", "service", "handler", "key", "status", "created", "ended", "due", "entries", "epoch", "retries", "worker", "failed", "error"),
-    *("cancelled", "parent", "origin", "trace", "seq", "deadline", "expires", "continued", "chain", "queue", "queue_key", "priority"),
+    *("cancelled", "parent", "origin", "trace", "seq", "deadline", "expires", "continued", "chain", "queue", "queue_key", "priority", "version"),
 )
+_SELECTED = f"{', '.join(_COLUMNS[:-1])}, code"  # the column `version` is the protocol's
 
 
 _COUNTED = 100_000  # of those that have failed, at most
@@ -29,14 +30,14 @@ def _shown(row: Any) -> dict[str, Any]:
 async def invocations(db: Database, asked: Filter = Filter(), most: int = 100) -> list[dict[str, Any]]:
     """The newest invocations first, of those that are asked for."""
     where, values = asked.where(db.now())
-    sql = f"SELECT {', '.join(_COLUMNS)} FROM invocations WHERE {where} ORDER BY seq DESC LIMIT ?"
+    sql = f"SELECT {_SELECTED} FROM invocations WHERE {where} ORDER BY seq DESC LIMIT ?"
     found = [_shown(row) for row in await db.rows(sql, (*values, most))]
     said = await attributes.of(db, [it["id"] for it in found])
     return [{**it, "attributes": said.get(it["id"], {})} for it in found]
 
 
 async def invocation(db: Database, id: str) -> dict[str, Any] | None:
-    rows = await db.rows(f"SELECT {', '.join(_COLUMNS)} FROM invocations WHERE id=?", (id,))
+    rows = await db.rows(f"SELECT {_SELECTED} FROM invocations WHERE id=?", (id,))
     if not rows:
         return None
     return {**_shown(rows[0]), "attributes": (await attributes.of(db, [id])).get(id, {}), "progress": await heartbeats.of(db, id)}
@@ -125,6 +126,19 @@ async def queues(db: Database) -> list[dict[str, Any]]:
         oldest = 0.0 if first is None else max(0.0, now - first)
         counts = {"length": int(length), "oldest": oldest, "later": int(later), "running": int(works.get(name, 0)), "keys": int(keys)}
         shown.append({"name": name, **counts, "limits": known.get(name, {})})
+    return shown
+
+
+async def versions(db: Database) -> list[dict[str, Any]]:
+    """Each version of code that a worker has which is alive, or that an open invocation stays with: how many such workers there are, how many such
+    invocations, and for how many seconds the oldest of these has been open. What no worker has begun yet has no version."""
+    now = db.now()
+    opened = "SELECT code, COUNT(*), MIN(created) FROM invocations WHERE status<>'done' AND code IS NOT NULL GROUP BY code"
+    found, workers = {row[0]: row[1:] for row in await db.rows(opened)}, await announced.versions(db)
+    shown = []
+    for name in sorted(found.keys() | workers.keys()):
+        count, first = found.get(name, (0, now))
+        shown.append({"version": name, "workers": workers.get(name, 0), "open": int(count), "oldest": max(0.0, now - first)})
     return shown
 
 

@@ -13,7 +13,7 @@ import jinja2
 
 from . import attributes, keyed, shown
 from .acts import ACTS
-from .filters import STATUSES, Filter
+from .filters import ASKED, Filter
 from .operate import error_of
 from .picture import MOST_STEPS, picture
 from .timeline import Timeline
@@ -66,7 +66,7 @@ def listed(rows: list[dict[str, Any]], asked: Filter, now: float, *, services: I
     """Invocations that were asked for, the newest first, at most `MOST` of them; what asks for others; and what acts on them."""
     given = asked.given
     older = replace(asked, after=None, before=rows[MOST - 1]["seq"]).given if len(rows) > MOST else None
-    kinds = [(it, replace(asked, status=it, before=None, after=None).given) for it in (None, *STATUSES)]
+    kinds = [(it, replace(asked, status=it, before=None, after=None).given) for it in (None, *ASKED)]
     parts = {"rows": rows[:MOST], "asked": asked, "given": given, "older": older, "kinds": kinds, "services": sorted(services), "now": now}
     return _page("list.html", "Invocations", root, acts=list(ACTS), **parts)
 
@@ -102,6 +102,10 @@ def schedules(rows: list[dict[str, Any]], now: float, root: str = ROOT) -> str:
 
 def queues(rows: list[dict[str, Any]], root: str = ROOT) -> str:
     return _page("queues.html", "Queues", root, rows=rows)
+
+
+def versions(rows: list[dict[str, Any]], root: str = ROOT) -> str:
+    return _page("versions.html", "Versions", root, rows=rows)
 
 
 def services_with_state(names: list[str], root: str = ROOT) -> str:

@@ -66,6 +66,7 @@ class Pages:
         yield Route("/-/page/schedules", self._seen(self._schedules))
         yield Route("/-/page/schedules", self._seen(self._act_on_schedule), methods=["POST"])
         yield Route("/-/page/queues", self._seen(self._queues))
+        yield Route("/-/page/versions", self._seen(self._versions))
         yield Route("/-/page/audit", self._seen(self._audit))
         yield Route("/-/page/states", self._seen(self._states))
         yield Route("/-/page/states/{service}", self._seen(self._keys))
@@ -163,6 +164,9 @@ class Pages:
 
     async def _queues(self, request: Request) -> Response:
         return _html(page.queues(await self._engine.transact(operate.queues), _root(request)))
+
+    async def _versions(self, request: Request) -> Response:
+        return _html(page.versions(await self._engine.transact(operate.versions), _root(request)))
 
     async def _act_on_schedule(self, request: Request) -> Response:
         """Presses a button of a schedule."""

@@ -9,6 +9,7 @@ import contextlib
 import errno
 import resource
 import socket
+import ssl
 from collections.abc import Iterator
 from typing import Any
 
@@ -17,6 +18,8 @@ import uvicorn  # type: ignore[import]
 from starlette.responses import JSONResponse
 from starlette.types import ASGIApp
 from uvicorn.protocols.http.h11_impl import H11Protocol  # type: ignore[import]
+
+from .tls import Certificate
 
 CONNECTIONS = 1000
 _SPARE = 64  # descriptors that the connections leave to the database, the log and the like
@@ -31,13 +34,20 @@ def connections_at_most(wanted: int) -> int:
 
 
 class Config(uvicorn.Config):  # type: ignore[misc]
-    """What a server with limits needs. `patience`: the seconds that a client may take for a request's head, and to read its response."""
+    """What a server with limits needs. `patience`: the seconds that a client may take for a request's head, and to read its response. With a
+    `certificate` it speaks TLS."""
 
-    def __init__(self, app: ASGIApp, *, connections: int = CONNECTIONS, patience: float = 60.0):
-        self.connections, self.patience = connections_at_most(connections), patience
+    ssl: ssl.SSLContext | None
+
+    def __init__(self, app: ASGIApp, *, connections: int = CONNECTIONS, patience: float = 60.0, certificate: Certificate | None = None):
+        self.connections, self.patience, self.certificate = connections_at_most(connections), patience, certificate
         options: dict[str, Any] = {"http": Protocol, "ws": "none", "lifespan": "off", "interface": "asgi3"}
         options |= {"log_config": None, "log_level": "error", "access_log": False, "proxy_headers": False, "server_header": False}
         super().__init__(app, **options, timeout_keep_alive=int(patience) + 1)
+
+    def load(self) -> None:
+        super().load()
+        self.ssl = None if self.certificate is None else self.certificate.context
 
 
 class Protocol(H11Protocol):  # type: ignore[misc]
@@ -49,6 +59,8 @@ class Protocol(H11Protocol):  # type: ignore[misc]
 
     def connection_made(self, transport: Any) -> None:
         super().connection_made(transport)
+        if self.config.certificate is not None:
+            self.config.certificate.renew()
         above = len(self.connections) - self.config.connections
         if above > _HARD:
             transport.abort()
@@ -149,6 +161,6 @@ def listening(host: str, port: int) -> socket.socket:
         raise Taken(f"{host[:100]}:{port}: {error}") from error
 
 
-def address_of(sock: socket.socket) -> str:
+def address_of(sock: socket.socket, scheme: str = "http") -> str:
     host, port = sock.getsockname()[:2]
-    return f"http://{f'[{host}]' if ':' in host else host}:{port}"
+    return f"{scheme}://{f'[{host}]' if ':' in host else host}:{port}"

@@ -16,6 +16,7 @@ from .engine import Engine
 from .ingress import Ingress, Settings
 from .process import warn_of_unproved
 from .server import CONNECTIONS, Config, Server, address_of, listening
+from .tls import Certificate
 
 
 class Unguarded(ValueError):
@@ -25,19 +26,30 @@ class Unguarded(ValueError):
 class Http:
     """The ingress of a worker on an address. It listens from the beginning, and serves requests from `start` to `stop`.
 
-    Raises `Taken` if nothing can listen there, and `Unguarded` if other hosts could call handlers without a token."""
+    With a `certificate` it speaks TLS alone. Raises `Taken` if nothing can listen there, and `Unguarded` if other hosts could call handlers without a
+    token."""
 
-    def __init__(self, engine: Engine, settings: Settings, host: str, port: int, *, connections: int = CONNECTIONS, grace: float = 10.0):
+    def __init__(
+        self,
+        engine: Engine,
+        settings: Settings,
+        host: str,
+        port: int,
+        *,
+        connections: int = CONNECTIONS,
+        grace: float = 10.0,
+        certificate: Certificate | None = None,
+    ):
         if settings.token is None and settings.tokens is None and not is_loopback(host):
             raise Unguarded(f"{host} is reached by other hosts, so the ingress needs a token: set PALQYTUN_TOKEN, or listen on 127.0.0.1")
         self._ingress, self._grace = Ingress(engine, settings), grace
-        self._socket = listening(host, port)
-        self._server = Server(Config(self._ingress.app, connections=connections, patience=settings.patience))
+        self._socket, self._scheme = listening(host, port), "http" if certificate is None else "https"
+        self._server = Server(Config(self._ingress.app, connections=connections, patience=settings.patience, certificate=certificate))
         self._serving: asyncio.Task[None] | None = None
 
     async def start(self) -> str:
         """Serves requests from now on; returns the address."""
-        address = address_of(self._socket)
+        address = address_of(self._socket, self._scheme)
         self._serving = asyncio.create_task(self._server.serve(sockets=[self._socket]))
         is_up = asyncio.create_task(self._server.is_up.wait())
         await asyncio.wait([self._serving, is_up], return_when=asyncio.FIRST_COMPLETED)
