@@ -24,7 +24,7 @@ def typescript(it: Bindings) -> None:
     it.checks.tell(protocol.MODULE, protocol.check(TOP))
     if not it.checks.has("the SDK in TypeScript", "node", "node-api", "typescript", "node-pg"):
         return
-    env = {name: value for name, value in it.env().items() if not name.startswith("NODE_")} | {"NODE_PATH": packages.node_path()}
+    env = {name: value for name, value in it.env().items() if not name.startswith("NODE_")} | {"NODE_PATH": packages.node_path(), "PALQYTUN_PYTHON": sys.executable}
     folder = built(it, env)
     if folder is None or not it.checks.has("the SDK in TypeScript on a database", "postgresql", "psycopg"):
         return

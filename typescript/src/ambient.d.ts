@@ -91,6 +91,7 @@ declare const Buffer: {
   alloc(size: number): Buffer;
   concat(parts: readonly Uint8Array[]): Buffer;
   byteLength(text: string): number;
+  compare(one: Uint8Array, other: Uint8Array): number;
 };
 
 declare class TextDecoder {

@@ -1,7 +1,7 @@
 /** One attempt of an invocation: its handler, the VM, and the store between them. */
 
 import { VM, VMError, contentType, unknown } from 'palqytun';
-import type { Future, Handle, Input, RetryPolicy } from 'palqytun';
+import type { Future, Handle, Input } from 'palqytun';
 import { Context, contextOf, failureOf } from './context';
 import type { Action, Run } from './context';
 import { Cancelled, NotDurable, OutsideHandler, TerminalError, isOf, said, traced } from './errors';
@@ -264,7 +264,7 @@ export class Attempt {
     if (action === undefined) throw new Error(`the core asks for the run ${handle}, which isn't there`);
     context.asked.delete(handle);
     this.#executing.add(handle);
-    this.#policies.set(handle, action.policy);
+    this.#actions.set(handle, action);
     void this.#execute(action).then((executed) => {
       this.#executed.push([handle, executed]);
       this.#ring();
@@ -277,7 +277,7 @@ export class Attempt {
     }
   }
 
-  readonly #policies = new Map<Handle, RetryPolicy>();
+  readonly #actions = new Map<Handle, Action>();
 
   /** Executes an effect; never throws. */
   async #execute(action: Action): Promise<Executed> {
@@ -343,19 +343,21 @@ export class Attempt {
     let failed: (() => void) | undefined;
     for (const [handle, it] of done) {
       this.#executing.delete(handle);
-      const policy = this.#policies.get(handle);
+      const action = this.#actions.get(handle);
+      const policy = action?.policy;
       if (it.kind === 'value') this.#vm.proposeRunCompletion(handle, it.value, policy);
       else if (it.kind === 'failure') this.#vm.proposeRunCompletion(handle, failureOf(it.error), policy);
-      else failed ??= () => this.#proposeFailed(handle, it.error, it.took, policy);
+      else failed ??= () => this.#proposeFailed(handle, it.error, it.took, action);
     }
     failed?.();
   }
 
-  #proposeFailed(handle: Handle, error: unknown, took: number, policy: RetryPolicy | undefined): void {
+  #proposeFailed(handle: Handle, error: unknown, took: number, action: Action | undefined): void {
     const pauses = isOf(error, OutsideHandler); // no retry helps
     this.claim.byRun = !pauses;
+    if (action !== undefined) this.claim.failedRun = action;
     const why = { code: 500, message: said(error), stacktrace: traced(error), behavior: pauses ? 'pause' as const : 'retry' as const };
-    this.#vm.proposeRetryableFailure(handle, took, why, pauses ? { kind: 'infinite' } : policy);
+    this.#vm.proposeRetryableFailure(handle, took, why, pauses ? { kind: 'infinite' } : action?.policy);
   }
 
   // ---- the store

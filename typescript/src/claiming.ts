@@ -1,15 +1,17 @@
 /** The transactions of a worker beside its attempts: it enters, timers fire, and invocations that can go on are claimed. */
 
 import { Journal, StatusError, frames } from 'palqytun';
-import type { Statements } from './tables';
-import { deliver } from './effects';
+import { deliver } from './delivery';
 import { storable } from './errors';
 import { VOID, failure, patchesIn, startFrame } from './frames';
 import { traceOf } from './hash';
+import type { Event } from './notes';
 import { ATTEMPTS } from './services';
 import type { About } from './services';
 import { arrivals, endUnbegun, moves, wakes } from './storing';
 import type { Claim } from './storing';
+import type { Statements } from './tables';
+import { serves } from './unserved';
 
 const SUSPECT = 2; // attempts in a row that were lost with their workers: then it is claimed alone
 const MOST_LOST = 5; // and then it isn't claimed any more
@@ -35,8 +37,8 @@ export interface Look {
   /** How late timers have fired, and ready invocations were claimed, in seconds. */
   readonly lags: number[];
   readonly delays: [claim: Claim, seconds: number][];
-  /** What was lost with its worker, and what was paused for that or for a broken journal: lines for the log. */
-  readonly notes: { id: string; event: 'attempt lost' | 'paused'; text: string }[];
+  /** There may be more that waited for a worker which serves it. */
+  servesMore: boolean;
 }
 
 type Row = readonly unknown[];
@@ -57,7 +59,8 @@ export interface Asked {
 
 /** Fires the timers that are due, and claims at most `room` invocations that can go on; `live` are those that have an attempt here. */
 export async function look(to: Statements, claimer: Claimer, asked: Asked, live: ReadonlySet<string>, room: number): Promise<Look> {
-  const found: Look = { claims: [], hasMore: false, nextDue: null, lags: [], delays: [], notes: [] };
+  const found: Look = { claims: [], hasMore: false, nextDue: null, lags: [], delays: [], servesMore: false };
+  if (asked.isWhole) found.servesMore = await serves(to, claimer.services);
   if (asked.isDue) await fires(to, found);
   for (const it of claimer.services.values()) {
     const own = { service: it.name, handlers: [...it.handlers.keys()], code: claimer.code };
@@ -74,23 +77,24 @@ export async function look(to: Statements, claimer: Claimer, asked: Asked, live:
     for (const row of ready) await claims(to, claimer, it, row, found, live, true);
     found.hasMore ||= ready.length > 0 && left() <= 0;
     const orphaned = asked.isWhole && left() > 0 ? await to.rows('orphaned', { ...own, most: left() }) : [];
-    for (const row of orphaned) if (!live.has(String(row[0])) && (await mayGoOn(to, claimer, row, found))) await claims(to, claimer, it, row, found, live, false);
+    for (const row of orphaned) if (!live.has(String(row[0])) && (await mayGoOn(to, claimer, it.name, row))) await claims(to, claimer, it, row, found, live, false);
   }
   if (asked.isDue) found.nextDue = ((await to.rows('next', { now: to.now }))[0]?.[0] ?? null) as number | null;
   return found;
 }
 
 /** Whether one that was lost with its worker is claimed again. One that ends workers is alone with one, and at last it is paused. */
-async function mayGoOn(to: Statements, claimer: Claimer, row: Row, found: Look): Promise<boolean> {
-  const [id, epoch, , , deaths] = row as [string, number, number, string, number];
+async function mayGoOn(to: Statements, claimer: Claimer, service: string, row: Row): Promise<boolean> {
+  const [id, epoch, , , deaths, handler, worker] = row as [string, number, number, string, number, string, string];
+  const note = (event: Event, error: string): void => to.note({ event, invocation: id, service, handler, attempt: epoch, error });
   const lost = deaths + 1;
   if (lost >= MOST_LOST) {
     const error = `${lost} attempts in a row were lost with their workers before they stored anything: see how these ended, and then resume it`;
     await to.change('deadly', { id, epoch, now: to.now, error });
-    found.notes.push({ id, event: 'paused', text: error });
+    note('paused', error);
     return false;
   }
-  found.notes.push({ id, event: 'attempt lost', text: "its worker isn't alive" });
+  note('attempt lost', `its worker ${worker} isn't alive`);
   if (lost < SUSPECT) return true;
   if (to.now < claimer.suspected + ALONE) return false;
   claimer.suspected = to.now;
@@ -106,7 +110,7 @@ async function claims(to: Statements, claimer: Claimer, about: About, row: Row, 
   }
   const lease = (await to.rows('lease', { id, epoch, worker: claimer.worker, code: claimer.code, now: to.now }))[0];
   if (lease === undefined) return;
-  const claim = await loaded(to, claimer, about, id, epoch + 1, lease, found);
+  const claim = await loaded(to, claimer, about, id, epoch + 1, lease);
   if (claim === undefined) return;
   if (epoch === 0 && claim.cancelWaits) {
     await endUnbegun(to, claim, failure(409, 'cancelled'));
@@ -125,7 +129,7 @@ async function stateOf(to: Statements, service: string, key: string): Promise<{ 
   return { state: taken.sort(([one], [other]) => (one < other ? -1 : 1)).map(([name, value]) => [name, value]), partial: taken.length < rows.length };
 }
 
-async function loaded(to: Statements, claimer: Claimer, about: About, id: string, epoch: number, lease: Row, found: Look): Promise<Claim | undefined> {
+async function loaded(to: Statements, claimer: Claimer, about: About, id: string, epoch: number, lease: Row): Promise<Claim | undefined> {
   const [key, seed, entries, retries, failingSince, idem, cancelled, shielded, exclusive, trace, failures, failedSince, created, , handler] = lease as [
     string, number | bigint, number, number, number | null, string | null, number | null, number, number, string | null, number, number | null, number,
     number, string,
@@ -154,7 +158,7 @@ async function loaded(to: Statements, claimer: Claimer, about: About, id: string
     if (!(error instanceof StatusError)) throw error;
     const text = storable(`the stored journal is broken: ${error.message}`);
     await to.change('pause', { id, epoch, now: to.now, error: text });
-    found.notes.push({ id, event: 'paused', text });
+    to.note({ event: 'paused', invocation: id, service: about.name, handler, attempt: epoch, error: text });
     return undefined;
   }
 }

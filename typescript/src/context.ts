@@ -8,7 +8,7 @@ import { AttemptEnds, BadValue, ContinuedAsNew, OutsideHandler, TerminalError, T
 import type { Trace } from './hash';
 import type { Fields, Level, Log } from './log';
 import { Random } from './random';
-import { checkRetry } from './services';
+import { JITTER, checkRetry } from './services';
 import type { Fixed, Handler, Retry } from './services';
 import { attributeOf, checkName, decoded, encoded } from './values';
 import type { Parse } from './values';
@@ -45,6 +45,7 @@ export interface Action {
   readonly name: string;
   readonly does: (run: Run) => unknown;
   readonly policy: RetryPolicy;
+  readonly jitter: number;
   readonly key: string;
   readonly timeout: number | undefined;
 }
@@ -328,7 +329,7 @@ export class Context implements Scope {
     const handle = this.#asks((vm) => vm.sysRun(name).handle);
     if (handle !== undefined) {
       const key = `${this.invocationId}-${this.#begun.vm.lastCommandIndex()}`;
-      this.actions.set(handle, { name, does, policy: policyOf(options.retry), key, timeout: options.timeout });
+      this.actions.set(handle, { name, does, policy: policyOf(options.retry), jitter: options.retry?.jitter ?? JITTER, key, timeout: options.timeout });
       this.asked.add(handle);
     }
     return new Leaf(this, handle ?? 0, results(options.gives));

@@ -8,10 +8,11 @@ import type { Config, Query, Result } from 'pg';
 import { parse } from 'pg-connection-string';
 import { Unsuitable, said } from './errors';
 import type { Log } from './log';
+import type { Note } from './notes';
 import { STATEMENTS, VERSION } from './statements';
 import type { StatementName } from './statements';
 import { Lost } from './tables';
-import type { Committed, Row, Statements, Store, Values } from './tables';
+import type { Committed, Ended, Row, Statements, Store, Values } from './tables';
 
 /** The channel of all workers. Each has one of its own too, named by the last characters of its name. */
 export const CHANNEL = 'palqytun';
@@ -122,7 +123,8 @@ class Connection {
 export class Transaction implements Statements, Committed {
   readonly #words = new Set<string>();
   readonly #touched = new Set<string>();
-  readonly #ended = new Set<string>();
+  readonly endings = new Map<string, Ended>();
+  readonly notes: Note[] = [];
 
   /** When something is due first that this transaction has made. */
   due: number | undefined;
@@ -149,8 +151,12 @@ export class Transaction implements Statements, Committed {
     this.due = Math.min(this.due ?? at, at);
   }
 
-  ended(invocation: string): void {
-    this.#ended.add(invocation);
+  ended(invocation: string, it: Ended): void {
+    this.endings.set(invocation, it);
+  }
+
+  note(it: Note): void {
+    this.notes.push(it);
   }
 
   get touched(): ReadonlySet<string> {
@@ -161,17 +167,13 @@ export class Transaction implements Statements, Committed {
     return this.#words.has('ready');
   }
 
-  get endings(): ReadonlySet<string> {
-    return this.#ended;
-  }
-
   /** Sends what was said. */
   async tell(): Promise<void> {
-    const some = (names: ReadonlySet<string>): string[][] => {
+    const some = (names: Iterable<string>): string[][] => {
       const all = [...names].sort();
       return Array.from({ length: Math.ceil(all.length / AT_ONCE) }, (_, at) => all.slice(at * AT_ONCE, (at + 1) * AT_ONCE));
     };
-    const words = [...this.#words, ...some(this.#ended).map((ids) => `ended ${ids.join(' ')}`)];
+    const words = [...this.#words, ...some(this.endings.keys()).map((ids) => `ended ${ids.join(' ')}`)];
     for (const word of words) await this.rows('notify', { channel: CHANNEL, word });
     for (const ids of some(this.#touched)) await this.rows('tell', { ids });
   }

@@ -1,110 +1,18 @@
 /** What a stored command does, in the transaction that stores it; so it is done once. */
 
 import { frames } from 'palqytun';
-import type { Statements } from './tables';
+import { deliver, newest } from './delivery';
 import { TerminalError } from './errors';
-import { Kind, VOID, awakeableOf, failure, inputCommand, invocationId, isAttribute, isCancel, keys } from './frames';
+import { Kind, VOID, awakeableOf, failure, invocationId, isAttribute, keys } from './frames';
 import type { Frame } from './frames';
 import { idOfCall, seedOf } from './hash';
+import { create } from './invocations';
+import type { New } from './invocations';
 import type { About } from './services';
-import { checkName } from './values';
+import type { Statements } from './tables';
+import { setAside } from './unserved';
 
 type Message = InstanceType<typeof frames.Message>;
-type Pairs = readonly (readonly [string, string])[];
-
-/** A handler as far as its callers know it. Times are in seconds. */
-interface Target {
-  readonly keyed: boolean;
-  readonly exclusive: boolean;
-  readonly isMain: boolean;
-  readonly times: readonly (number | null)[];
-  readonly queue: string | null;
-}
-
-interface Serves {
-  keyed: boolean;
-  workflow: boolean;
-  handlers: Record<string, boolean>;
-  times?: Record<string, (number | null)[]>;
-  queues?: Record<string, string>;
-}
-
-/** An invocation to make. `due` is in seconds since the epoch by the database's clock; null is now. */
-export interface New {
-  readonly id: string;
-  readonly seed: bigint;
-  readonly service: string;
-  readonly handler: string;
-  readonly key: string;
-  readonly argument: Uint8Array;
-  readonly headers: Pairs;
-  readonly idempotencyKey: string | null;
-  readonly due: number | null;
-  readonly parent: string | null;
-  readonly trace: string | null;
-  /** What another invocation had, in whose place this one goes on. */
-  readonly queued?: { readonly queue: string | null; readonly queue_key: string | null; readonly priority: number };
-}
-
-/** Puts a notification into an invocation's inbox, if it has one. */
-export async function deliver(to: Statements, invocation: string, frame: Uint8Array): Promise<boolean> {
-  if ((await to.change('deliver', { invocation, frame })) === 0) return false;
-  if (isCancel(frame)) await to.change('reach', { id: invocation, now: to.now });
-  to.touch(invocation);
-  return true;
-}
-
-/** The invocation that goes on instead of another one, or else that one. */
-export async function newest(to: Statements, invocation: string): Promise<string> {
-  return String((await to.rows('newest', { invocation }))[0]?.[0]);
-}
-
-async function targetOf(to: Statements, own: ReadonlyMap<string, About>, service: string, handler: string): Promise<Target> {
-  const it = own.get(service);
-  const known = it?.handlers.get(handler);
-  if (it !== undefined && known !== undefined) {
-    return { keyed: it.keyed, exclusive: known.exclusive, isMain: it.workflow && known.exclusive, times: [null, null], queue: null };
-  }
-  for (const [text] of await to.rows('serves', {})) {
-    const said = (JSON.parse(String(text)) as Record<string, Serves>)[service];
-    const exclusive = said?.handlers[handler];
-    if (said === undefined || exclusive === undefined) continue;
-    const more = { times: said.times?.[handler] ?? [null, null], queue: said.queues?.[handler] ?? null };
-    return { keyed: said.keyed, exclusive, isMain: said.workflow && exclusive, ...more };
-  }
-  throw new TerminalError(`there is no handler ${service}/${handler}, of this app or of a worker that is alive`, 404);
-}
-
-function priorityOf(headers: ReadonlyMap<string, string>): number {
-  const text = headers.get('palqytun-priority') ?? '0';
-  if (!/^[-+]?\d{1,4}$/.test(text) || Math.abs(Number(text)) > 1000) throw new TerminalError(`the priority is '${text.slice(0, 40)}', and it is a whole number from -1000 to 1000`, 400);
-  return Number(text);
-}
-
-/** Makes an invocation, and returns its id; or that of the one that has this idempotency key already. Throws a `TerminalError` if it can't be made. */
-export async function create(to: Statements, own: ReadonlyMap<string, About>, it: New): Promise<{ id: string; isNew: boolean }> {
-  const target = await targetOf(to, own, it.service, it.handler);
-  if ((it.key !== '') !== target.keyed) throw new TerminalError(`${it.service}/${it.handler} is called ${target.keyed ? 'with' : 'without'} a key`, 400);
-  checkName('the key', it.key);
-  checkName('the idempotency key', it.idempotencyKey ?? '');
-  const headers = new Map(it.headers);
-  const queueKey = headers.get('palqytun-queue-key') ?? it.key;
-  checkName('the queue key', queueKey);
-  const begins = it.due ?? to.now;
-  const [deadline, expires] = [0, 1].map((at) => (target.times[at] == null ? null : begins + (target.times[at] as number)));
-  const idem = target.isMain ? '' : it.idempotencyKey || null;
-  const queued = it.queued ?? { queue: target.queue, queue_key: target.queue === null ? null : queueKey, priority: priorityOf(headers) };
-  const place = { service: it.service, handler: it.handler, key: it.key, idem };
-  const row = { ...place, id: it.id, exclusive: Number(target.exclusive), seed: it.seed, due: it.due, now: to.now, parent: it.parent, trace: it.trace };
-  if ((await to.change('create', { ...row, deadline, expires, ...queued })) === 0) {
-    const found = idem === null ? [] : await to.rows('named', place);
-    return { id: found.length > 0 ? String(found[0]?.[0]) : it.id, isNew: false };
-  }
-  await to.change('input', { id: it.id, frame: inputCommand(it.argument, it.headers), now: to.now });
-  if (it.due !== null) to.isDue(it.due);
-  to.say('ready');
-  return { id: it.id, isNew: true };
-}
 
 /** Whose commands these are. */
 export interface Own {
@@ -149,18 +57,20 @@ async function calls(to: Statements, own: Own, it: Message): Promise<Uint8Array[
   const given = idOfCall(own.id, it.second);
   const isAwaited = it.type === 'callCommand';
   const named = (id: string): Uint8Array => frames.completion(it.second, invocationId(id));
+  const asked: New = {
+    id: given, seed: seedOf(given), service: it.text(1), handler: it.text(2), key: it.text(3), argument: it.part(0) ?? new Uint8Array(),
+    headers: it.pairs(8), idempotencyKey: it.part(4) === undefined ? null : it.text(4), due: it.number === 0n ? null : dueOf(to, it),
+    parent: own.id, trace: own.trace,
+  }; // prettier-ignore
   try {
-    const { id, isNew } = await create(to, own.services, {
-      id: given, seed: seedOf(given), service: it.text(1), handler: it.text(2), key: it.text(3), argument: it.part(0) ?? new Uint8Array(),
-      headers: it.pairs(8), idempotencyKey: it.part(4) === undefined ? null : it.text(4), due: it.number === 0n ? null : dueOf(to, it),
-      parent: own.id, trace: own.trace,
-    }); // prettier-ignore
+    const { id, isNew } = await create(to, own.services, asked);
     if (!isAwaited) return [named(id)];
     if (!isNew) return [named(id), ...(await attaches(to, own, id, it.id))];
     await to.change('wait', { invocation: id, id: own.id, completes: it.id });
     return [named(id)];
   } catch (error) {
     if (!(error instanceof TerminalError)) throw error;
+    if (!isAwaited) await setAside(to, asked, error);
     return [named(given), ...(isAwaited ? [frames.completion(it.id, failure(error.code, error.message))] : [])];
   }
 }
@@ -188,17 +98,11 @@ async function readsState(to: Statements, own: Own, it: Message): Promise<Uint8A
   const rows = await to.rows('state', { service: own.service, key: own.key });
   const name = it.type === 'getLazyStateCommand' ? it.text(0) : undefined;
   if (name === undefined) {
-    const names = rows.map(([one]) => Buffer.from(String(one), 'utf8')).sort((one, other) => compared(one, other));
+    const names = rows.map(([one]) => Buffer.from(String(one), 'utf8')).sort(Buffer.compare);
     return [frames.completion(it.id, keys(names.map((one) => one.toString('utf8'))))];
   }
   const found = rows.find(([one]) => one === name);
   return [frames.completion(it.id, found === undefined ? VOID() : frames.valueFrame(found[1] as Uint8Array))];
-}
-
-/** The order of bytes. */
-function compared(one: Uint8Array, other: Uint8Array): number {
-  const at = one.findIndex((byte, place) => byte !== other[place]);
-  return at < 0 ? one.length - other.length : (one[at] ?? 0) - (other[at] ?? -1);
 }
 
 async function promises(to: Statements, own: Own, it: Message, frame: Uint8Array): Promise<Uint8Array[]> {

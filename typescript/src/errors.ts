@@ -106,6 +106,17 @@ export function traced(thrown: unknown): string {
   }
 }
 
+const FRAME = /^\s+at .*?([^()\s]*?)([^/\\()\s]+):(\d+):\d+\)?$/gm;
+
+/** The line of a user's code in a stack, as `shop.js:95`; undefined if no such line is there. */
+export function placeOf(stack: string): string | undefined {
+  for (const [, folder = '', file, line] of stack.matchAll(FRAME)) {
+    const isOurs = folder.startsWith('node:') || folder === `${__dirname}/` || folder.includes('/node_modules/');
+    if (!isOurs && folder !== '') return `${file}:${line}`;
+  }
+  return undefined;
+}
+
 /** Whether a thrown value is of a class. A proxy may throw when it is asked. */
 export function isOf<T>(thrown: unknown, kind: abstract new (...given: never[]) => T): thrown is T {
   try {

@@ -1,8 +1,9 @@
 /** A store in memory for tests: the protocol's statements over tables of its own, a clock that can be moved on, and a loss at a commit. */
 
+import type { Note } from './notes';
 import type { StatementName } from './statements';
 import { Lost } from './tables';
-import type { Committed, Ends, Place, Row, Statements, Store, Values } from './tables';
+import type { Committed, Ended, Ends, Place, Row, Statements, Store, Values } from './tables';
 
 /** What the statements are given, by its names in PROTOCOL. Times are in seconds since the epoch. */
 interface Given {
@@ -85,11 +86,12 @@ interface Invocation {
   readonly deaths: number;
   readonly chain: string | null;
   readonly continued: string | null;
+  readonly unserved: boolean;
 }
 
 const ANEW = {
   status: 'ready', epoch: 0, entries: 1, worker: null, code: null, suspension: null, shielded: 0, cancelled: null, result: null, failed: null, error: null,
-  retries: 0, failing_since: null, failures: 0, failed_since: null, deaths: 0, chain: null, continued: null,
+  retries: 0, failing_since: null, failures: 0, failed_since: null, deaths: 0, chain: null, continued: null, unserved: false,
 } as const; // prettier-ignore
 const PROGRESS = { retries: 0, failing_since: null, failures: 0, failed_since: null, deaths: 0 } as const;
 
@@ -252,6 +254,21 @@ function named(tables: Tables, it: Given): Invocation | undefined {
   return tables.invocations.where((one) => one.service === it.service && one.handler === it.handler && one.key === it.key && one.idem === it.idem)[0];
 }
 
+/** A row for a send that is set aside. */
+function setAside(tables: Tables, it: Given): Made {
+  const isTaken = tables.invocations.has(it.id) || (it.idem !== null && named(tables, it) !== undefined);
+  if (isTaken) return changed(0);
+  const { id, service, handler, key, idem, seed, parent, trace, error } = it;
+  const row = { ...ANEW, seq: tables.number(), id, service, handler, key, exclusive: 0, idem, seed, parent, trace, created: it.now, due: it.due ?? it.now, error };
+  tables.invocations.put(id, { ...row, status: 'paused', unserved: true });
+  return changed(1);
+}
+
+function unserved(tables: Tables, it: Given): Made {
+  const waiting = tables.invocations.where((one) => one.status === 'paused' && one.unserved && one.service === it.service && it.handlers.includes(one.handler));
+  return rows(inOrder(waiting).slice(0, it.most).map((one) => [one.id, one.service, one.handler, one.key, one.idem, one.key, one.due, one.trace, one.created]));
+}
+
 function gone(tables: Tables, it: Given): Made {
   tables.timers.take((one) => one.invocation === it.id);
   tables.inbox.take((one) => one.invocation === it.id);
@@ -298,6 +315,11 @@ const STATEMENTS: Readonly<Record<Exclude<StatementName, 'now'>, Does>> = {
   create,
   input: (to, it) => append(to, { ...it, frames: [it.frame] }),
   named: (to, it) => rows([named(to, it)].flatMap((one) => (one === undefined ? [] : [[one.id]]))),
+  called: (to, it) => rows([(to.journal.get(to.invocations.get(it.id)?.chain ?? it.id) ?? []).slice(0, 1)]),
+  'set-aside': setAside,
+  unserved,
+  serve: (to, { id, exclusive, due, idem }) => changed(to.set(id, () => true, () => ({ status: 'ready', unserved: false, error: null, exclusive, due: due ?? 0, idem }))),
+  refuse: (to, { id, result, failed, error }) => changed(to.set(id, () => true, () => ({ status: 'done', unserved: false, result, failed, error }))),
   next: (to, it) => {
     const due = [...to.timers.where(), ...to.invocations.where((one) => one.status === 'ready')].map((one) => one.due).filter((at) => at > it.now);
     return rows([[due.length === 0 ? null : Math.min(...due)]]);
@@ -313,7 +335,7 @@ const STATEMENTS: Readonly<Record<Exclude<StatementName, 'now'>, Does>> = {
     for (const one of to.inbox.where(({ seq }) => it.seqs.includes(seq))) to.inbox.put(one.seq, { ...one, fresh: false });
     return changed(it.seqs.length);
   },
-  orphaned: (to, it) => rows(to.candidates(it, 'running').filter((one) => !to.workers.has(one.worker ?? '')).slice(0, it.most).map((one) => candidate(one, one.deaths))),
+  orphaned: (to, it) => rows(to.candidates(it, 'running').filter((one) => !to.workers.has(one.worker ?? '')).slice(0, it.most).map((one) => candidate(one, one.deaths, one.handler, one.worker))),
   deadly: (to, it) => changed(to.set(it.id, isHeld(it), (one) => ({ status: 'paused', deaths: one.deaths + 1, error: it.error }))),
   lock: (to, it) => {
     const place = placed(it.service, it.key);
@@ -378,7 +400,8 @@ const STATEMENTS: Readonly<Record<Exclude<StatementName, 'now'>, Does>> = {
 /** A transaction: the words of its commit, and its statements. */
 class InMemory implements Statements, Committed {
   readonly touched = new Set<string>();
-  readonly endings = new Set<string>();
+  readonly endings = new Map<string, Ended>();
+  readonly notes: Note[] = [];
   isReady = false;
   due: number | undefined;
 
@@ -408,14 +431,18 @@ class InMemory implements Statements, Committed {
     this.due = Math.min(this.due ?? at, at);
   }
 
-  ended(invocation: string): void {
-    this.endings.add(invocation);
+  ended(invocation: string, it: Ended): void {
+    this.endings.set(invocation, it);
+  }
+
+  note(it: Note): void {
+    this.notes.push(it);
   }
 
   /** What others hear of it. */
   get words(): string[] {
-    const some = (what: string, ids: ReadonlySet<string>): string[] => (ids.size === 0 ? [] : [`${what} ${[...ids].join(' ')}`]);
-    return [...(this.isReady ? ['ready'] : []), ...some('ended', this.endings), ...some('to', this.touched)];
+    const some = (what: string, ids: readonly string[]): string[] => (ids.length === 0 ? [] : [`${what} ${ids.join(' ')}`]);
+    return [...(this.isReady ? ['ready'] : []), ...some('ended', [...this.endings.keys()]), ...some('to', [...this.touched])];
   }
 }
 

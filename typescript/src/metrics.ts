@@ -1,5 +1,7 @@
 /** What a worker counts and measures, in Prometheus' text form, under the names that Python's workers have. */
 
+import type { Ended } from './tables';
+
 const SHORT = [0.001, 0.0025, 0.005, 0.01, 0.025, 0.05, 0.1, 0.25, 0.5, 1, 2.5, 5, 10, 30, 60];
 const LONG = [0.01, 0.05, 0.1, 0.5, 1, 5, 10, 60, 300, 1800, 3600, 21_600, 86_400, 604_800];
 
@@ -80,7 +82,7 @@ export class Meter {
     fenced: new Counter('palqytun_fenced', 'Attempts that have lost their lease since this worker began.'),
   };
 
-  ended(service: string, handler: string, outcome: 'done' | 'failed', seconds: number): void {
+  ended({ service, handler, outcome, seconds }: Ended): void {
     this.#ended.add({ service, handler, outcome });
     this.#lasted.observe(seconds, { service, handler });
   }

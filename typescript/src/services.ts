@@ -6,13 +6,15 @@ import type { Parse } from './values';
 
 /**
  * When a failed run, or a failed attempt of a handler, is tried again. Times are in milliseconds. The first delay is `initial` (50); each next one is
- * larger by `factor` (2), up to `longest` (10,000). It is tried `attempts` times at most, and for `duration` at most; without them there is no bound.
- * Then `pause` pauses the invocation, and without it the error is the result.
+ * larger by `factor` (2), up to `longest` (10,000). Each is shorter by chance, by at most this part of it (`jitter`, 0.2), so that what failed together isn't
+ * tried again all at once. It is tried `attempts` times at most, and for `duration` at most; without them there is no bound. Then `pause` pauses the
+ * invocation, and without it the error is the result.
  */
 export interface Retry {
   initial?: number;
   factor?: number;
   longest?: number;
+  jitter?: number;
   attempts?: number;
   duration?: number;
   pause?: boolean;
@@ -83,7 +85,8 @@ export function checkRetry(what: string, retry: Retry): void {
     const time = retry[name];
     if (time !== undefined && !(time >= 0 && time < Infinity)) throw new RangeError(`${what}: ${name} is a number of milliseconds from 0, and not ${time}`);
   }
-  const { attempts, factor } = retry;
+  const { attempts, factor, jitter } = retry;
+  if (jitter !== undefined && !(jitter >= 0 && jitter <= 1)) throw new RangeError(`${what}: jitter is a part of a delay, from 0 to 1, and not ${jitter}`);
   if (attempts !== undefined && !(Number.isInteger(attempts) && attempts >= 1)) throw new RangeError(`${what}: attempts is a whole number from 1, and not ${attempts}`);
   if (factor !== undefined && !(factor >= 0 && factor <= 1e6)) throw new RangeError(`${what}: factor is a number from 0 to 1,000,000, and not ${factor}`);
 }
@@ -91,6 +94,14 @@ export function checkRetry(what: string, retry: Retry): void {
 /** The delay in milliseconds after this number of failures. */
 export function delayOf(retry: Retry, failures: number): number {
   return Math.min(retry.longest ?? 10_000, (retry.initial ?? 50) * (retry.factor ?? 2) ** (failures - 1));
+}
+
+/** The part of a delay by which it is shorter at most, if a policy says nothing else. */
+export const JITTER = 0.2;
+
+/** A delay, which is shorter by chance: so what failed together isn't tried again all at once. */
+export function jittered(delay: number, jitter = JITTER): number {
+  return delay * (1 - jitter * Math.random());
 }
 
 /** Whether it isn't tried again after this number of failures within so many milliseconds. */

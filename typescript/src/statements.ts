@@ -37,6 +37,21 @@ export const STATEMENTS = {
   'named': [
     { text: "SELECT id FROM invocations WHERE service=$1::text AND handler=$2::text AND key=$3::text AND idem=$4::text", names: ["service", "handler", "key", "idem"] },
   ],
+  'called': [
+    { text: "SELECT frame FROM journal WHERE at=0 AND invocation=COALESCE((SELECT chain FROM invocations WHERE id=$1::text), $1::text)", names: ["id"] },
+  ],
+  'set-aside': [
+    { text: "INSERT INTO invocations(id, service, handler, key, exclusive, version, idem, seed, status, how, error, due, entries, created, parent, trace, queue_key, priority) VALUES ($1::text, $2::text, $3::text, $4::text, 0, 7, $5::text, $6::bigint, 'paused', 'unserved', $7::text, COALESCE($8::float8, extract(epoch from clock_timestamp())::float8), 1, $9::float8, $10::text, $11::text, $12::text, $13::integer) ON CONFLICT DO NOTHING", names: ["id", "service", "handler", "key", "idem", "seed", "error", "due", "now", "parent", "trace", "queue_key", "priority"] },
+  ],
+  'unserved': [
+    { text: "SELECT id, service, handler, key, idem, queue_key, due, trace, created FROM invocations WHERE status='paused' AND how='unserved' AND service=$1::text AND handler=ANY($2::text[]) ORDER BY seq LIMIT $3::integer FOR UPDATE SKIP LOCKED", names: ["service", "handlers", "most"] },
+  ],
+  'serve': [
+    { text: "UPDATE invocations SET status='ready', how=NULL, error=NULL, exclusive=$1::integer, due=$2::float8, deadline=$3::float8, expires=$4::float8, idem=$5::text, queue=$6::text, queue_key=$7::text WHERE id=$8::text", names: ["exclusive", "due", "deadline", "expires", "idem", "queue", "queue_key", "id"] },
+  ],
+  'refuse': [
+    { text: "UPDATE invocations SET status='done', ended=$1::float8, stopped=$1::float8, how='refused', result=$2::bytea, failed=$3::integer, error=$4::text WHERE id=$5::text", names: ["now", "result", "failed", "error", "id"] },
+  ],
   'next': [
     { text: "SELECT MIN(due) FROM (SELECT MIN(due) AS due FROM timers WHERE due>$1::float8 UNION ALL SELECT MIN(due) AS due FROM invocations WHERE status='ready' AND due>$1::float8) AS next", names: ["now"] },
   ],
@@ -56,7 +71,7 @@ export const STATEMENTS = {
     { text: "UPDATE inbox SET fresh=0 WHERE seq=ANY($1::bigint[])", names: ["seqs"] },
   ],
   'orphaned': [
-    { text: "SELECT id, epoch, exclusive, key, deaths FROM invocations WHERE service=$1::text AND handler=ANY($2::text[]) AND (code IS NULL OR code=$3::text) AND status='running' AND worker NOT IN (SELECT id FROM workers WHERE lease>=extract(epoch from clock_timestamp())::float8) LIMIT $4::integer FOR UPDATE SKIP LOCKED", names: ["service", "handlers", "code", "most"] },
+    { text: "SELECT id, epoch, exclusive, key, deaths, handler, worker FROM invocations WHERE service=$1::text AND handler=ANY($2::text[]) AND (code IS NULL OR code=$3::text) AND status='running' AND worker NOT IN (SELECT id FROM workers WHERE lease>=extract(epoch from clock_timestamp())::float8) LIMIT $4::integer FOR UPDATE SKIP LOCKED", names: ["service", "handlers", "code", "most"] },
   ],
   'deadly': [
     { text: "UPDATE invocations SET status='paused', stopped=$1::float8, how='lost', deaths=deaths+1, error=$2::text WHERE id=$3::text AND epoch=$4::bigint AND status='running'", names: ["now", "error", "id", "epoch"] },

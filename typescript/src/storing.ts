@@ -2,15 +2,18 @@
 
 import { frames } from 'palqytun';
 import type { Journal, Row } from 'palqytun';
-import type { Statements } from './tables';
-import { create, deliver, perform } from './effects';
+import { deliver, leaves } from './delivery';
+import { perform } from './effects';
 import type { Own } from './effects';
-import { storable } from './errors';
+import { placeOf, storable } from './errors';
 import { Kind, failureIn, isCancel, isStep, signalName, split, valueIn } from './frames';
 import type { Frame } from './frames';
-import { idOfCall, seedOf } from './hash';
-import { delayOf, isOver } from './services';
+import { idOfCall, seedOf, traceOf } from './hash';
+import { create } from './invocations';
+import type { Event } from './notes';
+import { delayOf, isOver, jittered } from './services';
 import type { Retry } from './services';
+import type { Ended, Statements } from './tables';
 
 /** The version of the VM's protocol, of all invocations. */
 export const VM_VERSION = 7;
@@ -53,6 +56,8 @@ export interface Claim extends Own {
   isShielded: boolean;
   /** The attempt has failed by a run, which has its own policy. */
   byRun: boolean;
+  /** The run that has failed, and by how much the delay of its next try is shorter at most. */
+  failedRun?: { readonly name: string; readonly jitter: number };
   /** A new invocation goes on in its place: the headers of both, and how many signals of each name its handler has asked for. */
   continues?: { readonly headers: readonly (readonly [string, string])[]; readonly asked: ReadonlyMap<string, number> };
 }
@@ -66,16 +71,12 @@ export interface Outcome {
   feed: Uint8Array[];
   /** More has come than was taken. */
   hasMore: boolean;
-  /** If it has ended: the code of its failure, or null. If it has failed: why, and the seconds until the next try. */
-  failed: number | null;
-  error: string | null;
-  delay: number | null;
   /** What became of a cancellation that came. */
   cancel: 'taken' | 'waits' | undefined;
 }
 
 function outcome(status: Status): Outcome {
-  return { status, feed: [], hasMore: false, failed: null, error: null, delay: null, cancel: undefined };
+  return { status, feed: [], hasMore: false, cancel: undefined };
 }
 
 const RUNNING = 'running';
@@ -92,6 +93,12 @@ function listed(rows: readonly Row[], first: number): { places: number[]; comple
     completions: rows.map((row) => row.completes ?? null),
     frames: rows.map(({ frame }) => Buffer.from(frame.buffer as ArrayBuffer, frame.byteOffset, frame.byteLength)),
   };
+}
+
+/** What the log says of an attempt. */
+function note(to: Statements, claim: Claim, event: Event, error: string, more: { where?: string | undefined; delay?: number } = {}): void {
+  const { id: invocation, service, handler, epoch: attempt, failedRun } = claim;
+  to.note({ event, invocation, service, handler, attempt, error, run: failedRun?.name, traceId: traceOf(invocation, claim.trace).traceId, ...more });
 }
 
 async function append(to: Statements, claim: Pick<Claim, 'id'>, rows: readonly Row[], first: number): Promise<void> {
@@ -192,12 +199,15 @@ async function fail(to: Statements, claim: Claim, it: Growth, error: Uint8Array)
   }
   const found = outcome(over || behavior === 'pause' ? 'paused' : 'ready');
   const wait = delayOf(claim.retry, claim.byRun ? counters.retries : counters.failures);
-  found.delay = (said.second > 0 ? Number(said.number) : wait) / 1000;
-  found.error = storable(`${said.id} ${said.text(0)}\n${said.text(1)}`.trimEnd());
+  const delay = jittered(said.second > 0 ? Number(said.number) : wait, claim.failedRun?.jitter ?? claim.retry.jitter) / 1000;
+  const [text, how] = [storable(`${said.id} ${said.text(0)}\n${said.text(1)}`.trimEnd()), found.status === 'paused' ? 'paused' : 'failed'];
   await writes(to, claim, it.before, 'fail', {
-    status: found.status, due: to.now + found.delay, error: found.error, how: found.status === 'paused' ? 'paused' : 'failed',
+    status: found.status, due: to.now + delay, error: text, how,
     retries: counters.retries, failing_since: counters.failingSince, failures: counters.failures, failed_since: counters.failedSince,
   }); // prettier-ignore
+  const where = placeOf(said.text(1));
+  note(to, claim, how === 'paused' ? 'paused' : 'attempt failed', text.replace(/^500 /, ''), how === 'paused' ? { where } : { where, delay });
+  to.isDue(to.now + delay);
   to.say('ready');
   return found;
 }
@@ -224,21 +234,18 @@ async function storedOutput(to: Statements, claim: Claim): Promise<Uint8Array> {
 
 /** The invocation ends: it gives its result to those that wait, and its key to the next. */
 async function end(to: Statements, claim: Claim, before: number, result: Uint8Array): Promise<Outcome> {
-  const found = outcome('done');
   const failure = failureIn(result);
-  if (failure !== undefined) [found.failed, found.error] = [failure.code, storable(`${failure.code} ${failure.message}`)];
-  await writes(to, claim, before, 'end', { result, failed: found.failed, error: found.error });
+  const error = failure === undefined ? null : storable(`${failure.code} ${failure.message}`);
+  await writes(to, claim, before, 'end', { result, failed: failure?.code ?? null, error });
   await leaves(to, claim, result);
-  return found;
+  if (claim.exclusive) to.say('ready');
+  if (error !== null) note(to, claim, 'failed', error);
+  hasEnded(to, claim, error === null ? 'done' : 'failed');
+  return outcome('done');
 }
 
-async function leaves(to: Statements, claim: Claim, result: Uint8Array): Promise<void> {
-  for (const [waiter, completes] of await to.rows('ended', { id: claim.id })) {
-    await deliver(to, String(waiter), frames.completion(completes as number, result));
-  }
-  await to.change('gone', { id: claim.id, service: claim.service, key: claim.key });
-  if (claim.exclusive) to.say('ready');
-  to.ended(claim.id);
+function hasEnded(to: Statements, { id, service, handler, created }: Claim, how: Ended['outcome']): void {
+  to.ended(id, { service, handler, outcome: how, seconds: to.now - created });
 }
 
 /** The invocation ends, and another one goes on in its place: who waits for this one waits for that one, and the key stays held. */
@@ -259,7 +266,7 @@ async function goesOnAs(to: Statements, claim: Claim, before: number, result: Ui
   await to.change('gone', { id, service, key });
   for (const it of left) await deliver(to, next, it);
   to.say('ready');
-  to.ended(id);
+  hasEnded(to, claim, 'continued');
   return outcome('done');
 }
 

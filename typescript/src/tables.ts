@@ -1,9 +1,18 @@
 /** What a worker and a client need of a database: transactions of the protocol's statements by their names, and the words that go with them. */
 
+import type { Note } from './notes';
 import type { StatementName } from './statements';
 
 export type Row = readonly unknown[];
 export type Values = Readonly<Record<string, unknown>>;
+
+/** What is measured of an invocation that has ended, so many seconds after it was made. */
+export interface Ended {
+  readonly service: string;
+  readonly handler: string;
+  readonly outcome: 'done' | 'failed' | 'continued';
+  readonly seconds: number;
+}
 
 /** The statements of one transaction, by their names, and the words that go with its commit. */
 export interface Statements {
@@ -20,15 +29,18 @@ export interface Statements {
   /** Something is due at this time, in seconds since the epoch. */
   isDue(at: number): void;
   /** An invocation has ended. */
-  ended(invocation: string): void;
+  ended(invocation: string, it: Ended): void;
+  /** What the log says of an invocation, once this is committed. */
+  note(it: Note): void;
 }
 
-/** A transaction that is committed: whom it touched, what is ready or due by it, and what has ended. */
+/** A transaction that is committed: whom it touched, what is ready or due by it, what has ended, and what the log says of it. */
 export interface Committed {
   readonly touched: ReadonlySet<string>;
   readonly isReady: boolean;
   readonly due: number | undefined;
-  readonly endings: ReadonlySet<string>;
+  readonly endings: ReadonlyMap<string, Ended>;
+  readonly notes: readonly Note[];
 }
 
 /** A database that is open. */

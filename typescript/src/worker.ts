@@ -10,6 +10,7 @@ import { said, storable } from './errors';
 import { Log } from './log';
 import type { LogOptions } from './log';
 import { Meter } from './metrics';
+import { tell } from './notes';
 import { Postgres } from './postgres';
 import { servesText, servicesOf, versionOf } from './services';
 import type { About, AnyService } from './services';
@@ -163,7 +164,6 @@ export class Worker implements Host {
   async store(claim: Claim, output: Uint8Array): Promise<Outcome> {
     const found = await this.#transact((to) => store(to, claim, output), isSteps(output));
     claim.journal.keep();
-    this.#say(claim, found);
     return found;
   }
 
@@ -186,19 +186,6 @@ export class Worker implements Host {
   async #transact<T>(operation: (to: Statements) => Promise<T>, isSingle = false): Promise<T> {
     if (this.#db === undefined) throw new Stopped('the database is lost');
     return this.#db.transact(operation, isSingle);
-  }
-
-  /** What the log and the numbers have of a store. */
-  #say(claim: Claim, found: Outcome): void {
-    const { service, handler } = claim;
-    if (found.status === 'done') this.meter.ended(service, handler, found.failed === null ? 'done' : 'failed', this.now() - claim.created);
-    if (found.error === null) return;
-    const event = found.status === 'done' ? 'failed' : found.status === 'paused' ? 'paused' : 'attempt failed';
-    this.meter.failed(service, handler, event);
-    const first = found.error.split('\n', 1)[0] ?? '';
-    const more = found.status === 'ready' && found.delay !== null ? `, and is tried again after ${found.delay} s` : '';
-    const level = event === 'paused' ? 'error' : event === 'failed' ? 'info' : 'warning';
-    this.log[level](`${event}: ${service}/${handler} ${claim.id}: ${first}${more}`, { event, error: found.error });
   }
 
   // ---- words
@@ -366,9 +353,12 @@ export class Worker implements Host {
   #looked(found: Look): void {
     for (const it of found.lags) this.meter.fired(it);
     for (const [claim, seconds] of found.delays) this.meter.claimed(claim.service, claim.handler, seconds);
-    for (const { id, event, text } of found.notes) this.log[event === 'paused' ? 'error' : 'warning'](`${event}: ${id}: ${text}`, { event, invocation: id });
     for (const it of found.claims) this.#begin(it);
     this.#hasMore = found.hasMore;
+    if (found.servesMore) {
+      this.#wholeAt = 0;
+      this.#wake(0);
+    }
     if (found.hasMore && this.#live.size < this.#options.limit) this.#wake(0);
   }
 
@@ -387,10 +377,15 @@ export class Worker implements Host {
   }
 
   #told(it: Committed): void {
+    for (const note of it.notes) {
+      tell(this.log, note);
+      this.meter.failed(note.service, note.handler, note.event);
+    }
+    for (const one of it.endings.values()) this.meter.ended(one);
     for (const id of it.touched) this.#touched(id);
     if (it.isReady) this.#wake(MOMENT);
     if (it.due !== undefined) this.#wakeAt(it.due);
-    if (it.endings.size > 0) this.#hears([...it.endings]);
+    if (it.endings.size > 0) this.#hears([...it.endings.keys()]);
   }
 
   // ---- attempts
@@ -448,7 +443,10 @@ export class Worker implements Host {
 
 /** The statements of a transaction, at a time. */
 function at(to: Statements, now: number): Statements {
-  return { now, rows: (...it) => to.rows(...it), change: (...it) => to.change(...it), say: (it) => to.say(it), touch: (it) => to.touch(it), isDue: (it) => to.isDue(it), ended: (it) => to.ended(it) };
+  return {
+    now, rows: (...it) => to.rows(...it), change: (...it) => to.change(...it), say: (it) => to.say(it), touch: (it) => to.touch(it), isDue: (it) => to.isDue(it),
+    ended: (...it) => to.ended(...it), note: (it) => to.note(it),
+  }; // prettier-ignore
 }
 
 /** A part of a shutdown, which has its limit. */

@@ -45,7 +45,7 @@ test('databases that a worker refuses, each in one line', { timeout: LONG }, asy
   await assert.rejects(refused, (error: unknown) => error instanceof Unsuitable && error.message === 'the database has no tables of Palqytun: palqytun migrate makes them');
   const connection = new Connection(configOf(url));
   await connection.connect();
-  await connection.query('CREATE TABLE schema_versions(version integer)');
+  await connection.query('CREATE TABLE schema_versions(version integer); CREATE TABLE promise_waiters(waiter text)');
   for (const [version, wanted] of [[1, /has version 1, and this package works with version \d+: palqytun migrate moves it/], [999, /this package is older/]] as const) {
     await connection.query(`INSERT INTO schema_versions VALUES (${version})`);
     await assert.rejects(refused, (error: unknown) => error instanceof Unsuitable && wanted.test(error.message));

@@ -1,0 +1,33 @@
+/** What invocations get: notifications in their inboxes, and the results of others. */
+
+import { frames } from 'palqytun';
+import { isCancel } from './frames';
+import type { Statements } from './tables';
+
+/** Puts a notification into an invocation's inbox, if it has one. */
+export async function deliver(to: Statements, invocation: string, frame: Uint8Array): Promise<boolean> {
+  if ((await to.change('deliver', { invocation, frame })) === 0) return false;
+  if (isCancel(frame)) await to.change('reach', { id: invocation, now: to.now });
+  to.touch(invocation);
+  return true;
+}
+
+/** The invocation that goes on instead of another one, or else that one. */
+export async function newest(to: Statements, invocation: string): Promise<string> {
+  return String((await to.rows('newest', { invocation }))[0]?.[0]);
+}
+
+/** One that has ended. */
+export interface Gone {
+  readonly id: string;
+  readonly service: string;
+  readonly key: string;
+}
+
+/** Gives the result of one that has ended to those that wait, and takes away the rest of it. Its key is free. */
+export async function leaves(to: Statements, { id, service, key }: Gone, result: Uint8Array): Promise<void> {
+  for (const [waiter, completes] of await to.rows('ended', { id })) {
+    await deliver(to, String(waiter), frames.completion(completes as number, result));
+  }
+  await to.change('gone', { id, service, key });
+}
