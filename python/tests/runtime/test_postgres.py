@@ -9,6 +9,7 @@ import struct
 import threading
 import time
 import unittest
+import urllib.parse
 from unittest import mock
 
 import support  # isort: skip
@@ -602,6 +603,107 @@ class Isolation(support.OnADatabase, unittest.TestCase):
             self.assertEqual([it for it, in await one.rows("SELECT invocation FROM inbox")], [waits.invocation])
 
         self.at_each_level(test)
+
+
+class Several(support.OnADatabase, unittest.TestCase):
+    """A URL of two servers, of which the first is no good."""
+
+    kind = "postgres"
+
+    def setUp(self):
+        super().setUp()
+        from psycopg.conninfo import conninfo_to_dict
+
+        self.values = conninfo_to_dict(self.url)
+        self.enterContext(mock.patch.object(postgres, "_PATIENCE", 4.0))
+
+    def beside(self, *ports: int) -> str:
+        """A URL of servers on the loopback, and of the database as the last one."""
+        hosts = ",".join([*["127.0.0.1"] * len(ports), self.values.get("host", "127.0.0.1")])
+        those = ",".join(map(str, [*ports, self.values.get("port", 5432)]))
+        found = {"host": hosts, "port": those, "target_session_attrs": "read-write", "sslmode": "disable"}
+        return f"postgresql://{self.values['user']}@/{self.values['dbname']}?{urllib.parse.urlencode(found)}"
+
+    def server(self, backlog: int = 5) -> socket.socket:
+        made = socket.create_server(("127.0.0.1", 0), backlog=backlog)
+        self.addCleanup(made.close)
+        return made
+
+    def refuses(self) -> int:
+        with socket.create_server(("127.0.0.1", 0)) as made:
+            return made.getsockname()[1]
+
+    def says_nothing(self) -> int:
+        return self.server().getsockname()[1]
+
+    def is_out_of_reach(self) -> int:
+        """No packet is replied to: those who connect wait, as for a host that has no power."""
+        port = self.server(0).getsockname()[1]
+        for _ in range(8):
+            client = socket.socket()
+            self.addCleanup(client.close)
+            client.setblocking(False)
+            with contextlib.suppress(BlockingIOError):
+                client.connect(("127.0.0.1", port))
+        return port
+
+    def hangs_up(self) -> int:
+        made = self.server()
+
+        def go():
+            with contextlib.suppress(OSError):
+                while True:
+                    made.accept()[0].close()
+
+        thread = threading.Thread(target=go, daemon=True)
+        thread.start()
+        self.addCleanup(thread.join, support.LONG)
+        self.addCleanup(made.shutdown, socket.SHUT_RDWR)
+        return made.getsockname()[1]
+
+    def test_the_second_is_reached(self):
+        for kind in (self.refuses, self.says_nothing, self.is_out_of_reach, self.hangs_up):
+            with self.subTest(kind.__name__), Plain(self.beside(kind())) as db:
+                self.assertEqual(db.rows("SELECT 1"), [(1,)])
+
+    def test_a_beat_is_stored_by_the_second(self):
+        with Plain(self.url) as db:
+            for kind in (self.refuses, self.says_nothing, self.is_out_of_reach, self.hangs_up):
+                with self.subTest(kind.__name__):
+                    beats = postgres.ThreadOfBeats(self.beside(kind()), kind.__name__, 0.3, lambda: True)
+                    self.addCleanup(beats.stop)
+                    beats.start()
+                    until = time.monotonic() + support.LONG
+                    while not db.rows("SELECT 1 FROM workers WHERE id=?", (kind.__name__,)):
+                        self.assertLess(time.monotonic(), until, "no beat is stored")
+                        time.sleep(0.05)
+
+    def test_the_one_that_was_reached_is_tried_first(self):
+        silent = self.server()
+        silent.settimeout(support.LONG)
+
+        async def go():
+            first = await connect(self.beside(silent.getsockname()[1]))
+            await asyncio.to_thread(silent.accept)
+            another = await first.another()
+            for it in (first, another):
+                self.assertEqual(await it.rows("SELECT 1"), [(1,)])
+                it.close()
+
+        asyncio.run(go())
+        silent.settimeout(0)
+        with self.assertRaises(BlockingIOError):
+            silent.accept()
+
+    def test_what_each_has_said(self):
+        one, two = self.refuses(), self.says_nothing()
+        with self.assertRaises(Lost) as raised:
+            asyncio.run(connect(f"postgresql://postgres@/none?host=127.0.0.1,127.0.0.1&port={one},{two}&sslmode=disable"))
+        self.assertRegex(str(raised.exception), f"^127.0.0.1:{one}: .*refused.*; 127.0.0.1:{two}: the server hasn't replied for 2.0 seconds$")
+
+    def test_lists_that_do_not_fit(self):
+        with self.assertRaisesRegex(Lost, "match"):
+            asyncio.run(connect("postgresql://postgres@/none?host=one,two&port=1,2,3"))
 
 
 class Silent(unittest.TestCase):

@@ -10,6 +10,7 @@ from __future__ import annotations
 
 import asyncio
 import contextlib
+import functools
 import logging
 import threading
 import time
@@ -25,6 +26,7 @@ if TYPE_CHECKING:
     from psycopg.pq.abc import PGresult
 
     from .pipeline import Pipeline, Statement
+    from .servers import Server, Servers
 
 log = logging.getLogger("palqytun")
 
@@ -136,17 +138,37 @@ class _Server:
     clock: float = 0.0  # the server's time at 0 of the monotonic clock
     claims: Claiming | None = None  # what the worker of these connections looks for
 
+    @functools.cached_property
+    def servers(self) -> Servers:
+        """Those of the URL."""
+        from .servers import Servers
+
+        return Servers(self.url)
+
     async def reached(self) -> psycopg.AsyncConnection[Any]:
-        """A new connection, as the server's defaults have it."""
+        """A new connection, as the server's defaults have it, to the first server that takes one."""
+        driver, said = _driver(), dict[str, str]()
+        try:
+            with driver.named():
+                servers = self.servers
+            for it in servers.in_turn():
+                try:
+                    return await self._reached(it, _PATIENCE / len(servers))
+                except Lost as error:
+                    said[it.name] = str(error)
+        except StatementFailed as error:  # the URL, the user or the database's name
+            raise Unsuitable(str(error)) from error
+        texts = [*said.values()] if len(said) == 1 else [f"{name}: {' '.join(text.split())}" for name, text in said.items()]
+        raise Lost("; ".join(texts))
+
+    async def _reached(self, server: Server, patience: float) -> psycopg.AsyncConnection[Any]:
+        """A new connection to one server, which has so many seconds."""
         driver = _driver()
         try:
             with driver.named():
-                making = driver.psycopg.AsyncConnection.connect(self.url, autocommit=True, **_OPTIONS)
-                return await asyncio.wait_for(making, _PATIENCE)
+                return await asyncio.wait_for(driver.psycopg.AsyncConnection.connect(server.conninfo, autocommit=True, **_OPTIONS), patience)
         except asyncio.TimeoutError:
-            raise Lost(f"the server hasn't replied for {_PATIENCE} seconds") from None
-        except StatementFailed as error:  # the URL, the user or the database's name
-            raise Unsuitable(str(error)) from error
+            raise Lost(f"the server hasn't replied for {patience:.1f} seconds") from None
 
     async def session(self) -> Pipeline:
         """A new connection, with the settings of a session."""
@@ -467,7 +489,9 @@ class ThreadOfBeats:
     _LIVES_AGAIN = f"INSERT INTO workers(id, lease) VALUES (%(id)s, {Postgres.clock}+%(lease)s) ON CONFLICT(id) DO NOTHING"
 
     def __init__(self, url: str, worker: str, lease: float, may_beat: Callable[[], bool]):
-        self._url, self._values, self._lease, self._may_beat = url, {"id": worker, "lease": lease}, lease, may_beat
+        from .servers import Servers
+
+        self._servers, self._values, self._lease, self._may_beat = Servers(url), {"id": worker, "lease": lease}, lease, may_beat
         self._is_over = threading.Event()
         self._thread = threading.Thread(target=self._run, name=f"palqytun-beats-{worker}", daemon=True)
         self._connection: psycopg.Connection[Any] | None = None
@@ -490,8 +514,7 @@ class ThreadOfBeats:
 
         try:
             if self._connection is None:
-                options: dict[str, Any] = {**_OPTIONS, "connect_timeout": max(2, round(self._lease / 3))}
-                self._connection = psycopg.connect(self._url, autocommit=True, **options)
+                self._connection = self._reached()
                 for it in _SET_UP[1:]:
                     self._connection.execute(it)
                 self._connection.execute(f"SET statement_timeout='{int(self._lease * 1000 / 3)}ms'")
@@ -502,6 +525,19 @@ class ThreadOfBeats:
         except psycopg.Error as error:
             log.warning("a beat wasn't stored: %s", str(error).strip())
             self._drop()
+
+    def _reached(self) -> psycopg.Connection[Any]:
+        """A new connection to the first server that takes one; each has a part of the time between two beats, and two seconds at least."""
+        import psycopg
+
+        options: dict[str, Any] = {**_OPTIONS, "connect_timeout": max(2, round(self._lease / 3 / len(self._servers)))}
+        error = psycopg.OperationalError("there is no server")
+        for it in self._servers.in_turn():
+            try:
+                return psycopg.connect(it.conninfo, autocommit=True, **options)
+            except psycopg.OperationalError as found:
+                error = found
+        raise error
 
     def _drop(self) -> None:
         if self._connection is not None:
