@@ -6,6 +6,8 @@ its rows are put into PostgreSQL too, into tables that the first N migrations ma
 import asyncio
 import contextlib
 import io
+import multiprocessing
+import os
 import pathlib
 import sqlite3
 import sys
@@ -146,6 +148,39 @@ class Migrations(support.OnADatabase):
                 self.assertEqual(palqytun("migrate", "--db", self.url), (0, f"the database has schema version {NEWEST}, and had {version}; 8 invocations haven't ended\n"))
                 self.assertEqual(palqytun("migrate", "--db", self.url), (0, f"the database has schema version {NEWEST} already; 8 invocations haven't ended\n"))
                 asyncio.run(self._ends())
+
+    def _lost(self):
+        """A migration whose process, or on a server whose session, dies before its commit, once all its statements are made."""
+        if self.kind == "postgres":
+            changed = [*schema.MIGRATIONS[:-1], f"{schema.MIGRATIONS[-1]};\nSELECT pg_terminate_backend(pg_backend_pid())"]
+            with mock.patch.object(schema, "MIGRATIONS", changed):
+                status, said = palqytun("migrate", "--db", self.url)
+            self.assertEqual(status, 2)
+            self.assertRegex(said, "^palqytun: .*(terminating connection|closed the connection)")
+            return
+        dying = multiprocessing.get_context("fork").Process(target=_dies, args=(self.url,))
+        dying.start()
+        dying.join(LONG)
+        self.assertEqual(dying.exitcode, 9)
+
+    def test_a_migration_that_is_lost(self):
+        version = self.versions[0]
+        self._made(version)
+        self._lost()
+        self.assertEqual(palqytun("invocations", "list", "--db", self.url), (2, f"palqytun: {schema.NotMigrated(version)}\n"))
+        self.assertEqual(palqytun("migrate", "--db", self.url), (0, f"the database has schema version {NEWEST}, and had {version}; 8 invocations haven't ended\n"))
+        asyncio.run(self._ends())
+
+
+def _dies(url):
+    """The process of a migration ends after its last statement."""
+
+    def made(*given):
+        yield from schema.missing(*given)
+        os._exit(9)
+
+    with mock.patch("palqytun.runtime.database.sqlite.missing", made):
+        palqytun("migrate", "--db", url)
 
 
 class OwnSchema(Migrations, unittest.TestCase):

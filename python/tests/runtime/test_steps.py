@@ -23,6 +23,7 @@ from palqytun.runtime import (
     select,
     step,
 )
+from palqytun.testing import Fake, Testing, crash_everywhere, faked
 
 work, thing, flow = Service("Work"), VirtualObject("Thing"), Workflow("Flow")
 seen, free = [], threading.Event()
@@ -165,6 +166,32 @@ async def times(ctx: Context, it):
     await ctx.timeout(ctx.signal("never"), 0.01)
 
 
+@step()
+async def noted(what: str) -> str:
+    return what
+
+
+@work.handler()
+async def begins(ctx: Context, caller: str):
+    await ctx.run(noted, "begun")
+    try:
+        await ctx.sleep(1e6)
+    except Cancelled:
+        await ctx.run(noted, "undone")
+        ctx.send_signal(caller, "undone")
+        raise
+
+
+@work.handler()
+async def leaves(ctx: Context, it):
+    """A wait that is over cancels what it waits for, which undoes what it did."""
+    try:
+        await ctx.timeout(ctx.call(begins, ctx.invocation_id), 60)
+    except TimeoutError:
+        await ctx.signal("undone")
+        return await ctx.run(noted, "left")
+
+
 @work.handler()
 async def state(ctx: Context, what):
     return ctx.set("n", 1) if what == "set" else await ctx.get("n") if what == "get" else ctx.promise("p")
@@ -293,6 +320,18 @@ class Steps(support.OnADatabase):
             self.assertEqual([await runtime.call("Thing/kinds", key="k"), await runtime.call("Flow/main", key="k")], ["ObjectContext", "WorkflowContext"])
 
         self.with_runtime(go)
+
+
+class Kit(unittest.TestCase):
+    def test_deaths_change_nothing(self):
+        async def undisturbed():
+            async with Testing(App(work)) as it:
+                return await it.call(leaves)
+
+        with faked(noted, Fake(lambda what: what)) as done:
+            self.assertEqual(asyncio.run(undisturbed()), "left")
+            self.assertEqual([it.arguments for it in done.calls], [("begun",), ("undone",), ("left",)])
+            self.assertGreater(asyncio.run(crash_everywhere(App(work), leaves, fakes=[done])), 20)
 
 
 async def names_of(db, id):

@@ -9,7 +9,6 @@ import contextlib
 import errno
 import resource
 import socket
-import ssl
 from collections.abc import Iterator
 from typing import Any
 
@@ -36,8 +35,6 @@ def connections_at_most(wanted: int) -> int:
 class Config(uvicorn.Config):  # type: ignore[misc]
     """What a server with limits needs. `patience`: the seconds that a client may take for a request's head, and to read its response. With a
     `certificate` it speaks TLS."""
-
-    ssl: ssl.SSLContext | None
 
     def __init__(self, app: ASGIApp, *, connections: int = CONNECTIONS, patience: float = 60.0, certificate: Certificate | None = None):
         self.connections, self.patience, self.certificate = connections_at_most(connections), patience, certificate
