@@ -81,6 +81,12 @@ class NonRecordingSpan:
         return self._context
 
 
+def checked(attributes):
+    for key, value in attributes.items():
+        assert isinstance(key, str) and isinstance(value, bool | str | bytes | int | float), (key, value)
+    return dict(attributes)
+
+
 @dataclass
 class Span:
     name: str
@@ -96,8 +102,7 @@ class Span:
         return self.context
 
     def set_attribute(self, key: str, value: bool | str | bytes | int | float) -> None:
-        assert isinstance(key, str) and isinstance(value, bool | str | bytes | int | float), (key, value)
-        self.attributes[key] = value
+        self.attributes |= checked({key: value})
 
     def set_status(self, status: Status | StatusCode, description: str | None = None) -> None:
         assert isinstance(status, Status), status
@@ -117,9 +122,7 @@ class Tracer:
         above = (current.get() if context is None else context).get("span")
         parent = None if above is None else above.get_span_context()
         trace_id = self.ids.generate_trace_id() if parent is None else parent.trace_id
-        span = Span(name, SpanContext(trace_id, self.ids.generate_span_id(), False, TraceFlags(1)), parent, kind, {}, start_time)
-        for key, value in (attributes or {}).items():
-            span.set_attribute(key, value)
+        span = Span(name, SpanContext(trace_id, self.ids.generate_span_id(), False, TraceFlags(1)), parent, kind, checked(attributes or {}), start_time)
         made.append(span)
         return span
 
@@ -174,6 +177,11 @@ async def parcel(ctx: Context, it: str) -> str:
         return it
 
     return await ctx.run("send", sends, retry=Retry(initial=0.01, attempts=3))
+
+
+@shop.handler()
+async def plainly(ctx: Context, it: str) -> str:
+    return await ctx.run("plain", lambda: it)
 
 
 @shop.handler()
@@ -247,6 +255,29 @@ class Spans(support.OnADatabase):
         self.ordered(spans.SpanIds())
         self.assertNotIn(about.trace_id, {it.context.trace_id for it in made})
         self.assertIsNone(self.named("Shop/refuses")[0].parent)
+
+    def test_what_the_api_raises(self):
+        """A program's exporter or its generator of ids may fail: spans are missing then, and nothing else. It is logged once."""
+
+        async def go():
+            async with Served(app, self.url, Settings()) as served:
+                replies = [(await served.ask(f"/Shop/{it}", "pen"))[:2] for it in ("plainly", "plainly", "refuses")]
+                await served.until(lambda: not served.engine.live)
+                return replies
+
+        def fails(*given, **named):
+            raise RuntimeError(f"a bug of the program's own in {name}")
+
+        for of, name in ((Tracer, "start_span"), (Span, "set_attribute"), (Span, "set_status"), (Span, "end")):
+            with self.subTest(name), mock.patch.object(of, name, fails), installed(spans.SpanIds()):
+                made.clear()
+                spans.api.cache_clear()
+                spans._logged.cache_clear()
+                with self.assertLogs("palqytun", "WARNING") as logged:
+                    self.assertEqual(asyncio.run(go()), [(200, "pen"), (200, "pen"), (404, {"code": 404, "message": "no"})])
+                said = f"WARNING:palqytun:a span is missing, as OpenTelemetry fails: RuntimeError: a bug of the program's own in {name}"
+                self.assertEqual([it for it in logged.output if "OpenTelemetry" in it], [said])
+                self.assertEqual({len(it.ends) for it in made}, {"start_span": set(), "end": {0}}.get(name, {1}))  # what is there has ended all the same
 
     def test_with_ids_of_the_sdks_own(self):
         """An invocation's span can't have its own id then, and stays in the trace."""

@@ -8,6 +8,7 @@ import socket
 import ssl
 import subprocess
 import unittest
+import warnings
 
 import support  # isort: skip
 import needs
@@ -64,7 +65,8 @@ class Tls(support.InAFolder, unittest.TestCase):
             with self.assertRaises(ssl.SSLCertVerificationError):
                 await asked(ssl.create_default_context())
             old = self.trusting()
-            old.minimum_version, old.maximum_version = ssl.TLSVersion.TLSv1_1, ssl.TLSVersion.TLSv1_1
+            with warnings.catch_warnings(action="ignore", category=DeprecationWarning):
+                old.minimum_version, old.maximum_version = ssl.TLSVersion.TLSv1_1, ssl.TLSVersion.TLSv1_1
             with self.assertRaises(ssl.SSLError):
                 await asked(old)
             with self.assertRaises((ConnectionError, http.client.HTTPException)):
@@ -81,6 +83,7 @@ class Tls(support.InAFolder, unittest.TestCase):
                 (self.folder / "key.pem").write_text("no key")
                 self.assertEqual((await asked(first))[1], "first")
                 self.assertEqual((await asked(first))[1], "first")
+            self.assertEqual(len(logged.output), 1)
             self.assertRegex(logged.output[0], "the certificate stays as it was: the certificate .* can't be used: ")
             write(self.folder, "second")
             with self.assertRaises(ssl.SSLCertVerificationError):  # this connection tells the worker, or one before has

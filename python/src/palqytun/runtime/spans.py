@@ -4,6 +4,8 @@ An invocation is a span, whose id follows from its own (`traces.Trace`), and whi
 within their attempts, and a call is the span of the invocation that it makes. A run's span is the current one while its function is executed, so what
 libraries make there is within it.
 
+What the API raises, or a part of the SDK that the program has chosen, is logged once and hurts no attempt: then a span is missing.
+
 The API makes the ids of spans by itself. With `TracerProvider(id_generator=SpanIds())` that of an invocation is its own; otherwise its span is
 beside its attempts, in the same trace.
 """
@@ -14,13 +16,16 @@ import contextlib
 import contextvars
 import functools
 import importlib
+import logging
 import random
-from collections.abc import Iterator
+from collections.abc import Callable, Iterator
 from dataclasses import dataclass
 from typing import Any
 
+from .texts import said
 from .traces import Trace
 
+log = logging.getLogger("palqytun")
 _NAME = "palqytun.runtime"
 _wanted: contextvars.ContextVar[tuple[int, int] | None] = contextvars.ContextVar("palqytun_span", default=None)
 
@@ -45,6 +50,24 @@ class SpanIds:
         return wanted[1] if wanted is not None else random.getrandbits(64) or 1
 
 
+@functools.lru_cache(maxsize=100)
+def _logged(text: str) -> None:
+    """Logs each text once."""
+    log.warning("a span is missing, as OpenTelemetry fails: %s", text)
+
+
+@contextlib.contextmanager
+def _harmless() -> Iterator[None]:
+    try:
+        yield
+    except Exception as error:
+        _logged(said(error))
+
+
+def _harmlessly(call: Callable[..., object]) -> Callable[..., object]:
+    return _harmless()(call)
+
+
 @dataclass(frozen=True)
 class _Api:
     """The two modules of OpenTelemetry's API."""
@@ -63,7 +86,8 @@ class _Api:
         return api.set_span_in_context(api.NonRecordingSpan(place))
 
     def fail(self, span: Any, error: str) -> None:
-        span.set_status(self.trace.Status(self.trace.StatusCode.ERROR, error))
+        with _harmless():
+            span.set_status(self.trace.Status(self.trace.StatusCode.ERROR, error))
 
 
 @functools.cache
@@ -90,21 +114,25 @@ class Spans:
     @contextlib.contextmanager
     def run(self, name: str) -> Iterator[Any]:
         """That of a run, which is the current one meanwhile. Gives what says that it has failed."""
-        span = self._api.tracer.start_span(f"run {name}", context=self._api.trace.set_span_in_context(self._span), attributes=self._attributes)
-        token = self._api.context.attach(self._api.trace.set_span_in_context(span))
-        try:
-            yield lambda error: self._api.fail(span, error)
-        finally:
-            self._api.context.detach(token)
-            span.end()
+        span = None
+        with contextlib.ExitStack() as ends:
+            with _harmless():
+                span = self._api.tracer.start_span(f"run {name}", context=self._api.trace.set_span_in_context(self._span), attributes=self._attributes)
+                ends.callback(_harmlessly(span.end))
+                token = self._api.context.attach(self._api.trace.set_span_in_context(span))
+                ends.callback(_harmlessly(self._api.context.detach), token)
+            yield lambda error: None if span is None else self._api.fail(span, error)
 
+    @_harmless()
     def end(self, status: str, error: str | None) -> None:
         """The attempt has stopped."""
-        self._span.set_attribute("palqytun.status", status)
         if error is not None:
             self._api.fail(self._span, error)
+        with _harmless():
+            self._span.set_attribute("palqytun.status", status)
         self._span.end()
 
+    @_harmless()
     def ended(self, created: float, ended: float, outcome: str) -> None:
         """The invocation has ended: its span is made."""
         it, own = self._trace, self._trace.parent_id
@@ -126,9 +154,9 @@ class Spans:
 
 
 def of(trace: Trace, service: str, handler: str, invocation: str, attempt: int) -> Spans | None:
-    """Those of an attempt; none without OpenTelemetry's API."""
+    """Those of an attempt; none without OpenTelemetry's API, or if that fails."""
     it = api()
-    if it is None:
-        return None
     names = {"service": service, "handler": handler, "invocation": invocation, "attempt": attempt}
-    return Spans(it, trace, {f"palqytun.{name}": value for name, value in names.items()})
+    with _harmless():
+        return None if it is None else Spans(it, trace, {f"palqytun.{name}": value for name, value in names.items()})
+    return None
