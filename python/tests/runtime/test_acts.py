@@ -3,6 +3,7 @@
 import asyncio
 import functools
 import json
+import time
 import unittest
 
 import support  # isort: skip
@@ -234,7 +235,7 @@ class Cancelling(Acting):
         self.assertEqual(await self.act(runtime, "cancel", id), "cancelled")
         self.assertEqual((await runtime.result(id))[0], 409)
         self.assertEqual([it for it in seen if isinstance(it, str) and it != "begun"], ["first", "cancelled"])
-        self.assertEqual(await self.act(runtime, "kill", await runtime.send("Acts/shields", 3600)), "killed")
+        self.assertEqual(await self.act(runtime, "kill", await runtime.send("Acts/shields", 3600, due=time.time() + 3600)), "killed")
 
     @with_worker
     async def test_a_shield_that_is_suspended(self, runtime):

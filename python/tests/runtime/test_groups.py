@@ -8,10 +8,12 @@ from unittest import mock
 
 import support  # isort: skip
 import runtime_app
-from palqytun.runtime import App, ObjectContext, TerminalError, VirtualObject, committer, desk
+from palqytun.runtime import App, ObjectContext, TerminalError, VirtualObject, committer, desk, invocations
 from palqytun.runtime.committer import Committer
 from palqytun.runtime.database import Conflict, Each, Lost, Reading, StatementFailed, connect
 from palqytun.runtime.database.plain import Plain
+from palqytun.runtime.invocations import New
+from palqytun.runtime.outcome import Outcome
 
 
 def inserted(name):
@@ -209,7 +211,7 @@ class Groups(support.OnADatabase):
 
             with mock.patch.object(to.db, "another", another):
                 slow = to.submit(waits)
-                while not to._working:
+                while to._queue:
                     await asyncio.sleep(0)
                 await asyncio.wait_for(to.submit(inserted("next")), support.LONG)
 
@@ -234,7 +236,7 @@ class Groups(support.OnADatabase):
 
             with mock.patch.object(to.db, "another", second), mock.patch.object(committer, "_WITHOUT", 0.05):
                 slow = to.submit(waits)
-                while not to._working:
+                while to._queue:
                     await asyncio.sleep(0)
                 await asyncio.wait_for(to.submit(inserted("next")), support.LONG)
                 await asyncio.wait_for(slow, support.LONG)
@@ -269,6 +271,11 @@ class Groups(support.OnADatabase):
 
         self.with_committer(test)
 
+    @staticmethod
+    def some():
+        """Invocations, one of which has a name."""
+        return [New("S", "echo", argument=b"%d" % n, id=id) for n, id in ((0, None), (1, None), (2, None), (1, "inv_bad"), (0, None), (1, None), (2, None))]
+
     def test_a_claim_whose_row_fails(self):
         """The invocation is paused with what the database says, and the worker goes on with the others."""
         if self.kind == "sqlite":
@@ -283,12 +290,12 @@ class Groups(support.OnADatabase):
             ]
             self.addCleanup(self.change, "DROP FUNCTION fails CASCADE")
         self.change(*statements)
+        with Plain(self.url) as db:
+            made = [db.done(lambda to, it=it: invocations.create(to, runtime_app.app, Outcome(), it))[0] for it in self.some()]
+        good = [it for it in made if it != "inv_bad"]
 
         async def go():
             async with support.Runtime(runtime_app.app, self.url) as runtime:
-                good = [await runtime.send("S/echo", n) for n in range(3)]
-                await runtime.send("S/echo", 1, id="inv_bad")
-                good += [await runtime.send("S/echo", n) for n in range(3)]
                 self.assertEqual([await runtime.result(it) for it in good], [0, 1, 2] * 2)
                 self.assertRegex((await runtime.until("inv_bad", "paused"))[1], "it can't be claimed: .*it fails")
 

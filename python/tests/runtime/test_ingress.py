@@ -374,7 +374,7 @@ async def asks(ctx: Context, name: str) -> list[bool | str | int]:
 async def changes(ctx: Context, _: None) -> bool:
     """It isn't as its journal any more."""
     begun.append(ctx.awakeable(bool)[0])
-    await (ctx.sleep(0.01) if len(begun) == 1 else ctx.run("other", lambda: None))
+    await (ctx.sleep(3600) if len(begun) == 1 else ctx.run("other", lambda: None))
     return await ctx.awakeable(bool)[1]
 
 
@@ -483,6 +483,10 @@ class Awakeables(support.OnADatabase):
         async def go():
             async with Served(App(approvals), self.url) as served:
                 await served.ask("/A/changes/send")
+                while await served.rows("SELECT status FROM invocations") != [("suspended",)]:
+                    await asyncio.sleep(0.02)
+                await served.engine.transact(lambda db: db.change("UPDATE timers SET due=0"))
+                served.engine.look()
                 while await served.rows("SELECT status FROM invocations") != [("paused",)]:
                     await asyncio.sleep(0.02)
                 self.assertEqual((await self.resolved(served, begun[0], "yes"))[0], 200)

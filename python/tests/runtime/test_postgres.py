@@ -105,7 +105,7 @@ async def signalled(db, id, number):
 async def quiet(db, *runtimes):
     """Until whoever was woken has looked: each worker has heard what was said so far, and makes no transaction for a while. `db` is no worker's."""
     with contextlib.ExitStack() as stack:
-        heard = [stack.enter_context(it.engine._told_of("nobody")) for it in runtimes]
+        heard = [stack.enter_context(it.engine.told_of("nobody")) for it in runtimes]
         await db.begin()
         db.notify("ended nobody")
         await db.commit()

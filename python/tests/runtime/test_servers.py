@@ -584,7 +584,7 @@ class Pipelines(support.OnADatabase, unittest.TestCase):
 
             with mock.patch.object(to.db, "another", another), self.assertLogs("palqytun") as said:
                 slow = to.submit(waits)
-                while not to._working:
+                while to._queue:
                     await asyncio.sleep(0)
                 self.assertEqual(await to.submit(lambda db: db.rows("SELECT 1")), [(1,)])
                 self.assertTrue(slow.done())

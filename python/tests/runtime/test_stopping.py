@@ -49,11 +49,15 @@ async def waits(ctx: Context, _: None) -> str:
     return "gone"
 
 
+def hanging() -> None:
+    begun.append("hangs")
+    hung.wait(3600)
+
+
 @service.handler()
 async def hangs(ctx: Context, _: None) -> str:
-    begun.append("hangs")
-    if len(begun) == 1:
-        await ctx.run("hangs", hung.wait, 3600)
+    if not begun:
+        await ctx.run("hangs", hanging)
     return "free"
 
 

@@ -6,6 +6,7 @@ import asyncio
 import logging
 import time
 from collections.abc import Awaitable, Callable, Mapping
+from contextlib import AbstractContextManager
 from types import TracebackType
 from typing import Any, Protocol, TypeVar
 
@@ -21,7 +22,7 @@ from .executions import Closed, Executions, Raised
 from .invocations import TAKEN, WAITS, Claim, Continues
 from .lease import Growth
 from .meter import Ended
-from .outcome import Outcome
+from .outcome import Outcome, Taker
 from .services import App, Cancelled, Handler, TerminalError
 from .storing import Reads, Writes
 from .tasks import Tasks
@@ -53,6 +54,9 @@ class Worker(Protocol):
 
     async def write(self, operation: Writes, claim: Claim, reads: Reads | None = None) -> Outcome:
         """Commits a transaction on the claim's journal. The operation is given what `reads` finds before it."""
+
+    def taking(self, most: int) -> AbstractContextManager[Taker | None]:
+        """Whether a transaction may begin at once what it makes, `most` of it, and by which worker."""
 
     async def append(self, growth: Growth) -> None:
         """Commits what is appended to a claim's journal, where nobody else is touched."""
@@ -109,6 +113,11 @@ class Bell:
         self.poked = True
         self.ring()
 
+    @property
+    def is_awaited(self) -> bool:
+        """Whether its attempt waits."""
+        return self._waiter is not None
+
     def ring(self, _: object = None) -> None:
         if self._waiter is not None and not self._waiter.done():
             self._waiter.set_result(None)
@@ -152,6 +161,11 @@ class Attempt:
         self._limit = None if known is None else known.attempt_timeout  # seconds that the attempt may take
         self._begun_at = time.monotonic()
         self.awakeables: Mapping[str, Callable[[Any], Any]] | None = None  # that the handler has made: what reads the value of each
+
+    @property
+    def only_waits(self) -> bool:
+        """Whether it waits for others: once its bell rings it is suspended."""
+        return self.bell.is_awaited and not self._executing
 
     async def run(self) -> None:
         """To the attempt's end, which is stored."""
@@ -484,24 +498,23 @@ class Attempt:
         has_brought, at = False, 0
         while at < len(frames):
             most = _STORED if journal.only_steps(b"".join(frames[at : at + _STORED])) else _PERFORMED
-            has_brought |= await self._stored(b"".join(frames[at : at + most]))
+            has_brought |= await self._stored(frames[at : at + most])
             at += most
             await self._turn.end()
         return has_brought
 
-    async def _stored(self, output: bytes) -> bool:
-        """Stores some of the output."""
-        at, timers = self._written, self._timers()
+    async def _stored(self, frames: list[bytes]) -> bool:
+        """Stores some frames of the output."""
+        output, at, timers = b"".join(frames), self._written, self._timers()
         if not timers and journal.only_steps(output):
             growth = Growth(self.claim.lease)
             growth.store(output, at)
             await self.worker.append(growth)
             out = Outcome(feed=growth.feed)
         else:
-            claim, app = self.claim, self.worker.app
-            out = await self.worker.write(
-                lambda db, found: storing.store(db, app, claim, output, at, timers, found), claim, storing.reads(claim, output)
-            )
+            claim, app, reads = self.claim, self.worker.app, storing.reads(self.claim, output)
+            with self.worker.taking(len(frames) if reads is None else 0) as taker:
+                out = await self.worker.write(lambda db, found: storing.store(db, app, claim, output, at, timers, found, taker), claim, reads)
         self._written += len(output)
         return self._feed(out)
 

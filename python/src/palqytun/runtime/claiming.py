@@ -80,6 +80,12 @@ class Claimer:
     lease: float  # how long it is thought alive after a beat, in seconds
     former: str = ""  # the worker that this process was before it lost its database
     version: str = ""  # of the app's code, if it isn't the app's own
+    peers: list[str] = field(default_factory=list)  # as the last claim found them
+
+    @property
+    def has_peers(self) -> bool:
+        """Whether other workers claim the same."""
+        return bool(self.peers)
 
     @property
     def code(self) -> str:
@@ -134,7 +140,8 @@ class Claimer:
         some = [self._orphaned(db, room), *self._of(db, self._unlimited, now, room)]
         due, fresh, [(next_due, clock)], *late, peers, orphaned, ready, awake = await db.several([*first, *some])
         db.told(float(clock), asked)
-        db.claims(Claiming(self.worker, self._next_peers([name for name, in peers]), list(self.app.services), self.code))
+        self.peers[:] = self._next_peers([name for name, in peers])
+        db.claims(Claiming(self.worker, list(self.peers), list(self.app.services), self.code))
         cancelled = [id for id, is_cancelled in fresh if is_cancelled]
         is_new = not (due or cancelled or any(late) or self.app.schedules)
         await deadlines.end(db, found.out, *late)

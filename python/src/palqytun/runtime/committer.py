@@ -57,6 +57,7 @@ class _Queued:
     operation: Operation
     future: asyncio.Future[Any]
     is_slow: bool = False
+    then: Callable[[Any], None] | None = None
     tries: int = 0
 
     @property
@@ -64,6 +65,8 @@ class _Queued:
         return self.is_slow or self.tries > 0
 
     def has(self, result: Any) -> None:
+        if self.then is not None:
+            self.then(result)
         if not self.future.done():
             self.future.set_result(result)
 
@@ -93,10 +96,12 @@ class Committer:
         self._full_said = -_SAID
         self._task = asyncio.create_task(self._run())
 
-    def submit(self, operation: Callable[[Database], Awaitable[T]], is_slow: bool = False) -> asyncio.Future[T]:
+    def submit(
+        self, operation: Callable[[Database], Awaitable[T]], is_slow: bool = False, then: Callable[[T], None] | None = None
+    ) -> asyncio.Future[T]:
         """Queues an operation. Its future has what the operation returned, once that is committed. One that may be slow is a transaction by
-        itself."""
-        return self._queued(operation, is_slow)
+        itself. `then` is called with the same before, also if nobody waits for the future any more."""
+        return self._queued(operation, is_slow, then)
 
     def follow(self, operation: After) -> asyncio.Future[Any]:
         """Queues an operation that begins by some reads."""
@@ -106,12 +111,12 @@ class Committer:
         """Queues a store that touches nothing but its own journal. Its future has whether it was stored, once the group is committed."""
         return self._queued(Append(growth), False)
 
-    def _queued(self, operation: Operation, is_slow: bool) -> asyncio.Future[Any]:
+    def _queued(self, operation: Operation, is_slow: bool, then: Callable[[Any], None] | None = None) -> asyncio.Future[Any]:
         future: asyncio.Future[Any] = asyncio.get_running_loop().create_future()
         if self.lost is not None:
             future.set_exception(Stopped(str(self.lost)))
         else:
-            self._queue.append(_Queued(operation, future, is_slow))
+            self._queue.append(_Queued(operation, future, is_slow, then))
             self._has_work.set()
         return future
 
@@ -144,23 +149,17 @@ class Committer:
         try:
             while self.lost is None:
                 await self._has_work.wait()
-                await asyncio.sleep(0)  # those that go on by the last results may queue more
                 await self._next()
+                await asyncio.sleep(0)  # the group is taken
         except Exception as error:
             log.exception("no group can begin any more")
             self._abandon(Stopped(repr(error)))
 
     async def _next(self) -> None:
-        """Begins the next group, once there is a connection for it."""
+        """Begins the next group, once there is a connection for it. Those that go on by the last results may queue more until the loop's next turn."""
         db = await self._free()
-        if db is None:
-            return
-        group = self._taken()
-        if not group:
-            self._idle.append(db)
-            return
-        task = asyncio.create_task(self._work(db, group))
-        self._working[task] = -_SLOW if group[0].is_alone else time.monotonic()
+        if db is not None:
+            self._working[asyncio.create_task(self._work(db))] = time.monotonic()
 
     async def _free(self) -> Database | None:
         """A connection for the next group: at once if none is in work, else once one is done, or the one that began last is slow. None if the
@@ -202,12 +201,16 @@ class Committer:
             self._has_work.clear()
         return group
 
-    async def _work(self, db: Database, group: list[_Queued]) -> None:
-        begun = time.monotonic()
+    async def _work(self, db: Database) -> None:
+        """Makes the next group."""
+        begun, group, task = time.monotonic(), self._taken(), asyncio.current_task()
+        assert task is not None
+        self._working[task] = -_SLOW if group and group[0].is_alone else begun
         try:
-            await self._commit(db, group)
-            self._adapt(len(group), time.monotonic() - begun)
-            self.meter.committed(len(group), time.monotonic() - begun)
+            if group:
+                await self._commit(db, group)
+                self._adapt(len(group), time.monotonic() - begun)
+                self.meter.committed(len(group), time.monotonic() - begun)
             self._idle.append(db)
         except Lost as error:
             self._abandon(error)
@@ -218,8 +221,6 @@ class Committer:
             for it in group:
                 if self.lost is not None:
                     it.fails(Stopped(str(self.lost)))
-            task = asyncio.current_task()
-            assert task is not None
             del self._working[task]
 
     def _adapt(self, count: int, took: float) -> None:

@@ -204,8 +204,7 @@ class Context:
         self.invocation_id = input.invocation_id
         self.traceparent = (trace or Trace.of(input.invocation_id, None)).header
         """The W3C's header `traceparent` for what the invocation asks of others, also within a run."""
-        self._random = _Chance(input.random_seed)
-        self._random.context = self
+        self._seed = input.random_seed
         self._log = ReplayLog(self, input.invocation_id)
         self.actions: dict[int, Action] = {}
         self._slept = 0
@@ -363,6 +362,12 @@ class Context:
         """Random numbers, the same in each attempt."""
         self._own("ctx.random")
         return self._random
+
+    @functools.cached_property
+    def _random(self) -> _Chance:
+        made = _Chance(self._seed)
+        made.context = self
+        return made
 
     @property
     def run_key(self) -> str:

@@ -39,7 +39,7 @@ async def go_on(db: Database, app: App, out: Outcome, claim: Claim, growth: Grow
     invocations.leave_nothing(db, old)
     for frame in left:
         inbox.put(db, out, id, frame)
-    out.status, out.ended[old] = "done", argument
+    out.status, out.ended[old] = "done", None
     out.ends.append(Ended(claim.service, claim.handler, "continued", now - claim.created))
     out.is_due(time.time())
     db.ready(is_own=True)

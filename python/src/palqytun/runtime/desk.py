@@ -9,7 +9,7 @@ import logging
 import random
 import secrets
 import time
-from collections.abc import AsyncIterator, Awaitable, Callable, Iterator
+from collections.abc import AsyncIterator, Awaitable, Callable, Iterator, Sequence
 from dataclasses import replace
 from typing import TypeVar
 
@@ -18,12 +18,13 @@ from .announced import Target
 from .committer import Committer, Stopped
 from .database import Conflict, Database, Lost, connect
 from .filters import Filter
-from .invocations import New
+from .invocations import Claim, New
 from .journal import Result
-from .outcome import Outcome
+from .outcome import Outcome, Taker
 from .services import App, TerminalError
 
 T = TypeVar("T")
+Told = asyncio.Future[Result | None]
 log = logging.getLogger("palqytun")
 _ANSWERED = 30.0  # seconds that a request waits for its transaction
 _LOOKED = 5.0  # seconds at most between two looks at a result, of which no worker may tell; sooner at first
@@ -48,13 +49,27 @@ async def _delivered(db: Database, out: Outcome, invocation: str, notification: 
     return id != invocation and invocations.goes_over(notification) and await inbox.deliver(db, out, id, notification)
 
 
+def _tell(told: Told, result: Result | None = None) -> None:
+    if not told.done():
+        told.set_result(result)
+
+
+async def _within(told: Told, seconds: float) -> Result | None:
+    """What is told within so many seconds; nothing after them."""
+    timer = asyncio.get_running_loop().call_later(seconds, _tell, told)
+    try:
+        return await told
+    finally:
+        timer.cancel()
+
+
 class Desk:
     """What both kinds have. A subclass sets `_committer` as long as it has a connection."""
 
     def __init__(self, app: App):
         self.app = app
         self._committer: Committer | None = None
-        self._results: dict[str, list[asyncio.Future[None]]] = {}
+        self._results: dict[str, list[Told]] = {}
         self._looks = _LOOKED
 
     @property
@@ -66,13 +81,13 @@ class Desk:
         """A transaction is committed: those whom it touches are notified."""
         raise NotImplementedError
 
-    async def transact(self, operation: Callable[[Database], Awaitable[T]], is_slow: bool = False) -> T:
-        """Commits an operation, in one transaction with others that are queued. Raises `Unavailable` if there is no database."""
+    async def transact(self, operation: Callable[[Database], Awaitable[T]], is_slow: bool = False, then: Callable[[T], None] | None = None) -> T:
+        """Commits an operation, in one transaction with others that are queued. Raises `Unavailable` if there is no database. `then` is as `submit`'s."""
         if self._committer is None:
             raise Unavailable("the database can't be used now: there is no connection")
         try:
             async with asyncio.timeout(_ANSWERED):  # `wait_for` drops a cancellation that comes with the result
-                return await self._committer.submit(operation, is_slow)
+                return await self._committer.submit(operation, is_slow, then)
         except asyncio.TimeoutError:
             raise Unavailable(f"something has been in the way in the database for {_ANSWERED:g} seconds") from None
         except Stopped as error:
@@ -94,47 +109,63 @@ class Desk:
         if self.drains:
             raise Unavailable("the worker stops, and takes no new calls")
         invocations.check(new, await self.target(new.service, new.handler))  # what is refused isn't in a transaction with others
-        out = Outcome()
+        with self.taking(1) as taker:
 
-        async def made(db: Database) -> str | TerminalError:
-            try:
-                return (await invocations.create(db, self.app, out, new))[0]
-            except TerminalError as refused:  # which has stored nothing; raised here it would undo what is in the same transaction
-                return refused
+            async def made(db: Database) -> tuple[str | TerminalError, Outcome]:
+                out = Outcome(taker)
+                try:
+                    return (await invocations.create(db, self.app, out, new))[0], out
+                except TerminalError as refused:  # which has stored nothing; raised here it would undo what is in the same transaction
+                    return refused, out
 
-        found = await self.transact(made)
+            def then(it: tuple[object, Outcome]) -> None:
+                self.takes(it[1].claims)
+
+            found, out = await self.transact(made, then=then)
         if isinstance(found, TerminalError):
             raise found
         self.tell(out)
         return found
 
-    async def result(self, invocation: str, wait: float | None = None) -> Result | None:
+    @contextlib.contextmanager
+    def taking(self, most: int) -> Iterator[Taker | None]:
+        """Whether a transaction may begin at once what it makes, `most` of it, and by which worker; room is kept for that. None: it waits for a claim."""
+        yield None
+
+    def takes(self, claims: Sequence[Claim]) -> None:
+        """A transaction is committed that has taken these leases."""
+
+    async def result(self, invocation: str, wait: float | None = None, told: Told | None = None) -> Result | None:
         """What an invocation ends with, or the last one that goes on in its place; none if there is no such invocation. `TimeoutError` if it hasn't ended after `wait` seconds, and
-        `Unavailable` if the worker stops before."""
+        `Unavailable` if the worker stops before. `told` is what `told_of` gave before the invocation was made: so it isn't looked for at once."""
         begun, id = time.monotonic(), invocation
         until = None if wait is None else begun + wait
         while True:
-            with self._told_of(id) as future:
-                rows = await self.transact(lambda db: db.rows("SELECT result, continued FROM invocations WHERE id=?", (id,)))
-                if not rows or rows[0][1] is not None:  # it goes on as another one, or has done so long ago
-                    before, id = id, await self.transact(lambda db: invocations.newest(db, id))
-                    if id == before:
-                        return None
-                    continue
-                if rows[0][0] is not None:
-                    return Result(bytes(rows[0][0]))
+            with self.told_of(id) as future:
+                if told is None:
+                    rows = await self.transact(lambda db: db.rows("SELECT result, continued FROM invocations WHERE id=?", (id,)))
+                    if not rows or rows[0][1] is not None:  # it goes on as another one, or has done so long ago
+                        before, id = id, await self.transact(lambda db: invocations.newest(db, id))
+                        if id == before:
+                            return None
+                        continue
+                    if rows[0][0] is not None:
+                        return Result(bytes(rows[0][0]))
                 elapsed = time.monotonic() - begun
                 left = min(self._looks, max(_LOOKED / 50, elapsed), self._looks if until is None else until - time.monotonic())
                 if left <= 0:
                     raise TimeoutError(f"{invocation} hasn't ended")
                 if self.drains:
                     raise Unavailable(f"the worker stops; {invocation} goes on with another one")
-                await asyncio.wait([future], timeout=left)
+                result = await _within(future if told is None else told, left)
+                if result is not None:
+                    return result
+                told = None
 
     @contextlib.contextmanager
-    def _told_of(self, invocation: str) -> Iterator[asyncio.Future[None]]:
-        """What is done once the end of an invocation is told."""
-        future: asyncio.Future[None] = asyncio.get_running_loop().create_future()
+    def told_of(self, invocation: str) -> Iterator[Told]:
+        """What is done once the end of an invocation is told, with its result if that is known then."""
+        future: Told = asyncio.get_running_loop().create_future()
         self._results.setdefault(invocation, []).append(future)
         try:
             yield future
@@ -145,17 +176,15 @@ class Desk:
                 if not waiting:
                     del self._results[invocation]
 
-    def _ended(self, invocation: str) -> None:
-        for future in self._results.pop(invocation, []):
-            if not future.done():
-                future.set_result(None)
+    def _ended(self, invocation: str, result: Result | None = None) -> None:
+        for told in self._results.pop(invocation, []):
+            _tell(told, result)
 
     def let_go(self) -> None:
         """Those that wait for results look at once, and don't wait any more if this desk takes no more calls."""
-        for futures in self._results.values():
-            for future in futures:
-                if not future.done():
-                    future.set_result(None)
+        for some in self._results.values():
+            for told in some:
+                _tell(told)
 
     async def notify(self, invocation: str, notification: bytes) -> bool:
         """Sends a signal from outside; returns whether there is an invocation that gets it."""

@@ -9,7 +9,7 @@ import logging
 import random
 import secrets
 import time
-from collections.abc import Awaitable, Callable
+from collections.abc import Awaitable, Callable, Iterator, Sequence
 from typing import Any, TypeVar
 
 from . import logs, operate, storing
@@ -24,7 +24,7 @@ from .executions import Executions
 from .invocations import Claim
 from .lease import Fenced, Growth
 from .meter import Meter, NoMeter
-from .outcome import Outcome
+from .outcome import Outcome, Taker
 from .services import App
 from .texts import said
 from .watchdog import Watchdog
@@ -83,6 +83,8 @@ class Engine(Desk):
         self._is_open = asyncio.Event()
         self._stop = asyncio.Event()
         self._has_more = False
+        self._claimer: Claimer | None = None
+        self._kept = 0  # attempts for which there is room, and which transactions may begin that are made now
         self._beats: Beats | None = None
         self.soon = _SHORTEST  # seconds until a lost database is connected to again
         self._former = ""
@@ -93,7 +95,7 @@ class Engine(Desk):
         """Commits a transaction on a claim's journal, and notifies those whom it touches."""
         assert self._committer is not None
         if reads is None:
-            out = await self._committer.submit(lambda db: operation(db, ()))
+            out = await self._committer.submit(lambda db: operation(db, ()), then=self._took)
         else:
             out = await self._committer.follow(After(reads, operation))
         claim.lease.journal.keep()
@@ -137,8 +139,8 @@ class Engine(Desk):
             self._wake(out.due - time.time())
         for invocation in out.stopped:
             self._stopped(invocation)
-        for invocation in out.ended:
-            self._ended(invocation)
+        for invocation, result in out.ended.items():
+            self._ended(invocation, result)
 
     def _touch(self, invocation: str) -> None:
         attempt = self.live.get(invocation)
@@ -172,8 +174,9 @@ class Engine(Desk):
         if what == "ready":
             self._is_ready("".join(some))
             return
+        tells: dict[str, Callable[[str], None]] = {"ended": self._ended, "stopped": self._stopped, "to": self._touch}
         for invocation in some:
-            {"ended": self._ended, "stopped": self._stopped, "to": self._touch}[what](invocation)
+            tells[what](invocation)
 
     def _is_ready(self, first: str) -> None:
         """Something can be claimed, as all were told, or this worker by one without room; the first of these is named."""
@@ -182,6 +185,7 @@ class Engine(Desk):
             self._wake(self._moment)
             return
         self._has_more = True
+        self._make_room()
         if first and self._committer is not None:
             passed = self._committer.submit(functools.partial(_passed_on, first=first))
             passed.add_done_callback(lambda it: it.cancelled() or it.exception())  # a word may be lost
@@ -236,7 +240,7 @@ class Engine(Desk):
         committer = self._committer = Committer(db, grouped=self.grouped)
         committer.meter = self.meter
         claimer = Claimer(f"{self.name}-{secrets.token_hex(6)}", self.app, self.lease, self._former, self.version)
-        self._former = claimer.worker
+        self._former, self._claimer = claimer.worker, claimer
         unlisten: Callable[[], None] | None = None
         others = (self._purges(committer), self._sweeps(committer, claimer), self._adopts(committer, claimer))
         beside = [asyncio.create_task(it) for it in others]
@@ -279,6 +283,7 @@ class Engine(Desk):
 
     async def _end_attempts(self, committer: Committer) -> None:
         """Ends what the grace wasn't enough for, or what lost its database. If that is there, others may go on at once."""
+        self._claimer = None
         left = [it.claim for it in self.live.values()]
         tasks = list(self._tasks)
         for task in tasks:
@@ -299,7 +304,7 @@ class Engine(Desk):
         try:
             while not self.drains:
                 self._look_at = time.monotonic() + self.poll
-                room, live = min(max(0, self.limit - len(self.live)), _CLAIMS), frozenset(self.live)
+                room, live = min(self.room, _CLAIMS), frozenset(self.live)
                 is_told, self._is_told = self._is_told, False
                 try:
                     found: Claims = await committer.submit(lambda db: claimer.claim(db, live, room))
@@ -309,6 +314,8 @@ class Engine(Desk):
                     continue
                 for claim in found.claims:
                     self._begin(claim)
+                if found.has_more and not self.room:
+                    self._make_room()
                 if is_told:
                     self._moment = 0.0 if found.claims else min(_MOMENTS[1], max(_MOMENTS[0], 2 * self._moment))
                 self._has_more = found.has_more
@@ -417,9 +424,43 @@ class Engine(Desk):
     # ---- attempts
 
     @property
+    def room(self) -> int:
+        """How many more attempts may begin now."""
+        return max(0, self.limit - len(self.live) - self._kept)
+
+    @contextlib.contextmanager
+    def taking(self, most: int) -> Iterator[Taker | None]:
+        """Whether a transaction may begin at once what it makes, `most` of it, and by which worker. What waits for a claim goes first, and others get
+        some of what a busy worker makes."""
+        claimer = self._claimer
+        if claimer is None or self._has_more or self.drains:
+            room = 0
+        else:
+            room = min(most, self.room, max(0, self.limit // 2 - len(self.live)) if claimer.has_peers else self.limit)
+        self._kept += room
+        try:
+            yield Taker(claimer.worker, claimer.code, room) if claimer is not None and room else None
+        finally:
+            self._kept -= room
+
+    def _took(self, out: Outcome) -> None:
+        self.takes(out.claims)
+
+    def takes(self, claims: Sequence[Claim]) -> None:
+        if self._claimer is not None:  # else the worker leaves, and others go on with them
+            for claim in claims:
+                self._begin(claim)
+
+    @property
     def patience(self) -> float:
-        """How long an attempt may wait now: those that wait don't keep others out."""
-        return self.idle if len(self.live) < self.limit // 2 and not self.drains else 0.0
+        """How long an attempt may wait now. It doesn't keep others out: it is suspended before, once these need its room."""
+        return self.idle if self.room and not self.drains else 0.0
+
+    def _make_room(self) -> None:
+        """More can go on than there is room for: some attempts that wait are suspended."""
+        waiting = [it for it in self.live.values() if it.only_waits]
+        for it in waiting[: max(1, self.limit // 4)]:
+            it.bell.ring()
 
     def _begin(self, claim: Claim) -> None:
         self.counts["attempts"] += 1

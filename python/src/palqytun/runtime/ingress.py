@@ -26,10 +26,11 @@ and once the worker stops, they get 202 and the invocation's id. With a token, e
 from __future__ import annotations
 
 import asyncio
+import contextlib
 import json
 import time
 import urllib.parse
-from collections.abc import Iterable
+from collections.abc import AsyncIterator, Iterable
 from dataclasses import dataclass, replace
 from typing import Any
 
@@ -45,7 +46,7 @@ from . import acts, announced, audit, awakeables, invocations, journal, keyed, m
 from . import restarting, scheduling, sealing, timeline, traces
 from .codec import BadValue, Unreadable, decoded
 from .door import Door
-from .desk import Unavailable
+from .desk import Told, Unavailable
 from .engine import Engine
 from .filters import Filter
 from .invocations import New
@@ -177,7 +178,7 @@ class Ingress:
 
     def __init__(self, engine: Engine, settings: Settings = Settings(), *, door: Door | None = None):
         self.engine, self.settings = engine, settings
-        self._waiting: set[asyncio.Future[Any]] = set()
+        self._waiting: set[asyncio.Timeout] = set()
         self._is_closing = False
         door = self._door = Door.of(Tokens(settings.token, settings.tokens), settings.origins) if door is None else door
         self._measured = engine.meter = metrics.Measured()
@@ -213,8 +214,8 @@ class Ingress:
     def close(self) -> None:
         """Requests that wait get 202 now, and those that come are refused with 503."""
         self._is_closing = True
-        for it in self._waiting:
-            it.cancel()
+        for it in list(self._waiting):
+            self._end(it)
 
     # ---- handlers
 
@@ -230,13 +231,15 @@ class Ingress:
         self._check(argument, new)
         if self._is_closing:
             raise Unavailable("the worker stops, and takes no new calls")
-        id = await self.engine.submit(replace(new, argument=sealing.renewed(self.engine.app.codec, argument)))
-        if is_sent:
-            return JSONResponse({"invocation": id}, 202)
-        try:
-            return await self._answered(request, id, wait)
-        except Unavailable:
-            return self._pending(id)  # it is stored all the same
+        own = invocations.new_id()
+        with self.engine.told_of(own) as told:  # before it is made, so it isn't looked for
+            id = await self.engine.submit(replace(new, argument=sealing.renewed(self.engine.app.codec, argument), id=own))
+            if is_sent:
+                return JSONResponse({"invocation": id}, 202)
+            try:
+                return await self._answered(request, id, wait, told if id == own else None)
+            except Unavailable:
+                return self._pending(id)  # it is stored all the same
 
     async def _called(self, request: Request, service: str, *rest: str) -> tuple[New, bool]:
         """What a request calls, without its argument, and whether it doesn't wait. What can't be called is refused before its body is read."""
@@ -281,8 +284,9 @@ class Ingress:
         claimed = request.headers.get("content-length", "")
         check_payload("the body", int(claimed[:20]) if claimed.isascii() and claimed.isdigit() else 0, most)
         try:
-            return await asyncio.wait_for(self._received(request, most), self.settings.patience)
-        except asyncio.TimeoutError:
+            async with asyncio.timeout(self.settings.patience):
+                return await self._received(request, most)
+        except TimeoutError:
             raise TerminalError(f"the body hasn't come within {self.settings.patience:.0f} seconds", 408) from None
 
     @staticmethod
@@ -297,10 +301,11 @@ class Ingress:
 
     # ---- results
 
-    async def _answered(self, request: Request, invocation: str, wait: float | None) -> Response:
+    async def _answered(self, request: Request, invocation: str, wait: float | None, told: Told | None = None) -> Response:
         """The result of an invocation as a response, or 202 if it isn't there in time."""
         try:
-            result = await self._awaited(request, self.engine.result(invocation, self.settings.wait if wait is None else wait))
+            async with self._waits(request):
+                result = await self.engine.result(invocation, self.settings.wait if wait is None else wait, told)
         except TimeoutError:
             return self._pending(invocation)
         return _fault(404, "there is no such invocation") if result is None else self._shown(result)
@@ -309,23 +314,23 @@ class Ingress:
     def _pending(invocation: str) -> Response:
         return JSONResponse({"invocation": invocation, "status": "pending"}, 202)
 
-    async def _awaited(self, request: Request, asked: Any) -> Result | None:
-        """What a wait gives. `TimeoutError` if it is over before: by its time, since the worker stops, or since the client has gone."""
-        wait: asyncio.Future[Result | None] = asyncio.ensure_future(asked)
-        gone = asyncio.ensure_future(_gone(request))
-        gone.add_done_callback(lambda _: wait.cancel())
-        self._waiting.add(wait)
-        try:
-            if self._is_closing:
-                wait.cancel()
-            await asyncio.wait([wait])
-            if wait.cancelled():
-                raise TimeoutError
-            return wait.result()
-        finally:
+    @contextlib.asynccontextmanager
+    async def _waits(self, request: Request) -> AsyncIterator[None]:
+        """What is awaited within is over, with `TimeoutError`, once the worker stops or the client has gone."""
+        async with asyncio.timeout(0 if self._is_closing else None) as wait:
+            self._waiting.add(wait)
+            gone = asyncio.create_task(_gone(request))
+            gone.add_done_callback(lambda _: self._end(wait))
+            try:
+                yield
+            finally:
+                self._waiting.discard(wait)
+                gone.cancel()
+
+    def _end(self, wait: asyncio.Timeout) -> None:
+        if wait in self._waiting:
             self._waiting.discard(wait)
-            wait.cancel()
-            gone.cancel()
+            wait.reschedule(0)
 
     def _shown(self, result: Result) -> Response:
         kind, it = journal.answer(result)

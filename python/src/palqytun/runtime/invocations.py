@@ -17,7 +17,7 @@ from .journal import Begin, Journal, Result
 from .lease import ENTRY, FREE, GONE, MADE, WAITING, Fenced, Growth, Lease
 from .names import check_name
 from .notes import Note
-from .outcome import Outcome
+from .outcome import Outcome, Taker
 from .services import App, Retry, TerminalError
 from .texts import storable
 from .traces import Trace
@@ -45,6 +45,11 @@ class New:
     may_differ: bool = False  # from what its idempotency key has made before, as a schedule's argument by newer code
 
 
+def new_id() -> str:
+    """An id that no other invocation has."""
+    return f"inv_{secrets.token_hex(12)}"
+
+
 def seed_of(id: str | None) -> int:
     """The seed of an invocation's random numbers. It follows from an id that was given."""
     if id is None:
@@ -67,14 +72,28 @@ _COLUMNS = (
 )
 
 
+_LEASED = "worker text", "begun double precision", "code text"
+
+
 @functools.cache
-def _made(clock: str) -> Each:
-    """The row of an invocation. What begins at once is due when the server makes this statement: so calls of a key are in their order, whichever worker
-    stores them."""
-    names = [it.partition(" ")[0] for it in _COLUMNS]
+def _made(clock: str, is_leased: bool = False) -> Each:
+    """The row of an invocation, which is ready, or leased as by a claim just after. What begins at once is due when the server makes this statement: so
+    calls of a key are in their order, whichever worker stores them."""
+    columns = (*_COLUMNS, *_LEASED) if is_leased else _COLUMNS
+    names = [it.partition(" ")[0] for it in columns]
     values = [f"COALESCE(?,{clock})" if it == "due" else "?" for it in names]
-    sql = f"INSERT INTO invocations({', '.join(names)}, status, entries) SELECT {', '.join(values)}, 'ready', 1{{rows}}"
-    return Each(MADE, sql, *(it.partition(" ")[2] for it in _COLUMNS))
+    status, epoch = ("running", 1) if is_leased else ("ready", 0)
+    sql = f"INSERT INTO invocations({', '.join(names)}, status, epoch, entries) SELECT {', '.join(values)}, '{status}', {epoch}, 1{{rows}}"
+    return Each(MADE, sql, *(it.partition(" ")[2] for it in columns))
+
+
+def _taken_by(app: App, out: Outcome, new: New) -> Taker | None:
+    """The worker that takes the lease of a new invocation in the transaction that makes it, if nothing can keep its first attempt waiting: neither its
+    key nor a queue or a limit. None if it waits for a claim."""
+    known = app.known(new.service, new.handler)
+    if out.taker is None or len(out.claims) >= out.taker.room or new.due or known is None:
+        return None
+    return None if known.exclusive or app.has_limit(new.service, new.handler) else out.taker
 
 
 def begins(db: Database, new: New) -> float | None:
@@ -97,18 +116,25 @@ async def create(db: Database, app: App, out: Outcome, new: New) -> tuple[str, b
     check(new, target)
     idem = "" if target.is_main else new.idempotency_key or None  # a workflow's main runs once a key
     now, due = db.now(), begins(db, new)
-    id = new.id or f"inv_{secrets.token_hex(12)}"
+    id = new.id or new_id()
     times, (priority, queue_key) = target.until(now if due is None else due), queues.asked(new.headers, new.key)
     queued = (target.queue, None if target.queue is None else queue_key, priority)
-    row = (id, new.service, new.handler, new.key, int(target.exclusive), VERSION, idem, seed_of(new.id), due, now, new.parent, new.trace, *times, *queued)
+    seed, taker = seed_of(new.id), _taken_by(app, out, new)
+    leased = () if taker is None else (taker.worker, now, taker.code)
+    named_so = (id, new.service, new.handler, new.key, int(target.exclusive), VERSION, idem, seed, due, now, new.parent, new.trace)
+    made, row = _made(db.clock, taker is not None), (*named_so, *times, *queued, *leased)
     if idem is None:  # no other has its name
-        db.each(_made(db.clock), row)
-    elif not await db.change(f"{_made(db.clock).one} WHERE true ON CONFLICT DO NOTHING", row):
+        db.each(made, row)
+    elif not await db.change(f"{made.one} WHERE true ON CONFLICT DO NOTHING", row):
         found = await named(db, new, idem) or id
         if idem and not new.may_differ:
             await repeated.check(db, app.codec, found, idem, new.argument)
         return found, False
-    db.each(ENTRY, (id, 0, None, journal.input_command(new.argument, new.headers), now))
+    frame = journal.input_command(new.argument, new.headers)
+    db.each(ENTRY, (id, 0, None, frame, now))
+    if taker is not None:
+        out.claims.append(await _claim_of_new(db, new, id, seed, idem, now, frame, taker))
+        return id, True
     out.is_due(new.due or time.time())
     db.ready(is_own=announced.own(app, new.service, new.handler) is not None)
     return id, True
@@ -474,6 +500,15 @@ async def _claim(
     trace, late = Trace.of(it.id, it.trace), now - it.due if it.status == "ready" else None
     more = (it.created, trace, late, was_cancelled, cancel_waits)
     return Claim(growth.lease, it.service, it.handler, it.key, bool(it.exclusive), content_type, now, start, *more)
+
+
+async def _claim_of_new(db: Database, new: New, id: str, seed: int, idem: str | None, now: float, frame: bytes, taker: Taker) -> Claim:
+    """The claim of an invocation that was made with its lease. Nothing has come for it."""
+    it = Claimable(
+        *(id, new.service, new.handler, new.key), exclusive=0, version=VERSION, seed=seed, idem=idem, epoch=0, entries=1, retries=0, failing_since=None,
+        status="ready", worker=None, deaths=0, cancelled=None, shielded=0, trace=new.trace, created=now, due=now, code=taker.code
+    )  # fmt: skip
+    return await _claim(db, it, now, [(0, frame)], [], None, Turn())
 
 
 TAKEN, WAITS = "taken", "waits"

@@ -14,7 +14,7 @@ from .invocations import Claim
 from .journal import Failed, Output, Result, Suspension
 from .lease import GONE, PROGRESS, Growth, fence
 from .meter import Ended
-from .outcome import Outcome
+from .outcome import Outcome, Taker
 from .services import App
 from .texts import storable
 from .turns import Turn
@@ -43,11 +43,18 @@ _NO_TIMER = Each(GONE, "DELETE FROM timers{rows} WHERE invocation=? AND complete
 
 
 async def store(
-    db: Database, app: App, claim: Claim, output: bytes, at: int, timers: Sequence[int] = (), found: Sequence[list[Any]] = ()
+    db: Database,
+    app: App,
+    claim: Claim,
+    output: bytes,
+    at: int,
+    timers: Sequence[int] = (),
+    found: Sequence[list[Any]] = (),
+    taker: Taker | None = None,
 ) -> Outcome:
     """Stores what an attempt wrote, after its first `at` bytes. If it has ended, its invocation's status follows. `timers` are completion ids of
-    sleeps that nobody awaits any more. `found` is what `reads` has found, if it asks for something."""
-    out, growth = Outcome(), Growth(claim.lease)
+    sleeps that nobody awaits any more. `found` is what `reads` has found, if it asks for something. `taker` may begin what is called."""
+    out, growth = Outcome(taker), Growth(claim.lease)
     stored = growth.store(output, at)
     if found:
         growth.fenced(found[0])
