@@ -1,7 +1,7 @@
-"""What a large PostgreSQL database costs a worker: large.py [--ended N..] [--db URL]
+"""What a large PostgreSQL database costs a worker: large.py [--ended N..] [--partitions N] [--db URL]
 
 For each N, a database has N invocations that have ended and a tenth of it that wait for a sleep, a call and a notification. Without --db it is
-one of a temporary cluster, which doesn't flush, so that it is filled sooner. Printed is the table of docs/SCALE.md: pages that are looked at, of tables and
+one of a temporary cluster, which doesn't flush, so that it is filled sooner. With --partitions there are as many columns for tables with partitions. Printed is the table of docs/SCALE.md: pages that are looked at, of tables and
 indexes, and milliseconds, for a claim of ten invocations, for a worker's beat, and for what operators ask; how many a purge deletes in a second; and
 bytes of the disk for an invocation. A row of the last table is an index, with its bytes for an invocation. The load of the machine is printed first."""
 
@@ -14,9 +14,10 @@ import statistics
 import sys
 import time
 from collections.abc import Awaitable, Callable
-from typing import Any
+from typing import Any, NamedTuple
 
-sys.path[:0] = [str(pathlib.Path(__file__).parent.parent / it) for it in ("src", "tests")]
+sys.path[:0] = [str(pathlib.Path(__file__).parent.parent / it) for it in ("src", "tests", "bench")]
+import places  # noqa: E402
 from palqytun.runtime import App, Context, Service, journal, operate  # noqa: E402
 from palqytun.runtime.claiming import Claimer  # noqa: E402
 from palqytun.runtime.database import Database  # noqa: E402
@@ -34,6 +35,7 @@ async def echoes(ctx: Context, n: int) -> int:
 
 app = App(large)
 OPEN = 10  # invocations that a claim takes
+AGAIN = 12  # claims by which a session has its plans
 
 _ROWS = "seq, id, service, handler, key, exclusive, version, seed, status, due, epoch, worker, entries, created"
 _ROW = "nextval('invocations_seq_seq'), '{}_' || i, 'Large', 'echoes', '', 0, 7, 1"
@@ -59,13 +61,15 @@ _PAGES = (
     "SELECT SUM(pg_stat_get_xact_blocks_fetched(oid))::bigint FROM pg_class"
     " WHERE relnamespace=current_schema()::regnamespace AND relkind IN ('r', 'i')"
 )
+# Those of a table's partitions are together.
 _SIZES = (
-    "SELECT relname::text, relkind::text, pg_relation_size(oid) FROM pg_class WHERE relnamespace=current_schema()::regnamespace"
-    " AND relkind IN ('r', 'i') AND pg_relation_size(oid)>? ORDER BY 3 DESC"
+    "SELECT COALESCE(whole.relname, own.relname)::text, own.relkind::text, SUM(pg_relation_size(own.oid))::bigint FROM pg_class AS own"
+    " LEFT JOIN pg_inherits ON inhrelid=own.oid LEFT JOIN pg_class AS whole ON whole.oid=inhparent"
+    " WHERE own.relnamespace=current_schema()::regnamespace AND own.relkind IN ('r', 'i') GROUP BY 1, 2 HAVING SUM(pg_relation_size(own.oid))>? ORDER BY 3 DESC"
 )
 
 
-_QUICK = {"fsync": "off", "full_page_writes": "off", "max_wal_size": "4GB", "maintenance_work_mem": "256MB"}
+_QUICK = {"fsync": "off", "full_page_writes": "off", "max_wal_size": "4GB", "maintenance_work_mem": "256MB", "max_locks_per_transaction": "1000"}
 
 
 def emptied(db: Plain) -> None:
@@ -105,11 +109,19 @@ def pages(db: Plain, operation: Callable[[Database], Awaitable[Any]]) -> tuple[i
 
 def claims(db: Plain) -> int:
     """How many pages a claim of ten ready invocations looks at."""
-    return claim(db)[0]
+    return claim(db).first
 
 
-def claim(db: Plain) -> tuple[int, float]:
-    """How many pages a claim of ten ready invocations looks at, and its milliseconds."""
+class Claimed(NamedTuple):
+    """What a claim of ten ready invocations takes: pages and milliseconds of a session's first ones, and of those when it has claimed often."""
+
+    first: int
+    milliseconds_of_first: float
+    pages: int
+    milliseconds: float
+
+
+def claim(db: Plain) -> Claimed:
     worker = Claimer("one", app, 600)
     db.done(worker.enter)
     db.change(_READY)
@@ -117,7 +129,10 @@ def claim(db: Plain) -> tuple[int, float]:
     try:
         count, found = pages(db, lambda to: worker.claim(to, (), OPEN))
         assert len(found.claims) == OPEN, found
-        return count, milliseconds(db, lambda to: worker.claim(to, (), OPEN))
+        took = milliseconds(db, lambda to: worker.claim(to, (), OPEN))
+        for _ in range(AGAIN):
+            again = pages(db, lambda to: worker.claim(to, (), OPEN))[0]
+        return Claimed(count, took, again, milliseconds(db, lambda to: worker.claim(to, (), OPEN)))
     finally:
         for sql in ("DELETE FROM invocations WHERE status='ready'", "DELETE FROM journal WHERE invocation LIKE 'ready%'", "DELETE FROM workers"):
             db.change(sql)
@@ -157,7 +172,9 @@ def purged(db: Plain) -> float:
 def measured(db: Plain, ended: int) -> dict[str, str]:
     emptied(db)
     filled(db, ended, ended // 10)
-    found = {f"a claim of {OPEN}": "{:,} ({:.0f} ms)".format(*claim(db))}
+    claimed = claim(db)
+    found = {f"a claim of {OPEN}": f"{claimed.first:,} ({claimed.milliseconds_of_first:.0f} ms)"}
+    found[f"the same, when the session has made {AGAIN}"] = f"{claimed.pages:,} ({claimed.milliseconds:.0f} ms)"
     db.change("INSERT INTO workers(id, lease) VALUES ('one', 1)")
     for name, operation in asked(db).items():
         found[name] = f"{pages(db, operation)[0]:,} ({milliseconds(db, operation):.0f} ms)"
@@ -168,12 +185,23 @@ def measured(db: Plain, ended: int) -> dict[str, str]:
     return found
 
 
-def tables(url: str, counts: list[int]) -> None:
+def table(found: dict[str, dict[str, str]]) -> None:
+    """Prints what was measured, a column for each database."""
+    print(f"| pages looked at | {' | '.join(found)} |\n|{'---|' * (1 + len(found))}")
+    for name in next(iter(found.values())):
+        print(f"| {name} | {' | '.join(it[name] for it in found.values())} |")
+
+
+def tables(url: str, counts: list[int], parts: int) -> None:
     with Plain(url) as db:
-        found = {count: measured(db, count) for count in counts}
-        print(f"| pages looked at | {' | '.join(f'{it:,}' for it in counts)} |\n|{'---|' * (1 + len(counts))}")
-        for name in found[counts[0]]:
-            print(f"| {name} | {' | '.join(it[name] for it in found.values())} |")
+        found = {f"{count:,}": measured(db, count) for count in counts}
+        if parts:
+            emptied(db)
+            with places.partitioned(url, parts) as own, Plain(own) as parted:
+                found |= {f"{count:,} in {parts} partitions": measured(parted, count) for count in counts}
+            table(found)
+            return
+        table(found)
         print("\n| index | bytes of an invocation |\n|---|---|")
         for name, kind, size in db.rows(_SIZES, (counts[-1],)):
             if kind == "i":
@@ -184,16 +212,17 @@ def tables(url: str, counts: list[int]) -> None:
 def main() -> None:
     parser = argparse.ArgumentParser("large.py", description="What a large database costs a worker.")
     parser.add_argument("--ended", nargs="+", type=int, default=[1000, 100_000], help="invocations that have ended; a tenth of them wait beside them")
+    parser.add_argument("--partitions", type=int, default=0, help="as many columns for tables with so many partitions, beside those without; not with a list of indexes")
     parser.add_argument("--db", default="", help="a PostgreSQL database, which is emptied")
     options = parser.parse_args()
     print(f"The load is {os.getloadavg()[0]:.0f}.\n")
     if options.db:
-        tables(options.db, options.ended)
+        tables(options.db, options.ended, options.partitions)
         return
     import postgres
 
     with postgres.cluster(_QUICK) as cluster:
-        tables(cluster.url, options.ended)
+        tables(cluster.url, options.ended, options.partitions)
 
 
 if __name__ == "__main__":

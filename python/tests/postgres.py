@@ -32,6 +32,7 @@ from typing import Any, TypeVar
 
 T = TypeVar("T")
 VARIABLE = "PALQYTUN_TEST_POSTGRES"
+PARTITIONS = "PALQYTUN_TEST_PARTITIONS"  # how many a database for tests has; none without it
 INSTALL = "no PostgreSQL server: apt-get install postgresql"
 _FOLDERS = ("/usr/lib/postgresql/*/bin", "/usr/pgsql-*/bin", "/usr/local/pgsql*/bin", "/opt/*/bin", "/opt/*/*/bin")
 _PROGRAMS = ("initdb", "pg_ctl", "postgres")

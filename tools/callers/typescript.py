@@ -2,6 +2,7 @@
 
 from __future__ import annotations
 
+import os
 import shutil
 import sys
 from pathlib import Path
@@ -47,8 +48,10 @@ def killed(it: Bindings, env: dict[str, str], folder: str) -> None:
 
 
 def beside_a_database(*words: str) -> list[str]:
-    """A command beside a temporary cluster that has the tables."""
-    migrate = f"{sys.executable} -m palqytun migrate --db \"$PALQYTUN_TEST_POSTGRES\" >/dev/null && exec \"$@\""
+    """A command beside a temporary cluster that has the tables, with partitions if PALQYTUN_TEST_PARTITIONS is how many."""
+    parts = os.environ.get("PALQYTUN_TEST_PARTITIONS") or "0"
+    parted = "" if parts == "0" else f"--partitions {parts} "
+    migrate = f"{sys.executable} -m palqytun migrate {parted}--db \"$PALQYTUN_TEST_POSTGRES\" >/dev/null && exec \"$@\""
     return [sys.executable, POSTGRES, "sh", "-c", migrate, "sh", *words]
 
 

@@ -20,7 +20,7 @@ from .parts import built, job, library_path, programs, script
 from .show import Show, minutes
 
 OUT = "out/prove"
-FAILOVERS, KILLS_OF_BOTH = 10, 200
+FAILOVERS, KILLS_OF_BOTH, PARTITIONS = 10, 200, 16
 LONG = 24 * 3600  # seconds that a part may take
 PROVED = "bindings/out/libpalqytun.so"
 
@@ -104,6 +104,18 @@ def kills_postgres(it: Options) -> Job:
     return kills("kills-postgres", "postgres", it)
 
 
+def kills_partitions(it: Options) -> Job:
+    """The same on a cluster whose database has partitions."""
+    words = ("tools/chaos", "--kills", str(KILLS_OF_BOTH), "--seed", str(it.seed), "--db", "postgres", "--partitions", str(PARTITIONS))
+    return replace(job("kills-partitions", *words), env={"PALQYTUN_LIBRARY": it.library}, counts=counts.of_status)
+
+
+def partitions(it: Options) -> Job:
+    """Each statement of a recorded run in a large database with partitions, and the runtime's tests on one."""
+    words = ("tools/runtime", "--pass", "partitions-all", it.library, "runtime", "crash")
+    return replace(script("partitions", *words), env={"PALQYTUN_FRAMES": it.program("frames"), "PALQYTUN_TEST_THOROUGH": "1"})
+
+
 def kills_languages(it: Options) -> Job:
     """Workers in Python and in TypeScript on one database, whose handlers call each other."""
     words = ("tools/bindings", "--library", it.library, "--kills", str(KILLS_OF_BOTH), "typescript")
@@ -149,6 +161,10 @@ def kills_languages_of(it: Options) -> str:
     return f"{KILLS_OF_BOTH} kills, {it.kind}"
 
 
+def kills_partitions_of(it: Options) -> str:
+    return f"{KILLS_OF_BOTH} kills, {PARTITIONS} partitions, {it.kind}"
+
+
 def failovers_of(it: Options) -> str:
     return f"{FAILOVERS} failovers to each kind of standby, {it.kind}"
 
@@ -170,6 +186,8 @@ PARTS = [
     Part("simulate-engines", "random invocations that call each other for an hour", simulate_engines, minutes_of, last_line),
     Part("kills-sqlite", "1,000 kills of the durable runtime on SQLite", kills_sqlite, kills_of, last_line),
     Part("kills-postgres", "the same on PostgreSQL", kills_postgres, kills_of, last_line),
+    Part("kills-partitions", "200 kills on PostgreSQL with partitions", kills_partitions, kills_partitions_of, last_line),
+    Part("partitions", "the runtime's tests on a database with partitions, and what each statement of a run touches there", partitions, lambda it: it.kind, last_line),
     Part("kills-languages", "200 kills of workers in Python and TypeScript", kills_languages, kills_languages_of, line_before_counts),
     Part("failovers", "PostgreSQL fails over to a synchronous standby, and to an asynchronous one", failovers, failovers_of, last_line),
     Part(

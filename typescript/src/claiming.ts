@@ -71,7 +71,7 @@ export async function look(to: Statements, claimer: Claimer, asked: Asked, live:
     for (const row of suspended) {
       const inbox = await to.rows('inbox', { id: row[0] });
       if (wakes(row[4] as Uint8Array, inbox.map((one) => one[1] as Uint8Array), row[5] === 1)) await claims(to, claimer, it, row, found, live, false);
-      else if (inbox.length > 0) await to.change('seen', { seqs: inbox.map(([seq]) => seq) });
+      else if (inbox.length > 0) await to.change('seen', { id: row[0], seqs: inbox.map(([seq]) => seq) });
     }
     const ready = left() > 0 ? await to.rows('ready', { ...own, now: to.now, most: left() }) : [];
     for (const row of ready) await claims(to, claimer, it, row, found, live, true);

@@ -68,7 +68,7 @@ export const STATEMENTS = {
     { text: "SELECT seq, frame FROM inbox WHERE invocation=$1::text ORDER BY seq LIMIT 1000", names: ["id"] },
   ],
   'seen': [
-    { text: "UPDATE inbox SET fresh=0 WHERE seq=ANY($1::bigint[])", names: ["seqs"] },
+    { text: "UPDATE inbox SET fresh=0 WHERE invocation=$1::text AND seq=ANY($2::bigint[])", names: ["id", "seqs"] },
   ],
   'orphaned': [
     { text: "SELECT id, epoch, exclusive, key, deaths, handler, worker FROM invocations WHERE service=$1::text AND handler=ANY($2::text[]) AND (code IS NULL OR code=$3::text) AND status='running' AND worker NOT IN (SELECT id FROM workers WHERE lease>=extract(epoch from clock_timestamp())::float8) LIMIT $4::integer FOR UPDATE SKIP LOCKED", names: ["service", "handlers", "code", "most"] },
@@ -141,7 +141,7 @@ export const STATEMENTS = {
     { text: "INSERT INTO inbox(invocation, frame) SELECT $1::text, $2::bytea WHERE EXISTS (SELECT 1 FROM invocations WHERE id=$1::text AND status<>'done')", names: ["invocation", "frame"] },
   ],
   'newest': [
-    { text: "SELECT COALESCE((SELECT id FROM invocations WHERE chain=COALESCE((SELECT chain FROM invocations WHERE id=$1::text), $1::text) ORDER BY seq DESC LIMIT 1), $1::text)", names: ["invocation"] },
+    { text: "SELECT COALESCE((SELECT id FROM invocations WHERE id=$1::text AND continued IS NULL), (SELECT id FROM invocations WHERE chain=COALESCE((SELECT chain FROM invocations WHERE id=$1::text), $1::text) ORDER BY seq DESC LIMIT 1), $1::text)", names: ["invocation"] },
   ],
   'result': [
     { text: "SELECT result FROM invocations WHERE id=$1::text FOR UPDATE", names: ["invocation"] },
@@ -153,7 +153,7 @@ export const STATEMENTS = {
     { text: "INSERT INTO waiters(invocation, waiter, completes) VALUES ($1::text, $2::text, $3::bigint)", names: ["invocation", "id", "completes"] },
   ],
   'delivered': [
-    { text: "DELETE FROM inbox WHERE seq=ANY($1::bigint[])", names: ["seqs"] },
+    { text: "DELETE FROM inbox WHERE invocation=$1::text AND seq=ANY($2::bigint[])", names: ["id", "seqs"] },
   ],
   'cancelled': [
     { text: "UPDATE invocations SET cancelled=$1::float8 WHERE id=$2::text AND epoch=$3::bigint", names: ["now", "id", "epoch"] },

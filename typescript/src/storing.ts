@@ -170,7 +170,7 @@ async function suspend(to: Statements, claim: Claim, it: Growth, suspension: Uin
   const inbox = await to.rows('inbox', { id: claim.id });
   const stored = it.rows.map((row) => row.frame).filter(isNotification);
   const isAwake = wakes(suspension, stored, false) || wakes(suspension, inbox.map(frameOf), claim.isShielded) || inbox.length === MOST;
-  if (!isAwake && inbox.length > 0) await to.change('seen', { seqs: inbox.map(([seq]) => seq) });
+  if (!isAwake && inbox.length > 0) await to.change('seen', { id: claim.id, seqs: inbox.map(([seq]) => seq) });
   const found = outcome(isAwake ? 'ready' : 'suspended');
   await writes(to, claim, it.before, 'suspend', { status: found.status, suspension, shielded: Number(claim.isShielded) });
   if (isAwake) to.say('ready');
@@ -335,8 +335,8 @@ export async function moves(to: Statements, claim: Pick<Claim, 'id' | 'epoch' | 
     await append(to, claim, came.rows, before);
     await writes(to, claim as Claim, before, 'grow', {});
   }
-  if (came.taken.length > 0) await to.change('delivered', { seqs: came.taken });
-  if (came.left.length > 0) await to.change('seen', { seqs: came.left });
+  if (came.taken.length > 0) await to.change('delivered', { id: claim.id, seqs: came.taken });
+  if (came.left.length > 0) await to.change('seen', { id: claim.id, seqs: came.left });
 }
 
 /** The attempt stops because its worker does: another worker goes on at once. What it wrote last isn't stored. */

@@ -1,4 +1,4 @@
-"""The crash tests for as long as one likes: chaos.py [MINUTES] [--db sqlite|postgres|postgresql://..] [--seed N] [--kills N] [--failovers N]
+"""The crash tests for as long as one likes: chaos.py [MINUTES] [--db sqlite|postgres|postgresql://..] [--partitions N] [--seed N] [--kills N] [--failovers N]
 
 Round after round, each with another seed, until the time is over or something is wrong: workers are killed while workflows are submitted;
 on SQLite they also die at commits, meet torn writes, clocks that jump, and a full disk; on PostgreSQL three of them run, are stopped for
@@ -15,6 +15,7 @@ from __future__ import annotations
 import argparse
 import contextlib
 import functools
+import os
 import pathlib
 import random
 import shutil
@@ -141,16 +142,20 @@ def main() -> int:
     parser.add_argument("--kills", type=int, default=0, help="instead of rounds one run with this many kills")
     parser.add_argument("--failovers", type=int, default=0, help="instead of rounds this many failovers of PostgreSQL with each kind of standby")
     parser.add_argument("--patroni", action="store_true", help="with --failovers: under Patroni and etcd, each server in a network of its own")
+    parser.add_argument("--partitions", type=int, default=0, help="on PostgreSQL: of each table, if the database has no tables or is a temporary one")
     parser.add_argument("--sdk", type=pathlib.Path, help="with --kills on PostgreSQL: a folder in which the SDK in TypeScript is built, with its tests")
     options = parser.parse_args()
     if options.sdk and not (options.kills and options.db != "sqlite"):
         parser.error("--sdk goes with --kills, and with a database of PostgreSQL")
+    if options.partitions and (options.db == "sqlite" or options.failovers or options.partitions < 0):
+        parser.error("--partitions is a number above 0, and goes with PostgreSQL and without --failovers")
     if options.failovers and options.db != "postgres":
         parser.error("--failovers makes servers of its own: it goes with --db postgres")
     if options.patroni and not options.failovers:
         parser.error("--patroni goes with --failovers")
     if options.db not in ("sqlite", "postgres") and not options.db.startswith(("postgres://", "postgresql://")):
         parser.error(f"--db is sqlite, postgres or postgresql://.., and not {options.db}")
+    os.environ[postgres.PARTITIONS] = f"{options.partitions}"
     signal.signal(signal.SIGTERM, lambda *_: sys.exit(1))  # so the workers end with it
     if options.patroni:
         enter_networks()
@@ -160,7 +165,8 @@ def main() -> int:
             return played(folder, under_patronis(folder, options.seed, options.failovers))
         if options.failovers:
             return played(folder, of_failovers(folder, options.seed, options.failovers))
-        with postgres.cluster() if options.db == "postgres" else contextlib.nullcontext() as made:
+        locks = {"max_locks_per_transaction": f"{64 + 60 * options.partitions}"}  # so each connection may claim
+        with postgres.cluster(locks) if options.db == "postgres" else contextlib.nullcontext() as made:
             url = options.db if made is None else made.url
             if options.kills:
                 return played(folder, one_of_kills(url, folder, options.seed, options.kills, options.sdk))

@@ -34,10 +34,10 @@ HERE = pathlib.Path(__file__).parent
 SOURCES = HERE.parent.parent / "src"
 sys.path[:0] = [str(SOURCES), str(HERE)]
 
+import emptying  # noqa: E402
 import faulty  # noqa: E402
 from checked import Found, Wrong, check, left, rows, settle, submit, wait  # noqa: E402
 from palqytun.runtime.database.plain import Plain  # noqa: E402
-from palqytun.runtime.database.schema import TABLES  # noqa: E402
 
 _FORK = multiprocessing.get_context("fork")  # this process has no threads, and has imported what workers need
 COUNT = 8  # workflows, one of each kind
@@ -498,10 +498,10 @@ class Mixed(Workers):
 
 
 def emptied(url: str) -> None:
-    with Plain(url) as db:
-        if db.db.is_shared:
-            db.change("SET lock_timeout='300s'")  # a vacuum of the server's own may be at a table
-            db.done(lambda to: to.change(f"TRUNCATE {', '.join(TABLES)}"))
+    if url.startswith("postgres"):
+        emptying.emptied(url)
+    else:
+        Plain(url).close()  # a new file gets its tables
 
 
 def _disconnect(db: Plain) -> None:

@@ -1,7 +1,8 @@
 """What the tests stand on: this tree's package, an empty database for each test, and a worker.
 
 PALQYTUN_LIBRARY may name the shared object. PALQYTUN_TEST_POSTGRES is the URL of a database that may be emptied, by a superuser; without it a
-temporary cluster is made. PALQYTUN_TEST_IDLE is for how many seconds attempts wait before they are suspended; 0 without it.
+temporary cluster is made. PALQYTUN_TEST_IDLE is for how many seconds attempts wait before they are suspended; 0 without it. PALQYTUN_TEST_PARTITIONS is
+how many partitions a PostgreSQL database gets; none without it.
 """
 
 import asyncio
@@ -15,16 +16,17 @@ import tempfile
 import time
 import unittest
 
-PYTHON = pathlib.Path(__file__).parent.parent.parent
+TOP = pathlib.Path(__file__).resolve().parents[3]
+PYTHON = TOP / "python"
 sys.path[:0] = [str(PYTHON / "src"), str(PYTHON / "tests"), str(pathlib.Path(__file__).parent)]
 
+import emptying  # noqa: E402
 import needs  # noqa: E402
 import postgres  # noqa: E402
 import runtime_app  # noqa: E402
 from palqytun.runtime import desk, journal  # noqa: E402
+from emptying import patient  # noqa: E402, F401
 from palqytun.runtime.database import postgres as server  # noqa: E402
-from palqytun.runtime.database.plain import Plain  # noqa: E402
-from palqytun.runtime.database.schema import TABLES  # noqa: E402
 from palqytun.runtime.engine import Engine  # noqa: E402
 from palqytun.runtime.invocations import New  # noqa: E402
 
@@ -39,15 +41,8 @@ def emptied(kind, folder):
     if kind == "sqlite":
         return str(folder / "db")
     url = postgres.url()
-    with Plain(url) as db:
-        patient(db)
-        db.done(lambda to: to.change(f"TRUNCATE {', '.join(TABLES)}"))
+    emptying.emptied(url)
     return url
-
-
-def patient(db):
-    """A statement of this connection waits for locks, as of a vacuum of the server's own, which is given up after a second."""
-    db.change(f"SET lock_timeout='{LONG:.0f}s'")
 
 
 class InAFolder:

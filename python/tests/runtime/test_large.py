@@ -2,74 +2,29 @@
 looks at as many pages as in a database with a hundredth of them."""
 
 import asyncio
-import contextlib
-import pathlib
 import re
 import sys
 import unittest
-from unittest import mock
 
 import support  # isort: skip
 import needs
+from support import TOP, Runtime
 
-TOP = pathlib.Path(__file__).resolve().parents[3]
 PAGE = TOP / "docs/SCALE.md"
 sys.path.insert(0, str(TOP / "python/bench"))
 import large as bench  # noqa: E402
-import places  # noqa: E402
+import recording  # noqa: E402
 
 if lacks := needs.lacks_postgres():
     raise unittest.SkipTest(lacks)
-from palqytun.runtime import App, Context, ObjectContext, Retry, Service, VirtualObject, Workflow, WorkflowContext, gather, operate
 from palqytun.runtime.database import connect, pipeline
 from palqytun.runtime.database.plain import Plain
 from palqytun.runtime.database.schema import TABLES
-from support import Runtime
 
 ENDED, SUSPENDED = 100_000, 10_000
 # A scan of a whole table is no fault here: they have a row for each worker, or for each of the app's schedules, handlers with a limit, and queues.
 SMALL = {"workers", "serving", "schedules", "limits", "queues", "starts"}
-large, cell, flow = Service("Large"), VirtualObject("Cell"), Workflow("Flow")
 
-
-@large.handler()
-async def echoes(ctx: Context, n: int) -> int:
-    return n
-
-
-@large.handler(retry=Retry(attempts=1, pause=False))
-async def does(ctx: Context, n: int) -> int:
-    """What handlers do: runs, calls, sleeps, calls of a key, a send, and a wait that times out."""
-    await ctx.run("step", lambda: n)
-    await gather(*[ctx.call(echoes, it) for it in range(n)])
-    for it in range(n):
-        await ctx.call(add, it, key="one")
-    ctx.send(echoes, n)
-    await ctx.sleep(0.01)
-    with contextlib.suppress(TimeoutError):
-        await ctx.timeout(ctx.signal("never"), 0.01)
-    return n
-
-
-@cell.handler()
-async def add(ctx: ObjectContext, n: int) -> int:
-    ctx.set("total", (await ctx.get("total", int) or 0) + n)
-    if n == 1:
-        ctx.clear("last")
-    return n
-
-
-@flow.main()
-async def asks(ctx: WorkflowContext, _: None) -> object:
-    return await ctx.promise("said").value()
-
-
-@flow.shared()
-async def says(ctx: WorkflowContext, it: int) -> None:
-    await ctx.promise("said").resolve(it)
-
-
-app = App(large, cell, flow)
 
 class Large(support.OnADatabase, unittest.TestCase):
     kind = "postgres"
@@ -88,28 +43,8 @@ class Large(support.OnADatabase, unittest.TestCase):
             bench.filled(db, ended, waiting)
 
     def recorded(self):
-        """The statements of a run: two workers, clients and operators; each once."""
-        said, made = {}, pipeline.Pipeline.all_made
-
-        async def all_made(own, statements):
-            for it in statements:
-                said.setdefault(it.sql, it)
-            return await made(own, statements)
-
-        async def go():
-            with mock.patch.object(pipeline.Pipeline, "all_made", all_made):
-                async with Runtime(app, self.url, idle=0, keep=3600.0) as one, Runtime(app, self.url, idle=0) as two:
-                    for it in (one, two):
-                        self.assertEqual(await it.call("Large/does", 4), 4)
-                    self.assertEqual(await one.call("Large/echoes", 1, idempotency_key="once"), 1)
-                    asked = await one.send("Flow/asks", None, "k")
-                    await one.until(asked, "suspended")
-                    await two.call("Flow/says", 7, "k")
-                    self.assertEqual(await one.result(asked), 7)
-                    await two.engine.transact(operate.by_status)
-
-        asyncio.run(go())
-        return said.values()
+        """The statements of a run, each once."""
+        return asyncio.run(recording.statements(self, self.url))
 
     def plans(self, statements):
         """The lines of each statement's plan."""
@@ -117,7 +52,7 @@ class Large(support.OnADatabase, unittest.TestCase):
         async def go():
             db = await connect(self.url)
             for it in statements:
-                if it.sql.split(b" ")[0] in (b"SELECT", b"INSERT", b"UPDATE", b"DELETE", b"WITH"):
+                if it.sql.startswith(recording.VERBS):
                     await db.begin()
                     result = await db._send(it._replace(sql=b"EXPLAIN " + it.sql, otherwise=None))
                     yield it.sql.decode(), [line for line, in await db._pipeline.rows(result)]
@@ -157,14 +92,6 @@ class Large(support.OnADatabase, unittest.TestCase):
             found = db.rows("SELECT indexname::text FROM pg_indexes WHERE schemaname=current_schema() AND tablename=ANY(?::text[])", (list(TABLES),))
         self.assertEqual(sorted(listed), sorted(name for name, in found))
 
-    def test_statements_that_touch_several_partitions(self):
-        """docs/SCALE.md lists those of the protocol that would, and what would name their place."""
-        listed = re.findall(r"^\| `([a-z-]+)` \| (`.*`) \| [a-z].* \|$", PAGE.read_text(), re.MULTILINE)
-        self.assertEqual(places.several(self.url), {name: re.findall(r"`(\w+)`", those) for name, those in listed})
-        [(several, count)] = re.findall(r"([0-9]+) of ([0-9]+) touch one partition of each table", PAGE.read_text())
-        names = {name for name, _ in places.statements()}
-        self.assertEqual((int(several), int(count)), (len(names) - len(listed), len(names)))
-
     def test_the_settings_of_autovacuum(self):
         """Those of docs/SCALE.md, as they stand there. A worker works beside them."""
         [block] = re.findall(r"^```sql\n(.*?)^```$", PAGE.read_text(), re.MULTILINE | re.DOTALL)
@@ -180,7 +107,7 @@ class Large(support.OnADatabase, unittest.TestCase):
                 self.addCleanup(self.change, f"ALTER TABLE {table} RESET ({', '.join(one.split('=')[0] for one in names.split(', '))})")
 
         async def go():
-            async with Runtime(app, self.url, idle=0) as runtime:
+            async with Runtime(recording.app, self.url, idle=0) as runtime:
                 self.assertEqual(await runtime.call("Large/does", 2), 2)
 
         asyncio.run(go())

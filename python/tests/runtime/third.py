@@ -132,7 +132,7 @@ class Third(Store):
         arrived = self.made("inbox", id=row[0])
         wakes = is_awake(row[4], [bytes(frame) for _, frame in arrived if not (row[5] and bytes(frame) == _CANCEL)])
         if not wakes:
-            self.made("seen", seqs=[seq for seq, _ in arrived])
+            self.made("seen", id=row[0], seqs=[seq for seq, _ in arrived])
         return wakes
 
     def _claim(self, id: str, epoch: int, exclusive: int, key: str, now: float) -> Attempt | None:
@@ -249,7 +249,7 @@ class Attempt:
         came = [(seq, bytes(frame)) for seq, frame in self.worker.made("inbox", id=self.id) if bytes(frame) != _CANCEL]
         if came:
             self._append([self.journal.arrive(frame) for _, frame in came], before, self.worker.now())
-            self.worker.made("delivered", seqs=[seq for seq, _ in came])
+            self.worker.made("delivered", id=self.id, seqs=[seq for seq, _ in came])
             if not self.worker.made("grow", id=self.id, epoch=self.epoch, entries=self.journal.entries, before=before):
                 raise Fenced(self.id)
         return [frame for _, frame in came]

@@ -198,7 +198,7 @@ class Claimer:
             inbox.complete(db, out, invocation, completes, journal.void())
             await turn.end()
         if due:
-            db.many("DELETE FROM timers WHERE seq=?", [(seq,) for _, seq, _, _ in due])
+            db.many("DELETE FROM timers WHERE invocation=? AND seq=?", [(invocation, seq) for _, seq, invocation, _ in due])
 
     def _of(self, db: Database, share: Share, now: float, most: int) -> list[Asked]:
         """Reads invocations of a share that can go on: those that are ready, and those that may be woken."""
@@ -270,7 +270,7 @@ class Claimer:
         """Those of them that their inbox wakes."""
         inboxes, turn, found = await db.several([inbox.peek(row[0], most=inbox.ALL) for row in rows]), Turn(), list[Any]()
         for (*row, suspension), arrived in zip(rows, inboxes):
-            if inbox.wakes(db, arrived, bytes(suspension), bool(Claimable(*row).shielded)):
+            if inbox.wakes(db, row[0], arrived, bytes(suspension), bool(Claimable(*row).shielded)):
                 found.append(tuple(row))
             await turn.end()
         return found

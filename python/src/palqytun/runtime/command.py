@@ -22,7 +22,7 @@ from typing import Any, TypeVar
 from palqytun._library import Library, library
 
 from . import acting, logs, operate, process, sealing, shown
-from .database import Conflict, Database, Lost, Unsuitable, connect
+from .database import Conflict, Database, Lost, Unsuitable, connect, partitions
 from .database.plain import Plain
 from .database.postgres import NoDriver
 from .database.schema import MIGRATIONS, NewerSchema, NotMigrated, OlderSchema
@@ -196,11 +196,11 @@ def _done(url: str, operation: Callable[[Database], Awaitable[T]]) -> T:
         return db.done(operation)
 
 
-def _stored(url: str, migrates: bool = False) -> Plain:
-    """A connection to a database that is there. With `migrates` it is moved to the newest schema."""
+def _stored(url: str, migrates: bool = False, parts: int = 0) -> Plain:
+    """A connection to a database that is there. With `migrates` it is moved to the newest schema, and with `parts` it gets so many partitions."""
     if "://" not in checked_url(url) and not pathlib.Path(url.removeprefix("sqlite:").partition("?")[0]).exists():
         raise Refused(f"there is no database {url}")
-    return Plain(url, functools.partial(connect, migrates=migrates))
+    return Plain(url, functools.partial(connect, migrates=migrates, parts=parts))
 
 
 def _filter(options: argparse.Namespace) -> Filter:
@@ -308,16 +308,23 @@ def migrate(options: argparse.Namespace) -> int:
     until = time.monotonic() + _MIGRATING
     while True:
         try:
-            with _stored(options.db, migrates=True) as db:
+            with _stored(options.db, migrates=True, parts=options.partitions) as db:
                 [(count,)] = db.rows("SELECT COUNT(*) FROM invocations WHERE status<>'done'")
-                was, now = db.db.before, len(MIGRATIONS)
+                was, now, divided = db.db.before, len(MIGRATIONS), _divided(db.db, options.partitions)
         except Conflict:  # each try waits a second for its locks, and others wait for these meanwhile
             if time.monotonic() > until:
                 raise
             time.sleep(1.0)
             continue
-        print(f"the database has schema version {now}{f', and had {was}' if was < now else ' already'}; {count} invocations haven't ended")
+        print(f"the database has schema version {now}{f', and had {was}' if was < now else ' already'}{divided}; {count} invocations haven't ended")
         return 0
+
+
+def _divided(db: Database, parts: int) -> str:
+    """What was asked for of partitions, and is there."""
+    copied = getattr(db, "copied", None)
+    how = " already" if copied is None else f", into which {copied} rows were copied" if copied else ""
+    return f"; it has {parts} partitions{how}" if parts else ""
 
 
 class _Version(argparse.Action):
@@ -347,7 +354,15 @@ def _count(text: str) -> int:
     return number
 
 
-_seconds.__name__, _count.__name__ = "number of seconds", "number from 1 on"  # argparse says so
+def _parts(text: str) -> int:
+    """A number of partitions."""
+    number = _count(text)
+    if number > partitions.MOST:
+        raise ValueError
+    return number
+
+
+_seconds.__name__, _count.__name__, _parts.__name__ = "number of seconds", "number from 1 on", f"number from 1 to {partitions.MOST}"  # argparse says so
 _APP = "FILE.py, FILE.py:NAME or MODULE:NAME; without a name it has to have one App"
 
 
@@ -448,7 +463,9 @@ def _parser() -> argparse.ArgumentParser:
     acting.schedule_options(add(commands, "schedules", schedules, said))
     acting.state_options(add(commands, "state", lambda options: acting.state(options, _done), "list, read, set and clear the states of keys"))
     acting.audit_options(add(commands, "audit", lambda options: acting.audited(options, _done), "who did what, the newest first"))
-    add(commands, "migrate", migrate, "move the database to this package's schema, with all that it holds; workers of the version before go on")
+    said = "move the database to this package's schema, with all that it holds; workers of the version before go on"
+    wanted = "PostgreSQL: divide each table of an invocation into so many, with all that it holds. No worker may be alive, and their number doesn't change later"
+    add(commands, "migrate", migrate, said).add_argument("--partitions", type=_parts, default=0, help=wanted)
     one = add(commands, "replay", replay, "does this code still make the stored journals? nothing is executed or stored")
     one.add_argument("app", help=_APP)
     one.add_argument("--status", choices=[it for it in STATUSES if it != "failed"], help="only of invocations with this status")

@@ -9,7 +9,7 @@ from collections.abc import Sequence
 from typing import Any
 
 from . import journal
-from .database import Asked, Database, Each, Listed, Reading
+from .database import Asked, Database, Each, Reading
 from .journal import Result
 from .lease import COMES, LOOKED_AT
 from .outcome import Outcome
@@ -26,9 +26,8 @@ _PUT = Each(
 _OWN = " AND EXISTS (SELECT 1 FROM invocations WHERE id=invocation AND epoch=? AND status='running')"
 _PEEK = "SELECT seq, frame FROM inbox WHERE invocation=?{} ORDER BY seq LIMIT ?"
 _ALL_OF, _ALL_OF_OWN = Reading(_PEEK.format(""), "text", "bigint"), Reading(_PEEK.format(_OWN), "text", "bigint", "bigint")
-_REMOVED = "DELETE FROM inbox WHERE seq=?"
-_SEEN = "UPDATE inbox SET fresh=0 WHERE seq=?"
-_REMOVED_TOGETHER, _SEEN_TOGETHER = (Listed(LOOKED_AT, it.replace("=?", "=ANY(?::bigint[])")) for it in (_REMOVED, _SEEN))
+_REMOVED = Each(LOOKED_AT, "DELETE FROM inbox{rows} WHERE invocation=? AND seq=?", "text", "bigint", by="USING")
+_SEEN = Each(LOOKED_AT, "UPDATE inbox SET fresh=0{rows} WHERE invocation=? AND seq=?", "text", "bigint")
 
 
 async def deliver(db: Database, out: Outcome, invocation: str, notification: bytes) -> bool:
@@ -59,33 +58,27 @@ def peek(invocation: str, epoch: int | None = None, most: int = MOST) -> Asked:
     return (_ALL_OF, (invocation, most)) if epoch is None else (_ALL_OF_OWN, (invocation, epoch, most))
 
 
-def remove(db: Database, rows: Sequence[tuple[Any, ...]]) -> None:
-    _each(db, _REMOVED, _REMOVED_TOGETHER, rows)
+def remove(db: Database, invocation: str, rows: Sequence[tuple[Any, ...]]) -> None:
+    for seq, _ in rows:
+        db.each(_REMOVED, (invocation, seq))
 
 
-def wakes(db: Database, rows: Sequence[tuple[Any, ...]], suspension: bytes, is_shielded: bool = False) -> bool:
+def wakes(db: Database, invocation: str, rows: Sequence[tuple[Any, ...]], suspension: bytes, is_shielded: bool = False) -> bool:
     """Whether what waits, as `peek` read it, wakes a suspended invocation; a cancellation doesn't wake one that is shielded. What was looked at in vain
     isn't looked at again, until something else comes."""
     frames = [bytes(frame) for _, frame in rows]
     if journal.is_awake(suspension, [it for it in frames if not (is_shielded and it == journal.cancellation())]):
         return True
-    seen(db, rows)
+    seen(db, invocation, rows)
     return False
 
 
-def seen(db: Database, rows: Sequence[tuple[Any, ...]]) -> None:
+def seen(db: Database, invocation: str, rows: Sequence[tuple[Any, ...]]) -> None:
     """These were looked at, and stay until something else comes."""
-    _each(db, _SEEN, _SEEN_TOGETHER, rows)
+    for seq, _ in rows:
+        db.each(_SEEN, (invocation, seq))
 
 
 async def is_cancelled(db: Database, invocation: str) -> bool:
     """Whether a cancellation waits for it."""
     return bool(await db.rows("SELECT 1 FROM inbox WHERE invocation=? AND frame=?", (invocation, journal.cancellation())))
-
-
-def _each(db: Database, one: str, many: Listed, rows: Sequence[tuple[Any, ...]]) -> None:
-    for seq, _ in rows:
-        if db.is_remote:
-            db.each(many, (seq,))
-        else:
-            db.put(one, (seq,))

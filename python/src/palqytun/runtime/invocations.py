@@ -152,13 +152,12 @@ async def attach(db: Database, growth: Growth, invocation: str | None, id: int) 
 
 
 _LAST = "(SELECT id FROM invocations WHERE chain=COALESCE((SELECT chain FROM invocations WHERE id=?), ?) ORDER BY seq DESC LIMIT 1)"
-NEWEST = f"COALESCE({_LAST}, ?)"
-"""The invocation that goes on instead of another one, or else that one. It is given the other's id three times."""
+_NEWEST = f"SELECT COALESCE((SELECT id FROM invocations WHERE id=? AND continued IS NULL), {_LAST}, ?)"
 
 
 async def newest(db: Database, id: str) -> str:
     """The invocation that goes on instead of this one, or else this one."""
-    return str((await db.rows(f"SELECT {NEWEST}", (id, id, id)))[0][0])
+    return str((await db.rows(_NEWEST, (id, id, id, id)))[0][0])
 
 
 def goes_over(frame: bytes) -> bool:
@@ -190,15 +189,16 @@ def waiters_of(invocation: str) -> Asked:
 
 
 _GONE = [("waiters", "invocation"), ("timers", "invocation"), ("inbox", "invocation"), ("waiters", "waiter"), ("promise_waiters", "waiter")]
-_DELETED = (f"deleted{at} AS (DELETE FROM {table} WHERE {column}=ANY((SELECT ids FROM gone)::text[]))" for at, (table, column) in enumerate(_GONE))
-_ALL_GONE = Listed(GONE, f"WITH gone(ids) AS (SELECT ?::text[]), {', '.join(_DELETED)} SELECT 1")
+# Each has the list itself: by that, and not by a query for it, the server knows which partitions it needs.
+_DELETED = (f"deleted{at} AS (DELETE FROM {table} WHERE {column}=ANY(?::text[]))" for at, (table, column) in enumerate(_GONE))
+_ALL_GONE = Listed(GONE, f"WITH {', '.join(_DELETED)} SELECT 1")
 _FREE = Each(FREE, "DELETE FROM locks{rows} WHERE service=? AND key=? AND holder=?", "text", "text", "text", by="USING")
 
 
 def leave_nothing(db: Database, invocation: str) -> None:
     """An invocation ends: it waits for nothing any more, and nobody for it."""
     if db.is_remote:
-        db.each(_ALL_GONE, (invocation,))
+        db.each(_ALL_GONE, (invocation,) * len(_GONE))
     else:
         for table, column in _GONE:
             db.put(f"DELETE FROM {table} WHERE {column}=?", (invocation,))
@@ -529,6 +529,6 @@ async def arrive(db: Database, growth: Growth, rows: Sequence[Sequence[Any]], wa
             growth.arrive(frame)
         taken.append((seq, frame))
         await turn.end()
-    inbox.remove(db, taken)
-    inbox.seen(db, left)
+    inbox.remove(db, growth.lease.invocation, taken)
+    inbox.seen(db, growth.lease.invocation, left)
     return cancel

@@ -69,14 +69,21 @@ async def purge(db: Database, older: float, most: int = 200) -> int:
     sql = f"SELECT id, service, key, exclusive, idem FROM invocations WHERE status='done' AND ended<? ORDER BY ended LIMIT ?{db.skip}"
     rows = await db.rows(sql, (db.now() - older, most))
     ids = [row[0] for row in rows]
+    if db.is_remote and ids:
+        db.put(_BY_INDEX)
     for table, column in _OF_INVOCATIONS if ids else ():
-        db.put(f"DELETE FROM {table} WHERE {column} IN ({','.join('?' * len(ids))})", ids)
+        if db.is_remote:
+            db.put(f"DELETE FROM {table} USING unnest(?::text[]) AS purged(v0) WHERE {column}=v0", (ids,))
+        else:
+            db.put(f"DELETE FROM {table} WHERE {column} IN ({','.join('?' * len(ids))})", ids)
     workflows = [(service, key) for _, service, key, exclusive, idem in rows if exclusive and idem == ""]
     for table in ("state", "promises"):
         db.many(f"DELETE FROM {table} WHERE service=? AND key=?", workflows)
     return len(rows)
 
 
+# Each invocation is looked for in its own partition. The planner doesn't know that it needs no other one, and would rather read the whole table.
+_BY_INDEX = "SELECT set_config(name, 'off', true) FROM (VALUES ('enable_hashjoin'), ('enable_mergejoin')) AS unwanted(name)"
 _OF_INVOCATIONS = (
     *((table, "invocation") for table in ("journal", "attempts", "transactions", "attributes", "progress")),
     ("invocations", "id"),

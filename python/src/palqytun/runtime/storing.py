@@ -96,7 +96,7 @@ async def _suspend(db: Database, out: Outcome, claim: Claim, growth: Growth, sus
     now = db.now()
     is_awake = (
         journal.is_awake(suspension.frame, [it.frame for it in growth.entries])
-        or inbox.wakes(db, arrived, suspension.frame, claim.is_shielded)
+        or inbox.wakes(db, claim.invocation, arrived, suspension.frame, claim.is_shielded)
         or len(arrived) == inbox.MOST
     )
     out.status = "ready" if is_awake else "suspended"

@@ -140,14 +140,17 @@ class Database(Protocol):
     def close(self) -> None: ...
 
 
-async def connect(url: str, *, worker: bool = False, migrates: bool = False) -> Database:
+async def connect(url: str, *, worker: bool = False, migrates: bool = False, parts: int = 0) -> Database:
     """`postgresql://..`, or the path of a SQLite file, which may be followed by `?synchronous=NORMAL`. `worker` says that this connection is
     that of a worker: a SQLite file has one at a time, and a PostgreSQL database has to let it write. With `migrates` a database of an older schema is
-    moved to the newest, and without it it raises `NotMigrated`; the worker of a SQLite file, which is its only one, always moves it."""
+    moved to the newest, and without it it raises `NotMigrated`; the worker of a SQLite file, which is its only one, always moves it. With
+    `parts` a PostgreSQL database gets so many partitions, with all that it holds; `Unsuitable` if it has another number of them, or a worker is alive."""
     if url.startswith(("postgres://", "postgresql://")):
         from .postgres import Postgres
 
-        return await Postgres.connected(url, worker=worker, migrates=migrates)
+        return await Postgres.connected(url, worker=worker, migrates=migrates, parts=parts)
+    if parts:
+        raise Unsuitable(f"only PostgreSQL has partitions, and {url} is a SQLite file")
     from .sqlite import SQLite
 
     path, _, option = url.removeprefix("sqlite:").partition("?synchronous=")

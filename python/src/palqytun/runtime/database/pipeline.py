@@ -28,7 +28,8 @@ _BLOB, _INT, _TEXT, _FLOAT, _BOOL, _UNKNOWN = 17, 20, 25, 701, 16, 0  # the serv
 _OFTEN, _PREPARED = 3, 500  # a statement is prepared the third time that it is made; and how many are, at most
 _IN_THE_WAY = frozenset(("40001", "40P01", "55P03", "57014", "25006", "58030"))
 _FULL = "53100"
-_TOO_LARGE = "53200"  # of class 53, insufficient resources, this one is for want of memory: by the statement's own size
+_TOO_LARGE = "53200"  # of class 53, insufficient resources, this one is for want of memory: by the statement's own size, except for locks
+_LOCKS = b"Lock"  # a function of the server's that takes locks has it in its name
 _READ = 200  # rows that are read in one step
 _DRAINING = 10.0  # seconds that statements which were given up may take to end
 _LOOK = 1.0  # seconds between two looks at a socket of which nothing is heard
@@ -243,7 +244,9 @@ class Pipeline:
         if state == _NONE_FOUND and of.otherwise is not None:
             return of.otherwise
         text = (result.error_field(DiagnosticField.MESSAGE_PRIMARY) or result.error_message).decode("utf-8", "replace").strip()
-        found = named_by(state.decode() if state else None, text)
+        is_of_locks = state == _TOO_LARGE.encode() and _LOCKS in (result.error_field(DiagnosticField.SOURCE_FUNCTION) or b"")
+        lacking = Conflict(f"{text}: the server has too few locks: set max_locks_per_transaction")
+        found = lacking if is_of_locks else named_by(state.decode() if state else None, text)
         return found if self._pg.status == ConnStatus.OK or isinstance(found, Lost) else Lost(text)
 
     async def rows(self, result: PGresult) -> list[tuple[Any, ...]]:

@@ -18,7 +18,7 @@ from collections.abc import Callable, Iterable, Sequence
 from dataclasses import dataclass, field
 from typing import TYPE_CHECKING, Any, NamedTuple
 
-from . import Asked, Claiming, Conflict, Each, Lost, Reading, StatementFailed, Unsuitable
+from . import Asked, Claiming, Conflict, Each, Lost, Reading, StatementFailed, Unsuitable, partitions
 from .schema import MIGRATIONS, TABLES, VERSIONS, failed, missing
 
 if TYPE_CHECKING:
@@ -209,15 +209,17 @@ class Postgres:
         self._queue: list[Statement] = []
         self._each: dict[Each | int, list[_Row]] = {}  # changes that aren't in the queue yet, by their shape or by their rank alone
         self.before = len(MIGRATIONS)
+        self.copied: int | None = None  # rows that were copied into partitions, if this connection has made these
 
     @staticmethod
-    async def connected(url: str, *, worker: bool = False, migrates: bool = False) -> Postgres:
-        """A connection to a database of the newest version. A worker has to write there. `migrates`: an older one is moved."""
+    async def connected(url: str, *, worker: bool = False, migrates: bool = False, parts: int = 0) -> Postgres:
+        """A connection to a database of the newest version. A worker has to write there. `migrates`: an older one is moved. With `parts` it gets so many
+        partitions, if it has none."""
         server = _Server(url)
         found = Postgres(server, await server.session())
         try:
             await found._check(worker)
-            await found._migrate(migrates)
+            await found._migrate(migrates, parts)
             if worker:
                 await found._check_rights()
             asked = time.monotonic()
@@ -254,15 +256,16 @@ class Postgres:
 
     async def _check_rights(self) -> None:
         """Refuses a user who may not change the tables: each claim would fail."""
-        if lacks := await self.rows(_LACKING, (list(TABLES),)):
+        if lacks := await self.rows(_LACKING, ([*TABLES, partitions.IDEMPOTENCY],)):
             table, rights = lacks[0]
             [(user,)] = await self.rows("SELECT current_user::text")
             text = f"the user {user} has no {rights} on {table}{f', and lacks rights on {len(lacks) - 1} more tables' if len(lacks) > 1 else ''}"
             raise Unsuitable(f"{text}: a worker's user owns the tables, or has {', '.join(_RIGHTS)} on all of them and USAGE on their sequences")
 
-    async def _migrate(self, migrates: bool) -> None:
+    async def _migrate(self, migrates: bool, parts: int) -> None:
         self.before = await self._version()
-        if not missing(self.before, migrates):
+        lacks_parts = parts > 0 and await partitions.lacks(self, parts)
+        if not missing(self.before, migrates) and not lacks_parts:
             return
         await self.begin()
         await self.rows("SELECT pg_advisory_xact_lock(?)", (_MIGRATING,))
@@ -274,6 +277,8 @@ class Postgres:
             for it in statements.format(**_TYPES).split(";\n"):
                 self.put(it)
             self.put("INSERT INTO schema_versions VALUES (?)", (version,))
+        if there := await partitions.count(self) or parts:
+            self.copied = await partitions.divide(self, there)
         await self.commit()
 
     async def _make_schema(self) -> None:

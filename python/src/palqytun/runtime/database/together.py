@@ -39,7 +39,7 @@ class Each:
 
 
 class Listed(Each):
-    """A change that a list of values makes, on a server also if there is one: `sql` has one `?::TYPE[]`."""
+    """A change that a list for each value makes, on a server also if there is one row: `sql` has a `?::TYPE[]` for each."""
 
     def __init__(self, rank: int, sql: str):
         self.rank, self.one, self.many = rank, "", sql
