@@ -277,9 +277,14 @@ class Postgres:
             for it in statements.format(**_TYPES).split(";\n"):
                 self.put(it)
             self.put("INSERT INTO schema_versions VALUES (?)", (version,))
-        if there := await partitions.count(self) or parts:
-            self.copied = await partitions.divide(self, there)
-        await self.commit()
+        try:
+            if there := await partitions.count(self) or parts:
+                self.copied = await partitions.divide(self, there)
+            await self.commit()
+        except StatementFailed as error:
+            if not lacks_parts or error.code == "42501":
+                raise
+            raise Unsuitable(f"the database gets no partitions: {error}") from error  # as of a view of the user's on a table
 
     async def _make_schema(self) -> None:
         """Makes the schema of the tables, if nobody names another place and the user may; else they are made where the path leads."""
