@@ -40,6 +40,13 @@ def measured(package: pathlib.Path, url: str, workers: int, name: str, scale: fl
     return found
 
 
+def calls_by(package: pathlib.Path) -> str:
+    """How a version calls the core: by the module in C, if it is built (`build_extension.py`), or by ctypes, as versions without such a module do."""
+    asks = "from palqytun import _library; print(getattr(_library, 'implementation', 'ctypes'))"
+    environment = {**os.environ, "PYTHONPATH": str(package)}
+    return subprocess.run([sys.executable, "-c", asks], env=environment, stdout=subprocess.PIPE, check=True, text=True).stdout.strip()
+
+
 def database(cluster: str, name: str) -> str:
     """A new database of the cluster: each version has its own, as their tables differ."""
     import psycopg
@@ -129,7 +136,8 @@ def main() -> None:
                     print(name, version, *place, json.dumps({what: round(it, 3) for what, it in cell.items()}), file=sys.stderr, flush=True)
     loads = f"a load of {load:.0f} at its begin and {os.getloadavg()[0]:.0f} at its end"
     head = f"{time.strftime('%Y-%m-%d %H:%M', time.gmtime())} UTC, {processor()}, {os.cpu_count()} processors, {loads}, Python {sys.version.split()[0]},"
-    text = "\n".join([f"{head} `--scale {asked.scale:g}`.", "", *tables(found, places)])
+    core = ", ".join(f"{calls_by(package)}{version and f' {version}'}" for version, package in versions.items())
+    text = "\n".join([f"{head} `--scale {asked.scale:g}`. The core is called by {core}.", "", *tables(found, places)])
     print(text)
     if asked.write:
         write(text)
