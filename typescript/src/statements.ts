@@ -53,7 +53,7 @@ export const STATEMENTS = {
     { text: "UPDATE invocations SET status='done', ended=$1::float8, stopped=$1::float8, how='refused', result=$2::bytea, failed=$3::integer, error=$4::text WHERE id=$5::text", names: ["now", "result", "failed", "error", "id"] },
   ],
   'next': [
-    { text: "SELECT MIN(due) FROM (SELECT MIN(due) AS due FROM timers WHERE due>$1::float8 UNION ALL SELECT MIN(due) AS due FROM invocations WHERE status='ready' AND due>$1::float8) AS next", names: ["now"] },
+    { text: "SELECT MIN(due) FROM (SELECT due FROM (SELECT due FROM timers WHERE due>$1::float8 ORDER BY due LIMIT 1) AS timer UNION ALL SELECT due FROM (SELECT due FROM invocations WHERE status='ready' AND due>$1::float8 ORDER BY due LIMIT 1) AS ready) AS next", names: ["now"] },
   ],
   'timers': [
     { text: "DELETE FROM timers WHERE seq IN (SELECT seq FROM timers WHERE due<=$1::float8 ORDER BY due LIMIT 1000 FOR UPDATE SKIP LOCKED) RETURNING invocation, completes, due", names: ["now"] },

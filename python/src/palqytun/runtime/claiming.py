@@ -292,9 +292,9 @@ class Claimer:
 
     @staticmethod
     def _next(db: Database, now: float) -> Asked:
-        """Reads when something is due next, and the database's time."""
+        """Reads when something is due next, and the database's time. To plan a `MIN` over partitions takes a server many times as long as these."""
         sql = (
-            f"SELECT MIN(due), {db.clock} FROM (SELECT MIN(due) AS due FROM timers WHERE due>?"
-            f" UNION ALL SELECT MIN(due) AS due FROM invocations WHERE status='ready' AND due>?{deadlines.NEXT}) AS next"
+            f"SELECT MIN(due), {db.clock} FROM (SELECT due FROM (SELECT due FROM timers WHERE due>? ORDER BY due LIMIT 1) AS timer"
+            f" UNION ALL SELECT due FROM (SELECT due FROM invocations WHERE status='ready' AND due>? ORDER BY due LIMIT 1) AS ready{deadlines.NEXT}) AS next"
         )
         return sql, (now, now, now, now)

@@ -24,8 +24,8 @@ def late(db: Database, now: float) -> tuple[Asked, Asked]:
 
 
 NEXT = (
-    " UNION ALL SELECT MIN(deadline) AS due FROM invocations WHERE deadline>? AND status<>'done'"
-    " UNION ALL SELECT MIN(expires) AS due FROM invocations WHERE expires>? AND status='ready' AND epoch=0"
+    " UNION ALL SELECT due FROM (SELECT deadline AS due FROM invocations WHERE deadline>? AND status<>'done' ORDER BY deadline LIMIT 1) AS late"
+    " UNION ALL SELECT due FROM (SELECT expires AS due FROM invocations WHERE expires>? AND status='ready' AND epoch=0 ORDER BY expires LIMIT 1) AS unbegun"
 )
 """Reads when the next ones are due, beside what else is due next. It is given the time twice."""
 
