@@ -12,6 +12,7 @@ export const {
   ObjectContext,
   OutsideHandler,
   PROTOCOL_VERSION,
+  Queue,
   Random,
   Sent,
   ServiceContext,

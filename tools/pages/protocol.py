@@ -18,11 +18,11 @@ _TYPES = {
     "bytea": "frame value result suspension",
     "bigint": "seed epoch before at completes entries",
     "integer": "exclusive priority most shielded failed retries failures",
-    "float8": "lease now due deadline expires failing_since failed_since",
-    "text[]": "handlers ids",
+    "float8": "lease since now due deadline expires failing_since failed_since",
+    "text[]": "handlers ids paths",
     "bigint[]": "seqs places completions",
     "bytea[]": "frames",
-    "text": "worker code serves id service handler key idem parent trace queue queue_key invocation name status error how chain next channel word said",
+    "text": "worker code serves id service handler key idem parent trace queue queue_key invocation name status error how chain next channel word said path limits first last",
 }
 _TYPE_OF = {name: kind for kind, names in _TYPES.items() for name in names.split()}
 

@@ -43,6 +43,11 @@ class WithoutEnd extends Error {
   override readonly name = 'WithoutEnd';
 }
 
+/** The attempt took longer than it may. */
+class AttemptTimedOut extends Error {
+  override readonly name = 'TimeoutError';
+}
+
 /** The worker stops, and the attempt has more to do: the next worker goes on with it. */
 class Released extends Error {
   override readonly name = 'Released';
@@ -70,9 +75,12 @@ export class Attempt {
   #ending: Ending;
   #ring: () => void = () => undefined;
   readonly #aborts = new Set<AbortController>();
+  readonly #begun = performance.now();
+  readonly #most: number | undefined; // milliseconds that it may take
 
   constructor(private readonly host: Host, readonly claim: Claim) {
     this.#vm = new VM(contentType(VM_VERSION), { awaitingOnPolicy: 'dontSend', journalMismatchRetryBehavior: 'pause' });
+    this.#most = claim.services.get(claim.service)?.handlers.get(claim.handler)?.attemptTimeout;
   }
 
   /** Something came for the invocation. */
@@ -252,6 +260,10 @@ export class Attempt {
       if (it.kind === 'cancelSignalReceived') return 'cancelled';
       if (it.kind === 'executeRun') this.#begin(it.handle, context, true);
       if (this.host.drains && this.#executing.size === 0 && it.kind === 'executeRun') throw new Released();
+      if (this.#isLate()) {
+        this.#fails(new AttemptTimedOut(`the attempt took longer than its attemptTimeout of ${this.#most} ms`));
+        return 'over';
+      }
       await this.#progress(context);
     }
   }
@@ -312,7 +324,17 @@ export class Attempt {
     if (this.#isPoked) return this.#pull();
     const patience = this.host.patience;
     if (this.#executing.size === 0 && patience <= 0) return this.#vm.notifyInputClosed();
-    await this.#wait(this.#executing.size > 0 ? undefined : patience, context);
+    await this.#wait(this.#executing.size > 0 ? this.#left : Math.min(patience, this.#left ?? Infinity), context);
+  }
+
+  /** How many milliseconds the attempt may still take; undefined if there is no limit. */
+  get #left(): number | undefined {
+    return this.#most === undefined ? undefined : Math.max(0, this.#begun + this.#most - performance.now());
+  }
+
+  /** Whether it has taken its time, and executes runs. One that only waits is suspended after its patience, so it takes nothing. */
+  #isLate(): boolean {
+    return this.#left === 0 && this.#executing.size > 0 && this.#executed.length === 0;
   }
 
   /** Until a run has a result, which is stored, or something comes, or patience is over. */

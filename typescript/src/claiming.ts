@@ -1,13 +1,17 @@
 /** The transactions of a worker beside its attempts: it enters, timers fire, and invocations that can go on are claimed. */
 
 import { Journal, StatusError, frames } from 'palqytun';
+import { endLate } from './deadlines';
 import { deliver } from './delivery';
 import { storable } from './errors';
 import { VOID, failure, patchesIn, startFrame } from './frames';
 import { traceOf } from './hash';
 import type { Event } from './notes';
+import { Room, again, first, handlersOf, pathOf, queuesOf } from './queueing';
+import type { Queued } from './queueing';
+import type { Queue } from './queues';
 import { ATTEMPTS } from './services';
-import type { About } from './services';
+import type { About, AnyHandler } from './services';
 import { arrivals, endUnbegun, moves, wakes } from './storing';
 import type { Claim } from './storing';
 import type { Statements } from './tables';
@@ -57,29 +61,101 @@ export interface Asked {
   readonly hasCome: boolean;
 }
 
-/** Fires the timers that are due, and claims at most `room` invocations that can go on; `live` are those that have an attempt here. */
-export async function look(to: Statements, claimer: Claimer, asked: Asked, live: ReadonlySet<string>, room: number): Promise<Look> {
-  const found: Look = { claims: [], hasMore: false, nextDue: null, lags: [], delays: [], servesMore: false };
-  if (asked.isWhole) found.servesMore = await serves(to, claimer.services);
-  if (asked.isDue) await fires(to, found);
-  for (const it of claimer.services.values()) {
-    const own = { service: it.name, handlers: [...it.handlers.keys()], code: claimer.code };
-    const left = (): number => room - found.claims.length;
-    const most = left();
-    if (most <= 0) break;
-    const suspended = asked.hasCome || found.lags.length > 0 ? await to.rows('suspended', { ...own, most }) : [];
-    for (const row of suspended) {
-      const inbox = await to.rows('inbox', { id: row[0] });
-      if (wakes(row[4] as Uint8Array, inbox.map((one) => one[1] as Uint8Array), row[5] === 1)) await claims(to, claimer, it, row, found, live, false);
-      else if (inbox.length > 0) await to.change('seen', { id: row[0], seqs: inbox.map(([seq]) => seq) });
+/** A look, as it goes on. */
+class Looking {
+  readonly found: Look = { claims: [], hasMore: false, nextDue: null, lags: [], delays: [], servesMore: false };
+
+  constructor(readonly to: Statements, readonly claimer: Claimer, private readonly asked: Asked, private readonly live: ReadonlySet<string>, private readonly room: number) {}
+
+  /** How many may be claimed yet. */
+  get left(): number {
+    return this.room - this.found.claims.length;
+  }
+
+  /** Whether something may have come for suspended ones. */
+  get hasCome(): boolean {
+    return this.asked.hasCome || this.found.lags.length > 0;
+  }
+
+  async claims(service: string, row: Row, isReady: boolean): Promise<void> {
+    const about = this.claimer.services.get(service);
+    if (about !== undefined) await claims(this.to, this.claimer, about, row, this.found, this.live, isReady);
+  }
+
+  /** Those of one service, of handlers without a queue, of which so many may begin. */
+  async ofHandlers(service: string, handlers: readonly string[], most: number): Promise<void> {
+    const { to, found } = this;
+    const own = { service, handlers, code: this.claimer.code };
+    const before = found.claims.length;
+    const left = (): number => Math.min(this.left, most - (found.claims.length - before));
+    if (handlers.length === 0 || left() <= 0) return;
+    for (const row of this.hasCome ? await to.rows('suspended', { ...own, most: left() }) : []) {
+      if (await this.isWoken(row[0], row[4], row[5])) await this.claims(service, row, false);
     }
     const ready = left() > 0 ? await to.rows('ready', { ...own, now: to.now, most: left() }) : [];
-    for (const row of ready) await claims(to, claimer, it, row, found, live, true);
-    found.hasMore ||= ready.length > 0 && left() <= 0;
-    const orphaned = asked.isWhole && left() > 0 ? await to.rows('orphaned', { ...own, most: left() }) : [];
-    for (const row of orphaned) if (!live.has(String(row[0])) && (await mayGoOn(to, claimer, it.name, row))) await claims(to, claimer, it, row, found, live, false);
+    for (const row of ready) await this.claims(service, row, true);
+    found.hasMore ||= ready.length > 0 && this.left <= 0;
   }
-  if (asked.isDue) found.nextDue = ((await to.rows('next', { now: to.now }))[0]?.[0] ?? null) as number | null;
+
+  /** Those of a handler that has a limit. Its row is kept until the commit, so two workers don't count at one time. */
+  async limited({ service, name: handler, limit = 0 }: AnyHandler): Promise<void> {
+    if (this.left <= 0) return;
+    const [running] = (await this.to.rows('running', { path: `${service}/${handler}`, service, handler }))[0] as [number];
+    await this.ofHandlers(service, [handler], limit - Number(running));
+  }
+
+  async queued(queue: Queue): Promise<void> {
+    if (this.left <= 0) return;
+    const { to, found, claimer } = this;
+    const it = await Room.of(to, queue, claimer.worker, this.left);
+    const own = { worker: claimer.worker, code: claimer.code, paths: handlersOf(claimer.services).map(pathOf) };
+    const suspended = this.hasCome && it.free > 0 ? await to.rows('queue-suspended', { queue: queue.name, ...own, most: it.free }) : [];
+    for (const row of suspended as unknown as readonly Queued[]) {
+      if ((await this.isWoken(row[0], row[6], row[7])) && it.takes(row[5], false)) await this.claims(row[4], row, false);
+    }
+    for (const row of await again(to, it, own)) await this.claims(row[4], row, true);
+    const begins = await first(to, it, own);
+    for (const row of begins.rows) await this.claims(row[4], row, true);
+    found.hasMore ||= begins.hasMore;
+    if (it.later !== null) found.nextDue = Math.min(it.later, found.nextDue ?? Infinity);
+  }
+
+  /** Whether its inbox wakes a suspended one. One that it doesn't wake isn't looked at again for that. */
+  async isWoken(id: unknown, suspension: unknown, shielded: unknown): Promise<boolean> {
+    const inbox = await this.to.rows('inbox', { id });
+    if (wakes(suspension as Uint8Array, inbox.map((one) => one[1] as Uint8Array), shielded === 1)) return true;
+    if (inbox.length > 0) await this.to.change('seen', { id, seqs: inbox.map(([seq]) => seq) });
+    return false;
+  }
+
+  /** Those whose worker isn't alive. They are counted as running already, so no limit keeps them out. */
+  async orphaned({ name: service, handlers }: About): Promise<void> {
+    if (this.left <= 0) return;
+    const rows = await this.to.rows('orphaned', { service, handlers: [...handlers.keys()], code: this.claimer.code, most: this.left });
+    for (const row of rows) {
+      if (!this.live.has(String(row[0])) && (await mayGoOn(this.to, this.claimer, service, row))) await this.claims(service, row, false);
+    }
+  }
+}
+
+/** Fires the timers that are due, and claims at most `room` invocations that can go on; `live` are those that have an attempt here. */
+export async function look(to: Statements, claimer: Claimer, asked: Asked, live: ReadonlySet<string>, room: number): Promise<Look> {
+  const it = new Looking(to, claimer, asked, live, room);
+  const { found } = it;
+  const handlers = handlersOf(claimer.services);
+  if (asked.isWhole) found.servesMore = await serves(to, claimer.services);
+  if (asked.isDue) await fires(to, found);
+  if (asked.isDue) await endLate(to);
+  for (const about of claimer.services.values()) {
+    const own = [...about.handlers.values()].filter((one) => one.limit === undefined && one.queue === undefined);
+    await it.ofHandlers(about.name, own.map((one) => one.name), Infinity);
+  }
+  const limited = handlers.filter((one) => one.limit !== undefined);
+  for (const one of limited.sort((first, second) => (pathOf(first) < pathOf(second) ? -1 : 1))) await it.limited(one);
+  for (const queue of queuesOf(claimer.services)) await it.queued(queue);
+  if (asked.isWhole) for (const about of claimer.services.values()) await it.orphaned(about);
+  const next = asked.isDue ? (((await to.rows('next', { now: to.now }))[0]?.[0] ?? null) as number | null) : null;
+  if (next !== null) found.nextDue = Math.min(next, found.nextDue ?? Infinity);
   return found;
 }
 
@@ -118,6 +194,8 @@ async function claims(to: Statements, claimer: Claimer, about: About, row: Row, 
     return;
   }
   found.claims.push(claim);
+  const { queue } = about.handlers.get(claim.handler) ?? {};
+  if (epoch === 0 && queue?.rate !== undefined) await to.change('started', { queue: queue.name, now: to.now });
   if (isReady) found.delays.push([claim, to.now - (lease[13] as number)]);
 }
 
@@ -135,6 +213,7 @@ async function loaded(to: Statements, claimer: Claimer, about: About, id: string
     number, string,
   ]; // prettier-ignore
   const journal = new Journal();
+  const known = about.handlers.get(handler);
   try {
     const stored = (await to.rows('journal', { id })).map(([frame]) => frame as Uint8Array);
     for (const frame of stored) journal.entry(frame);
@@ -149,7 +228,8 @@ async function loaded(to: Statements, claimer: Claimer, about: About, id: string
     const start = startFrame({ id, key, seed: BigInt(seed), known: all.length, state, partial, retries, failing, idempotencyKey: idem || null });
     return {
       id, epoch, service: about.name, handler, key, exclusive: exclusive === 1, services: claimer.services, trace: traceOf(id, trace).header,
-      begun: to.now, created, retry: about.handlers.get(handler)?.retry ?? ATTEMPTS, journal, fed: Buffer.concat([start, ...all]), patches: patchesIn(all),
+      begun: to.now, created, retry: known?.retry ?? ATTEMPTS,
+      isLimited: known?.limit !== undefined || known?.queue !== undefined, journal, fed: Buffer.concat([start, ...all]), patches: patchesIn(all),
       counters: { retries, failingSince, failures, failedSince },
       wasCancelled: cancelled !== null, cancelWaits: came.cancel === 'waits', isShielded: shielded === 1, byRun: false,
     }; // prettier-ignore

@@ -10,6 +10,8 @@ import { CANCEL, VOID, awakeableOf, failure, failureIn, valueIn } from './frames
 import { create } from './invocations';
 import { Log } from './log';
 import { Postgres } from './postgres';
+import { withQueue } from './queues';
+import type { Queued } from './queues';
 import { servicesOf } from './services';
 import type { About, AnyService, Fixed, Handler } from './services';
 import { PAYLOAD, checkName, checkPayload, decoded, encoded } from './values';
@@ -24,7 +26,7 @@ export interface ClientOptions {
   payload?: number;
 }
 
-export interface ClientCall {
+export interface ClientCall extends Queued {
   key?: string;
   idempotencyKey?: string;
   headers?: Readonly<Record<string, string>>;
@@ -99,7 +101,7 @@ export class Client {
     const { id } = await this.db.transact((to) =>
       create(to, this.services, {
         ...this.named(), service, handler, key: options.key ?? '',
-        argument: data, headers: Object.entries(options.headers ?? {}), idempotencyKey: options.idempotencyKey ?? null,
+        argument: data, headers: withQueue(options.headers, options), idempotencyKey: options.idempotencyKey ?? null,
         due: options.delay === undefined ? null : to.now + options.delay / 1000, parent: null, trace: options.headers?.['traceparent'] ?? null,
       }),
     ); // prettier-ignore

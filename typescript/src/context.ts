@@ -8,6 +8,8 @@ import { AttemptEnds, BadValue, ContinuedAsNew, OutsideHandler, TerminalError, T
 import type { Trace } from './hash';
 import type { Fields, Level, Log } from './log';
 import { Random } from './random';
+import { withQueue } from './queues';
+import type { Queued } from './queues';
 import { JITTER, checkRetry } from './services';
 import type { Fixed, Handler, Retry } from './services';
 import { attributeOf, checkName, decoded, encoded } from './values';
@@ -29,7 +31,7 @@ export interface RunOptions<T> {
   gives?: Parse<T>;
 }
 
-export interface CallOptions {
+export interface CallOptions extends Queued {
   key?: string;
   idempotencyKey?: string;
   headers?: Readonly<Record<string, string>>;
@@ -433,7 +435,7 @@ export class Context implements Scope {
     const [service, handler] = typeof callee === 'string' ? parts(callee) : [callee.service, callee.name];
     if (options.key !== undefined) checkName('the key', options.key);
     if (options.idempotencyKey !== undefined) checkName('the idempotency key', options.idempotencyKey);
-    const headers: Pair[] = Object.entries(options.headers ?? {});
+    const headers: Pair[] = withQueue(options.headers, options);
     const key = options.key === undefined ? {} : { key: options.key };
     return { service, handler, headers, ...key, ...(options.idempotencyKey === undefined ? {} : { idempotencyKey: options.idempotencyKey }) };
   }

@@ -124,6 +124,7 @@ export class Transaction implements Statements, Committed {
   readonly #words = new Set<string>();
   readonly #touched = new Set<string>();
   readonly endings = new Map<string, Ended>();
+  readonly stopped = new Set<string>();
   readonly notes: Note[] = [];
 
   /** When something is due first that this transaction has made. */
@@ -155,6 +156,10 @@ export class Transaction implements Statements, Committed {
     this.endings.set(invocation, it);
   }
 
+  stops(invocation: string): void {
+    this.stopped.add(invocation);
+  }
+
   note(it: Note): void {
     this.notes.push(it);
   }
@@ -173,7 +178,8 @@ export class Transaction implements Statements, Committed {
       const all = [...names].sort();
       return Array.from({ length: Math.ceil(all.length / AT_ONCE) }, (_, at) => all.slice(at * AT_ONCE, (at + 1) * AT_ONCE));
     };
-    const words = [...this.#words, ...some(this.endings.keys()).map((ids) => `ended ${ids.join(' ')}`)];
+    const said = (what: string, ids: Iterable<string>): string[] => some(ids).map((those) => `${what} ${those.join(' ')}`);
+    const words = [...this.#words, ...said('stopped', this.stopped), ...said('ended', this.endings.keys())];
     for (const word of words) await this.rows('notify', { channel: CHANNEL, word });
     for (const ids of some(this.#touched)) await this.rows('tell', { ids });
   }

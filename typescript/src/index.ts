@@ -8,6 +8,8 @@ export { Call, Durable, all, allSettled, any, race, select } from './durable';
 export { BadValue, Cancelled, NotDurable, OutsideHandler, TerminalError, TimedOut, Unsuitable } from './errors';
 export { Log } from './log';
 export type { Fields, Level, LogOptions } from './log';
+export { Queue } from './queues';
+export type { QueueOptions } from './queues';
 export { Random } from './random';
 export { serve } from './serve';
 export type { ServeOptions } from './serve';

@@ -2,7 +2,9 @@
 
 import { TerminalError } from './errors';
 import { inputCommand } from './frames';
+import { queuedBy } from './queues';
 import { checkSame } from './repeated';
+import { timesOf } from './services';
 import type { About } from './services';
 import type { Statements } from './tables';
 import { checkName } from './values';
@@ -47,7 +49,7 @@ export function ownTarget(own: ReadonlyMap<string, About>, service: string, hand
   const it = own.get(service);
   const known = it?.handlers.get(handler);
   if (it === undefined || known === undefined) return undefined;
-  return { keyed: it.keyed, exclusive: known.exclusive, isMain: it.workflow && known.exclusive, times: [null, null], queue: null };
+  return { keyed: it.keyed, exclusive: known.exclusive, isMain: it.workflow && known.exclusive, times: timesOf(known), queue: known.queue?.name ?? null };
 }
 
 async function targetOf(to: Statements, own: ReadonlyMap<string, About>, service: string, handler: string): Promise<Target> {
@@ -61,15 +63,6 @@ async function targetOf(to: Statements, own: ReadonlyMap<string, About>, service
     return { keyed: said.keyed, exclusive, isMain: said.workflow && exclusive, ...more };
   }
   throw new TerminalError(`there is no handler ${service}/${handler}, of this app or of a worker that is alive`, 404);
-}
-
-/** The priority and the queue key of an invocation, by its headers. Throws a `TerminalError` with code 400 for what is none. */
-export function queuedBy(headers: New['headers'], key: string): { queue_key: string; priority: number } {
-  const found = new Map(headers);
-  const [queueKey, text] = [found.get('palqytun-queue-key') ?? key, found.get('palqytun-priority') ?? '0'];
-  checkName('the queue key', queueKey);
-  if (!/^[-+]?\d{1,4}$/.test(text) || Math.abs(Number(text)) > 1000) throw new TerminalError(`the priority is '${text.slice(0, 40)}', and it is a whole number from -1000 to 1000`, 400);
-  return { queue_key: queueKey, priority: Number(text) };
 }
 
 /** Until when an invocation that is due then has to have ended, and to have begun, in seconds since the epoch. */

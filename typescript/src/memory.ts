@@ -34,6 +34,13 @@ interface Given {
   readonly deadline: number | null;
   readonly expires: number | null;
   readonly queue: string | null;
+  readonly queue_key: string | null;
+  readonly priority: number;
+  readonly limits: string;
+  readonly paths: readonly string[];
+  readonly since: number;
+  readonly first: string;
+  readonly last: string;
   readonly chain: string;
   readonly frame: Uint8Array;
   readonly frames: readonly Uint8Array[];
@@ -87,11 +94,17 @@ interface Invocation {
   readonly chain: string | null;
   readonly continued: string | null;
   readonly unserved: boolean;
+  readonly queue: string | null;
+  readonly queue_key: string | null;
+  readonly priority: number;
+  readonly deadline: number | null;
+  readonly expires: number | null;
 }
 
 const ANEW = {
   status: 'ready', epoch: 0, entries: 1, worker: null, code: null, suspension: null, shielded: 0, cancelled: null, result: null, failed: null, error: null,
   retries: 0, failing_since: null, failures: 0, failed_since: null, deaths: 0, chain: null, continued: null, unserved: false,
+  deadline: null, expires: null,
 } as const; // prettier-ignore
 const PROGRESS = { retries: 0, failing_since: null, failures: 0, failed_since: null, deaths: 0 } as const;
 
@@ -155,6 +168,8 @@ export class Tables {
   readonly promiseWaiters = new Table<Waiter>(this.undo);
   readonly locks = new Table<string>(this.undo);
   readonly workers = new Table<string>(this.undo);
+  readonly queues = new Table<{ readonly limits: string; readonly last: string | null }>(this.undo);
+  readonly starts = new Table<{ readonly queue: string; readonly at: number }>(this.undo);
   readonly attributes = new Table<readonly [invocation: string, name: string, value: string]>(this.undo);
   #numbers = 0;
 
@@ -173,7 +188,26 @@ export class Tables {
 
   /** Those of one service that a worker may claim, by their status. */
   candidates(it: Given, status: Status): Invocation[] {
-    return this.invocations.where((one) => one.status === status && one.service === it.service && it.handlers.includes(one.handler) && (one.code === null || one.code === it.code));
+    return this.invocations.where((one) => one.status === status && one.service === it.service && it.handlers.includes(one.handler) && isOf(it, one));
+  }
+
+  /** Those of a queue. */
+  queued(it: Given, status: Status): Invocation[] {
+    return this.invocations.where((one) => one.status === status && one.queue === it.queue && it.paths.includes(`${one.service}/${one.handler}`) && isOf(it, one));
+  }
+
+  /** Those that can go on now, as far as their time and key say. */
+  free(rows: Invocation[], now: number): Invocation[] {
+    return byDue(rows.filter((one) => one.due <= now && this.mayHaveKey(one)));
+  }
+
+  /** When the rate of its queue lets one begin: now, if it lets it. */
+  mayBeginAt(it: Invocation, now: number): number {
+    const limits = this.queues.get(it.queue ?? '')?.limits;
+    const rate = limits === undefined ? undefined : (JSON.parse(limits) as { rate?: [number, number] }).rate;
+    if (rate === undefined || it.epoch > 0) return now;
+    const begun = this.starts.where((one) => one.queue === it.queue && one.at > now - rate[1]).map((one) => one.at);
+    return begun.length < rate[0] ? now : Math.min(...begun) + rate[1];
   }
 
   /** Whether one may have its key: it holds it, or nobody does and it is the first of those that wait. */
@@ -185,11 +219,34 @@ export class Tables {
     return rivals.every((one) => one.due > it.due || (one.due === it.due && one.seq >= it.seq));
   }
 
+  /** Whether its time is over: to end, or to begin. */
+  isLate({ status, epoch, deadline, expires }: Invocation, now: number): boolean {
+    const hasNotEnded = deadline !== null && deadline <= now && status !== 'done';
+    return hasNotEnded || (expires !== null && expires <= now && status === 'ready' && epoch === 0);
+  }
+
+  /** For whom something has come. */
+  reached(): Set<string> {
+    return new Set(this.inbox.where((it) => it.fresh).map((it) => it.invocation));
+  }
+
+  /** When something is due, without the rates of queues. */
+  times(): number[] {
+    const open = this.invocations.where((it) => it.status !== 'done');
+    const ready = open.filter((it) => it.status === 'ready');
+    const limits = [...open.map((it) => it.deadline), ...ready.filter((it) => it.epoch === 0).map((it) => it.expires)];
+    return [...this.timers.where().map((it) => it.due), ...ready.map((it) => it.due), ...limits.filter((it): it is number => it !== null)];
+  }
+
   /** The newest of those that go on one after the other. */
   newest(id: string): string {
     const chain = this.invocations.get(id)?.chain ?? id;
     return inOrder(this.invocations.where((it) => it.chain === chain)).pop()?.id ?? id;
   }
+}
+
+function isOf(it: Given, one: Invocation): boolean {
+  return one.code === null || one.code === it.code;
 }
 
 function inOrder<R extends { readonly seq: number }>(rows: R[]): R[] {
@@ -245,8 +302,9 @@ function lease(tables: Tables, it: Given): Made {
 function create(tables: Tables, it: Given): Made {
   const isTaken = tables.invocations.has(it.id) || (it.idem !== null && named(tables, it) !== undefined);
   if (isTaken) return changed(0);
-  const { id, service, handler, key, exclusive, idem, seed, parent, trace } = it;
-  tables.invocations.put(id, { ...ANEW, seq: tables.number(), id, service, handler, key, exclusive, idem, seed, parent, trace, created: it.now, due: it.due ?? it.now });
+  const { id, service, handler, key, exclusive, idem, seed, parent, trace, deadline, expires, queue, queue_key, priority } = it;
+  const row = { ...ANEW, seq: tables.number(), id, service, handler, key, exclusive, idem, seed, parent, trace, created: it.now, due: it.due ?? it.now };
+  tables.invocations.put(id, { ...row, deadline, expires, queue, queue_key, priority });
   return changed(1);
 }
 
@@ -258,15 +316,46 @@ function named(tables: Tables, it: Given): Invocation | undefined {
 function setAside(tables: Tables, it: Given): Made {
   const isTaken = tables.invocations.has(it.id) || (it.idem !== null && named(tables, it) !== undefined);
   if (isTaken) return changed(0);
-  const { id, service, handler, key, idem, seed, parent, trace, error } = it;
+  const { id, service, handler, key, idem, seed, parent, trace, error, queue_key, priority } = it;
   const row = { ...ANEW, seq: tables.number(), id, service, handler, key, exclusive: 0, idem, seed, parent, trace, created: it.now, due: it.due ?? it.now, error };
-  tables.invocations.put(id, { ...row, status: 'paused', unserved: true });
+  tables.invocations.put(id, { ...row, status: 'paused', unserved: true, queue: null, queue_key, priority });
   return changed(1);
 }
 
 function unserved(tables: Tables, it: Given): Made {
   const waiting = tables.invocations.where((one) => one.status === 'paused' && one.unserved && one.service === it.service && it.handlers.includes(one.handler));
-  return rows(inOrder(waiting).slice(0, it.most).map((one) => [one.id, one.service, one.handler, one.key, one.idem, one.key, one.due, one.trace, one.created]));
+  return rows(inOrder(waiting).slice(0, it.most).map((one) => [one.id, one.service, one.handler, one.key, one.idem, one.queue_key, one.due, one.trace, one.created]));
+}
+
+function inQueue(tables: Tables, it: Given): Made {
+  const found = new Map<string | null, [number, number]>();
+  for (const one of tables.invocations.where(({ status, queue }) => status === 'running' && queue === it.queue)) {
+    const [all, own] = found.get(one.queue_key) ?? [0, 0];
+    found.set(one.queue_key, [all + 1, own + Number(one.worker === it.worker)]);
+  }
+  return rows([...found].map(([key, counts]) => [key, ...counts]));
+}
+
+function starts(tables: Tables, it: Given): Made {
+  tables.starts.take((one) => one.queue === it.queue && one.at <= it.since);
+  const left = tables.starts.where((one) => one.queue === it.queue).map((one) => one.at);
+  return rows([[left.length, left.length === 0 ? null : Math.min(...left)]]);
+}
+
+/** The keys of a queue that have something ready, in their order, from a first one on. */
+function queueKeys(tables: Tables, it: Given): Made {
+  const keys = tables.invocations.where((one) => one.status === 'ready' && one.queue === it.queue).map((one) => one.queue_key ?? '');
+  return rows([...new Set(keys)].filter((key) => key >= it.first).sort().slice(0, it.most).map((key) => [key]));
+}
+
+/** What the statements of queues give of a row. */
+function inTurn(it: Invocation, ...more: unknown[]): Row {
+  return candidate(it, it.service, it.queue_key, ...more);
+}
+
+/** What the statements of limits of time give of rows. */
+function late(found: Invocation[], most: number): Made {
+  return rows(inOrder(found).slice(0, most).map((it) => [it.id, it.service, it.handler, it.key, it.exclusive, it.epoch, it.status, it.created]));
 }
 
 function gone(tables: Tables, it: Given): Made {
@@ -318,17 +407,18 @@ const STATEMENTS: Readonly<Record<Exclude<StatementName, 'now'>, Does>> = {
   called: (to, it) => rows([(to.journal.get(to.invocations.get(it.id)?.chain ?? it.id) ?? []).slice(0, 1)]),
   'set-aside': setAside,
   unserved,
-  serve: (to, { id, exclusive, due, idem }) => changed(to.set(id, () => true, () => ({ status: 'ready', unserved: false, error: null, exclusive, due: due ?? 0, idem }))),
+  serve: (to, { id, exclusive, due, idem, deadline, expires, queue, queue_key }) =>
+    changed(to.set(id, () => true, () => ({ status: 'ready', unserved: false, error: null, exclusive, due: due ?? 0, idem, deadline, expires, queue, queue_key }))),
   refuse: (to, { id, result, failed, error }) => changed(to.set(id, () => true, () => ({ status: 'done', unserved: false, result, failed, error }))),
   next: (to, it) => {
-    const due = [...to.timers.where(), ...to.invocations.where((one) => one.status === 'ready')].map((one) => one.due).filter((at) => at > it.now);
+    const due = to.times().filter((at) => at > it.now);
     return rows([[due.length === 0 ? null : Math.min(...due)]]);
   },
   timers: (to, it) => rows(to.timers.take((one) => one.due <= it.now).sort((one, other) => one.due - other.due).map((one) => [one.invocation, one.completes, one.due])),
-  ready: (to, it) => rows(byDue(to.candidates(it, 'ready').filter((one) => one.due <= it.now && to.mayHaveKey(one))).slice(0, it.most).map((one) => candidate(one))),
+  ready: (to, it) => rows(to.free(to.candidates(it, 'ready').filter((one) => one.queue === null), it.now).slice(0, it.most).map((one) => candidate(one))),
   suspended: (to, it) => {
-    const reached = new Set(to.inbox.where((one) => one.fresh).map((one) => one.invocation));
-    return rows(to.candidates(it, 'suspended').filter((one) => reached.has(one.id)).slice(0, it.most).map((one) => candidate(one, one.suspension, one.shielded)));
+    const reached = to.reached();
+    return rows(to.candidates(it, 'suspended').filter((one) => one.queue === null && reached.has(one.id)).slice(0, it.most).map((one) => candidate(one, one.suspension, one.shielded)));
   },
   inbox: (to, it) => rows(inOrder(to.inbox.where((one) => one.invocation === it.id)).map((one) => [one.seq, one.frame])),
   seen: (to, it) => {
@@ -383,7 +473,9 @@ const STATEMENTS: Readonly<Record<Exclude<StatementName, 'now'>, Does>> = {
   end: (to, it) => changed(to.set(it.id, isFenced(it), () => ({ entries: it.entries, status: 'done', result: it.result, failed: it.failed, error: it.error }))),
   ended: (to, it) => rows(to.waiters.take((one) => one.invocation === it.id).map((one) => [one.waiter, one.completes])),
   gone,
-  continued: (to, it) => rows(to.invocations.where((one) => one.id === it.id).map((one) => [one.idem, one.chain ?? one.id, one.parent, one.trace, null, null, 0])),
+  continued: (to, it) => rows(to.invocations.where((one) => one.id === it.id).map((one) => [
+    one.idem, one.chain ?? one.id, one.parent, one.trace, one.queue, one.queue_key, one.priority,
+  ])),
   continue: continues,
   chain: (to, it) => changed(to.set(it.id, () => true, () => ({ chain: it.chain }))),
   fail: (to, { id, entries, status, due, error, retries, failing_since, failures, failed_since, ...it }) =>
@@ -392,6 +484,34 @@ const STATEMENTS: Readonly<Record<Exclude<StatementName, 'now'>, Does>> = {
     }))), // prettier-ignore
   pause: (to, it) => changed(to.set(it.id, isHeld(it), () => ({ status: 'paused', error: it.error }))),
   release: (to, it) => changed(to.set(it.id, isHeld(it), () => ({ status: 'ready', due: it.now }))),
+  'enter-limit': nothing,
+  'enter-queue': ({ queues }, { queue, limits }) => (queues.put(queue ?? '', { limits, last: queues.get(queue ?? '')?.last ?? null }), changed(1)),
+  open: (to) => rows(to.invocations.where((one) => one.status !== 'done').map((one) => [one.service, one.handler, one.queue])),
+  requeue: (to, it) => {
+    const those = to.invocations.where((one) => one.status !== 'done' && one.service === it.service && one.handler === it.handler);
+    for (const one of those) to.set(one.id, () => true, () => ({ queue: it.queue, queue_key: one.queue_key ?? one.key }));
+    return changed(those.length);
+  },
+  running: (to, it) => rows([[to.invocations.where((one) => one.status === 'running' && one.service === it.service && one.handler === it.handler).length]]),
+  'in-queue': inQueue,
+  starts,
+  started: (to, it) => (to.starts.put(to.number(), { queue: it.queue ?? '', at: it.now }), changed(1)),
+  'queue-suspended': (to, it) => {
+    const reached = to.reached();
+    return rows(to.queued(it, 'suspended').filter((one) => reached.has(one.id)).slice(0, it.most).map((one) => inTurn(one, one.suspension, one.shielded)));
+  },
+  'queue-again': (to, it) => rows(to.free(to.queued(it, 'ready').filter((one) => one.epoch > 0), it.now).slice(0, it.most).map((one) => inTurn(one))),
+  'queue-last': (to, it) => rows([[to.queues.get(it.queue ?? '')?.last ?? null]]),
+  'queue-keys': queueKeys,
+  'queue-first': (to, it) => {
+    const found = to.free(to.queued(it, 'ready').filter((one) => one.epoch === 0 && one.queue_key === it.queue_key), it.now);
+    return rows(found.sort((one, other) => other.priority - one.priority || one.due - other.due || one.seq - other.seq).slice(0, it.most).map((one) => inTurn(one)));
+  },
+  'queue-turn': ({ queues }, { queue, last }) => (queues.put(queue ?? '', { limits: queues.get(queue ?? '')?.limits ?? '{}', last }), changed(1)),
+  unended: (to, it) => late(to.invocations.where((one) => to.isLate({ ...one, expires: null }, it.now)), it.most),
+  unbegun: (to, it) => late(to.invocations.where((one) => to.isLate({ ...one, deadline: null }, it.now)), it.most),
+  calls: (to, it) => rows(to.waiters.where((one) => one.waiter === it.id && to.invocations.get(one.invocation)?.parent === it.id).map((one) => [one.invocation])),
+  overdue: (to, { id, result, failed, error }) => changed(to.set(id, () => true, () => ({ status: 'done', result, failed, error }))),
   notify: nothing,
   tell: nothing,
   reach,
@@ -401,6 +521,7 @@ const STATEMENTS: Readonly<Record<Exclude<StatementName, 'now'>, Does>> = {
 class InMemory implements Statements, Committed {
   readonly touched = new Set<string>();
   readonly endings = new Map<string, Ended>();
+  readonly stopped = new Set<string>();
   readonly notes: Note[] = [];
   isReady = false;
   due: number | undefined;
@@ -435,6 +556,10 @@ class InMemory implements Statements, Committed {
     this.endings.set(invocation, it);
   }
 
+  stops(invocation: string): void {
+    this.stopped.add(invocation);
+  }
+
   note(it: Note): void {
     this.notes.push(it);
   }
@@ -442,7 +567,7 @@ class InMemory implements Statements, Committed {
   /** What others hear of it. */
   get words(): string[] {
     const some = (what: string, ids: readonly string[]): string[] => (ids.length === 0 ? [] : [`${what} ${ids.join(' ')}`]);
-    return [...(this.isReady ? ['ready'] : []), ...some('ended', [...this.endings.keys()]), ...some('to', [...this.touched])];
+    return [...(this.isReady ? ['ready'] : []), ...some('ended', [...this.endings.keys()]), ...some('stopped', [...this.stopped]), ...some('to', [...this.touched])];
   }
 }
 

@@ -2,6 +2,7 @@
 
 import { createHash } from 'node:crypto';
 import type { ObjectContext, ServiceContext, SharedObjectContext, SharedWorkflowContext, WorkflowContext } from './context';
+import { Queue } from './queues';
 import type { Parse } from './values';
 
 /**
@@ -28,6 +29,16 @@ export interface HandlerOptions<I> {
   retry?: Retry;
   /** Reads the argument, or throws: then the invocation ends with code 400. */
   takes?: Parse<I>;
+  /** How many of its attempts may run at once, over all workers. */
+  limit?: number;
+  /** Limits of more kinds, also for several handlers. */
+  queue?: Queue;
+  /** Milliseconds within which an invocation has to end after it was due to begin; else it ends with code 408, and its calls are cancelled. */
+  timeout?: number;
+  /** Milliseconds within which its first attempt has to begin; else it ends with code 408. */
+  queueTimeout?: number;
+  /** Milliseconds that an attempt may take. One that takes longer has failed, and is tried again. To wait takes nothing of it. */
+  attemptTimeout?: number;
 }
 
 export const ABOUT: unique symbol = Symbol('palqytun.service');
@@ -48,6 +59,12 @@ export interface Handler<I, O> {
   readonly exclusive: boolean;
   readonly retry: Retry;
   readonly takes: Parse<I> | undefined;
+  readonly limit: number | undefined;
+  readonly queue: Queue | undefined;
+  /** Milliseconds. */
+  readonly timeout: number | undefined;
+  readonly queueTimeout: number | undefined;
+  readonly attemptTimeout: number | undefined;
   readonly run: Run<never, I, O>;
 }
 
@@ -109,6 +126,21 @@ export function isOver(retry: Retry, failures: number, failing: number): boolean
   return (retry.attempts !== undefined && failures >= retry.attempts) || (retry.duration !== undefined && failing >= retry.duration);
 }
 
+const LIMITS = ['timeout', 'queueTimeout', 'attemptTimeout'] as const;
+
+/** The limits of a handler. Throws a `RangeError` for one that has no meaning. */
+function limitsOf(path: string, it: Omit<HandlerOptions<never>, 'takes' | 'retry'>): Pick<AnyHandler, 'limit' | 'queue' | (typeof LIMITS)[number]> {
+  const { limit, queue, timeout, queueTimeout, attemptTimeout } = it;
+  if (limit !== undefined && !(Number.isInteger(limit) && limit >= 1)) throw new RangeError(`${path} has the limit ${limit}, and it is a whole number from 1 on`);
+  if (queue !== undefined && !(queue instanceof Queue)) throw new TypeError(`${path} has a queue that is no Queue`);
+  if (limit !== undefined && queue !== undefined) throw new RangeError(`${path} has a limit and a queue: give the queue the concurrency ${limit}`);
+  for (const name of LIMITS) {
+    const time = it[name];
+    if (time !== undefined && !(time > 0 && time < Infinity)) throw new RangeError(`${path} has the ${name} ${time}, and it is a number of milliseconds above 0`);
+  }
+  return { limit, queue, timeout, queueTimeout, attemptTimeout };
+}
+
 function made<C, I, O>(kind: Made<C, I, O>['kind'], run: Run<C, I, O>, options: HandlerOptions<I>): Made<C, I, O> {
   if (typeof run !== 'function') throw new TypeError(`a handler is a function, and not ${typeof run}`);
   return { kind, run, ...options };
@@ -140,7 +172,8 @@ function served<G>(name: string, keyed: boolean, workflow: boolean, given: Recor
     const retry = how.retry ?? ATTEMPTS;
     checkRetry(`the retry of ${name}/${own}`, retry);
     const exclusive = workflow ? how.kind === 'main' : keyed && how.kind !== 'shared';
-    handlers.set(own, { service: name, name: own, keyed, exclusive, retry, takes: how.takes as Parse<never> | undefined, run: how.run as Run<never, never, unknown> });
+    const more = { ...limitsOf(`${name}/${own}`, how), takes: how.takes as Parse<never> | undefined, run: how.run as Run<never, never, unknown> };
+    handlers.set(own, { service: name, name: own, keyed, exclusive, retry, ...more });
   }
   const about: About = { name, keyed, workflow, handlers };
   return Object.freeze({ ...Object.fromEntries(handlers), [ABOUT]: about }) as unknown as Service<G>;
@@ -167,11 +200,23 @@ export function workflow<G extends Record<string, Given<SharedWorkflowContext> |
 /** The services that a worker serves, by their names. */
 export function servicesOf(services: readonly AnyService[]): Map<string, About> {
   const found = new Map<string, About>();
+  const queues = new Map<string, Queue>();
   for (const { [ABOUT]: about } of services) {
     if (found.has(about.name)) throw new Error(`there are two services with the name ${about.name}`);
     found.set(about.name, about);
+    for (const { queue } of about.handlers.values()) {
+      if (queue === undefined) continue;
+      const other = queues.get(queue.name) ?? queue;
+      if (other.limits !== queue.limits) throw new Error(`there are two queues with the name ${queue.name}: ${other.limits} and ${queue.limits}`);
+      queues.set(queue.name, queue);
+    }
   }
   return found;
+}
+
+/** The seconds within which an invocation has to end, and to begin; null is no limit. */
+export function timesOf({ timeout, queueTimeout }: AnyHandler): [number | null, number | null] {
+  return [timeout === undefined ? null : timeout / 1000, queueTimeout === undefined ? null : queueTimeout / 1000];
 }
 
 /** The version of this code, as long as nothing else names it: a hash of its handlers' sources. What they call isn't in it. */
@@ -187,8 +232,13 @@ export function versionOf(services: ReadonlyMap<string, About>): string {
 /** What a worker announces. */
 export function servesText(services: ReadonlyMap<string, About>): string {
   const about = [...services.values()].map((it) => {
-    const handlers = Object.fromEntries([...it.handlers.values()].map((one) => [one.name, one.exclusive]));
-    return [it.name, { keyed: it.keyed, workflow: it.workflow, handlers }];
+    const those = [...it.handlers.values()];
+    const handlers = Object.fromEntries(those.map((one) => [one.name, one.exclusive]));
+    const times = those.filter((one) => timesOf(one).some((time) => time !== null)).map((one) => [one.name, timesOf(one)]);
+    const queues = those.filter((one) => one.queue !== undefined).map((one) => [one.name, one.queue?.name]);
+    const some = [['times', times], ['queues', queues]] as const;
+    const more = Object.fromEntries(some.filter(([, all]) => all.length > 0).map(([name, all]) => [name, Object.fromEntries(all)]));
+    return [it.name, { keyed: it.keyed, workflow: it.workflow, handlers, ...more }];
   });
   return JSON.stringify(Object.fromEntries(about));
 }

@@ -25,6 +25,18 @@ export const STATEMENTS = {
     { text: "DELETE FROM workers WHERE id=$1::text", names: ["worker"] },
     { text: "DELETE FROM serving WHERE worker=$1::text", names: ["worker"] },
   ],
+  'enter-limit': [
+    { text: "INSERT INTO limits(path) VALUES ($1::text) ON CONFLICT(path) DO NOTHING", names: ["path"] },
+  ],
+  'enter-queue': [
+    { text: "INSERT INTO queues(name, limits) VALUES ($1::text, $2::text) ON CONFLICT(name) DO UPDATE SET limits=excluded.limits", names: ["queue", "limits"] },
+  ],
+  'open': [
+    { text: "SELECT DISTINCT service, handler, queue FROM invocations WHERE status<>'done'", names: [] },
+  ],
+  'requeue': [
+    { text: "UPDATE invocations SET queue=$1::text, queue_key=COALESCE(queue_key, key) WHERE status<>'done' AND service=$2::text AND handler=$3::text", names: ["queue", "service", "handler"] },
+  ],
   'serves': [
     { text: "SELECT DISTINCT serves FROM serving JOIN workers ON workers.id=serving.worker WHERE lease>=extract(epoch from clock_timestamp())::float8", names: [] },
   ],
@@ -53,16 +65,28 @@ export const STATEMENTS = {
     { text: "UPDATE invocations SET status='done', ended=$1::float8, stopped=$1::float8, how='refused', result=$2::bytea, failed=$3::integer, error=$4::text WHERE id=$5::text", names: ["now", "result", "failed", "error", "id"] },
   ],
   'next': [
-    { text: "SELECT MIN(due) FROM (SELECT due FROM (SELECT due FROM timers WHERE due>$1::float8 ORDER BY due LIMIT 1) AS timer UNION ALL SELECT due FROM (SELECT due FROM invocations WHERE status='ready' AND due>$1::float8 ORDER BY due LIMIT 1) AS ready) AS next", names: ["now"] },
+    { text: "SELECT MIN(due) FROM (SELECT due FROM (SELECT due FROM timers WHERE due>$1::float8 ORDER BY due LIMIT 1) AS timer UNION ALL SELECT due FROM (SELECT due FROM invocations WHERE status='ready' AND due>$1::float8 ORDER BY due LIMIT 1) AS ready UNION ALL SELECT due FROM (SELECT deadline AS due FROM invocations WHERE deadline>$1::float8 AND status<>'done' ORDER BY deadline LIMIT 1) AS late UNION ALL SELECT due FROM (SELECT expires AS due FROM invocations WHERE expires>$1::float8 AND status='ready' AND epoch=0 ORDER BY expires LIMIT 1) AS unbegun) AS next", names: ["now"] },
   ],
   'timers': [
     { text: "DELETE FROM timers WHERE seq IN (SELECT seq FROM timers WHERE due<=$1::float8 ORDER BY due LIMIT 1000 FOR UPDATE SKIP LOCKED) RETURNING invocation, completes, due", names: ["now"] },
   ],
+  'unended': [
+    { text: "SELECT id, service, handler, key, exclusive, epoch, status, created FROM invocations WHERE deadline<=$1::float8 AND status<>'done' LIMIT $2::integer FOR UPDATE SKIP LOCKED", names: ["now", "most"] },
+  ],
+  'unbegun': [
+    { text: "SELECT id, service, handler, key, exclusive, epoch, status, created FROM invocations WHERE expires<=$1::float8 AND status='ready' AND epoch=0 LIMIT $2::integer FOR UPDATE SKIP LOCKED", names: ["now", "most"] },
+  ],
+  'calls': [
+    { text: "SELECT waiters.invocation FROM waiters JOIN invocations ON invocations.id=waiters.invocation WHERE waiter=$1::text AND parent=$1::text", names: ["id"] },
+  ],
+  'overdue': [
+    { text: "UPDATE invocations SET status='done', ended=$1::float8, stopped=$1::float8, how='overdue', result=$2::bytea, failed=$3::integer, error=$4::text WHERE id=$5::text", names: ["now", "result", "failed", "error", "id"] },
+  ],
   'ready': [
-    { text: "SELECT id, epoch, exclusive, key FROM invocations AS it WHERE service=$1::text AND handler=ANY($2::text[]) AND (code IS NULL OR code=$3::text) AND status='ready' AND due<=$4::float8 AND (exclusive=0 OR CASE (SELECT holder FROM locks WHERE locks.service=it.service AND locks.key=it.key) WHEN it.id THEN true ELSE NOT EXISTS (SELECT 1 FROM locks WHERE locks.service=it.service AND locks.key=it.key) AND it.seq=(SELECT seq FROM invocations AS first WHERE first.service=it.service AND first.key=it.key AND first.exclusive=1 AND first.status='ready' ORDER BY first.due, first.seq LIMIT 1) END) ORDER BY due, seq LIMIT $5::integer FOR UPDATE SKIP LOCKED", names: ["service", "handlers", "code", "now", "most"] },
+    { text: "SELECT id, epoch, exclusive, key FROM invocations AS it WHERE service=$1::text AND handler=ANY($2::text[]) AND (code IS NULL OR code=$3::text) AND status='ready' AND queue IS NULL AND due<=$4::float8 AND (exclusive=0 OR CASE (SELECT holder FROM locks WHERE locks.service=it.service AND locks.key=it.key) WHEN it.id THEN true ELSE NOT EXISTS (SELECT 1 FROM locks WHERE locks.service=it.service AND locks.key=it.key) AND it.seq=(SELECT seq FROM invocations AS first WHERE first.service=it.service AND first.key=it.key AND first.exclusive=1 AND first.status='ready' ORDER BY first.due, first.seq LIMIT 1) END) ORDER BY due, seq LIMIT $5::integer FOR UPDATE SKIP LOCKED", names: ["service", "handlers", "code", "now", "most"] },
   ],
   'suspended': [
-    { text: "SELECT id, epoch, exclusive, key, suspension, shielded FROM invocations WHERE service=$1::text AND handler=ANY($2::text[]) AND (code IS NULL OR code=$3::text) AND status='suspended' AND id IN (SELECT invocation FROM inbox WHERE fresh=1) LIMIT $4::integer FOR UPDATE SKIP LOCKED", names: ["service", "handlers", "code", "most"] },
+    { text: "SELECT id, epoch, exclusive, key, suspension, shielded FROM invocations WHERE service=$1::text AND handler=ANY($2::text[]) AND (code IS NULL OR code=$3::text) AND status='suspended' AND queue IS NULL AND id IN (SELECT invocation FROM inbox WHERE fresh=1) LIMIT $4::integer FOR UPDATE SKIP LOCKED", names: ["service", "handlers", "code", "most"] },
   ],
   'inbox': [
     { text: "SELECT seq, frame FROM inbox WHERE invocation=$1::text ORDER BY seq LIMIT 1000", names: ["id"] },
@@ -89,6 +113,39 @@ export const STATEMENTS = {
   ],
   'state': [
     { text: "SELECT name, value FROM state WHERE service=$1::text AND key=$2::text ORDER BY name", names: ["service", "key"] },
+  ],
+  'running': [
+    { text: "SELECT path FROM limits WHERE path=$1::text FOR UPDATE", names: ["path"] },
+    { text: "SELECT COUNT(*) FROM invocations WHERE status='running' AND service=$1::text AND handler=$2::text", names: ["service", "handler"] },
+  ],
+  'in-queue': [
+    { text: "SELECT name FROM queues WHERE name=$1::text FOR UPDATE", names: ["queue"] },
+    { text: "SELECT queue_key, COUNT(*), SUM(CASE WHEN worker=$1::text THEN 1 ELSE 0 END) FROM invocations WHERE status='running' AND queue=$2::text GROUP BY queue_key", names: ["worker", "queue"] },
+  ],
+  'starts': [
+    { text: "DELETE FROM starts WHERE queue=$1::text AND at<=$2::float8", names: ["queue", "since"] },
+    { text: "SELECT COUNT(*), MIN(at) FROM starts WHERE queue=$1::text", names: ["queue"] },
+  ],
+  'started': [
+    { text: "INSERT INTO starts(queue, at) VALUES ($1::text, $2::float8)", names: ["queue", "now"] },
+  ],
+  'queue-suspended': [
+    { text: "SELECT id, epoch, exclusive, key, service, queue_key, suspension, shielded FROM invocations WHERE queue=$1::text AND service || '/' || handler=ANY($2::text[]) AND (code IS NULL OR code=$3::text) AND status='suspended' AND id IN (SELECT invocation FROM inbox WHERE fresh=1) LIMIT $4::integer FOR UPDATE SKIP LOCKED", names: ["queue", "paths", "code", "most"] },
+  ],
+  'queue-again': [
+    { text: "SELECT id, epoch, exclusive, key, service, queue_key FROM invocations AS it WHERE queue=$1::text AND service || '/' || handler=ANY($2::text[]) AND (code IS NULL OR code=$3::text) AND status='ready' AND epoch>0 AND due<=$4::float8 AND (exclusive=0 OR CASE (SELECT holder FROM locks WHERE locks.service=it.service AND locks.key=it.key) WHEN it.id THEN true ELSE NOT EXISTS (SELECT 1 FROM locks WHERE locks.service=it.service AND locks.key=it.key) AND it.seq=(SELECT seq FROM invocations AS first WHERE first.service=it.service AND first.key=it.key AND first.exclusive=1 AND first.status='ready' ORDER BY first.due, first.seq LIMIT 1) END) ORDER BY due, seq LIMIT $5::integer FOR UPDATE SKIP LOCKED", names: ["queue", "paths", "code", "now", "most"] },
+  ],
+  'queue-last': [
+    { text: "SELECT last FROM queues WHERE name=$1::text", names: ["queue"] },
+  ],
+  'queue-keys': [
+    { text: "WITH RECURSIVE keys(name, many) AS (SELECT (SELECT MIN(queue_key) FROM invocations WHERE status='ready' AND queue=$1::text AND queue_key>=$2::text), 1 UNION ALL SELECT (SELECT MIN(queue_key) FROM invocations WHERE status='ready' AND queue=$1::text AND queue_key>keys.name), many+1 FROM keys WHERE name IS NOT NULL AND many<$3::integer) SELECT name FROM keys WHERE name IS NOT NULL", names: ["queue", "first", "most"] },
+  ],
+  'queue-first': [
+    { text: "SELECT id, epoch, exclusive, key, service, queue_key FROM invocations AS it WHERE queue=$1::text AND queue_key=$2::text AND service || '/' || handler=ANY($3::text[]) AND (code IS NULL OR code=$4::text) AND status='ready' AND epoch=0 AND due<=$5::float8 AND (exclusive=0 OR CASE (SELECT holder FROM locks WHERE locks.service=it.service AND locks.key=it.key) WHEN it.id THEN true ELSE NOT EXISTS (SELECT 1 FROM locks WHERE locks.service=it.service AND locks.key=it.key) AND it.seq=(SELECT seq FROM invocations AS first WHERE first.service=it.service AND first.key=it.key AND first.exclusive=1 AND first.status='ready' ORDER BY first.due, first.seq LIMIT 1) END) ORDER BY priority DESC, due, seq LIMIT $6::integer FOR UPDATE SKIP LOCKED", names: ["queue", "queue_key", "paths", "code", "now", "most"] },
+  ],
+  'queue-turn': [
+    { text: "UPDATE queues SET last=$1::text WHERE name=$2::text", names: ["last", "queue"] },
   ],
   'fence': [
     { text: "SELECT 1 FROM invocations WHERE id=$1::text AND epoch=$2::bigint AND entries=$3::bigint AND status='running' FOR UPDATE", names: ["id", "epoch", "before"] },

@@ -41,6 +41,8 @@ export interface Claim extends Own {
   readonly epoch: number;
   readonly handler: string;
   readonly exclusive: boolean;
+  /** Its handler has a limit or a queue. */
+  readonly isLimited: boolean;
   readonly begun: number;
   readonly created: number;
   readonly retry: Retry;
@@ -151,6 +153,7 @@ interface Growth {
 
 /** The last statement of a store by which the attempt stops. */
 async function stops(to: Statements, claim: Claim, it: Growth): Promise<Outcome> {
+  if (claim.isLimited) to.say('ready'); // there is room for another one
   const last = it.written.find(isEnd) as Frame;
   if (last.kind === Kind.suspension) return suspend(to, claim, it, last.bytes);
   if (last.kind === Kind.error) return fail(to, claim, it, last.bytes);

@@ -30,6 +30,8 @@ export interface Statements {
   isDue(at: number): void;
   /** An invocation has ended. */
   ended(invocation: string, it: Ended): void;
+  /** An attempt is to stop, since its invocation was ended from outside. */
+  stops(invocation: string): void;
   /** What the log says of an invocation, once this is committed. */
   note(it: Note): void;
 }
@@ -40,6 +42,7 @@ export interface Committed {
   readonly isReady: boolean;
   readonly due: number | undefined;
   readonly endings: ReadonlyMap<string, Ended>;
+  readonly stopped: ReadonlySet<string>;
   readonly notes: readonly Note[];
 }
 

@@ -254,14 +254,15 @@ function pause(): Promise<void> {
 function canGoOn(tables: Tables, now: number): boolean {
   const reached = new Set(tables.inbox.where((it) => it.fresh).map((it) => it.invocation));
   const isToDo = tables.invocations.where((it) => {
-    if (it.status === 'ready') return it.due <= now && tables.mayHaveKey(it);
-    return it.status === 'running' || (it.status === 'suspended' && reached.has(it.id));
+    if (it.status === 'ready') return (it.due <= now && tables.mayHaveKey(it) && tables.mayBeginAt(it, now) <= now) || tables.isLate(it, now);
+    return it.status === 'running' || (it.status === 'suspended' && reached.has(it.id)) || tables.isLate(it, now);
   });
   return isToDo.length > 0 || tables.timers.where((it) => it.due <= now).length > 0;
 }
 
 function dueAfter(tables: Tables, now: number): number | undefined {
-  const all = [...tables.timers.where(), ...tables.invocations.where((it) => it.status === 'ready')].map((it) => it.due).filter((it) => it > now);
+  const rates = tables.invocations.where((it) => it.status === 'ready').map((it) => tables.mayBeginAt(it, now));
+  const all = [...tables.times(), ...rates].filter((it) => it > now);
   return all.length === 0 ? undefined : Math.min(...all);
 }
 

@@ -7,8 +7,9 @@ import { leaves } from './delivery';
 import { TerminalError, storable } from './errors';
 import { failure, inputCommand } from './frames';
 import { traceOf } from './hash';
-import { check, ownTarget, queuedBy, until } from './invocations';
+import { check, ownTarget, until } from './invocations';
 import type { New, Target } from './invocations';
+import { queuedBy } from './queues';
 import type { About } from './services';
 import type { Statements } from './tables';
 

@@ -12,6 +12,7 @@ import type { LogOptions } from './log';
 import { Meter } from './metrics';
 import { tell } from './notes';
 import { Postgres } from './postgres';
+import { enter } from './queueing';
 import { servesText, servicesOf, versionOf } from './services';
 import type { About, AnyService } from './services';
 import { Fenced, isSteps, pull, release, store } from './storing';
@@ -291,6 +292,7 @@ export class Worker implements Host {
     await db.transact(async (to) => {
       if (this.#former !== '') await to.change('leave', { worker: this.#former });
       await to.change('enter', { worker: claimer.worker, lease, code: claimer.code, serves: servesText(this.#services) });
+      await enter(to, this.#services);
       to.say('ready');
     });
     this.#former = claimer.worker;
@@ -382,6 +384,7 @@ export class Worker implements Host {
       this.meter.failed(note.service, note.handler, note.event);
     }
     for (const one of it.endings.values()) this.meter.ended(one);
+    for (const id of it.stopped) this.#live.get(id)?.stop();
     for (const id of it.touched) this.#touched(id);
     if (it.isReady) this.#wake(MOMENT);
     if (it.due !== undefined) this.#wakeAt(it.due);
@@ -428,7 +431,10 @@ export class Worker implements Host {
   async #gives(claim: Claim, error: unknown): Promise<void> {
     try {
       const text = storable(`the runtime failed: ${said(error)}`);
-      await this.#transact((to) => to.change('pause', { id: claim.id, epoch: claim.epoch, now: to.now, error: text }));
+      await this.#transact(async (to) => {
+        await to.change('pause', { id: claim.id, epoch: claim.epoch, now: to.now, error: text });
+        if (claim.isLimited) to.say('ready');
+      });
     } catch (second) {
       this.log.warning(`${claim.id} wasn't paused: ${said(second)}`);
     }
@@ -445,7 +451,7 @@ export class Worker implements Host {
 function at(to: Statements, now: number): Statements {
   return {
     now, rows: (...it) => to.rows(...it), change: (...it) => to.change(...it), say: (it) => to.say(it), touch: (it) => to.touch(it), isDue: (it) => to.isDue(it),
-    ended: (...it) => to.ended(...it), note: (it) => to.note(it),
+    ended: (...it) => to.ended(...it), stops: (it) => to.stops(it), note: (it) => to.note(it),
   }; // prettier-ignore
 }
 

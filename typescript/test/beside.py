@@ -1,8 +1,12 @@
 """Handlers in Python beside those of the SDK's tests: `palqytun run beside.py`, on the same database."""
 
-from palqytun.runtime import App, Context, ObjectContext, Service, VirtualObject
+import asyncio
+import pathlib
+
+from palqytun.runtime import App, Context, ObjectContext, Queue, Service, VirtualObject
 
 python, shelf = Service("Python"), VirtualObject("PythonShelf")
+SHARED = Queue("shared", concurrency=2)  # also that of a handler in TypeScript (queues.test.ts)
 
 
 @python.handler()
@@ -15,6 +19,26 @@ async def sends(ctx: Context, it: list) -> str:
 @python.handler()
 async def echo(ctx: Context, value: object) -> object:
     return value
+
+
+@python.handler(queue=SHARED)
+async def busy(ctx: Context, file: str) -> None:
+    await ctx.run("busy", _noted, pathlib.Path(file))
+
+
+async def _noted(file: pathlib.Path) -> None:
+    """Writes when it begins, and when it ends."""
+    for line in ("begin python", "end python"):
+        with file.open("a") as to:
+            to.write(f"{line}\n")
+        await asyncio.sleep(0.02)
+
+
+@python.handler()
+async def calls(ctx: Context, it: list) -> object:
+    """Calls [path, argument, options]."""
+    path, argument, options = it
+    return await ctx.call(path, argument, **options)
 
 
 @shelf.handler()
