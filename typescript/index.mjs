@@ -7,6 +7,7 @@ export const {
   Client,
   Context,
   Durable,
+  GivenUp,
   Log,
   NotDurable,
   ObjectContext,

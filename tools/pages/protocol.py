@@ -16,7 +16,7 @@ _VALUE = re.compile(r"(?<!:):(\w+)")
 # The type of each value of a statement. The server infers none within a SELECT, so each has it.
 _TYPES = {
     "bytea": "frame value result suspension",
-    "bigint": "seed epoch before at completes entries",
+    "bigint": "seed epoch before at completes entries run",
     "integer": "exclusive priority most shielded failed retries failures",
     "float8": "lease since now due deadline expires failing_since failed_since",
     "text[]": "handlers ids paths",

@@ -4,14 +4,17 @@ import { VM, VMError, contentType, unknown } from 'palqytun';
 import type { Future, Handle, Input } from 'palqytun';
 import { Context, contextOf, failureOf } from './context';
 import type { Action, Run } from './context';
-import { Cancelled, NotDurable, OutsideHandler, TerminalError, isOf, said, traced } from './errors';
+import { Cancelled, NotDurable, OutsideHandler, TerminalError, isOf, said, storable, traced } from './errors';
 import { isStep, split } from './frames';
 import type { Frame } from './frames';
 import { traceOf } from './hash';
+import { Pulse } from './heartbeats';
 import type { Log } from './log';
 import type { AnyHandler } from './services';
 import { VM_VERSION } from './storing';
 import type { Claim, Outcome, Status } from './storing';
+import { Lost } from './tables';
+import type { Statements } from './tables';
 import { decoded, encoded } from './values';
 import { within } from './within';
 
@@ -27,6 +30,8 @@ export interface Host {
   store(claim: Claim, output: Uint8Array): Promise<Outcome>;
   pull(claim: Claim): Promise<Outcome>;
   release(claim: Claim): Promise<Outcome>;
+  /** A transaction beside those of the attempt. */
+  beside<T>(operation: (to: Statements) => Promise<T>): Promise<T>;
   /** Executes an effect once there is room for it. */
   effect<T>(does: () => Promise<T>): Promise<T>;
   /** What is executed instead of runs, by their names: a test's fakes. */
@@ -61,6 +66,7 @@ type Executed =
 /** How a handler has ended: undefined as long as it hasn't. */
 type Ending = { readonly value: unknown } | { readonly thrown: unknown } | undefined;
 
+const LONGEST = 2 ** 31 - 1; // milliseconds of a timer
 const FOREIGN = "something that its context didn't give: other work stands in ctx.run";
 
 export class Attempt {
@@ -299,8 +305,7 @@ export class Attempt {
     try {
       const place = { fields: this.fields, run: action.name, key: action.key };
       const does = this.host.instead.get(action.name) ?? action.does;
-      const run = (): Promise<unknown> => within.run(place, async () => does({ key: action.key, signal: abort.signal }));
-      const value = await this.host.effect(() => timed(run, action, abort));
+      const value = await this.host.effect(() => this.#beating(action, abort, (given) => within.run(place, async () => does(given))));
       try {
         return { kind: 'value', value: encoded(value) };
       } catch (error) { // the effect has happened, and no other try of it would have another result
@@ -311,6 +316,32 @@ export class Attempt {
       return { kind: 'failed', error, took: Math.trunc(performance.now() - begun) };
     } finally {
       this.#aborts.delete(abort);
+    }
+  }
+
+  /** Executes an effect within its time, and as long as it beats. */
+  async #beating(action: Action, abort: AbortController, does: (run: Run) => Promise<unknown>): Promise<unknown> {
+    const { key, index, heartbeat } = action;
+    const place = { id: this.claim.id, run: index };
+    const before = heartbeat === undefined ? [] : await this.host.beside((to) => to.rows('last-progress', place));
+    const pulse = new Pulse(heartbeat, (value) => this.#keeps(action, value));
+    const lastProgress = before.length === 0 ? undefined : decoded(before[0]?.[0] as Uint8Array);
+    try {
+      return await timed(() => does({ key, signal: abort.signal, heartbeat: (progress) => pulse.beat(encoded(progress)), lastProgress }), action, abort, pulse);
+    } finally {
+      await pulse.close();
+    }
+  }
+
+  /** Stores what a run says; returns whether its invocation is still this worker's. */
+  async #keeps({ name, index: run }: Action, value: Uint8Array): Promise<boolean> {
+    const { id, epoch } = this.claim;
+    try {
+      return (await this.host.beside((to) => to.change('keep-progress', { id, epoch, run, name: storable(name), value, now: to.now }))) > 0;
+    } catch (error) {
+      if (error instanceof Lost || error instanceof Stopped) return false; // the database is lost, and others go on
+      this.host.log.warning(`the progress of the run ${JSON.stringify(name)} of ${id} isn't stored: ${said(error)}`);
+      return true;
     }
   }
 
@@ -420,16 +451,22 @@ export class Attempt {
   }
 }
 
-/** Executes an effect within its time. */
-async function timed(run: () => Promise<unknown>, action: Action, abort: AbortController): Promise<unknown> {
-  const { timeout } = action;
-  if (timeout === undefined) return run();
+/** Executes an effect within its time, and as long as it beats. */
+async function timed(run: () => Promise<unknown>, { timeout }: Action, abort: AbortController, pulse: Pulse): Promise<unknown> {
+  pulse.begin();
+  const until = timeout === undefined ? Infinity : performance.now() + timeout;
   let timer: Timer | undefined;
   const over = new Promise<never>((_, reject) => {
-    timer = setTimeout(() => {
+    const look = (): void => {
+      const left = Math.min(pulse.left, until - performance.now());
+      if (left > 0) {
+        if (left < Infinity) timer = setTimeout(look, Math.min(left, LONGEST));
+        return;
+      }
       abort.abort();
-      reject(new Error(`it took longer than ${timeout} ms`));
-    }, timeout);
+      reject(new Error(pulse.left <= 0 ? `it hasn't beaten for ${pulse.limit} ms` : `it took longer than ${timeout} ms`));
+    };
+    look();
   });
   try {
     return await Promise.race([run(), over]);

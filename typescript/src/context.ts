@@ -20,6 +20,12 @@ import { within } from './within';
 export interface Run {
   readonly key: string;
   readonly signal: AbortSignal;
+  /** Says that it goes on, and how far it has come, as a value that JSON can carry. It is stored about once a second. Throws a `GivenUp` if nobody waits
+   * for the run any more. */
+  readonly heartbeat: (progress?: unknown) => void;
+  /** In a run that has a `heartbeat`: what an execution before this one said last, from which this one may go on; undefined at the first. What was said in
+   * the last second before a crash may be missing. */
+  readonly lastProgress: unknown;
 }
 
 export interface RunOptions<T> {
@@ -27,6 +33,8 @@ export interface RunOptions<T> {
   retry?: Retry;
   /** Milliseconds that it may take; then it has failed, and is tried again. */
   timeout?: number;
+  /** Milliseconds within which it has to call `run.heartbeat` again; else it has failed, and is tried again. */
+  heartbeat?: number;
   /** Reads the stored result, or throws. */
   gives?: Parse<T>;
 }
@@ -49,7 +57,10 @@ export interface Action {
   readonly policy: RetryPolicy;
   readonly jitter: number;
   readonly key: string;
+  /** The index of its command. */
+  readonly index: number;
   readonly timeout: number | undefined;
+  readonly heartbeat: number | undefined;
 }
 
 /** A logger that is silent while the journal is replayed. */
@@ -320,18 +331,23 @@ export class Context implements Scope {
   /**
    * Executes an effect once it is awaited, and keeps its result. It is executed at least once: a crash before the result is stored executes it again, so
    * give what is outside an idempotency key, as `run.key`. A `TerminalError` is its result; another error is tried again by `retry`, without which it is
-   * tried for ever. So is one that takes longer than `timeout`. A result that JSON can't carry is a `TerminalError`, so that the effect isn't executed
+   * tried for ever. So is one that takes longer than `timeout`, or calls `run.heartbeat` not once in `heartbeat`. A result that JSON can't carry is a `TerminalError`, so that the effect isn't executed
    * again.
    */
   run<T>(name: string, does: (run: Run) => T | PromiseLike<T>, options: RunOptions<T> = {}): Durable<T> {
     if (typeof does !== 'function') throw new TypeError(`ctx.run(${JSON.stringify(name)}, ..) takes a function, and not ${typeof does}`);
     if (typeof name !== 'string' || name.startsWith(OWN)) throw new TypeError(`a run's name is a text that doesn't begin with ${OWN}, and not ${String(name).slice(0, 100)}`);
     if (options.retry !== undefined) checkRetry(`the retry of the run ${name}`, options.retry);
-    if (options.timeout !== undefined && !(options.timeout > 0)) throw new RangeError(`the timeout of the run ${name} is a number of milliseconds above 0, and not ${options.timeout}`);
+    for (const it of ['timeout', 'heartbeat'] as const) {
+      const time = options[it];
+      if (time !== undefined && !(time > 0)) throw new RangeError(`the ${it} of the run ${name} is a number of milliseconds above 0, and not ${time}`);
+    }
     const handle = this.#asks((vm) => vm.sysRun(name).handle);
     if (handle !== undefined) {
-      const key = `${this.invocationId}-${this.#begun.vm.lastCommandIndex()}`;
-      this.actions.set(handle, { name, does, policy: policyOf(options.retry), jitter: options.retry?.jitter ?? JITTER, key, timeout: options.timeout });
+      const index = this.#begun.vm.lastCommandIndex();
+      const { retry, timeout, heartbeat } = options;
+      const key = `${this.invocationId}-${index}`;
+      this.actions.set(handle, { name, does, policy: policyOf(retry), jitter: retry?.jitter ?? JITTER, key, index, timeout, heartbeat });
       this.asked.add(handle);
     }
     return new Leaf(this, handle ?? 0, results(options.gives));

@@ -6,6 +6,7 @@ export { Context, ObjectContext, ServiceContext, SharedObjectContext, SharedWork
 export type { CallOptions, ReplayLog, Run, RunOptions, SendOptions, WorkflowPromise } from './context';
 export { Call, Durable, all, allSettled, any, race, select } from './durable';
 export { BadValue, Cancelled, NotDurable, OutsideHandler, TerminalError, TimedOut, Unsuitable } from './errors';
+export { GivenUp } from './heartbeats';
 export { Log } from './log';
 export type { Fields, Level, LogOptions } from './log';
 export { Queue } from './queues';

@@ -45,6 +45,7 @@ interface Given {
   readonly frame: Uint8Array;
   readonly frames: readonly Uint8Array[];
   readonly at: number;
+  readonly run: number;
   readonly completes: number;
   readonly seqs: readonly number[];
   readonly status: Status;
@@ -168,6 +169,7 @@ export class Tables {
   readonly promiseWaiters = new Table<Waiter>(this.undo);
   readonly locks = new Table<string>(this.undo);
   readonly workers = new Table<string>(this.undo);
+  readonly progress = new Table<Uint8Array>(this.undo);
   readonly queues = new Table<{ readonly limits: string; readonly last: string | null }>(this.undo);
   readonly starts = new Table<{ readonly queue: string; readonly at: number }>(this.undo);
   readonly attributes = new Table<readonly [invocation: string, name: string, value: string]>(this.undo);
@@ -512,6 +514,12 @@ const STATEMENTS: Readonly<Record<Exclude<StatementName, 'now'>, Does>> = {
   unbegun: (to, it) => late(to.invocations.where((one) => to.isLate({ ...one, deadline: null }, it.now)), it.most),
   calls: (to, it) => rows(to.waiters.where((one) => one.waiter === it.id && to.invocations.get(one.invocation)?.parent === it.id).map((one) => [one.invocation])),
   overdue: (to, { id, result, failed, error }) => changed(to.set(id, () => true, () => ({ status: 'done', result, failed, error }))),
+  'keep-progress': (to, it) => {
+    const isHere = to.invocations.where((one) => one.id === it.id && isHeld(it)(one)).length > 0;
+    if (isHere) to.progress.put(placed(it.id, `${it.run}`), it.value);
+    return changed(Number(isHere));
+  },
+  'last-progress': (to, it) => rows([to.progress.get(placed(it.id, `${it.run}`))].filter((one) => one !== undefined).map((one) => [one])),
   notify: nothing,
   tell: nothing,
   reach,

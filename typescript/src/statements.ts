@@ -185,6 +185,12 @@ export const STATEMENTS = {
     { text: "UPDATE promises SET result=$1::bytea WHERE service=$2::text AND key=$3::text AND name=$4::text", names: ["result", "service", "key", "name"] },
     { text: "DELETE FROM promise_waiters WHERE service=$1::text AND key=$2::text AND name=$3::text RETURNING waiter, completes", names: ["service", "key", "name"] },
   ],
+  'keep-progress': [
+    { text: "INSERT INTO progress(invocation, run, name, at, value) SELECT $1::text, $2::bigint, $3::text, $4::float8, $5::bytea WHERE EXISTS (SELECT 1 FROM invocations WHERE id=$1::text AND epoch=$6::bigint AND status='running') ON CONFLICT(invocation, run) DO UPDATE SET at=excluded.at, value=excluded.value", names: ["id", "run", "name", "now", "value", "epoch"] },
+  ],
+  'last-progress': [
+    { text: "SELECT value FROM progress WHERE invocation=$1::text AND run=$2::bigint", names: ["id", "run"] },
+  ],
   'grow': [
     { text: "UPDATE invocations SET entries=$1::bigint WHERE id=$2::text AND epoch=$3::bigint AND entries=$4::bigint AND status='running'", names: ["entries", "id", "epoch", "before"] },
   ],

@@ -180,6 +180,10 @@ export class Worker implements Host {
     return this.#transact((to) => release(to, claim));
   }
 
+  beside<T>(operation: (to: Statements) => Promise<T>): Promise<T> {
+    return this.#transact(operation);
+  }
+
   effect<T>(does: () => Promise<T>): Promise<T> {
     return this.#effects.within(does);
   }
