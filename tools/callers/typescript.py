@@ -27,7 +27,7 @@ def typescript(it: Bindings) -> None:
         return
     env = {name: value for name, value in it.env().items() if not name.startswith("NODE_")} | {"NODE_PATH": packages.node_path(), "PALQYTUN_PYTHON": sys.executable}
     folder = built(it, env)
-    if folder is None or not it.checks.has("the SDK in TypeScript on a database", "postgresql", "psycopg"):
+    if folder is None or not it.checks.has("the SDK in TypeScript on a database", "postgresql", "psycopg", "cryptography"):
         return
     tests = sorted(str(one) for one in Path(folder, "out/test").glob("*.test.js"))
     ran = ended(beside_a_database("node", "--test", *tests), env, None, SECONDS)

@@ -9,6 +9,14 @@ declare module 'node:async_hooks' {
 
 declare module 'node:crypto' {
   export function randomBytes(size: number): Buffer;
+  interface Cipher {
+    setAutoPadding(pads: boolean): Cipher;
+    update(data: Uint8Array): Buffer;
+    final(): Buffer;
+  }
+  export function createCipheriv(name: string, key: Uint8Array, iv: Uint8Array): Cipher;
+  export function createDecipheriv(name: string, key: Uint8Array, iv: Uint8Array): Cipher;
+  export function timingSafeEqual(one: Uint8Array, other: Uint8Array): boolean;
   export function createHash(name: 'sha256'): { update(data: string): void; digest(form: 'hex'): string };
 }
 

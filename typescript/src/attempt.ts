@@ -1,26 +1,28 @@
 /** One attempt of an invocation: its handler, the VM, and the store between them. */
 
 import { VM, VMError, contentType, unknown } from 'palqytun';
-import type { Future, Handle, Input } from 'palqytun';
+import type { Failure, Future, Handle, Input } from 'palqytun';
 import { Context, contextOf, failureOf } from './context';
 import type { Action, Run } from './context';
-import { Cancelled, NotDurable, OutsideHandler, TerminalError, isOf, said, storable, traced } from './errors';
+import { Cancelled, NotDurable, OutsideHandler, TerminalError, isOf, placeOf, said, storable, traced } from './errors';
 import { isStep, split } from './frames';
 import type { Frame } from './frames';
 import { traceOf } from './hash';
 import { Pulse } from './heartbeats';
 import type { Log } from './log';
+import { Unreadable, sealedError } from './sealing';
+import type { Codec } from './sealing';
 import type { AnyHandler } from './services';
 import { VM_VERSION } from './storing';
 import type { Claim, Outcome, Status } from './storing';
 import { Lost } from './tables';
 import type { Statements } from './tables';
-import { decoded, encoded } from './values';
 import { within } from './within';
 
 /** What an attempt needs of its worker. */
 export interface Host {
   readonly log: Log;
+  readonly codec: Codec;
   /** No run begins any more, and what waits is suspended. */
   readonly drains: boolean;
   /** For how many milliseconds an attempt may wait now, before it is suspended. */
@@ -82,10 +84,12 @@ export class Attempt {
   #ring: () => void = () => undefined;
   readonly #aborts = new Set<AbortController>();
   readonly #begun = performance.now();
+  #codec: Codec; // that of the invocation, once its argument is known
   readonly #most: number | undefined; // milliseconds that it may take
 
   constructor(private readonly host: Host, readonly claim: Claim) {
     this.#vm = new VM(contentType(VM_VERSION), { awaitingOnPolicy: 'dontSend', journalMismatchRetryBehavior: 'pause' });
+    this.#codec = host.codec;
     this.#most = claim.services.get(claim.service)?.handlers.get(claim.handler)?.attemptTimeout;
   }
 
@@ -155,16 +159,17 @@ export class Attempt {
     if (about === undefined || handler === undefined) throw new Error(`a claim of ${this.claim.service}/${this.claim.handler}, which isn't served here`);
     const kind = contextOf(about.workflow, about.keyed, this.claim.exclusive);
     const trace = traceOf(this.claim.id, this.claim.trace);
+    this.#codec = this.host.codec.like(input.input);
     const context = new kind({
-      vm: this.#vm, input, service: about.name, trace: { ...trace, header: this.claim.trace }, patches: this.claim.patches,
+      vm: this.#vm, codec: this.#codec, input, service: about.name, trace: { ...trace, header: this.claim.trace }, patches: this.claim.patches,
       log: this.host.log, now: () => Math.trunc(this.host.now() * 1000), rings: () => this.#ring(),
     }); // prettier-ignore
     let argument: never;
     try {
-      argument = decoded(input.input, handler.takes);
+      argument = this.#codec.decode(input.input, handler.takes);
     } catch (error) {
-      context.write({ code: 400, message: `the argument of ${about.name}/${handler.name}: ${said(error).replace(/^BadValue: /, '')}` });
-      return;
+      if (isOf(error, Unreadable)) return this.#fails(error);
+      return context.write(this.#refused(`the argument of ${about.name}/${handler.name}`, error));
     }
     try {
       await this.#steps(context, handler, () => handler.run(context as never, argument));
@@ -206,7 +211,7 @@ export class Attempt {
     if (value === undefined) return;
     context.actions.delete(handle);
     context.asked.delete(handle);
-    came(value);
+    came(value.kind === 'failure' ? { ...value, message: this.#codec.clear(value.message) } : value);
   }
 
   /** Whether the attempt ends here: the core has refused a call, or the context was used where it isn't to be. */
@@ -216,7 +221,19 @@ export class Attempt {
   }
 
   #fails(error: unknown): void {
-    this.#vm.notifyError({ code: 500, message: said(error), stacktrace: traced(error) });
+    this.#vm.notifyError(this.#failed(error));
+  }
+
+  /** What the store has of an error. */
+  #failed(error: unknown): { code: number; message: string; stacktrace: string } {
+    const stack = traced(error);
+    this.claim.where = placeOf(stack);
+    return { code: 500, message: sealedError(this.#codec, said(error)), stacktrace: this.#codec.text(stack) };
+  }
+
+  /** The failure of a call whose argument the handler doesn't take. */
+  #refused(what: string, error: unknown): Failure {
+    return { code: 400, message: this.#codec.text(`${what}: ${said(error).replace(/^BadValue: /, '')}`), metadata: [] };
   }
 
   /** The handler has ended: its result is written, or its failure, or the attempt has failed. */
@@ -228,23 +245,22 @@ export class Attempt {
     if ('value' in ending) {
       let value: Uint8Array;
       try {
-        value = encoded(ending.value);
+        value = this.#codec.encode(ending.value);
       } catch (error) {
         return this.#fails(error);
       }
       return context.write(value);
     }
     if (!isOf(ending.thrown, TerminalError)) return this.#fails(ending.thrown);
-    context.write(failureOf(ending.thrown));
+    context.write(failureOf(this.#codec, ending.thrown));
   }
 
   /** The invocation goes on as a new one, if its handler takes the argument. */
   #goesOn(context: Context, handler: AnyHandler, argument: Uint8Array): void {
     try {
-      decoded(argument, handler.takes);
+      this.#codec.decode(argument, handler.takes);
     } catch (error) {
-      const why = said(error).replace(/^BadValue: /, '');
-      return context.write({ code: 400, message: `the argument of ctx.continueAsNew in ${handler.service}/${handler.name}: ${why}` });
+      return context.write(this.#refused(`the argument of ctx.continueAsNew in ${handler.service}/${handler.name}`, error));
     }
     context.write(argument, true);
     this.claim.continues = { headers: Object.entries(context.headers), asked: context.signals };
@@ -307,7 +323,7 @@ export class Attempt {
       const does = this.host.instead.get(action.name) ?? action.does;
       const value = await this.host.effect(() => this.#beating(action, abort, (given) => within.run(place, async () => does(given))));
       try {
-        return { kind: 'value', value: encoded(value) };
+        return { kind: 'value', value: this.#codec.encode(value) };
       } catch (error) { // the effect has happened, and no other try of it would have another result
         return { kind: 'failure', error: new TerminalError(`the result of the run ${JSON.stringify(action.name)} can't be stored: ${said(error)}`) };
       }
@@ -325,9 +341,9 @@ export class Attempt {
     const place = { id: this.claim.id, run: index };
     const before = heartbeat === undefined ? [] : await this.host.beside((to) => to.rows('last-progress', place));
     const pulse = new Pulse(heartbeat, (value) => this.#keeps(action, value));
-    const lastProgress = before.length === 0 ? undefined : decoded(before[0]?.[0] as Uint8Array);
+    const lastProgress = before.length === 0 ? undefined : this.#codec.decode(before[0]?.[0] as Uint8Array);
     try {
-      return await timed(() => does({ key, signal: abort.signal, heartbeat: (progress) => pulse.beat(encoded(progress)), lastProgress }), action, abort, pulse);
+      return await timed(() => does({ key, signal: abort.signal, heartbeat: (progress) => pulse.beat(this.#codec.encode(progress)), lastProgress }), action, abort, pulse);
     } finally {
       await pulse.close();
     }
@@ -399,7 +415,7 @@ export class Attempt {
       const action = this.#actions.get(handle);
       const policy = action?.policy;
       if (it.kind === 'value') this.#vm.proposeRunCompletion(handle, it.value, policy);
-      else if (it.kind === 'failure') this.#vm.proposeRunCompletion(handle, failureOf(it.error), policy);
+      else if (it.kind === 'failure') this.#vm.proposeRunCompletion(handle, failureOf(this.#codec, it.error), policy);
       else failed ??= () => this.#proposeFailed(handle, it.error, it.took, action);
     }
     failed?.();
@@ -409,7 +425,7 @@ export class Attempt {
     const pauses = isOf(error, OutsideHandler); // no retry helps
     this.claim.byRun = !pauses;
     if (action !== undefined) this.claim.failedRun = action;
-    const why = { code: 500, message: said(error), stacktrace: traced(error), behavior: pauses ? 'pause' as const : 'retry' as const };
+    const why = { ...this.#failed(error), behavior: pauses ? 'pause' as const : 'retry' as const };
     this.#vm.proposeRetryableFailure(handle, took, why, pauses ? { kind: 'infinite' } : action?.policy);
   }
 

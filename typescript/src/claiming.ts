@@ -10,6 +10,7 @@ import type { Event } from './notes';
 import { Room, again, first, handlersOf, pathOf, queuesOf } from './queueing';
 import type { Queued } from './queueing';
 import type { Queue } from './queues';
+import type { Codec } from './sealing';
 import { ATTEMPTS } from './services';
 import type { About, AnyHandler } from './services';
 import { arrivals, endUnbegun, moves, wakes } from './storing';
@@ -27,6 +28,7 @@ export interface Claimer {
   readonly worker: string;
   readonly code: string;
   readonly services: ReadonlyMap<string, About>;
+  readonly codec: Codec;
   /** When the last suspect was claimed, by the database's time. */
   suspected: number;
 }
@@ -227,7 +229,7 @@ async function loaded(to: Statements, claimer: Claimer, about: About, id: string
     const failing = retries > 0 && failingSince !== null ? Math.max(0, Math.trunc((to.now - failingSince) * 1000)) : 0;
     const start = startFrame({ id, key, seed: BigInt(seed), known: all.length, state, partial, retries, failing, idempotencyKey: idem || null });
     return {
-      id, epoch, service: about.name, handler, key, exclusive: exclusive === 1, services: claimer.services, trace: traceOf(id, trace).header,
+      id, epoch, service: about.name, handler, key, exclusive: exclusive === 1, services: claimer.services, codec: claimer.codec, trace: traceOf(id, trace).header,
       begun: to.now, created, retry: known?.retry ?? ATTEMPTS,
       isLimited: known?.limit !== undefined || known?.queue !== undefined, journal, fed: Buffer.concat([start, ...all]), patches: patchesIn(all),
       counters: { retries, failingSince, failures, failedSince },

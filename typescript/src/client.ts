@@ -12,9 +12,11 @@ import { Log } from './log';
 import { Postgres } from './postgres';
 import { withQueue } from './queues';
 import type { Queued } from './queues';
+import { JSON_CODEC } from './sealing';
+import type { Codec } from './sealing';
 import { servicesOf } from './services';
 import type { About, AnyService, Fixed, Handler } from './services';
-import { PAYLOAD, checkName, checkPayload, decoded, encoded } from './values';
+import { PAYLOAD, checkName, checkPayload } from './values';
 import type { Parse } from './values';
 
 export interface ClientOptions {
@@ -24,6 +26,8 @@ export interface ClientOptions {
   services?: readonly AnyService[];
   /** Bytes of an argument, at most: 4 MiB. */
   payload?: number;
+  /** That of the workers: JSON by default. */
+  codec?: Codec;
 }
 
 export interface ClientCall extends Queued {
@@ -53,14 +57,8 @@ export class Sent<O> {
 
   /** Sends it a signal. */
   signal(name: string, value: unknown = null): Promise<void> {
-    return this.client.deliver(this.id, frames.namedSignal(name, resultOf(value)));
+    return this.client.deliver(this.id, frames.namedSignal(name, this.client.resultOf(value)));
   }
-}
-
-function resultOf(value: unknown): Uint8Array {
-  if (value instanceof TerminalError) return failure(value.code, value.message, value.metadata);
-  const data = encoded(value);
-  return data.length === 0 ? VOID() : frames.valueFrame(data);
 }
 
 export class Client {
@@ -68,12 +66,12 @@ export class Client {
   #hearing: Ends | undefined;
 
   /** @internal */
-  protected constructor(private readonly db: Store, private readonly services: ReadonlyMap<string, About>, private readonly payload: number) {}
+  protected constructor(private readonly db: Store, readonly services: ReadonlyMap<string, About>, private readonly payload: number, readonly codec: Codec) {}
 
   /** Connects to a database, which has the tables of Palqytun. */
-  static async connect({ url, services = [], payload = PAYLOAD }: ClientOptions): Promise<Client> {
+  static async connect({ url, services = [], payload = PAYLOAD, codec = JSON_CODEC }: ClientOptions): Promise<Client> {
     const place = new Postgres(url, new Log());
-    const found = new Client(await place.open(CONNECTIONS), servicesOf(services), payload);
+    const found = new Client(await place.open(CONNECTIONS), servicesOf(services), payload, codec);
     await found.#hearsBy(place);
     return found;
   }
@@ -95,11 +93,11 @@ export class Client {
   async send<O = unknown>(callee: string, argument?: unknown, options?: ClientCall): Promise<Sent<O>>;
   async send<I, O>(callee: Handler<I, O> | string, argument?: I, options: ClientCall = {}): Promise<Sent<O>> {
     const [service = '', handler = ''] = typeof callee === 'string' ? callee.split('/') : [callee.service, callee.name];
-    const data = encoded(argument);
+    const data = this.codec.encode(argument);
     checkPayload('the argument', data.length, this.payload);
     if (options.key !== undefined) checkName('the key', options.key);
     const { id } = await this.db.transact((to) =>
-      create(to, this.services, {
+      create(to, this, {
         ...this.named(), service, handler, key: options.key ?? '',
         argument: data, headers: withQueue(options.headers, options), idempotencyKey: options.idempotencyKey ?? null,
         due: options.delay === undefined ? null : to.now + options.delay / 1000, parent: null, trace: options.headers?.['traceparent'] ?? null,
@@ -129,7 +127,14 @@ export class Client {
   async resolveAwakeable(id: string, value: unknown = null): Promise<void> {
     const found = awakeableOf(id);
     if (found === undefined) throw new TerminalError(`${id.slice(0, 200)} is no awakeable`, 400);
-    await this.deliver(found.invocation, frames.signal(found.signal, resultOf(value)));
+    await this.deliver(found.invocation, frames.signal(found.signal, this.resultOf(value)));
+  }
+
+  /** A value, or a failure, as a frame. @internal */
+  resultOf(value: unknown): Uint8Array {
+    if (value instanceof TerminalError) return failure(value.code, this.codec.text(value.message), value.metadata);
+    const data = this.codec.encode(value);
+    return data.length === 0 ? VOID() : frames.valueFrame(data);
   }
 
   /** @internal */
@@ -145,7 +150,7 @@ export class Client {
       const found = await this.look(id);
       if (found !== undefined) {
         ended.forget();
-        return read(found, gives);
+        return read(this.codec, found, gives);
       }
       const left = until - performance.now();
       if (left <= 0) {
@@ -187,11 +192,11 @@ async function looked(to: Statements, id: string): Promise<Uint8Array | undefine
 }
 
 /** The value of a result; a failure is thrown as a `TerminalError`. */
-export function read<O>(frame: Uint8Array, gives: Parse<O> | undefined): O {
+export function read<O>(codec: Codec, frame: Uint8Array, gives: Parse<O> | undefined): O {
   const failed = failureIn(frame);
-  if (failed !== undefined) throw new TerminalError(failed.message, failed.code, failed.metadata);
+  if (failed !== undefined) throw new TerminalError(codec.clear(failed.message), failed.code, failed.metadata);
   try {
-    return decoded<O>(valueIn(frame) ?? new Uint8Array(), gives);
+    return codec.decode<O>(valueIn(frame) ?? new Uint8Array(), gives);
   } catch (error) {
     if (error instanceof BadValue) throw new TerminalError(`a result that can't be read: ${error.message}`);
     throw error;

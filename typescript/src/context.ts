@@ -10,9 +10,10 @@ import type { Fields, Level, Log } from './log';
 import { Random } from './random';
 import { withQueue } from './queues';
 import type { Queued } from './queues';
+import type { Codec } from './sealing';
 import { JITTER, checkRetry } from './services';
 import type { Fixed, Handler, Retry } from './services';
-import { attributeOf, checkName, decoded, encoded } from './values';
+import { attributeOf, checkName } from './values';
 import type { Parse } from './values';
 import { within } from './within';
 
@@ -77,6 +78,7 @@ export type Callee<I, O> = Handler<I, O> | string;
 /** What a context is made of. */
 export interface Begun {
   readonly vm: VM;
+  readonly codec: Codec;
   readonly input: Input;
   readonly service: string;
   readonly trace: Trace;
@@ -95,12 +97,12 @@ const PATCHED = `${OWN}patched `;
 const ATTRIBUTE = `${OWN}attribute `;
 const CONTINUED = `${OWN}continued`;
 
-function given(value: unknown): Uint8Array | Failure {
-  return value instanceof TerminalError ? failureOf(value) : encoded(value);
+function given(codec: Codec, value: unknown): Uint8Array | Failure {
+  return value instanceof TerminalError ? failureOf(codec, value) : codec.encode(value);
 }
 
-export function failureOf(error: TerminalError): Failure {
-  return { code: error.code, message: error.message, metadata: [...error.metadata] };
+export function failureOf(codec: Codec, error: TerminalError): Failure {
+  return { code: error.code, message: codec.text(error.message), metadata: [...error.metadata] };
 }
 
 /** A retry as the VM takes it. */
@@ -113,13 +115,13 @@ export function policyOf(retry: Retry | undefined): RetryPolicy {
   return { kind: 'exponential', initialMillis: Math.round(retry.initial ?? 50), factor, ...bounds, ...attempts, ...duration };
 }
 
-function reader<T>(parse: Parse<T> | undefined): (came: Value) => T {
-  return (came) => (came.kind === 'success' ? decoded(came.value, parse) : (null as unknown as T));
+function reader<T>(codec: Codec, parse: Parse<T> | undefined): (came: Value) => T {
+  return (came) => (came.kind === 'success' ? codec.decode(came.value, parse) : (null as unknown as T));
 }
 
 /** As `reader`, for what others gave: a value that can't be read is a failure at its await, by which the handler can undo what it did. */
-function results<T>(parse: Parse<T> | undefined): (came: Value) => T {
-  const read = reader(parse);
+function results<T>(codec: Codec, parse: Parse<T> | undefined): (came: Value) => T {
+  const read = reader(codec, parse);
   return (came) => {
     try {
       return read(came);
@@ -154,9 +156,12 @@ export class Context implements Scope {
   /** How many signals of each name the handler has asked for. @internal */
   readonly signals = new Map<string, number>();
   readonly invocationId: string;
+  /** That of the invocation. @internal */
+  readonly codec: Codec;
 
   constructor(begun: Begun) {
     this.#begun = begun;
+    this.codec = begun.codec;
     this.invocationId = begun.input.invocationId;
     this.#random = new Random(begun.input.randomSeed, () => this.#own('ctx.random'));
     const put = (level: Level) => (message: string, fields: Fields = {}): void => {
@@ -287,11 +292,11 @@ export class Context implements Scope {
   }
 
   protected reads<T>(parse: Parse<T> | undefined): (came: Value) => T {
-    return reader(parse);
+    return reader(this.codec, parse);
   }
 
   protected results<T>(parse: Parse<T> | undefined): (came: Value) => T {
-    return results(parse);
+    return results(this.codec, parse);
   }
 
   protected tells(call: (vm: VM) => void): void {
@@ -350,7 +355,7 @@ export class Context implements Scope {
       this.actions.set(handle, { name, does, policy: policyOf(retry), jitter: retry?.jitter ?? JITTER, key, index, timeout, heartbeat });
       this.asked.add(handle);
     }
-    return new Leaf(this, handle ?? 0, results(options.gives));
+    return new Leaf(this, handle ?? 0, this.results(options.gives));
   }
 
   /** The time in milliseconds since the epoch, as it was when this was first awaited. */
@@ -441,7 +446,7 @@ export class Context implements Scope {
    */
   continueAsNew(argument: unknown = null): never {
     this.#own('ctx.continueAsNew');
-    this.continues = new ContinuedAsNew(encoded(argument));
+    this.continues = new ContinuedAsNew(this.codec.encode(argument));
     throw this.continues;
   }
 
@@ -460,16 +465,16 @@ export class Context implements Scope {
   call<I, O>(callee: Handler<I, O>, argument: Fixed<I>, options?: CallOptions & { gives?: Parse<O> }): Call<O>;
   call<O = unknown>(callee: string, argument?: unknown, options?: CallOptions & { gives?: Parse<O> }): Call<O>;
   call<I, O>(callee: Callee<I, O>, argument?: I, options: CallOptions & { gives?: Parse<O> } = {}): Call<O> {
-    const [target, input] = [this.#target(callee as Callee<never, unknown>, options), encoded(argument)];
+    const [target, input] = [this.#target(callee as Callee<never, unknown>, options), this.codec.encode(argument)];
     const made = this.#asks((vm) => vm.sysCall(target, input));
-    return new Call(this, made?.invocationId ?? 0, made?.result ?? 0, results(options.gives));
+    return new Call(this, made?.invocationId ?? 0, made?.result ?? 0, this.results(options.gives));
   }
 
   /** Calls a handler, at once or after a delay, and doesn't wait for it. Awaited, it gives the invocation's id. */
   send<I, O>(callee: Handler<I, O>, argument: Fixed<I>, options?: SendOptions): Durable<string>;
   send(callee: string, argument?: unknown, options?: SendOptions): Durable<string>;
   send<I, O>(callee: Callee<I, O>, argument?: I, options: SendOptions = {}): Durable<string> {
-    const [target, input] = [this.#target(callee as Callee<never, unknown>, options), encoded(argument)];
+    const [target, input] = [this.#target(callee as Callee<never, unknown>, options), this.codec.encode(argument)];
     const { delay } = options;
     if (delay !== undefined && !(delay >= 0 && delay < 1e15)) throw new RangeError(`a delay is a number of milliseconds from 0, and not ${delay}`);
     return this.leaf((vm) => vm.sysSend(target, input, delay ? { atMillis: Math.ceil(Date.now() + delay) } : {}), idOf);
@@ -477,7 +482,7 @@ export class Context implements Scope {
 
   /** The result of another invocation, once it has ended. */
   attach<T = unknown>(invocationId: string, gives?: Parse<T>): Durable<T> {
-    return this.leaf((vm) => vm.sysAttachInvocation({ invocationId }), results(gives));
+    return this.leaf((vm) => vm.sysAttachInvocation({ invocationId }), this.results(gives));
   }
 
   /** Cancels another invocation: what it awaits throws `Cancelled`. */
@@ -490,11 +495,11 @@ export class Context implements Scope {
   /** An id to hand out, and what comes once others complete it. */
   awakeable<T = unknown>(gives?: Parse<T>): { readonly id: string; readonly promise: Durable<T> } {
     const made = this.#asks((vm) => vm.sysAwakeable());
-    return { id: made?.id ?? '', promise: new Leaf(this, made?.handle ?? 0, results(gives)) };
+    return { id: made?.id ?? '', promise: new Leaf(this, made?.handle ?? 0, this.results(gives)) };
   }
 
   resolveAwakeable(id: string, value: unknown = null): void {
-    const data = given(value);
+    const data = given(this.codec, value);
     this.#tells((vm) => vm.sysCompleteAwakeable(id, data));
   }
 
@@ -505,11 +510,11 @@ export class Context implements Scope {
   /** The next signal of this name. */
   signal<T = unknown>(name: string, gives?: Parse<T>): Durable<T> {
     this.signals.set(name, (this.signals.get(name) ?? 0) + 1);
-    return this.leaf((vm) => vm.createSignalHandle(name), results(gives));
+    return this.leaf((vm) => vm.createSignalHandle(name), this.results(gives));
   }
 
   sendSignal(invocationId: string, name: string, value: unknown = null): void {
-    const data = given(value);
+    const data = given(this.codec, value);
     this.#tells((vm) => vm.sysCompleteSignal(invocationId, name, data));
   }
 }
@@ -540,7 +545,7 @@ export class SharedObjectContext extends Context {
 export class ObjectContext extends SharedObjectContext {
   set(name: string, value: unknown): void {
     checkName('the name of a state', name);
-    const data = encoded(value);
+    const data = this.codec.encode(value);
     this.tells((vm) => vm.sysStateSet(name, data));
   }
 
@@ -566,15 +571,15 @@ export interface WorkflowPromise<T> {
 
 type Leafs = <T>(call: (vm: VM) => Handle, read: (came: Value) => T) => Durable<T>;
 
-function promised<T>(leaf: Leafs, name: string, gives: Parse<T> | undefined): WorkflowPromise<T> {
+function promised<T>(codec: Codec, leaf: Leafs, name: string, gives: Parse<T> | undefined): WorkflowPromise<T> {
   checkName('the name of a promise', name);
   const resolve = (value: unknown = null): Durable<null> => {
-    const data = given(value);
+    const data = given(codec, value);
     return leaf((vm) => vm.sysCompletePromise(name, data), nothing);
   };
   return {
-    value: () => leaf((vm) => vm.sysGetPromise(name), results(gives)),
-    peek: () => leaf((vm) => vm.sysPeekPromise(name), (came) => (came.kind === 'void' ? null : results(gives)(came))),
+    value: () => leaf((vm) => vm.sysGetPromise(name), results(codec, gives)),
+    peek: () => leaf((vm) => vm.sysPeekPromise(name), (came) => (came.kind === 'void' ? null : results(codec, gives)(came))),
     resolve,
     reject: (message, code = 500) => resolve(new TerminalError(message, code)),
   };
@@ -584,7 +589,7 @@ function promised<T>(leaf: Leafs, name: string, gives: Parse<T> | undefined): Wo
 export class SharedWorkflowContext extends SharedObjectContext {
   /** A promise of this workflow's key. */
   promise<T = unknown>(name: string, gives?: Parse<T>): WorkflowPromise<T> {
-    return promised((call, read) => this.leaf(call, read), name, gives);
+    return promised(this.codec, (call, read) => this.leaf(call, read), name, gives);
   }
 }
 
@@ -592,7 +597,7 @@ export class SharedWorkflowContext extends SharedObjectContext {
 export class WorkflowContext extends ObjectContext {
   /** A promise of this workflow's key. */
   promise<T = unknown>(name: string, gives?: Parse<T>): WorkflowPromise<T> {
-    return promised((call, read) => this.leaf(call, read), name, gives);
+    return promised(this.codec, (call, read) => this.leaf(call, read), name, gives);
   }
 }
 

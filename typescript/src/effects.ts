@@ -8,6 +8,7 @@ import type { Frame } from './frames';
 import { idOfCall, seedOf } from './hash';
 import { create } from './invocations';
 import type { New } from './invocations';
+import type { Codec } from './sealing';
 import type { About } from './services';
 import type { Statements } from './tables';
 import { setAside } from './unserved';
@@ -22,6 +23,8 @@ export interface Own {
   /** The header `traceparent` of its calls. */
   readonly trace: string;
   readonly services: ReadonlyMap<string, About>;
+  /** That of new invocations. */
+  readonly codec: Codec;
 }
 
 /** Does what a command asks for; returns the notifications that it brings at once. */
@@ -58,12 +61,12 @@ async function calls(to: Statements, own: Own, it: Message): Promise<Uint8Array[
   const isAwaited = it.type === 'callCommand';
   const named = (id: string): Uint8Array => frames.completion(it.second, invocationId(id));
   const asked: New = {
-    id: given, seed: seedOf(given), service: it.text(1), handler: it.text(2), key: it.text(3), argument: it.part(0) ?? new Uint8Array(),
+    id: given, seed: seedOf(given), service: it.text(1), handler: it.text(2), key: it.text(3), argument: own.codec.renewed(it.part(0) ?? new Uint8Array()),
     headers: it.pairs(8), idempotencyKey: it.part(4) === undefined ? null : it.text(4), due: it.number === 0n ? null : dueOf(to, it),
     parent: own.id, trace: own.trace,
   }; // prettier-ignore
   try {
-    const { id, isNew } = await create(to, own.services, asked);
+    const { id, isNew } = await create(to, own, asked);
     if (!isAwaited) return [named(id)];
     if (!isNew) return [named(id), ...(await attaches(to, own, id, it.id))];
     await to.change('wait', { invocation: id, id: own.id, completes: it.id });

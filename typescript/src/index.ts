@@ -12,6 +12,8 @@ export type { Fields, Level, LogOptions } from './log';
 export { Queue } from './queues';
 export type { QueueOptions } from './queues';
 export { Random } from './random';
+export { Sealed, Unreadable } from './sealing';
+export type { Codec } from './sealing';
 export { serve } from './serve';
 export type { ServeOptions } from './serve';
 export { handler, main, object, service, shared, workflow } from './services';

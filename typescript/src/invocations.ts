@@ -4,6 +4,7 @@ import { TerminalError } from './errors';
 import { inputCommand } from './frames';
 import { queuedBy } from './queues';
 import { checkSame } from './repeated';
+import type { Codec } from './sealing';
 import { timesOf } from './services';
 import type { About } from './services';
 import type { Statements } from './tables';
@@ -44,6 +45,12 @@ export interface New {
   readonly queued?: { readonly queue: string | null; readonly queue_key: string | null; readonly priority: number };
 }
 
+/** Who makes invocations: a program, by its services and its codec. */
+export interface Maker {
+  readonly services: ReadonlyMap<string, About>;
+  readonly codec: Codec;
+}
+
 /** A handler of this program; undefined if it hasn't such a one. */
 export function ownTarget(own: ReadonlyMap<string, About>, service: string, handler: string): Target | undefined {
   const it = own.get(service);
@@ -80,8 +87,8 @@ export function check(it: Pick<New, 'service' | 'handler' | 'key' | 'idempotency
 
 /** Makes an invocation, and returns its id; or that of the one that has this idempotency key already. Throws a `TerminalError` if it can't be made: 404 if
  * nobody serves it, 400 if it isn't called so, and 409 if the one that is there was called with another argument. */
-export async function create(to: Statements, own: ReadonlyMap<string, About>, it: New): Promise<{ id: string; isNew: boolean }> {
-  const target = await targetOf(to, own, it.service, it.handler);
+export async function create(to: Statements, own: Maker, it: New): Promise<{ id: string; isNew: boolean }> {
+  const target = await targetOf(to, own.services, it.service, it.handler);
   check(it, target);
   const asked = queuedBy(it.headers, it.key);
   const queued = it.queued ?? { queue: target.queue, queue_key: target.queue === null ? null : asked.queue_key, priority: asked.priority };
@@ -91,7 +98,7 @@ export async function create(to: Statements, own: ReadonlyMap<string, About>, it
   if ((await to.change('create', { ...row, ...until(target, it.due ?? to.now), ...queued })) === 0) {
     const found = idem === null ? [] : await to.rows('named', place);
     const id = found.length > 0 ? String(found[0]?.[0]) : it.id;
-    if (idem) await checkSame(to, id, idem, it.argument);
+    if (idem) await checkSame(to, own.codec, id, idem, it.argument);
     return { id, isNew: false };
   }
   await to.change('input', { id: it.id, frame: inputCommand(it.argument, it.headers), now: to.now });

@@ -2,15 +2,17 @@
 
 import { frames } from 'palqytun';
 import { BadValue, TerminalError } from './errors';
+import { Unreadable } from './sealing';
+import type { Codec } from './sealing';
 import type { Statements } from './tables';
-import { decoded } from './values';
 
-/** Whether these are one value, however it is written. */
-function isSame(one: Uint8Array, other: Uint8Array): boolean {
+/** Whether these are one value, however it is written. What is encrypted by a key that isn't there can't be told apart, and is the same. */
+function isSame(codec: Codec, one: Uint8Array, other: Uint8Array): boolean {
   if (Buffer.compare(one, other) === 0) return true;
   try {
-    return areEqual(decoded(one), decoded(other));
+    return areEqual(codec.decode(one), codec.decode(other));
   } catch (error) {
+    if (error instanceof Unreadable) return true;
     if (error instanceof BadValue) return false;
     throw error;
   }
@@ -40,8 +42,8 @@ function areEqual(first: unknown, second: unknown): boolean {
 }
 
 /** Throws a `TerminalError` with code 409 if the invocation that has this idempotency key was called with another argument. */
-export async function checkSame(to: Statements, id: string, key: string, argument: Uint8Array): Promise<void> {
+export async function checkSame(to: Statements, codec: Codec, id: string, key: string, argument: Uint8Array): Promise<void> {
   const input = (await to.rows('called', { id }))[0]?.[0] as Uint8Array | undefined;
-  if (input === undefined || isSame(new frames.Message(input).part(0) ?? new Uint8Array(), argument)) return;
+  if (input === undefined || isSame(codec, new frames.Message(input).part(0) ?? new Uint8Array(), argument)) return;
   throw new TerminalError(`the idempotency key '${key.slice(0, 200)}' is that of ${id}, which was called with another argument`, 409);
 }

@@ -18,7 +18,7 @@ function doubled(block: Uint8Array): Buffer {
 
 /** A block that isn't full, with a bit after its text and then zeros. */
 function padded(text: Uint8Array): Buffer {
-  return Buffer.concat([text, Buffer.from([0x80])], BLOCK);
+  return Buffer.concat([text, Buffer.from([0x80]), ZERO.subarray(0, BLOCK - 1 - text.length)]);
 }
 
 export class Siv {

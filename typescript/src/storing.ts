@@ -5,7 +5,7 @@ import type { Journal, Row } from 'palqytun';
 import { deliver, leaves } from './delivery';
 import { perform } from './effects';
 import type { Own } from './effects';
-import { placeOf, storable } from './errors';
+import { storable } from './errors';
 import { Kind, failureIn, isCancel, isStep, signalName, split, valueIn } from './frames';
 import type { Frame } from './frames';
 import { idOfCall, seedOf, traceOf } from './hash';
@@ -59,6 +59,8 @@ export interface Claim extends Own {
   /** The attempt has failed by a run, which has its own policy. */
   byRun: boolean;
   /** The run that has failed, and by how much the delay of its next try is shorter at most. */
+  /** The line of the user's code by which the attempt has failed. */
+  where?: string | undefined;
   failedRun?: { readonly name: string; readonly jitter: number };
   /** A new invocation goes on in its place: the headers of both, and how many signals of each name its handler has asked for. */
   continues?: { readonly headers: readonly (readonly [string, string])[]; readonly asked: ReadonlyMap<string, number> };
@@ -208,8 +210,8 @@ async function fail(to: Statements, claim: Claim, it: Growth, error: Uint8Array)
     status: found.status, due: to.now + delay, error: text, how,
     retries: counters.retries, failing_since: counters.failingSince, failures: counters.failures, failed_since: counters.failedSince,
   }); // prettier-ignore
-  const where = placeOf(said.text(1));
-  note(to, claim, how === 'paused' ? 'paused' : 'attempt failed', text.replace(/^500 /, ''), how === 'paused' ? { where } : { where, delay });
+  const [why, { where }] = [text.replace(/^500 /, ''), claim];
+  note(to, claim, how === 'paused' ? 'paused' : 'attempt failed', why, how === 'paused' ? { where } : { where, delay });
   to.isDue(to.now + delay);
   to.say('ready');
   return found;
@@ -261,8 +263,8 @@ async function goesOnAs(to: Statements, claim: Claim, before: number, result: Ui
   const fenced = { id, epoch: claim.epoch, before, entries: claim.journal.entries, now: to.now };
   const { service, handler, key } = claim;
   await to.change('continue', { ...fenced, chain, next, service, key }); // the row is kept since the store's fence
-  await create(to, claim.services, {
-    id: next, seed: seedOf(next), service, handler, key, argument: valueIn(result) ?? new Uint8Array(), headers, idempotencyKey: idem, due: null, parent, trace,
+  await create(to, claim, {
+    id: next, seed: seedOf(next), service, handler, key, argument: claim.codec.renewed(valueIn(result) ?? new Uint8Array()), headers, idempotencyKey: idem, due: null, parent, trace,
     queued: { queue, queue_key: queueKey, priority },
   }); // prettier-ignore
   await to.change('chain', { id: next, chain });

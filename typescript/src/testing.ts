@@ -19,10 +19,12 @@ import { failureIn, valueIn } from './frames';
 import type { Log, LogOptions } from './log';
 import { Memory } from './memory';
 import type { Tables } from './memory';
+import { JSON_CODEC } from './sealing';
+import type { Codec } from './sealing';
 import { ABOUT, servicesOf } from './services';
 import type { About, AnyHandler, AnyService, Fixed, Handler } from './services';
 import type { Statements, Store } from './tables';
-import { PAYLOAD, decoded, encoded } from './values';
+import { PAYLOAD } from './values';
 import type { Parse } from './values';
 import { within } from './within';
 import { Worker } from './worker';
@@ -79,6 +81,8 @@ export interface TestingOptions {
   answers?: Readonly<Record<string, unknown>>;
   /** What is executed instead of runs, by their names. */
   runs?: Readonly<Record<string, (run: Run) => unknown>>;
+  /** How values are bytes, as that of a worker: JSON. */
+  codec?: Codec;
   /** Milliseconds that what is due may take: 60,000. */
   settles?: number;
   log?: LogOptions | Log;
@@ -97,12 +101,12 @@ export class Testing extends Client {
     const memory = new Memory();
     const store = memory.beside();
     const those = answered(servicesOf(services), options.answers ?? {}).map((it) => ({ [ABOUT]: it }));
-    super(store, servicesOf(those), PAYLOAD);
+    super(store, servicesOf(those), PAYLOAD, options.codec ?? JSON_CODEC);
     [this.#memory, this.#store, this.#skips, this.#settles] = [memory, store, options.skips ?? true, options.settles ?? SETTLES];
     const log = options.log ?? { level: 'warning' as const };
     const instead = new Map(Object.entries(options.runs ?? {}));
     const settings = { url: 'postgresql://in-memory', version: 'test', idle: 0, poll: 50, grace: 1000, stuck: 0, log };
-    this.#worker = new Worker({ ...settings, services: those }, { place: memory, instead });
+    this.#worker = new Worker({ ...settings, services: those, codec: this.codec }, { place: memory, instead });
     this.#running = this.#worker.run();
   }
 
@@ -133,13 +137,13 @@ export class Testing extends Client {
 
   /** The state of a key. */
   state(service: string, key: string): Promise<Record<string, unknown>> {
-    return this.#asks(async (to) => Object.fromEntries((await to.rows('state', { service, key })).map(([name, value]) => [name, decoded(value as Uint8Array)])));
+    return this.#asks(async (to) => Object.fromEntries((await to.rows('state', { service, key })).map(([name, value]) => [name, this.codec.decode(value as Uint8Array)])));
   }
 
   /** Gives the state of a key these values. */
   setState(service: string, key: string, values: Readonly<Record<string, unknown>>): Promise<void> {
     return this.#asks(async (to) => {
-      for (const [name, value] of Object.entries(values)) await to.change('set', { service, key, name, value: encoded(value) });
+      for (const [name, value] of Object.entries(values)) await to.change('set', { service, key, name, value: this.codec.encode(value) });
     });
   }
 
@@ -204,7 +208,7 @@ export class Testing extends Client {
   override async result<O>(id: string, wait: number, gives: Parse<O> | undefined): Promise<O> {
     for (const until = performance.now() + wait; ; await pause()) {
       const found = await this.look(id);
-      if (found !== undefined) return read(found, gives);
+      if (found !== undefined) return read(this.codec, found, gives);
       if (performance.now() > until) throw new Error(`${id} hasn't ended after ${wait} ms, and goes on`);
       const { isSettled, due } = await this.#look();
       if (!isSettled) continue;
@@ -235,7 +239,7 @@ export class Testing extends Client {
     }
     const hasDied = dies > 0 && memory.commits >= memory.dies;
     memory.dies = 0;
-    return { left: leftBy(memory.tables, found), hasDied };
+    return { left: leftBy(this.codec, memory.tables, found), hasDied };
   }
 
   #named: { id: string; seed: bigint } | undefined;
@@ -290,7 +294,7 @@ function given(answer: unknown, argument: unknown): unknown {
 
 // ---- deaths
 
-export interface CrashOptions extends Pick<TestingOptions, 'answers' | 'runs' | 'settles'> {
+export interface CrashOptions extends Pick<TestingOptions, 'answers' | 'codec' | 'runs' | 'settles'> {
   key?: string;
   /** Those whose calls have to be the same by their keys, beside `runs`. */
   fakes?: readonly Calls[];
@@ -309,11 +313,11 @@ function shown(value: unknown): string {
   return inspect(value, { depth: 50, sorted: true, breakLength: Infinity });
 }
 
-function leftBy(tables: Tables, result: Uint8Array): Left {
+function leftBy(codec: Codec, tables: Tables, result: Uint8Array): Left {
   const value = valueIn(result);
-  const rows = tables.state.where().map((it) => [it.service, it.key, it.name, decoded(it.value)].map(shown).join(' '));
+  const rows = tables.state.where().map((it) => [it.service, it.key, it.name, codec.decode(it.value)].map(shown).join(' '));
   const said = tables.attributes.where().map((it) => it.join(' '));
-  return { result: shown(value === undefined ? failureIn(result) ?? null : decoded(value)), state: rows.sort().join('\n'), attributes: said.sort().join('\n') };
+  return { result: shown(value === undefined ? failureIn(result) ?? null : codec.decode(value)), state: rows.sort().join('\n'), attributes: said.sort().join('\n') };
 }
 
 function isFake(it: unknown): it is Calls {

@@ -13,6 +13,8 @@ import { Meter } from './metrics';
 import { tell } from './notes';
 import { Postgres } from './postgres';
 import { enter } from './queueing';
+import { JSON_CODEC } from './sealing';
+import type { Codec } from './sealing';
 import { servesText, servicesOf, versionOf } from './services';
 import type { About, AnyService } from './services';
 import { Fenced, isSteps, pull, release, store } from './storing';
@@ -45,6 +47,8 @@ export interface WorkerOptions {
   effects?: number;
   /** Connections for transactions: 8. */
   connections?: number;
+  /** How values are bytes: JSON; or a `Sealed`, by which they are encrypted. */
+  codec?: Codec;
   log?: LogOptions | Log;
 }
 
@@ -102,8 +106,9 @@ export class Worker implements Host {
   readonly meter = new Meter();
   readonly log: Log;
   readonly version: string;
+  readonly codec: Codec;
   readonly instead: Host['instead'];
-  readonly #options: Required<Omit<WorkerOptions, 'log' | 'services' | 'version'>>;
+  readonly #options: Required<Omit<WorkerOptions, 'codec' | 'log' | 'services' | 'version'>>;
   readonly #services: ReadonlyMap<string, About>;
   readonly #live = new Map<string, Attempt>();
   readonly #effects: Room;
@@ -131,6 +136,7 @@ export class Worker implements Host {
     checked(options);
     this.#services = servicesOf(options.services);
     this.version = options.version ?? versionOf(this.#services);
+    this.codec = options.codec ?? JSON_CODEC;
     this.log = options.log instanceof Log ? options.log : new Log(options.log);
     const defaults = { name: 'node', limit: 500, idle: 1000, lease: 10_000, poll: 1000, grace: GRACE, stuck: 60_000, effects: 1000, connections: 8 };
     this.#options = { ...defaults, ...Object.fromEntries(Object.entries(options).filter(([, it]) => it !== undefined)), url: options.url };
@@ -265,7 +271,7 @@ export class Worker implements Host {
   /** As long as the database can be used. Each session is a worker of its own, so what an earlier one left is claimed like any other's. */
   async #session(): Promise<void> {
     const db = await this.#place.open(this.#options.connections);
-    const claimer: Claimer = { worker: `${this.#options.name}-${randomBytes(6).toString('hex')}`, code: this.version, services: this.#services, suspected: 0 };
+    const claimer: Claimer = { worker: `${this.#options.name}-${randomBytes(6).toString('hex')}`, code: this.version, services: this.#services, codec: this.codec, suspected: 0 };
     let lost: Lost | undefined;
     let hears: Ends | undefined;
     let beats: Ends | undefined;

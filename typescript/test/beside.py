@@ -1,9 +1,10 @@
 """Handlers in Python beside those of the SDK's tests: `palqytun run beside.py`, on the same database."""
 
 import asyncio
+import os
 import pathlib
 
-from palqytun.runtime import App, Context, ObjectContext, Queue, Service, VirtualObject
+from palqytun.runtime import App, Context, JsonCodec, ObjectContext, Queue, Sealed, Service, TerminalError, VirtualObject
 
 python, shelf = Service("Python"), VirtualObject("PythonShelf")
 SHARED = Queue("shared", concurrency=2)  # also that of a handler in TypeScript (queues.test.ts)
@@ -47,4 +48,11 @@ async def put(ctx: ObjectContext, it: str) -> list:
     return found
 
 
-app = App(python, shelf)
+@python.handler()
+async def refuses(ctx: Context, it: str) -> None:
+    raise TerminalError(f"{it} is refused", 402)
+
+
+KEYS = {"a": bytes(range(32)), "b": bytes(range(64))}  # those of sealing.test.ts
+newest = os.environ.get("BESIDE_SEALED")
+app = App(python, shelf, codec=Sealed(JsonCodec(), KEYS, newest) if newest else None)

@@ -7,12 +7,12 @@ export interface Beside {
   end(): Promise<void>;
 }
 
-/** Begins it. What it serves can be called once it is there. */
-export function beside(...words: readonly string[]): Beside {
+/** Begins it, with more of an environment. What it serves can be called once it is there. */
+export function beside(more: Readonly<Record<string, string>> = {}): Beside {
   const python = process.env['PALQYTUN_PYTHON'] ?? 'python3';
   const app = `${__dirname}/../../test/beside.py`;
-  const those = ['-m', 'palqytun', 'run', app, '--db', URL, '--port', '-1', '--idle', '0.2', '--lease', '300', '--log-level', 'warning', ...words];
-  const child = spawn(python, those, { env: process.env, stdio: ['ignore', 'ignore', 'inherit'] });
+  const those = ['-m', 'palqytun', 'run', app, '--db', URL, '--port', '-1', '--idle', '0.2', '--lease', '300', '--log-level', 'warning'];
+  const child = spawn(python, those, { env: { ...process.env, ...more }, stdio: ['ignore', 'ignore', 'inherit'] });
   const ended = new Promise<number | null>((done) => child.on('close', done));
   return {
     end: async () => {

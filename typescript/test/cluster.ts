@@ -24,7 +24,7 @@ export async function stage(services: readonly AnyService[], options: Partial<Wo
   const worker = new Worker({ url: URL, services, idle: 200, poll: 500, lease: LONG, log, ...options });
   const running = worker.run();
   await Promise.race([worker.isOpen, running]);
-  const client = await Client.connect({ url: URL, services });
+  const client = await Client.connect({ url: URL, services, ...(options.codec === undefined ? {} : { codec: options.codec }) });
   return {
     worker, client, lines,
     end: async () => {

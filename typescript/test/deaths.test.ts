@@ -7,6 +7,7 @@ import type { AnyService, ObjectContext, ServiceContext, WorkerOptions } from '@
 import { LONG, until } from './cluster';
 import { create } from '../invocations';
 import { Memory } from '../memory';
+import { JSON_CODEC } from '../sealing';
 import { servicesOf } from '../services';
 
 /** A worker on a store of the test's, which the declarations of the package leave out. */
@@ -39,7 +40,7 @@ async function begun(services: readonly AnyService[], path: string, argument: un
     id: 'inv_first', seed: 1n, service: name, handler, key: '', argument: Buffer.from(JSON.stringify(argument)), headers: [], idempotencyKey: null, due: null,
     parent: null, trace: null,
   }; // prettier-ignore
-  await memory.beside().transact((to) => create(to, servicesOf(services), made));
+  await memory.beside().transact((to) => create(to, { services: servicesOf(services), codec: JSON_CODEC }, made));
   return memory;
 }
 
