@@ -1,7 +1,10 @@
-"""`tools/bench languages`: what a call of the VM takes from each language that is installed, in nanoseconds of the processor.
+"""`tools/bench languages`: what a call of the VM takes from each language that is installed, in nanoseconds of the processor; with --allocations, what it
+allocates.
 
 Each program makes 1,000 calls on a VM that has its input, round after round, and says what a call took in the best round. A sleep, a state that is set
-and a call are new commands; an await waits for input."""
+and a call are new commands; an await waits for input.
+
+Allocations are counted by what each language offers, so only rows of one kind can be compared. They don't depend on what else the host does."""
 
 from __future__ import annotations
 
@@ -27,6 +30,7 @@ Words = list[str]
 def add(parser: argparse.ArgumentParser) -> None:
     parser.add_argument("--library", type=Path, default=core.LIBRARY, metavar="FILE", help="Palqytun's library (bindings/out/libpalqytun.so)")
     parser.add_argument("--rounds", type=int, default=1000, metavar="N", help="how many rounds (1000)")
+    parser.add_argument("--allocations", action="store_true", help="what a call allocates, in the least of 3 rounds, instead of its time")
     parser.add_argument("--only", default="", metavar="NAME,..", help="these languages alone")
 
 
@@ -91,6 +95,11 @@ LANGUAGES: dict[str, tuple[str, Callable[[Path, Path], Words]]] = {
 }
 """The command that each language needs, and what builds its program."""
 IMPLEMENTATIONS = {"Python": "c", "Python by ctypes": "ctypes"}
+CALLS_OF_MALLOC, ROUNDS = "calls of malloc", 3
+COUNTED = {"Go": "objects of Go", "Java": "bytes of Java's heap", "JavaScript": "bytes of V8's heap and of buffers", "Ruby": "objects of Ruby"}
+"""What is counted where it isn't calls of malloc, which are the core's and the binding's. With `PYTHONMALLOC=malloc` each of Python's own is one."""
+COLLECTS = ["--expose-gc", "--max-semi-space-size=256"]
+"""By these words of Node nothing is collected within a round."""
 
 
 def build_module() -> None:
@@ -109,8 +118,22 @@ def rows_of(name: str, library: Path, rounds: int) -> dict[str, float]:
     """Nanoseconds of each case in a language."""
     with tempfile.TemporaryDirectory(prefix="bench-") as made:
         words = LANGUAGES[name][1](Path(made), library)
-        said = _run([*words, str(rounds)], Path(made), **environment(name, library))
-    return {case: float(ns) for case, ns in (line.split() for line in said.splitlines())}
+        return _rows(_run([*words, str(rounds)], Path(made), **environment(name, library)))
+
+
+def allocations_of(name: str, library: Path) -> dict[str, float]:
+    """What each case allocates in a language."""
+    with tempfile.TemporaryDirectory(prefix="bench-") as made:
+        words, env = LANGUAGES[name][1](Path(made), library), environment(name, library)
+        if name not in COUNTED:
+            _run(["cc", "-O2", "-shared", "-fPIC", "-o", f"{made}/counted.so", f"{HERE}/counted.c"], Path(made))
+            env |= {"LD_PRELOAD": f"{made}/counted.so", "PYTHONMALLOC": "malloc"}
+        program, *more = words
+        return _rows(_run([program, *(COLLECTS if name == "JavaScript" else []), *more, str(ROUNDS), "allocations"], Path(made), **env))
+
+
+def _rows(said: str) -> dict[str, float]:
+    return {case: float(number) for case, number in (line.split() for line in said.splitlines())}
 
 
 def chosen(only: str) -> list[str]:
@@ -125,7 +148,9 @@ def measure(options: argparse.Namespace) -> None:
     names = chosen(options.only)
     if IMPLEMENTATIONS.keys() & set(names):
         build_module()
-    print(f"| | {' | '.join(f'`{it}`' for it in CASES)} |\n|---|{'---|' * len(CASES)}")
+    last = [" counted |", "---|"] if options.allocations else ["", ""]
+    print(f"| | {' | '.join(f'`{it}`' for it in CASES)} |{last[0]}\n|---|{'---|' * len(CASES)}{last[1]}")
     for name in names:
-        rows = rows_of(name, library, options.rounds)
-        print(f"| {name} | {' | '.join(f'{rows[it]:,.0f}' for it in CASES)} |", flush=True)
+        rows = allocations_of(name, library) if options.allocations else rows_of(name, library, options.rounds)
+        what = f" {COUNTED.get(name, CALLS_OF_MALLOC)} |" if options.allocations else ""
+        print(f"| {name} | {' | '.join(f'{rows[it]:,.0f}' for it in CASES)} |{what}", flush=True)

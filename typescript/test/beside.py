@@ -6,7 +6,8 @@ import pathlib
 
 from palqytun.runtime import App, Context, JsonCodec, ObjectContext, Queue, Sealed, Service, TerminalError, VirtualObject
 
-python, shelf = Service("Python"), VirtualObject("PythonShelf")
+NAME = os.environ["BESIDE_NAME"]  # of its services: each test has its own, since several run side by side
+python, shelf = Service(NAME), VirtualObject(f"{NAME}Shelf")
 SHARED = Queue("shared", concurrency=2)  # also that of a handler in TypeScript (queues.test.ts)
 
 

@@ -8,6 +8,7 @@ import type { CallOptions, ObjectContext, ServiceContext } from '@palqytun/sdk';
 import { Testing, crashEverywhere, fake } from '@palqytun/sdk/testing';
 import { beside } from './beside';
 import { LONG, asked, stage, until } from './cluster';
+import type { Stage } from './cluster';
 
 const SHARED = new Queue('shared', { concurrency: 2 });
 const HOUR = 3_600_000;
@@ -74,26 +75,29 @@ function most(lines: readonly string[]): number {
 }
 
 test('one queue of handlers in both languages, and calls of each by the other', { timeout: LONG }, async () => {
-  const [on, python] = [await stage([work], { idle: LONG }), beside()];
+  const on = await stage([work], { idle: LONG });
   try {
-    await until(() => on.client.send('Python/echo').then(() => true, () => false));
-    appendFileSync(FILE, '');
-    const sent = [];
-    for (let n = 0; n < 10; n++) sent.push(await on.client.send('Work/busy', FILE), await on.client.send('Python/busy', FILE));
-    await Promise.all(sent.map((it) => it.result(LONG)));
-    const lines = readFileSync(FILE, 'utf8').trim().split('\n');
-    assert.deepEqual(['python', 'typescript'].map((it) => lines.filter((line) => line === `end ${it}`).length), [10, 10]);
-    assert(most(lines) <= 2, lines.join(', '));
-    assert.equal(await on.client.call('Work/calls', ['Python/busy', FILE, { queueKey: 'ann', priority: 7 }]), null);
-    assert.equal(await on.client.call('Python/calls', ['Work/busy', FILE, { queue_key: 'ben', priority: -7 }]), null);
-    const rows = await asked("SELECT service, queue, queue_key, priority::int FROM invocations WHERE handler='busy' AND priority<>0 ORDER BY seq");
-    assert.deepEqual(rows, [['Python', 'shared', 'ann', 7], ['Work', 'shared', 'ben', -7]]);
-    assert.deepEqual(JSON.parse(String((await asked("SELECT limits FROM queues WHERE name='shared'"))[0]?.[0])), { concurrency: 2 });
+    await beside('PyQueues', () => sharedQueue(on));
   } finally {
-    await python.end();
     await on.end();
   }
 });
+
+async function sharedQueue(on: Stage): Promise<void> {
+  await until(() => on.client.send('PyQueues/echo').then(() => true, () => false));
+  appendFileSync(FILE, '');
+  const sent = [];
+  for (let n = 0; n < 10; n++) sent.push(await on.client.send('Work/busy', FILE), await on.client.send('PyQueues/busy', FILE));
+  await Promise.all(sent.map((it) => it.result(LONG)));
+  const lines = readFileSync(FILE, 'utf8').trim().split('\n');
+  assert.deepEqual(['python', 'typescript'].map((it) => lines.filter((line) => line === `end ${it}`).length), [10, 10]);
+  assert(most(lines) <= 2, lines.join(', '));
+  assert.equal(await on.client.call('Work/calls', ['PyQueues/busy', FILE, { queueKey: 'ann', priority: 7 }]), null);
+  assert.equal(await on.client.call('PyQueues/calls', ['Work/busy', FILE, { queue_key: 'ben', priority: -7 }]), null);
+  const rows = await asked("SELECT service, queue, queue_key, priority::int FROM invocations WHERE handler='busy' AND priority<>0 ORDER BY seq");
+  assert.deepEqual(rows, [['PyQueues', 'shared', 'ann', 7], ['Work', 'shared', 'ben', -7]]);
+  assert.deepEqual(JSON.parse(String((await asked("SELECT limits FROM queues WHERE name='shared'"))[0]?.[0])), { concurrency: 2 });
+}
 
 test('keys have their turns, and the greatest priority of a key comes first', { timeout: LONG }, async () => {
   const on = await stage([work], { idle: LONG });

@@ -80,12 +80,12 @@ test('nothing is in clear, Python reads it, and keys are rotated', { timeout: LO
     assert.match(String(line?.['where']), /^sealing\.test\.js:\d+$/);
     await assert.rejects(on.client.call(safe.fails, SECRET), { code: 402, message: `${SECRET} in a run` });
     await until(async () => (await asked("SELECT 1 FROM invocations WHERE id=$1 AND status='suspended' AND entries>8", open)).length === 1);
-    const worker = beside({ BESIDE_SEALED: 'a' });
-    await until(() => on.client.send('Python/echo', 1).then(() => true, () => false));
-    assert.equal(await on.client.call(safe.asks, ['Python/echo', SECRET]), SECRET);
-    assert.equal(await on.client.call(safe.asks, ['Python/refuses', SECRET]), `${SECRET} is refused`);
-    assert.equal(await on.client.call('Python/calls', ['Safe/echo', SECRET, {}]), SECRET);
-    await worker.end();
+    await beside('PySealed', async () => {
+      await until(() => on.client.send('PySealed/echo', 1).then(() => true, () => false));
+      assert.equal(await on.client.call(safe.asks, ['PySealed/echo', SECRET]), SECRET);
+      assert.equal(await on.client.call(safe.asks, ['PySealed/refuses', SECRET]), `${SECRET} is refused`);
+      assert.equal(await on.client.call('PySealed/calls', ['Safe/echo', SECRET, {}]), SECRET);
+    }, { BESIDE_SEALED: 'a' });
     assert.equal(await inClear(), 0);
     assert(!JSON.stringify(on.lines).includes('4242'), JSON.stringify(on.lines));
   } finally {

@@ -93,17 +93,19 @@ test('what the handler never takes is seen as failed', { timeout: LONG }, async 
 });
 
 test('what TypeScript sends while nobody serves it is done by Python, and what Python sends by TypeScript', { timeout: LONG }, async () => {
-  const id = await onStage([sender], (on) => sent(on, 'PythonShelf/put', 'a book', { key: 'top' }));
-  await onStage([sender], async (on) => {
-    const worker = beside();
+  const id = await onStage([sender], async (on) => {
+    const made = await sent(on, 'PySendsShelf/put', 'a book', { key: 'top' });
+    assert.deepEqual(await asked('SELECT status, how FROM invocations WHERE id=$1', made), [['paused', 'unserved']]);
+    return made;
+  });
+  await onStage([sender], (on) => beside('PySends', async () => {
     assert.deepEqual(await on.client.sent(id).result(LONG), ['a book']);
-    const ids = await Promise.all(['one', 'two'].map((it) => on.client.call<string>('Python/sends', ['FromPython/put', it, { key: it }])));
+    const ids = await Promise.all(['one', 'two'].map((it) => on.client.call<string>('PySends/sends', ['FromPython/put', it, { key: it }])));
     for (const one of ids) assert.deepEqual(await asked('SELECT status, how FROM invocations WHERE id=$1', one), [['paused', 'unserved']]);
     await onStage([fromPython], async (there) => {
       for (const [at, one] of ids.entries()) assert.equal(await there.client.sent(one).result(LONG), `${['one', 'two'][at]} has ${['one', 'two'][at]}`);
     });
-    await worker.end();
-  });
+  }));
 });
 
 test('an idempotency key has one argument', { timeout: LONG }, async () => {

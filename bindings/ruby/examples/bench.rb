@@ -1,6 +1,7 @@
 # frozen_string_literal: true
 
-# Prints what a call takes, in nanoseconds of the processor: the best of some rounds, of 1,000 calls each. usage: bench.rb ROUNDS
+# Prints what a call takes, in nanoseconds of the processor: the best of some rounds, of 1,000 calls each. With `allocations` it is how many of Ruby's objects a
+# call makes. usage: bench.rb ROUNDS [allocations]
 require "palqytun"
 
 CALLS = 1000
@@ -12,7 +13,7 @@ CASES = {
   "await" => ->(vm) { vm.do_await(17) },
 }.freeze
 
-def now = Process.clock_gettime(Process::CLOCK_PROCESS_CPUTIME_ID, :nanosecond)
+def now = ARGV[1] ? GC.stat(:total_allocated_objects) : Process.clock_gettime(Process::CLOCK_PROCESS_CPUTIME_ID, :nanosecond)
 
 def round_of(call)
   Palqytun::VM.open("application/vnd.restate.invocation.v7") do |vm|

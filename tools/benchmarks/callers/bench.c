@@ -1,4 +1,5 @@
-/* What a call takes from C, in nanoseconds of the processor: the best of some rounds, of 1,000 calls each. usage: bench ROUNDS */
+/* What a call takes from C, in nanoseconds of the processor: the best of some rounds, of 1,000 calls each. With `allocations` it is how many allocations a call
+ * makes, by counted.c, which is preloaded. usage: bench ROUNDS [allocations] */
 #define _POSIX_C_SOURCE 200809L
 #include "palqytun.h"
 
@@ -78,6 +79,15 @@ static uint32_t made(palqytun_vm *vm, int of, int at)
     }
 }
 
+extern unsigned long long palqytun_allocations(void) __attribute__((weak));
+
+static double allocations(void)
+{
+    if (!palqytun_allocations)
+        exit(2);
+    return (double)palqytun_allocations();
+}
+
 static double now(void)
 {
     struct timespec it;
@@ -89,15 +99,16 @@ int main(int argc, char **argv)
 {
     static const char *const names[] = {"sleep", "state", "call", "await", "whole", "state_of", "is_completed", "take"};
     int rounds = argc > 1 ? atoi(argv[1]) : 1;
+    double (*read)(void) = argc > 2 ? allocations : now;
     for (int of = 0; of < 8; of++) {
         double best = 1e18;
         for (int round = 0; round < rounds; round++) {
             palqytun_vm *vm = begun();
             uint32_t wrong = call(vm, 0);
-            double begin = now();
+            double begin = read();
             for (int at = 0; at < CALLS; at++)
                 wrong |= made(vm, of, at);
-            double took = (now() - begin) / CALLS;
+            double took = (read() - begin) / CALLS;
             best = took < best ? took : best;
             if (wrong != PALQYTUN_DONE || palqytun_close(vm) != PALQYTUN_DONE)
                 return 2;

@@ -1,9 +1,10 @@
-"""What a call takes from Python, in nanoseconds of the processor: the best of some rounds, of 1,000 calls each. With CASE one case is played, CALLS
-times, and nothing is printed, so that its instructions can be counted.
+"""What a call takes from Python, in nanoseconds of the processor: the best of some rounds, of 1,000 calls each. With `allocations` it is how many allocations
+a call makes, by counted.c, which is preloaded. With CASE one case is played, CALLS times, and nothing is printed, so that its instructions can be counted.
 
-usage: bench.py ROUNDS
+usage: bench.py ROUNDS [allocations]
        bench.py CASE CALLS"""
 
+import ctypes
 import sys
 import time
 from collections.abc import Callable
@@ -37,19 +38,24 @@ CASES: dict[str, Callable[[VM, int], object]] = {
 }
 
 
-def round_of(case: Callable[[VM, int], object], calls: int = CALLS) -> float:
+def allocations() -> int:
+    return int(ctypes.CDLL(None).palqytun_allocations())
+
+
+def round_of(case: Callable[[VM, int], object], calls: int = CALLS, read: Callable[[], int] = time.process_time_ns) -> float:
     with VM("application/vnd.restate.invocation.v7") as vm:
         vm.notify_input(START)
         vm.sys_input()
         vm.sys_sleep(1000)
-        begun = time.process_time_ns()
+        begun = read()
         for at in range(calls):
             case(vm, at)
-        return (time.process_time_ns() - begun) / max(1, calls)
+        return (read() - begun) / max(1, calls)
 
 
-if len(sys.argv) > 2:
+if sys.argv[2:] and sys.argv[2] != "allocations":
     round_of(CASES[sys.argv[1]], int(sys.argv[2]))
 else:
+    read = allocations if sys.argv[2:] else time.process_time_ns
     for name, case in CASES.items():
-        print(name, f"{min(round_of(case) for _ in range(int(sys.argv[1]))):.1f}", flush=True)
+        print(name, f"{min(round_of(case, read=read) for _ in range(int(sys.argv[1]))):.1f}", flush=True)

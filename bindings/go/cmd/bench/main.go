@@ -1,9 +1,11 @@
-// Bench prints what a call takes, in nanoseconds of the processor: the best of some rounds, of 1,000 calls each. usage: bench ROUNDS
+// Bench prints what a call takes, in nanoseconds of the processor: the best of some rounds, of 1,000 calls each. With `allocations` it is how many objects a call
+// makes on Go's heap. usage: bench ROUNDS [allocations]
 package main
 
 import (
 	"fmt"
 	"os"
+	"runtime"
 	"strconv"
 	"syscall"
 	"unsafe"
@@ -20,6 +22,12 @@ func now() int64 {
 	var it syscall.Timespec
 	syscall.Syscall(syscall.SYS_CLOCK_GETTIME, process, uintptr(unsafe.Pointer(&it)), 0)
 	return it.Nano()
+}
+
+func allocations() int64 {
+	var it runtime.MemStats
+	runtime.ReadMemStats(&it)
+	return int64(it.Mallocs)
 }
 
 func must[T any](it T, err error) T {
@@ -41,6 +49,10 @@ func begun() *palqytun.VM {
 
 func main() {
 	rounds := must(strconv.Atoi(os.Args[1]))
+	read := now
+	if len(os.Args) > 2 {
+		read = allocations
+	}
 	target := palqytun.Target{Service: "Greeter", Handler: "greet"}
 	cases := []struct {
 		name string
@@ -55,11 +67,11 @@ func main() {
 		best := int64(1) << 62
 		for round := 0; round < rounds; round++ {
 			vm := begun()
-			begin := now()
+			begin := read()
 			for at := 0; at < calls; at++ {
 				it.call(vm)
 			}
-			if took := now() - begin; took < best {
+			if took := read() - begin; took < best {
 				best = took
 			}
 			must(0, vm.Close())
