@@ -76,6 +76,7 @@ export class Meter {
   readonly #late = new Histogram('palqytun_claim_delay_seconds', 'From when an invocation was due to its claim.', SHORT);
   readonly #lag = new Histogram('palqytun_timer_lag_seconds', 'From when a timer was due to when it fired.', SHORT);
   readonly #commits = new Histogram('palqytun_commit_seconds', 'A transaction.', SHORT);
+  readonly #operations = new Counter('palqytun_operations', 'Operations that were committed.');
   readonly #counts = {
     attempts: new Counter('palqytun_attempts', 'Attempts since this worker began.'),
     sessions: new Counter('palqytun_sessions', 'Sessions with the database since this worker began.'),
@@ -105,6 +106,7 @@ export class Meter {
   }
 
   committed(seconds: number): void {
+    this.#operations.add();
     this.#commits.observe(seconds);
   }
 
@@ -120,7 +122,7 @@ export class Meter {
       ['palqytun_lease_age_seconds', "How long ago this worker's lease was kept.", now.leaseAge],
     ];
     const lines = gauges.flatMap(([name, help, value]) => [`# HELP ${name} ${help}`, `# TYPE ${name} gauge`, `${name} ${value}`]);
-    const kept = [this.#ended, this.#lasted, this.#failed, this.#stopped, this.#tried, this.#late, this.#lag, this.#commits, ...Object.values(this.#counts)];
+    const kept = [this.#ended, this.#lasted, this.#failed, this.#stopped, this.#tried, this.#late, this.#lag, this.#commits, this.#operations, ...Object.values(this.#counts)];
     return [...lines, ...kept.flatMap((it) => [...it.lines()]), ''].join('\n');
   }
 }

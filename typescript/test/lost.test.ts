@@ -32,9 +32,11 @@ const work = service('Lost', {
     return name;
   },
   deadly: async (ctx: ServiceContext, name: string): Promise<null> => {
-    await ctx.run('cuts', async () => {
-      await cut(name);
-      await new Promise(() => undefined); // its worker is lost before it has a result
+    await ctx.run('cuts', async ({ signal }) => { // its worker is lost before it has a result
+      while (!signal.aborted) {
+        await cut(name); // once more, if the session goes on: one whose connection ends between two transactions makes another
+        await new Promise<void>((done) => setTimeout(done, 100));
+      }
     });
     return null;
   },
@@ -46,8 +48,10 @@ test('a worker whose connections end goes on by new ones, and what was stored is
   try {
     const sent = await on.client.send(work.steps, 'done');
     await until(() => executed.includes('waits'));
-    await cut('lost_steps');
-    await until(() => on.lines.some((it) => String(it['message']).startsWith('the database is lost: ')));
+    await until(async () => {
+      await cut('lost_steps');
+      return on.lines.some((it) => String(it['message']).startsWith('the database is lost: '));
+    });
     await until(() => executed.filter((it) => it === 'waits').length === 2); // it had no result, so it is executed again
     goesOn();
     assert.equal(await sent.result(LONG), 'done');

@@ -83,6 +83,7 @@ test('cancellations wait for a shield, and patches and logs are recorded once', 
     assert.equal(told.length, 1);
     assert.deepEqual([told[0]?.['logger'], told[0]?.['handler'], told[0]?.['at']], ['palqytun.handler', 'Grace/patched', 1]);
     assert.match(on.worker.metrics(), /palqytun_ended_total\{service="Grace",handler="undoes",outcome="done"\} 1/);
+    assert.match(on.worker.metrics(), /^palqytun_operations_total [1-9]\d*$/m);
     assert.match(on.worker.metrics(), /palqytun_attempt_seconds_count\{service="Grace",handler="patched"\} \d/);
   } finally {
     await on.end();
