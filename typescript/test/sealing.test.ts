@@ -46,7 +46,7 @@ const box = object('SafeBox', {
 /** How many rows hold the secret in clear: as text, or as bytes in hexadecimal. */
 async function inClear(): Promise<number> {
   const tables = ['invocations', 'journal', 'inbox', 'state', 'promises', 'attempts', 'progress', 'attributes'];
-  const counts = tables.map((it) => asked(`SELECT COUNT(*)::int FROM ${it} AS it WHERE it::text LIKE '%4242%' OR it::text LIKE '%${Buffer.from('4242').toString('hex')}%'`));
+  const counts = tables.map((it) => asked(`SELECT COUNT(*)::int FROM ${it} AS it WHERE it::text LIKE '%${SECRET}%' OR it::text LIKE '%${Buffer.from(SECRET).toString('hex')}%'`));
   return (await Promise.all(counts)).reduce((sum, rows) => sum + Number(rows[0]?.[0]), 0);
 }
 
@@ -87,7 +87,7 @@ test('nothing is in clear, Python reads it, and keys are rotated', { timeout: LO
       assert.equal(await on.client.call('PySealed/calls', ['Safe/echo', SECRET, {}]), SECRET);
     }, { BESIDE_SEALED: 'a' });
     assert.equal(await inClear(), 0);
-    assert(!JSON.stringify(on.lines).includes('4242'), JSON.stringify(on.lines));
+    assert(!JSON.stringify(on.lines).includes(SECRET), JSON.stringify(on.lines));
   } finally {
     await on.end();
   }
