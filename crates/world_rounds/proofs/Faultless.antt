@@ -74,7 +74,9 @@ use Rattle.world_rounds.proofs.Rounding.{begun, round_grows, rounds_grow, start_
 use Rattle.world_rounds.proofs.Running.{event_runs, there}
 use Rattle.world_rounds.proofs.RunsCalled.{run_ids}
 use Rattle.world_rounds.proofs.Settled.{are_items, command_in, commands_are}
-use Rattle.world_rounds.proofs.Storable.{IsExplained, Stands, completed_append, explained_arrival, items_stored, storing_full}
+use Rattle.world_rounds.specs.Course.{RoundGoesOn}
+use Rattle.world_rounds.specs.Outside.{AreOfRuns}
+use Rattle.world_rounds.proofs.Storable.{IsExplained, Stands, completed_append, explained_arrival, items_of_runs, items_stored, storing_full}
 
 -- ---- frames of messages
 
@@ -426,6 +428,21 @@ module _ (m : Meaning) (w : Setting) (begin_bytes : List ℕ) (raw : RawMessage)
       let x = step_proposes ns past.rest m end.attempt (Ok (progress.ExecuteRun handle)) new well.proposes (knows_live end well.going well.kept) does in
       pending_free (next_of new.vm.machine) ns (past.rest ++ flat_map command_in (items (x.sent ++ x.waiting))) (proposed_ids (items (x.sent ++ x.waiting))) new.vm.machine.runs handle (x.sound.pending out.3) out.2
 
+  -- the proposals that a store adds are of runs
+  store_of_runs : (n : ℕ) (now : Now) (journal : List (List ℕ)) (waiting unstored : List ℕ) → IsWell now → WholeFrames now.attempt.vm.machine.output → (d : Stores now.version n (now.unstored ++ concat now.attempt.vm.machine.output) now.journal now.waiting journal waiting unstored) → AreOfRuns (written_among d.seen) now.journal
+  store_of_runs n now journal waiting unstored well f d =
+      let x = well.stored in
+      let cs = stored_commands x.seen in
+      let ps = proposed_ids (written_among x.seen) in
+      let left = written_among (frames_of unstored).0 in
+      let split : written_among (unseen now) ≡ written_among d.seen ++ left = ap (λ (z : List RawMessage × Tail). written_among z.0) d.frames ∙ written_append d.seen (frames_of unstored).0 in
+      items_of_runs now.version ns past.first (written_among d.seen) left now.journal cs ps (are_items now.version d.seen d.readable)
+      (subst (Stands ns past.first now.journal cs ps) split (stands now well.going well.kept x well.proposes f))
+
+  place_of_runs : (es : List Event) (now end : Now) (n : ℕ) (journal : List (List ℕ)) (waiting unstored : List ℕ) → Going w.version begin_bytes old now → Kept now → HasCome (fixed_in m w) now.attempt → now.journal ≡ old → now.output ≡ [] → now.unstored ≡ [] → now.attempt.taken ≡ [] → now.attempt.vm.machine.output ≡ [] → now.attempt.vm.machine.runs ≡ [] → Happen m es now end
+      → WholeFrames end.attempt.vm.machine.output → (d : Stores end.version n (end.unstored ++ concat end.attempt.vm.machine.output) end.journal end.waiting journal waiting unstored) → AreOfRuns (written_among d.seen) end.journal
+  place_of_runs es now end n journal waiting unstored g kept came_so same output unseen taken nothing runs h f d = store_of_runs n end journal waiting unstored (events_well es now end h (begins_well now g kept came_so same output unseen taken nothing runs)) f d
+
 -- ---- rounds
 
 -- the fault of a round with its attempt
@@ -480,6 +497,27 @@ pub stops_come_from_outside : (m : Meaning) (w : Setting) (rounds : List Round) 
 stops_come_from_outside m w rounds old reports at j h s =
     let g = rounds_grow m w s.before old reports s.journal j s.ended in
     stops_outside m w s.round s.journal at.event at.fault g.journal (stays_sound m w s.before old reports s.journal j s.ended h) s.stops
+
+-- ---- a round that goes on
+
+module _ (m : Meaning) (w : Setting) (old : List (List ℕ)) (now : Now) (j : IsJournal old) (h : IsSoundFor m w old) (goes : RoundGoesOn m w old now) where
+  abbrev start_of_it : Start
+  start_of_it = start_for w goes.round old
+
+  abbrev its_bytes : List ℕ
+  its_bytes = encoding (message.Start start_of_it)
+
+  -- its event's fault comes from outside
+  pub goes_outside : (e : Event) (f : JournalFault) → Faults e now f → (f ≡ journal_fault.Memory) ⊎ OutsideFault e now f
+  goes_outside e f faults =
+      place_outside m w its_bytes (stored_form (message.Start start_of_it)) start_of_it old j (start_framed start_of_it goes.start) (start_reads start_of_it goes.start) refl (setup_of w) refl (base_of w) h.history.history h.replays goes.round.events (begin goes.alloc w goes.round old) e now f
+      (begun w.version its_bytes old (fresh_record (made goes.alloc w.options w.version)) j refl refl refl refl) (inl (made_new goes.alloc (fixed_in m w))) (made_comes goes.alloc (fixed_in m w)) refl refl refl refl refl refl goes.happen faults
+
+  -- what it proposes and stores is of runs
+  pub goes_of_runs : (n : ℕ) (journal : List (List ℕ)) (waiting unstored : List ℕ) → WholeFrames now.attempt.vm.machine.output → (d : Stores now.version n (now.unstored ++ concat now.attempt.vm.machine.output) now.journal now.waiting journal waiting unstored) → AreOfRuns (written_among d.seen) now.journal
+  goes_of_runs n journal waiting unstored f d =
+      place_of_runs m w its_bytes (stored_form (message.Start start_of_it)) start_of_it old j (start_framed start_of_it goes.start) (start_reads start_of_it goes.start) refl (setup_of w) refl (base_of w) h.history.history h.replays goes.round.events (begin goes.alloc w goes.round old) now n journal waiting unstored
+      (begun w.version its_bytes old (fresh_record (made goes.alloc w.options w.version)) j refl refl refl refl) (inl (made_new goes.alloc (fixed_in m w))) (made_comes goes.alloc (fixed_in m w)) refl refl refl refl refl refl goes.happen f d
 
 -- ---- what is executed
 

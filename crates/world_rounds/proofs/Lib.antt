@@ -39,3 +39,4 @@ pub mod Continuing
 pub mod Families
 pub mod Tracing
 pub mod Texts
+pub mod OfRuns

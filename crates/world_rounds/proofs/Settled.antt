@@ -136,7 +136,7 @@ command_entered raw is fits = record {
 }
 
 -- no notification is read from the entry of a command
-command_unread : (raw : RawMessage) → is_command_frame raw ≡ true → length raw.body < 2 ^ 64 → note_in (frame_of raw) ≡ None
+pub command_unread : (raw : RawMessage) → is_command_frame raw ≡ true → length raw.body < 2 ^ 64 → note_in (frame_of raw) ≡ None
 command_unread raw is fits = ap (read_from note_of) (frame_back raw fits) ∙ ap (λ b. cond b (notification_in raw.body) None) (command_no_note raw is)
 
 -- the completion of a proposal can be read from its entry

@@ -30,6 +30,7 @@ use Rattle.journal_entries.specs.Arrivals.{arrival_fault, completes_among, compl
 use Rattle.journal_entries.specs.Entries.{journal_frames, note_in, notes_in, said_in}
 use Rattle.journal_entries.specs.Storing.{StoredCanBeRead, FirstFault, proposal_of, stored_as, written_among, written_before}
 use Rattle.journal_entries.proofs.Framing.{frames_append, notes_append, said_are}
+use Rattle.world_rounds.specs.Outside.{AreOfRuns}
 use Rattle.world_rounds.proofs.Once.{completes_none}
 use Rattle.world_rounds.proofs.Pending.{MayPropose, ProposeWell, among_append, has_run, proposed_ids, read_runs}
 use Rattle.world_rounds.proofs.Rising.{Rises, carried_is, only_once, rises_behind, rises_front}
@@ -252,6 +253,16 @@ module _ (version : Version) (ns : List Notification) (first : RawMessage) where
       let kind = completed_as id journal cs s.commands rises may.run in
       let free = may_be_stored ns cs ps (notes_in journal) id may s.explained in
       room_full journal f ((λ i. proposed_fault (sym kind i) (sym free i) (room_fault journal)) ∙ e)
+
+  -- the proposals among items are of runs whose commands stand before them
+  pub items_of_runs : (us ws : List Written) (journal : List (List ℕ)) (cs : List RawMessage) (ps : List ℕ) → AllByRecursion (IsItem version) us → Stands ns first journal cs ps (us ++ ws) → AreOfRuns us journal
+  items_of_runs [] ws journal cs ps all s = tt
+  items_of_runs (Command raw ∷ us) ws journal cs ps all s = items_of_runs us ws (journal ++ stored_as (Command raw) ∷ []) (cs ++ raw ∷ []) ps all.1 (command_stored raw (us ++ ws) journal cs ps all.0 s)
+  items_of_runs (Proposal p ∷ us) ws journal cs ps all s =
+      let rises : Rises 1 (all_carried cs) = rises_front 1 (all_carried cs) (all_carried (flat_map command_in (us ++ ws))) (subst (Rises 1) (carried_append cs (flat_map command_in (us ++ ws))) s.rises) in (
+        completed_as p.id journal cs s.commands rises s.well.0.run,
+        items_of_runs us ws (journal ++ stored_as (Proposal p) ∷ []) cs (ps ++ p.id ∷ []) all.1 (proposal_stored p (us ++ ws) journal cs ps all.0 s),
+      )
 
   -- each command among items is one
   abbrev IsSo : Written → Type 0

@@ -1,5 +1,6 @@
 pub mod Rounds
 pub mod Course
+pub mod Outside
 pub mod Places
 pub mod Courses
 pub mod Inside

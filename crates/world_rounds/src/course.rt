@@ -5,6 +5,7 @@ ghost use Rattle.journal_entries.specs.declared.fault.JournalFault.TheVariants a
 ghost use Rattle.world_rounds.specs.Guarantees.{HasOneResultEach, HasRightKinds, IsExactlyOnce, IsReplayable};
 ghost use Rattle.world_rounds.specs.Rounds.{EndsTold, ReplaysAndQueues, new_now};
 ghost use Rattle.world_rounds.specs.Inside.{the_now};
+ghost use Rattle.world_rounds.specs.Outside.{OutsideIn, StoresRuns};
 ghost use Rattle.vm_steps.specs.Record.{Record};
 ghost use Rattle.world_rounds.specs.Course.{AreRun, BeginsRound, EndsToldBy, FaultsIn, HappensTo};
 
@@ -179,6 +180,16 @@ impl<'a, H: Handler> Course<'a, H> {
         ensures ok { IfOk result
             (HappensTo (H.meaning self.entry.handler) event.now self.entry.live self.entry) }
         ensures err { IfErr result (FaultsIn event.now self.entry.live self.entry.journal) }
+        // If the journal before the first round can be replayed, a fault comes from outside,
+        ensures outside { IfErr result (λ f. IsReplayable
+            (record { handler = H.meaning self.entry.handler; setting = self.entry.setting })
+            (take self.entry.given self.entry.journal)
+            → OutsideIn event.now self.entry.live f) }
+        // and what a store adds is a command, or the result of a run whose command stands before it.
+        ensures runs { IfOk result (λ c. IsReplayable
+            (record { handler = H.meaning self.entry.handler; setting = self.entry.setting })
+            (take self.entry.given self.entry.journal)
+            → StoresRuns event.now self.entry.journal c.journal) }
     {
         let Course {
             alloc,
