@@ -5,7 +5,9 @@ use Rattle.engines.specs.declared.engine.Engine.{Engine}
 use Rattle.engines.specs.declared.types.Happening.{Happening}
 use Rattle.engines.specs.Between.{AllKept}
 use Rattle.engines.specs.Engines.{AllHappen, HappeningDoes}
+use Rattle.engines.specs.Replaying.{AllReplay}
 use Rattle.engines.proofs.Keeping.{kept_from_nothing}
+use Rattle.engines.proofs.Replaying.{all_replay}
 use Rattle.engine_fences.specs.declared.fences.Asked.{Asked}
 use Rattle.engine_fences.specs.declared.fences.FencedEngine.{FencedEngine}
 use Rattle.engine_fences.specs.Fences.{AllFenced, FencedIf, grants}
@@ -34,3 +36,9 @@ pub fenced_kept : {H : Type 0} (meaning : H → Meaning) (es : List Asked) (old 
 fenced_kept meaning es old new none h =
     let g = are_granted meaning es old new h in
     kept_from_nothing meaning g.events old.engine new.engine none g.happen
+
+-- and all attempts go on to replay and queue
+pub fenced_replay : {H : Type 0} (meaning : H → Meaning) (es : List Asked) (old new : FencedEngine H) → AllFenced meaning es old new → AllReplay old.engine → AllReplay new.engine
+fenced_replay meaning es old new h r =
+    let g = are_granted meaning es old new h in
+    all_replay meaning g.events old.engine new.engine g.happen r

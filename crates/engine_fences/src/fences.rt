@@ -1,7 +1,9 @@
 //! An engine whose attempts name their epochs.
 ghost use Rattle.std.specs.Prelude.{◌≡◌, IfErr, IfOk, OnOk};
 ghost use Rattle.engines.specs.Between.{AllKept};
-ghost use Rattle.engines.specs.Faults.{IsNoArrival};
+ghost use Rattle.engines.specs.Faults.{IsMemoryOrFull, IsNoArrival};
+ghost use Rattle.engines.specs.Replaying.{AllReplay};
+ghost use Rattle.world_rounds.specs.Rounds.{ReplaysAndQueues};
 ghost use Rattle.engine_fences.specs.Fences.{AllFenced, FencedDoes, NamesEpoch, grants};
 
 use crate::epochs::Epochs;
@@ -36,7 +38,7 @@ impl<'a, H: Handler + Drop> Drop for FencedEngine<'a, H> {
 /// An attempt that begins is its invocation's newest.
 fn name_epoch(epochs: &mut Epochs, epoch: u64, happening: &Happening) -> Result<(), EngineFault>
     ensures names { OnOk result (NamesEpoch epoch happening.now epochs.old epochs.new) }
-    ensures err { IfErr result IsNoArrival }
+    ensures err { IfErr result IsMemoryOrFull }
 {
     match happening {
         Happening::Begin(place) => match epochs.take(*place, epoch) {
@@ -77,6 +79,8 @@ impl<'a, H: Handler + Drop> FencedEngine<'a, H> {
     pub fn happen(&mut self, asked: &Asked) -> Result<(), EngineFault>
         ensures does { OnOk result (FencedDoes (λ h. H.meaning h) asked.now self.old self.new) }
         ensures err { IfErr result IsNoArrival }
+        // If all attempts replay and queue, out of memory and a full journal are the only faults.
+        ensures replaying { IfErr result (λ f. AllReplay self.old.engine → IsMemoryOrFull f) }
     {
         if !self.grants(asked.epoch, &asked.happening) {
             return Ok(());
@@ -97,6 +101,8 @@ pub fn run_fenced<'a, H: Handler + Drop>(
     ensures does { IfOk result (AllFenced (λ h. H.meaning h) events.now engine.entry) }
     // No arrival has a fault.
     ensures err { IfErr result IsNoArrival }
+    // If all attempts replay and queue, out of memory and a full journal are the only faults.
+    ensures replaying { IfErr result (λ f. AllReplay engine.entry.engine → IsMemoryOrFull f) }
 {
     let mut engine = engine;
     for asked in events {
@@ -120,6 +126,8 @@ pub fn play_fenced<'a, H: Handler + Drop>(
     ensures kept { IfOk result (λ f. AllKept f.engine) }
     // No arrival has a fault.
     ensures err { IfErr result IsNoArrival }
+    // If recorded commands are replayed and signals queue, out of memory and a full journal are the only faults.
+    ensures replaying { IfErr result (λ f. ReplaysAndQueues options → IsMemoryOrFull f) }
 {
     let engine = Engine::new(alloc, targets, options, version);
     run_fenced(FencedEngine::of(engine), events)

@@ -1,16 +1,20 @@
 -- How an invocation's journal began, and what follows of it: one run of its handler made the journal, so the ids of its commands rise.
-use Rattle.std.proofs.Common.{◌≡◌, inl, inr, ℕ, ◌+◌, ◌<◌, ◌≤◌, Bool, true, false, List, [], ◌∷◌, ◌++◌, length, take, Option, Some, None, refl, sym, ap, ◌∙◌, subst, append_assoc, arith}
-use Rattle.std.specs.Prelude.{slice_get, nat_lt, if◌then◌else◌}
+use Rattle.std.proofs.Common.{◌≡◌, inl, inr, ℕ, ◌+◌, ◌<◌, ◌≤◌, Bool, true, false, List, [], ◌∷◌, ◌++◌, length, take, Option, Some, None, refl, sym, ap, ◌∙◌, subst, append-nil, append_assoc, arith}
+use Rattle.std.specs.Prelude.{◌||◌, slice_get, nat_lt, if◌then◌else◌}
+use Rattle.std.specs.List.{AllByRecursion}
 use Rattle.std.specs.Option.{option_and_then}
 use Rattle.std.proofs.lemmas.Bool.Decides.{nat_tests}
 use Rattle.journal_protocol.specs.Bodies.{message_in}
 use Rattle.journal_protocol.specs.Message.{Message}
 use Rattle.journal_protocol.specs.Notification.{Notification}
+use Rattle.journal_protocol.specs.NotificationId.{NotificationId}
+use Rattle.journal_protocol.specs.NotificationId.TheVariants.{CompletionId, SignalId, SignalName}
 use Rattle.journal_protocol.specs.RawMessage.{RawMessage}
 use Rattle.vm_model.specs.Calls.{Meaning}
 use Rattle.vm_model.specs.Histories.{Honest}
 use Rattle.vm_model.proofs.SoundHistories.{run_is_sound}
 use Rattle.journal_entries.specs.Carried.{all_carried, carried, read_carried}
+use Rattle.journal_entries.specs.declared.completions.Completes.TheVariants as completes
 use Rattle.journal_entries.specs.Entries.{journal_entries, journal_frames, note_in, said_at, said_in}
 use Rattle.journal_entries.specs.Journal.{messages_in, notifications_in, read_before}
 use Rattle.journal_entries.specs.JournalFrames.{commands_among}
@@ -21,6 +25,7 @@ use Rattle.world_rounds.specs.declared.types.Event.TheVariants as event
 use Rattle.world_rounds.specs.declared.types.Setting.{Setting}
 use Rattle.world_rounds.specs.Course.{CourseView, HappensTo}
 use Rattle.world_rounds.specs.Guarantees.{IsExactlyOnce, IsReplayable}
+use Rattle.world_rounds.specs.Outside.{AddRunsAlone, IsOfRun, IsOfRunId, OutsideIn}
 use Rattle.world_rounds.specs.Rounds.{Now, ReplaysAndQueues}
 use Rattle.world_rounds.specs.States.{base_of}
 use Rattle.world_rounds.specs.Worlds.{setup_of}
@@ -30,11 +35,13 @@ use Rattle.world_rounds.proofs.Rising.{Rises, told_rises}
 use Rattle.engine_inboxes.specs.declared.types.InboxFault.{InboxFault}
 use Rattle.engine_inboxes.specs.declared.types.InboxFault.TheVariants as inbox_fault
 use Rattle.engine_inboxes.specs.declared.types.Waiting.{Waiting}
-use Rattle.engine_inboxes.specs.Deliverable.{Deliverable, Entered, EntryFaults, IsUnknownFrom, TakesOut, known_in, past_said}
+use Rattle.engine_inboxes.specs.declared.types.Waiting.TheVariants as waiting
+use Rattle.engine_inboxes.specs.Deliverable.{CanCome, Deliverable, Entered, EntryFaults, IsUnknownFrom, Known, TakesOut, completes_waited, id_is_waited, is_waited, kind_of, known_in, past_said, waits_for_id}
 use Rattle.engine_inboxes.specs.Ids.{carried_pair, past_new, past_new_along, past_new_ids}
 use Rattle.engine_inboxes.proofs.Coming.{id_listed, listed, none_some, note_said, said_append}
 use Rattle.engines.specs.Beginnings.{BeganWithInput, IsPastAll, IsWholeInput, MemberLasts, entry_of_input}
-use Rattle.engines.specs.Faults.{IsNoIdFault, fault_of_entry}
+use Rattle.journal_entries.specs.declared.fault.JournalFault.{JournalFault}
+use Rattle.engines.specs.Faults.{IsMemoryOrFull, fault_of_entry, fault_of_store}
 use Rattle.engines.specs.Members.{MayStoreOne, case_in}
 use Rattle.engines.proofs.Among.{get_left}
 use Rattle.engines.proofs.Storing.{input_said}
@@ -200,19 +207,54 @@ arrived_lasts given given' old new entry o n at ws next ws' next' same more read
 pub waits_lasts : (given : ℕ) (journal : List (List ℕ)) (ws : List Waiting) (next : ℕ) (ws' : List Waiting) (next' : ℕ) → next' ≡ next → Deliverable journal ws' next' → MemberLasts given journal ws next → MemberLasts given journal ws' next'
 waits_lasts given journal ws next ws' next' same d l = record { waits = d; began = l.began; ids = l.ids ∙ ap (λ x. Some x) (sym same) }
 
--- ---- an id that isn't new
+-- ---- the only faults of a store
 
--- After a store the journal can be replayed, so the ids of its commands rise: the last one's were new.
-pub no_old_id : {H : Type 0} (m : Meaning) (c : CourseView H) (old : List (List ℕ)) (ws : List Waiting) (next : ℕ) (f : InboxFault) → MayStoreOne old c.journal → IsPastAll old next → BeganWithInput c.given c.journal → (IsReplayable (case_in m c) (take c.given c.journal) → IsReplayable (case_in m c) c.journal) → (length c.journal ≡ length old → ⊥)
-    → ((x : List ℕ) → c.journal ≡ old ++ x ∷ [] → EntryFaults x ws next f) → ReplaysAndQueues c.setting.options → IsNoIdFault (fault_of_entry f)
-no_old_id m c old ws next inbox_fault.Memory may past began history some faults r = tt
-no_old_id m c old ws next inbox_fault.NotARun may past began history some faults r = tt
-no_old_id m c old ws next inbox_fault.IdNotNew may past began history some faults r = by may
+-- a fault of storing that comes from outside
+pub outside_alone : (live : Option Now) (f : JournalFault) → OutsideIn (event.Store 1) live f → IsMemoryOrFull (fault_of_store f)
+outside_alone None f h = absurd h
+outside_alone (Some now) f (inl e) = subst (λ x. IsMemoryOrFull (fault_of_store x)) (sym e) (inl refl)
+outside_alone (Some now) f (inr e) = subst (λ x. IsMemoryOrFull (fault_of_store x)) (sym e) (inr refl)
+
+-- what waits is of no run
+not_of_run : (w : Waiting) → Some (kind_of w) ≡ Some completes.Proposal → ⊥
+not_of_run (waiting.Id own) e = absurd (cc)
+not_of_run (waiting.Outcome own call) e = absurd (cc)
+not_of_run (waiting.Clock timer) e = absurd (cc)
+not_of_run (waiting.Signal s brings) e = absurd (cc)
+
+no_run_waits : (id : ℕ) (k : Known) (ws : List Waiting) → AllByRecursion (CanCome k) ws → k.kind id ≡ Some completes.Proposal → is_waited id ws ≡ true → ⊥
+no_run_waits id k [] all e h = absurd (cc)
+no_run_waits id k (w ∷ ws) all e h = by (waits_for_id id w) refl h (no_run_waits id k ws all.1 e)
+  where
+    by : (b : Bool) → waits_for_id id w ≡ b → (b || is_waited id ws) ≡ true → (is_waited id ws ≡ true → ⊥) → ⊥
+    by true is h more = not_of_run w (sym (all.0 id is).0 ∙ e)
+    by false is h more = more h
+
+-- so the result of a run completes nothing that waits
+run_unwaited : (o : Option Notification) (journal : List (List ℕ)) (ws : List Waiting) (next : ℕ) → Deliverable journal ws next → IsOfRun o journal → completes_waited o ws ≡ true → ⊥
+run_unwaited None journal ws next d is h = absurd (cc)
+run_unwaited (Some n) journal ws next d is h = by n.id is h
+  where
+    by : (i : NotificationId) → IsOfRunId i journal → id_is_waited i ws ≡ true → ⊥
+    by (CompletionId id) is h = no_run_waits id (known_in journal) ws d.come is h
+    by (SignalId id) is h = absurd is
+    by (SignalName name) is h = absurd is
+
+-- After a store the journal can be replayed, so the ids of its commands rise: the last one's were new. What is no command is the result of a run.
+memory_alone : {H : Type 0} (m : Meaning) (c : CourseView H) (old : List (List ℕ)) (ws : List Waiting) (next : ℕ) (f : InboxFault) → MayStoreOne old c.journal → AddRunsAlone old c.journal → Deliverable old ws next → IsPastAll old next → IsReplayable (case_in m c) c.journal → (length c.journal ≡ length old → ⊥)
+    → ((x : List ℕ) → c.journal ≡ old ++ x ∷ [] → EntryFaults x ws next f) → IsMemoryOrFull (fault_of_entry f)
+memory_alone m c old ws next inbox_fault.Memory may runs d past sound some faults = inl refl
+memory_alone m c old ws next inbox_fault.NotARun may runs d past sound some faults = absurd (by may)
+  where
+    by : MayStoreOne old c.journal → ⊥
+    by (inl same) = some (ap length same)
+    by (inr (x, more, carries)) = run_unwaited (note_in x) old ws next d (subst (IsOfRun (note_in x)) (append-nil old) (runs [] x [] (more ∙ ap (λ j. j ++ x ∷ []) (sym (append-nil old))))) (faults x more).1
+memory_alone m c old ws next inbox_fault.IdNotNew may runs d past sound some faults = absurd (by may)
   where
     by : MayStoreOne old c.journal → ⊥
     by (inl same) = some (ap length same)
     by (inr (x, more, carries)) =
-        let (high, is) = ids_rise m c (history (first_replayable m c began r)) in
+        let (high, is) = ids_rise m c sound in
         none_some high (sym (faults x more) ∙ sym (ids_after old x next past) ∙ ap (λ j. past_new_along 0 (said_in j)) (sym more) ∙ is)
 
 began_after : {H : Type 0} (m : Meaning) (e : Event) (live : Option Now) (old new : CourseView H) → HappensTo m e live old new → MayStoreOne old.journal new.journal → BeganWithInput old.given old.journal → BeganWithInput new.given new.journal
@@ -228,7 +270,9 @@ module _ {H : Type 0} (m : Meaning) (old c : CourseView H) (ws : List Waiting) (
       stored_lasts old.given c.given old.journal c.journal ws next ws' next' (happens_given m (event.Store 1) old.live old c h) may (λ e. none (ap length is ∙ e ∙ sym count)) (λ x e. entered old.journal x (sym count) (is ∙ e))
       (subst (λ j. Deliverable j ws' next') is (lasts old.journal (sym count) (subst (MayStoreOne old.journal) (sym is) may) l.waits)) l
 
-  pub store_ids : (by : Meaning) (f : InboxFault) → (IsReplayable (case_in by c) (take c.given c.journal) → IsReplayable (case_in by c) c.journal) → (length seen ≡ before → ⊥) → ((o : List (List ℕ)) (x : List ℕ) → length o ≡ before → seen ≡ o ++ x ∷ [] → EntryFaults x ws next f) → ReplaysAndQueues old.setting.options → IsNoIdFault (fault_of_entry f)
-  store_ids by f history some faults r =
-      no_old_id by c old.journal ws next f may l.ids (began_after m (event.Store 1) old.live old c h may l.began) history (λ e. some (ap length is ∙ e ∙ sym count)) (λ x e. faults old.journal x (sym count) (is ∙ e))
-      (subst (λ (w : Setting). ReplaysAndQueues w.options) (sym (happens_setting m (event.Store 1) old.live old c h)) r)
+  pub store_memory : (by : Meaning) (f : InboxFault) → (IsReplayable (case_in by c) (take c.given c.journal) → IsReplayable (case_in by c) c.journal) → (IsReplayable (case_in m old) (take old.given old.journal) → AddRunsAlone old.journal c.journal) → (length seen ≡ before → ⊥)
+      → ((o : List (List ℕ)) (x : List ℕ) → length o ≡ before → seen ≡ o ++ x ∷ [] → EntryFaults x ws next f) → ReplaysAndQueues old.setting.options → IsMemoryOrFull (fault_of_entry f)
+  store_memory by f history runs some faults r =
+      let after : BeganWithInput c.given c.journal = began_after m (event.Store 1) old.live old c h may l.began in
+      let replays : ReplaysAndQueues c.setting.options = subst (λ (w : Setting). ReplaysAndQueues w.options) (sym (happens_setting m (event.Store 1) old.live old c h)) r in
+      memory_alone by c old.journal ws next f may (runs (first_replayable m old l.began r)) l.waits l.ids (history (first_replayable by c after replays)) (λ e. some (ap length is ∙ e ∙ sym count)) (λ x e. faults old.journal x (sym count) (is ∙ e))

@@ -239,7 +239,7 @@ begins_on : (journal : List (List ℕ)) (entry x : List ℕ) → slice_get journ
 begins_on journal entry x e = get_left journal (entry ∷ []) 0 x e
 
 -- what is there, where the invocation and its rounds are
-brought_is : {H : Type 0} (e : Engine H) (place at : ℕ) (it : Invocation H) (m : MemberView H) (b : Brought) → slice_get e.invocations.items place ≡ Some it → it.member ≡ Some m → brought_at e place at ≡ Some b → (w : Waiting) × (slice_get m.waiting at ≡ Some w) × (brought_for e place w ≡ Some b)
+pub brought_is : {H : Type 0} (e : Engine H) (place at : ℕ) (it : Invocation H) (m : MemberView H) (b : Brought) → slice_get e.invocations.items place ≡ Some it → it.member ≡ Some m → brought_at e place at ≡ Some b → (w : Waiting) × (slice_get m.waiting at ≡ Some w) × (brought_for e place w ≡ Some b)
 brought_is {H} e place at it m b was there h = of (slice_get m.waiting at) (sym (ap (brought_in e place at) there) ∙ sym (ap (brought_of e place at) was) ∙ h)
   where
     of : (o : Option Waiting) → option_and_then (brought_for e place) o ≡ Some b → (w : Waiting) × (o ≡ Some w) × (brought_for e place w ≡ Some b)

@@ -22,7 +22,7 @@ use Rattle.engines.specs.declared.types.Happening.{Happening}
 use Rattle.engines.specs.declared.types.Happening.TheVariants as happening
 use Rattle.engines.specs.declared.types.Order.{Order}
 use Rattle.engines.specs.Engines.{AddsCallee, AllHappen, BeginsIf, ChangesAt, ChangesOne, DeliversIf, DeliversTo, DeliversUnless, DoesEffect, EndsWith, FindsOrMakes, GoesIn, HappeningDoes, MakesInvocation, MemberGoes, NoneAt, OrdersOf, PerformsIf, SendsToPlace, StoresIn, StoresInMember, StoresUnless, brought_at, order_of, stopped_in, whole_round}
-use Rattle.engines.specs.Faults.{IsMemoryOrFull, IsNoArrival, IsNoIdFault}
+use Rattle.engines.specs.Faults.{IsMemoryOrFull, IsNoArrival}
 use Rattle.engines.specs.Lookups.{may_begin, place_of, same_as, handler_named}
 use Rattle.engines.specs.Members.{Acts, Delivers, GoesBy, MemberView, with_signal, stopped}
 use Rattle.engines.specs.Replaying.{AllReplay, Replays, ReplaysIn}
@@ -197,22 +197,18 @@ one_replays e place it o m lt is value some r = subst ReplaysIn (sym value ∙ s
 
 -- ---- faults
 
-no_arrival_so : (f : EngineFault) → IsMemoryOrFull f → IsNoArrival f
+pub no_arrival_so : (f : EngineFault) → IsMemoryOrFull f → IsNoArrival f
 no_arrival_so f (inl e) = subst IsNoArrival (sym e) tt
 no_arrival_so f (inr e) = subst IsNoArrival (sym e) tt
-
-no_id_so : (f : EngineFault) → IsMemoryOrFull f → IsNoIdFault f
-no_id_so f (inl e) = subst IsNoIdFault (sym e) tt
-no_id_so f (inr e) = subst IsNoIdFault (sym e) tt
 
 pub no_arrival : {A : Type 0} (r : Result A EngineFault) → IfErr r IsMemoryOrFull → IfErr r IsNoArrival
 no_arrival (Ok a) h = tt
 no_arrival (Err f) h = no_arrival_so f h
 
-pub no_id : {A : Type 0} (P : Type 0) (r : Result A EngineFault) → IfErr r IsMemoryOrFull → IfErr r (λ f. P → IsNoIdFault f)
-no_id P (Ok a) h = tt
-no_id P (Err f) h = λ p. no_id_so f h
+pub under_premise : {A : Type 0} (P : Type 0) (r : Result A EngineFault) → IfErr r IsMemoryOrFull → IfErr r (λ f. P → IsMemoryOrFull f)
+under_premise P (Ok a) h = tt
+under_premise P (Err f) h = λ p. h
 
-pub premise_then : {A : Type 0} (P Q : Type 0) (r : Result A EngineFault) → (Q → P) → IfErr r (λ f. P → IsNoIdFault f) → IfErr r (λ f. Q → IsNoIdFault f)
+pub premise_then : {A : Type 0} (P Q : Type 0) (r : Result A EngineFault) → (Q → P) → IfErr r (λ f. P → IsMemoryOrFull f) → IfErr r (λ f. Q → IsMemoryOrFull f)
 premise_then P Q (Ok a) g h = tt
 premise_then P Q (Err f) g h = λ q. h (g q)

@@ -3,6 +3,8 @@ use Rattle.std.specs.Prelude.{◌≡◌, ℕ, List, [], slice_get, Some}
 use Rattle.journal_protocol.specs.Frames.{IsWhole, encoding}
 use Rattle.journal_protocol.specs.Message.TheVariants as message
 use Rattle.journal_entries.specs.Entries.{said_in}
+use Rattle.world_rounds.specs.Course.{CourseView}
+use Rattle.engine_inboxes.specs.declared.inbox.Inbox.{Inbox}
 use Rattle.engine_inboxes.specs.declared.types.Waiting.{Waiting}
 use Rattle.engine_inboxes.specs.Deliverable.{Deliverable}
 use Rattle.engine_inboxes.specs.Ids.{past_new_along}
@@ -33,3 +35,7 @@ pub record MemberLasts (given : ℕ) (journal : List (List ℕ)) (waiting : List
   pub waits : Deliverable journal waiting next
   pub began : BeganWithInput given journal
   pub ids : IsPastAll journal next
+
+-- the same of a course and its inbox
+abbrev pub LastsWithInbox : {H : Type 0} → CourseView H → Inbox → Type 0
+LastsWithInbox course inbox = MemberLasts course.given course.journal inbox.waiting.items inbox.next

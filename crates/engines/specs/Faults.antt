@@ -29,12 +29,6 @@ fault_of_entry inbox_fault.Memory = fault.Memory
 fault_of_entry inbox_fault.IdNotNew = fault.IdNotNew
 fault_of_entry inbox_fault.NotARun = fault.NotARun
 
--- it is neither that of an arrival nor that of an id that isn't new
-abbrev pub IsNoIdFault : EngineFault → Type 0
-IsNoIdFault (fault.Arrival f) = ⊥
-IsNoIdFault fault.IdNotNew = ⊥
-IsNoIdFault f = Unit {0}
-
 -- it is not that of an arrival
 abbrev pub IsNoArrival : EngineFault → Type 0
 IsNoArrival (fault.Arrival f) = ⊥

@@ -4,7 +4,7 @@ ghost use Rattle.engines.specs.Between.{AllKept};
 ghost use Rattle.engines.specs.Lookups.{may_begin};
 ghost use Rattle.engines.specs.Members.{Acts, MemberView, stopped};
 ghost use Rattle.engines.specs.Engines.{AllHappen, BeginsIf, ChangesAt, DeliversAt, HappeningDoes, MemberGoes, Orders, StoresAndPerforms, StoresIn, brought_at, stopped_in};
-ghost use Rattle.engines.specs.Faults.{IsMemoryOrFull, IsNoArrival, IsNoIdFault};
+ghost use Rattle.engines.specs.Faults.{IsMemoryOrFull, IsNoArrival};
 ghost use Rattle.engines.specs.Replaying.{AllReplay};
 ghost use Rattle.world_rounds.specs.Rounds.{ReplaysAndQueues};
 
@@ -139,7 +139,7 @@ impl<'a, H: Handler + Drop> Engine<'a, H> {
         ensures none { IfOk result (λ asks. length self.old.invocations.items ≤ place → asks
             ≡ None) }
         ensures err { IfErr result IsNoArrival }
-        ensures ids { IfErr result (λ f. AllReplay self.old → IsNoIdFault f) }
+        ensures replaying { IfErr result (λ f. AllReplay self.old → IsMemoryOrFull f) }
     {
         let Some(it) = self.invocations.get_mut(place) else {
             return Ok(None);
@@ -163,7 +163,7 @@ impl<'a, H: Handler + Drop> Engine<'a, H> {
     fn store(&mut self, place: usize) -> Result<(), EngineFault>
         ensures does { OnOk result (StoresAndPerforms (λ h. H.meaning h) place self.old self.new) }
         ensures err { IfErr result IsNoArrival }
-        ensures ids { IfErr result (λ f. AllReplay self.old → IsNoIdFault f) }
+        ensures replaying { IfErr result (λ f. AllReplay self.old → IsMemoryOrFull f) }
     {
         match self.store_next(place) {
             Ok(Some(effect)) => self.perform(place, effect),
@@ -197,8 +197,8 @@ impl<'a, H: Handler + Drop> Engine<'a, H> {
         ensures does { OnOk result
             (HappeningDoes (λ h. H.meaning h) happening.now self.old self.new) }
         ensures err { IfErr result IsNoArrival }
-        // If all attempts replay and queue, each command that is stored carries new ids.
-        ensures ids { IfErr result (λ f. AllReplay self.old → IsNoIdFault f) }
+        // If all attempts replay and queue, out of memory and a full journal are the only faults.
+        ensures replaying { IfErr result (λ f. AllReplay self.old → IsMemoryOrFull f) }
     {
         match happening {
             Happening::Submit(order) => self.submit(order),
@@ -231,8 +231,8 @@ pub fn run_engine<'a, H: Handler + Drop>(
     ensures does { IfOk result (AllHappen (λ h. H.meaning h) events.now engine.entry) }
     // No arrival has a fault.
     ensures err { IfErr result IsNoArrival }
-    // If all attempts replay and queue, each command that is stored carries new ids.
-    ensures ids { IfErr result (λ f. AllReplay engine.entry → IsNoIdFault f) }
+    // If all attempts replay and queue, out of memory and a full journal are the only faults.
+    ensures replaying { IfErr result (λ f. AllReplay engine.entry → IsMemoryOrFull f) }
 {
     let mut engine = engine;
     for event in events {
@@ -257,8 +257,8 @@ pub fn play_engine<'a, H: Handler + Drop>(
     ensures kept { IfOk result AllKept }
     // No arrival has a fault.
     ensures err { IfErr result IsNoArrival }
-    // If recorded commands are replayed and signals queue, each command that is stored carries new ids.
-    ensures ids { IfErr result (λ f. ReplaysAndQueues options → IsNoIdFault f) }
+    // If recorded commands are replayed and signals queue, out of memory and a full journal are the only faults.
+    ensures replaying { IfErr result (λ f. ReplaysAndQueues options → IsMemoryOrFull f) }
 {
     run_engine(Engine::new(alloc, targets, options, version), events)
 }

@@ -1,14 +1,15 @@
 //! An invocation by itself: its rounds, and what waits for it. What waits comes without a fault.
-ghost use Rattle.std.specs.Prelude.{◌≡◌, ◌<◌, ◌++◌, ◌∷◌, [], true, false, length, is_some, ℕ, List, Some, None, IfOk, IfErr, OnOk};
+ghost use Rattle.std.specs.Prelude.{◌≡◌, ◌<◌, ◌++◌, ◌∷◌, [], true, false, length, take, is_some, ℕ, List, Some, None, IfOk, IfErr, OnOk};
 ghost use Rattle.engine_inboxes.specs.Deliverable.{Deliverable, IsUnknownFrom, known_in};
 ghost use Rattle.journal_entries.specs.Arrivals.{arrival_fault, room_fault};
 ghost use Rattle.journal_entries.specs.Entries.{note_in};
 ghost use Rattle.engines.specs.Beginnings.{BeganWithInput, IsPastAll};
-ghost use Rattle.engines.specs.Faults.{IsMemoryOrFull, IsNoArrival, IsNoIdFault, fault_of_entry};
+ghost use Rattle.engines.specs.Faults.{IsMemoryOrFull, IsNoArrival, fault_of_entry};
 ghost use Rattle.engines.specs.Members.{Acts, CantCome, Delivers, GoesBy, IsOwn, MayStoreOne, StoresNextEntry, case_in, with_signal, stopped};
 ghost use Rattle.engine_inboxes.specs.Deliverable.{Entered, EntryFaults, IsProposedApart, effect_at};
 ghost use Rattle.world_rounds.specs.Course.{BeginsRound, HappensTo};
 ghost use Rattle.world_rounds.specs.Guarantees.{HasOneResultEach, HasRightKinds, IsExactlyOnce, IsReplayable};
+ghost use Rattle.world_rounds.specs.Outside.{AddRunsAlone};
 ghost use Rattle.world_rounds.specs.Rounds.{ReplaysAndQueues};
 ghost use Rattle.world_rounds.specs.declared.types.Event.TheVariants as event;
 
@@ -30,7 +31,7 @@ pub struct Member<'a, H: Handler> {
 }
 
 impl<'a, H: Handler> Model for Member<'a, H> {
-    ghost use Rattle.engines.specs.Beginnings.{MemberLasts};
+    ghost use Rattle.engines.specs.Beginnings.{LastsWithInbox};
     ghost use Rattle.engines.specs.Members.{MemberView};
     ghost use Rattle.await_trees.specs.contracts.tree.UnresolvedFuture as future;
     ghost use Rattle.std.specs.Coded.{codes};
@@ -41,7 +42,7 @@ impl<'a, H: Handler> Model for Member<'a, H> {
 
     ghost view = { λ a. record { course = a.course; waiting = a.inbox.waiting.items; next = a.inbox.next } };
 
-    ghost invariant = { λ a. MemberLasts a.course.given a.course.journal a.inbox.waiting.items a.inbox.next };
+    ghost invariant = { λ a. LastsWithInbox a.course a.inbox };
 }
 
 /// Written out, as for a setting.
@@ -87,7 +88,15 @@ fn store_one<'a, H: Handler>(course: Course<'a, H>) -> Result<Course<'a, H>, Eng
         (HappensTo (H.meaning course.entry.handler) (event.Store 1) course.entry.live
         course.entry) }
     ensures err { IfErr result IsNoArrival }
-    ensures ids { IfErr result IsNoIdFault }
+    // If the journal before the first round can be replayed, out of memory and a full journal are the only faults,
+    ensures replayable { IfErr result (λ f.
+        IsReplayable (case_in (H.meaning course.entry.handler) course.entry)
+        (take course.entry.given course.entry.journal) → IsMemoryOrFull f) }
+    // and what is stored is a command, or the result of a run.
+    ensures runs { IfOk result (λ c.
+        IsReplayable (case_in (H.meaning course.entry.handler) course.entry)
+        (take course.entry.given course.entry.journal)
+        → AddRunsAlone course.entry.journal c.journal) }
 {
     match course.happen(&Event::Store(1)) {
         Ok(course) => Ok(course),
@@ -340,9 +349,9 @@ impl<'a, H: Handler> Member<'a, H> {
         ensures ok { IfOk result
             (λ r. StoresNextEntry (H.meaning self.entry.course.handler) self.entry r.0 r.1) }
         ensures err { IfErr result IsNoArrival }
-        // An attempt that replays and queues carries new ids.
-        ensures ids { IfErr result (λ f. ReplaysAndQueues self.entry.course.setting.options
-            → IsNoIdFault f) }
+        // Of an attempt that replays and queues, out of memory and a full journal are the only faults.
+        ensures replaying { IfErr result (λ f. ReplaysAndQueues self.entry.course.setting.options
+            → IsMemoryOrFull f) }
     {
         let Member {
             alloc,

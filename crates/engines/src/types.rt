@@ -1,6 +1,6 @@
 //! What an engine is made of, and what happens to it.
 ghost use Rattle.std.specs.Prelude.{◌≡◌};
-ghost use Rattle.engines.specs.Faults.{IsNoArrival, IsNoIdFault, fault_of_arrival, fault_of_entry, fault_of_store};
+ghost use Rattle.engines.specs.Faults.{IsNoArrival, fault_of_arrival, fault_of_entry, fault_of_store};
 ghost use Rattle.engines.specs.Lookups.{are_exclusive, has_names};
 
 use bytes::Bytes;
@@ -129,7 +129,6 @@ pub fn arrival_of(fault: JournalFault) -> EngineFault
 pub fn stored_of(fault: JournalFault) -> EngineFault
     ensures value { result ≡ fault_of_store fault }
     ensures arrival { IsNoArrival result }
-    ensures ids { IsNoIdFault result }
 {
     match fault {
         JournalFault::Memory => EngineFault::Memory,

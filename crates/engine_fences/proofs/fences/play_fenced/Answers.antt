@@ -2,6 +2,9 @@ use Rattle.std.proofs.Common.{ap, ◌∙◌}
 use Rattle.engines.specs.declared.engine.Engine.{Engine}
 use Rattle.engines.proofs.Storing.{if_ok_then}
 use Rattle.engines.specs.Between.{AllKept}
+use Rattle.engines.specs.Replaying.{AllReplay}
+use Rattle.engines.proofs.Replaying.{none_replays, premise_then}
+use Rattle.world_rounds.specs.Rounds.{ReplaysAndQueues}
 use Rattle.engine_fences.specs.declared.fences.FencedEngine.{FencedEngine}
 use Rattle.engine_fences.specs.Fences.{AllFenced}
 use Rattle.engine_fences.proofs.Unseen.{fenced_kept}
@@ -9,3 +12,8 @@ use Rattle.engine_fences.proofs.fences.play_fenced.Goals as goal
 
 pub returns-clause-kept : goal.returns-clause-kept
 returns-clause-kept g c = if_ok_then c.run_fenced.result (AllFenced (λ h. g.H.Handler.meaning h) c.args.events.now c.of.result) (λ (f : FencedEngine _). AllKept f.engine) (λ f d. fenced_kept (λ h. g.H.Handler.meaning h) c.args.events.now c.of.result f (ap (λ (e : Engine _). e.invocations.items) c.of.ensures ∙ c.new-engine.ensures.none) d) c.run_fenced.ensures.does
+
+pub returns-clause-replaying : goal.returns-clause-replaying
+returns-clause-replaying g c = premise_then (AllReplay c.of.result.engine) (ReplaysAndQueues c.args.options) c.run_fenced.result
+    (λ r. none_replays c.of.result.engine c.args.options (ap (λ (e : Engine _). e.invocations.items) c.of.ensures ∙ c.new-engine.ensures.none) (ap (λ (e : Engine _). e.options) c.of.ensures ∙ c.new-engine.ensures.options) r)
+    c.run_fenced.ensures.replaying

@@ -10,5 +10,5 @@ use Rattle.engines.proofs.happen.play_engine.Goals as goal
 pub returns-clause-kept : goal.returns-clause-kept
 returns-clause-kept g c = if_ok_then c.run_engine.result (AllHappen (λ h. g.H.Handler.meaning h) c.args.events.now c.new.result) AllKept (λ e d. kept_from_nothing (λ h. g.H.Handler.meaning h) c.args.events.now c.new.result e c.new.ensures.none d) c.run_engine.ensures.does
 
-pub returns-clause-ids : goal.returns-clause-ids
-returns-clause-ids g c = premise_then (AllReplay c.new.result) (ReplaysAndQueues c.args.options) c.run_engine.result (λ r. none_replays c.new.result c.args.options c.new.ensures.none c.new.ensures.options r) c.run_engine.ensures.ids
+pub returns-clause-replaying : goal.returns-clause-replaying
+returns-clause-replaying g c = premise_then (AllReplay c.new.result) (ReplaysAndQueues c.args.options) c.run_engine.result (λ r. none_replays c.new.result c.args.options c.new.ensures.none c.new.ensures.options r) c.run_engine.ensures.replaying

@@ -9,5 +9,5 @@ loop-event-preserved g c = happens_more (λ h. g.H.Handler.meaning h) c.args.eve
 pub returns-clause-does : goal.returns-clause-does
 returns-clause-does g c = happens_all (λ h. g.H.Handler.meaning h) c.args.events.now c.args.engine c.loop-event.engine c.loop-event.event-index (omega (arith, c.loop-event-test.false)) c.loop-event.invariant
 
-pub returns-in-Err-clause-ids : goal.returns-in-Err-clause-ids
-returns-in-Err-clause-ids g c = λ r. c.in-Err.ensures.ids (all_replay (λ h. g.H.Handler.meaning h) (take c.loop-event.event-index c.args.events.now) c.args.engine c.loop-event.engine c.loop-event.invariant r)
+pub returns-in-Err-clause-replaying : goal.returns-in-Err-clause-replaying
+returns-in-Err-clause-replaying g c = λ r. c.in-Err.ensures.replaying (all_replay (λ h. g.H.Handler.meaning h) (take c.loop-event.event-index c.args.events.now) c.args.engine c.loop-event.engine c.loop-event.invariant r)

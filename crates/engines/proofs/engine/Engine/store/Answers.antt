@@ -2,7 +2,7 @@ use Rattle.engine_inboxes.proofs.Coming.{on_ok_then}
 use Rattle.engines.proofs.Changing.{stored_alone, stored_then}
 use Rattle.engines.specs.Engines.{DoesEffect, StoresAndPerforms}
 use Rattle.engines.specs.Replaying.{AllReplay}
-use Rattle.engines.proofs.Replaying.{no_arrival, no_id}
+use Rattle.engines.proofs.Replaying.{no_arrival, under_premise}
 use Rattle.engines.proofs.engine.Engine.store.Goals as goal
 
 pub returns-in-Ok-Some-clause-does : goal.returns-in-Ok-Some-clause-does
@@ -16,5 +16,5 @@ returns-in-Ok-None-clause-does g c = stored_alone (λ h. g.H.Handler.meaning h) 
 pub returns-in-Ok-Some-clause-err : goal.returns-in-Ok-Some-clause-err
 returns-in-Ok-Some-clause-err g c = no_arrival c.perform.result c.perform.ensures.err
 
-pub returns-in-Ok-Some-clause-ids : goal.returns-in-Ok-Some-clause-ids
-returns-in-Ok-Some-clause-ids g c = no_id (AllReplay c.args.self.now) c.perform.result c.perform.ensures.err
+pub returns-in-Ok-Some-clause-replaying : goal.returns-in-Ok-Some-clause-replaying
+returns-in-Ok-Some-clause-replaying g c = under_premise (AllReplay c.args.self.now) c.perform.result c.perform.ensures.err
