@@ -1,0 +1,4 @@
+pub mod Events
+pub mod Ordered
+pub mod Settling
+pub mod Signalling

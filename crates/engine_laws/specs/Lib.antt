@@ -1,0 +1,3 @@
+pub mod KeyStates
+pub mod Ordering
+pub mod Signals
