@@ -40,7 +40,7 @@ abbrev proposal : ℕ → ValueOrFailure → Message
 proposal id result = message.ProposeRunCompletion (record { id = id; result = result })
 
 -- a call that wrote nothing has proposed nothing
-none_newly : (v : Machine) → newly_proposed v v ≡ []
+pub none_newly : (v : Machine) → newly_proposed v v ≡ []
 none_newly v = ap (λ l. proposals_in (concat l)) (ap (drop (length v.output)) (sym (append-nil v.output)) ∙ drop_at v.output [] (length v.output) refl) ∙ frames_propose [] tt
 
 one_newly : (handle : NotificationHandle) (id : ℕ) (result : ValueOrFailure) (v : Machine) → IsWhole (proposal id result) → newly_proposed v (proposed id result (without_run handle v)) ≡ record { id = id; result = result } ∷ []
@@ -52,17 +52,17 @@ one_newly handle id result v whole =
 -- ---- one report
 
 -- the pending run of a handle, and what becomes of the outcome of executing it
-record Becomes (handle : NotificationHandle) (exit : RunExitResult) (policy : RetryPolicy) (v : Machine) (p : ProposeRunCompletion) : Type 0 where
-  run : PendingRun
-  pending : run_at handle.0 v ≡ Some run
-  id : p.id ≡ run.completion_id
-  becomes : SettlesRun run exit policy (earlier_count v.start v.wrote_command) (earlier_nanos v.start v.wrote_command) (settlement.Proposed p.result)
+pub record Becomes (handle : NotificationHandle) (exit : RunExitResult) (policy : RetryPolicy) (v : Machine) (p : ProposeRunCompletion) : Type 0 where
+  pub run : PendingRun
+  pub pending : run_at handle.0 v ≡ Some run
+  pub id : p.id ≡ run.completion_id
+  pub becomes : SettlesRun run exit policy (earlier_count v.start v.wrote_command) (earlier_nanos v.start v.wrote_command) (settlement.Proposed p.result)
 
 module _ (handle : NotificationHandle) (exit : RunExitResult) (policy : RetryPolicy) (v : Machine) where
-  abbrev News : Machine → Type 0
+  abbrev pub News : Machine → Type 0
   News w = AllByRecursion (Becomes handle exit policy v) (newly_proposed v w)
 
-  done_same : (t : Unit {0}) (w u : Machine) → Done t w ≡ Done tt u → w ≡ u
+  pub done_same : (t : Unit {0}) (w u : Machine) → Done t w ≡ Done tt u → w ≡ u
   done_same t w u h = cc
 
   same_none : (w : Machine) → w ≡ v → News w
@@ -97,7 +97,7 @@ module _ (handle : NotificationHandle) (exit : RunExitResult) (policy : RetryPol
   by_failure None t w (event, does, is) = by_event event t w does is
   by_failure (Some e) t w is = absurd (cc)
 
-  reported : (t : Unit {0}) (w : Machine) → CalledBy (Proposes handle exit policy v) v (Done t w) → News w
+  pub reported : (t : Unit {0}) (w : Machine) → CalledBy (Proposes handle exit policy v) v (Done t w) → News w
   reported t w does = by_failure v.failure t w does
 
 -- ---- the calls that propose nothing
@@ -141,11 +141,11 @@ noted_proposed None handle r = refl
 -- ---- one call after another
 
 -- what holds of each element after a step, when more come
-grown : {A : Type 0} (P Q : A → Type 0) → ((x : A) → P x → Q x) → (xs ys : List A) → AllByRecursion P xs → AllByRecursion Q ys → AllByRecursion Q (xs ++ ys)
+pub grown : {A : Type 0} (P Q : A → Type 0) → ((x : A) → P x → Q x) → (xs ys : List A) → AllByRecursion P xs → AllByRecursion Q ys → AllByRecursion Q (xs ++ ys)
 grown P Q f [] ys h k = k
 grown P Q f (x ∷ xs) ys h k = (f x h.0, grown P Q f xs ys h.1 k)
 
-each : {A : Type 0} (P Q : A → Type 0) (f : (x : A) → P x → Q x) (xs : List A) (h : AllByRecursion P xs) → AllByRecursion Q xs
+pub each : {A : Type 0} (P Q : A → Type 0) (f : (x : A) → P x → Q x) (xs : List A) (h : AllByRecursion P xs) → AllByRecursion Q xs
 each P Q f xs h = subst (AllByRecursion Q) (append-nil xs) (grown P Q f xs [] h tt)
 
 leads_more : (m : StepFunction) (n : ℕ) (first mid last : Record) → Leads m n first mid → OneCall m mid last → Leads m (suc n) first last

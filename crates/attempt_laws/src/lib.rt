@@ -1,5 +1,5 @@
-//! Laws of attempts on which no other crate stands: when a later attempt passes a suspension, how many steps bring one to its end, and
-//! which results it proposes.
+//! Laws of attempts, which no crate of the long chain needs: when a later attempt passes a suspension, how many steps bring one to its end,
+//! and which results it proposes.
 #![tactic(auto)]
 
 mod limits;

@@ -1,5 +1,5 @@
-//! Laws of a handler's run over all its attempts, on which no other crate depends: to which calls it sends the cancel signal, where the
-//! values of its answers come from, what rounds of a family of handlers keep, and what a replay check proves.
+//! Laws of a handler's run over all its attempts, which no crate of the long chain needs: to which calls it sends the cancel signal, where
+//! the values of its answers come from, what rounds of a family of handlers keep, and what a replay check proves.
 #![tactic(auto)]
 
 mod children;

@@ -1,1 +1,3 @@
 pub mod OneByOne
+pub mod Telling
+pub mod Unfinished

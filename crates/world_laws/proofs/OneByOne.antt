@@ -27,7 +27,7 @@ module _ (w : Setting) (p : Played) (old : List (List ℕ)) (report : ReportView
   abbrev alone : RoundsDo p.handler w (p.round ∷ []) old (report ∷ []) mid
   alone = (mid, report, [], refl, one, (refl, refl))
 
-  journal_after : IsJournal mid
+  pub journal_after : IsJournal mid
   journal_after = (round_grows p.handler w p.round old report mid j one).journal
 
   -- it keeps the journal for a handler that is alike

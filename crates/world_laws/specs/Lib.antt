@@ -1,1 +1,3 @@
 pub mod PlayedRounds
+pub mod Reported
+pub mod Unfinished
