@@ -1,1 +1,4 @@
 pub mod Fences
+pub mod KeyStates
+pub mod Ordering
+pub mod Signals

@@ -1,3 +1,11 @@
+pub mod Bringing
+pub mod Relating
+pub mod Tracking
+pub mod Running
+pub mod Resting
+pub mod Suspending
+pub mod Stepping
+pub mod Proposing
 pub mod OneByOne
 pub mod Telling
 pub mod Unfinished

@@ -24,14 +24,14 @@ use Rattle.vm_model.specs.Histories.{Handed, after_head}
 use Rattle.vm_model.specs.HonestRounds.{Attempted, IsToldOn}
 use Rattle.vm_model.specs.Moves.{start as first_point}
 use Rattle.vm_model.proofs.Runs.{made_after}
-use Rattle.run_laws.specs.Values.{ValueCame}
-use Rattle.run_laws.proofs.Bringing.{run_brings}
+use Rattle.world_laws.specs.Values.{ValueCame}
+use Rattle.world_laws.proofs.Bringing.{run_brings}
 use Rattle.vm_steps.specs.Heard.{Heard, proposals_among, proposals_in}
 use Rattle.vm_steps.specs.Record.{Record, bytes_written}
 use Rattle.vm_steps.specs.Stepping.{CompletesRun, FinishDoes, fresh_record, newly_proposed, noted_at}
 use Rattle.vm_attempt.proofs.Quiet.{proposals_append}
 use Rattle.vm_attempt.proofs.Under.{close_fed, step_fed}
-use Rattle.attempt_laws.proofs.Proposing.{Becomes, each, grown, reported}
+use Rattle.world_laws.proofs.Proposing.{Becomes, each, grown, reported}
 use Rattle.world_rounds.specs.declared.types.Event.{Event}
 use Rattle.world_rounds.specs.declared.types.Event.TheVariants as event
 use Rattle.world_rounds.specs.declared.types.Round.{Round}

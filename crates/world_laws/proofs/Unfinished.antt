@@ -55,7 +55,7 @@ use Rattle.vm_attempt.proofs.Pieces.{bytes_behind, more_frames}
 use Rattle.vm_attempt.proofs.Proposed.{arriving_append, arriving_more, arriving_notified}
 use Rattle.vm_attempt.proofs.Replayed.{head_same, tail_same}
 use Rattle.vm_attempt.proofs.Under.{Grows, close_fed, close_under, feed_grows, feed_under, premises_of, step_fed, step_under, take_fed, take_under}
-use Rattle.attempt_laws.proofs.Proposing.{done_same, none_newly}
+use Rattle.world_laws.proofs.Proposing.{done_same, none_newly}
 use Rattle.world_rounds.proofs.Known.{unknown_open}
 use Rattle.world_rounds.proofs.Pending.{proposed_ids}
 use Rattle.world_rounds.proofs.Proposing.{Knows, KnowsLive, Proposes, close_proposes, feed_proposes, finish_proposes, items, next_of, step_proposes, take_proposes}
@@ -137,20 +137,10 @@ and_more fed more = as_heard fed.pieces (fed.proposed ++ more)
 
 abbrev journal_as : (fed : Heard) (more : List ProposeRunCompletion) → Journal fed → Journal (and_more fed more)
 journal_as fed more j = record {
-  first_frame = j.first_frame;
-  entries = j.entries;
-  others = j.others;
-  frames = j.frames;
-  start = j.start;
-  reads_start = j.reads_start;
-  count = j.count;
-  none_acknowledge = j.none_acknowledge;
-  state = j.state;
-  reads_state = j.reads_state;
-  first = j.first;
-  rest = j.rest;
-  commands = j.commands;
-  input = j.input;
+  first_frame = j.first_frame; entries = j.entries; others = j.others; frames = j.frames;
+  start = j.start; reads_start = j.reads_start; count = j.count;
+  none_acknowledge = j.none_acknowledge; state = j.state; reads_state = j.reads_state;
+  first = j.first; rest = j.rest; commands = j.commands; input = j.input;
   reads_input = j.reads_input;
 }
 
@@ -259,12 +249,12 @@ module _ (fixed : Fixed) where
   some_left : {A : Type 0} (x : A) (xs : List A) → x ∷ xs ≡ [] → ⊥
   some_left x xs e = absurd (cc)
 
+  neither : (a b : Bool) → (a || b) ≡ false → a ≡ false
+  neither true b e = absurd (cc)
+  neither false b e = refl
+
   front_open : (id : ℕ) (xs ys : List Notification) → completes_id id (xs ++ ys) ≡ false → completes_id id xs ≡ false
-  front_open id xs ys h = by_test (completes_id id xs) (completes_id id ys) (sym (completed_append id xs ys) ∙ h)
-    where
-      by_test : (a b : Bool) → (a || b) ≡ false → a ≡ false
-      by_test true b e = absurd (cc)
-      by_test false b e = refl
+  front_open id xs ys h = neither (completes_id id xs) (completes_id id ys) (sym (completed_append id xs ys) ∙ h)
 
   module _ (last : Record) (j : Journal (told last)) where
     -- the known entries of an attempt that runs are those of the last one

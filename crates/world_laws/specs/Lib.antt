@@ -1,3 +1,10 @@
+pub mod Children
+pub mod MemberRounds
+pub mod ToldSets
+pub mod Values
+pub mod Suspensions
+pub mod Limits
+pub mod Reports
 pub mod PlayedRounds
 pub mod Reported
 pub mod Unfinished

@@ -18,7 +18,7 @@ use Rattle.vm_machine.specs.Proposals.{earlier_count, earlier_nanos, run_at}
 use Rattle.vm_model.specs.Calls.{Meaning}
 use Rattle.vm_model.specs.Histories.{after_head}
 use Rattle.vm_model.specs.HonestRounds.{Attempted}
-use Rattle.run_laws.specs.Values.{ValueCame}
+use Rattle.world_laws.specs.Values.{ValueCame}
 use Rattle.world_rounds.specs.declared.types.Event.{Event}
 use Rattle.world_rounds.specs.declared.types.Event.TheVariants as event
 use Rattle.world_rounds.specs.declared.types.Round.{Round}

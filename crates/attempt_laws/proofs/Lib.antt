@@ -1,5 +1,0 @@
-pub mod Running
-pub mod Resting
-pub mod Suspending
-pub mod Stepping
-pub mod Proposing

@@ -1,5 +1,0 @@
-use Rattle.attempt_laws.proofs.Proposing.{all_reported}
-use Rattle.attempt_laws.proofs.reporting.proposals_are_of_reports.Goals as goal
-
-pub returns : goal.returns
-returns c = all_reported

@@ -1,3 +1,0 @@
-pub mod Suspensions
-pub mod Limits
-pub mod Reports

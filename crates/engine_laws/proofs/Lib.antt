@@ -1,4 +1,0 @@
-pub mod Events
-pub mod Ordered
-pub mod Settling
-pub mod Signalling

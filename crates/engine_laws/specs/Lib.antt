@@ -1,3 +1,0 @@
-pub mod KeyStates
-pub mod Ordering
-pub mod Signals

@@ -1,3 +1,0 @@
-pub mod Bringing
-pub mod Relating
-pub mod Tracking

@@ -1,4 +1,0 @@
-pub mod Children
-pub mod MemberRounds
-pub mod ToldSets
-pub mod Values
