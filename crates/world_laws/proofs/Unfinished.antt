@@ -137,10 +137,20 @@ and_more fed more = as_heard fed.pieces (fed.proposed ++ more)
 
 abbrev journal_as : (fed : Heard) (more : List ProposeRunCompletion) → Journal fed → Journal (and_more fed more)
 journal_as fed more j = record {
-  first_frame = j.first_frame; entries = j.entries; others = j.others; frames = j.frames;
-  start = j.start; reads_start = j.reads_start; count = j.count;
-  none_acknowledge = j.none_acknowledge; state = j.state; reads_state = j.reads_state;
-  first = j.first; rest = j.rest; commands = j.commands; input = j.input;
+  first_frame = j.first_frame;
+  entries = j.entries;
+  others = j.others;
+  frames = j.frames;
+  start = j.start;
+  reads_start = j.reads_start;
+  count = j.count;
+  none_acknowledge = j.none_acknowledge;
+  state = j.state;
+  reads_state = j.reads_state;
+  first = j.first;
+  rest = j.rest;
+  commands = j.commands;
+  input = j.input;
   reads_input = j.reads_input;
 }
 
