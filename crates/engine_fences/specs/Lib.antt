@@ -1,4 +1,1 @@
 pub mod Fences
-pub mod KeyStates
-pub mod Ordering
-pub mod Signals
