@@ -190,7 +190,7 @@ async function claims(to: Statements, claimer: Claimer, about: About, row: Row, 
   if (lease === undefined) return;
   const claim = await loaded(to, claimer, about, id, epoch + 1, lease);
   if (claim === undefined) return;
-  if (epoch === 0 && claim.cancelWaits) {
+  if (epoch === 0 && Number(lease[2]) === 1 && claim.cancelWaits) { // one that is restarted from a step has those of before, which its handler may undo
     await endUnbegun(to, claim, failure(409, 'cancelled'));
     claim.journal.close();
     return;

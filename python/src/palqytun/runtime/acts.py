@@ -34,6 +34,7 @@ class _Row:
     exclusive: int
     status: str
     epoch: int
+    entries: int
     due: float
     cancelled: float | None
     created: float
@@ -76,7 +77,7 @@ async def reached(db: Database, out: Outcome, id: str) -> bool:
     it = await _kept(db, id)
     if it.status not in ("ready", "paused"):
         return False
-    if it.epoch == 0:
+    if it.epoch == 0 and it.entries == 1:  # one that is restarted from a step has those of before, which its handler may undo
         await end(db, out, it.id, journal.failure(409, "cancelled"), "cancelled")
         return True
     fresh = PROGRESS if it.status == "paused" else {}
