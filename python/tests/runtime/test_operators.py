@@ -14,6 +14,7 @@ if lacks := needs.lacks_server():
     raise unittest.SkipTest(lacks)
 import runtime_app
 from palqytun.runtime import App, Schedule, command
+from palqytun.runtime.database.plain import Plain
 from palqytun.runtime.serving import Settings
 from served import Served
 from spoken import palqytun
@@ -138,7 +139,7 @@ class ByCommand(support.OnADatabase):
         self.assertIn("100; was 99", said["audit"])
 
     def test_what_is_refused(self):
-        with support.Plain(self.url):
+        with Plain(self.url):
             pass
         for words, why in [
             (("invocations", "cancel"), "name invocations by their ids or by a filter"),

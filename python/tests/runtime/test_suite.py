@@ -14,6 +14,7 @@ from unittest import mock
 import support  # isort: skip
 import needs
 import postgres
+from palqytun.runtime.database.plain import Plain
 from support import PYTHON
 
 TESTS = """\
@@ -69,7 +70,7 @@ class Temporary(support.InAFolder, unittest.TestCase):
         with subprocess.Popen(words, env={**os.environ, "TMPDIR": str(deep)}, stdin=subprocess.PIPE, stdout=subprocess.PIPE, text=True) as maker:
             url, parent = maker.stdout.readline().split()
             self.assertRegex(url, r"^postgresql://palqytun@/postgres\?host=127\.0\.0\.1&port=\d+$")
-            with support.Plain(url) as db:
+            with Plain(url) as db:
                 self.assertEqual(db.rows("SHOW work_mem"), [("5MB",)])
             [room] = deep.iterdir()
             server = int((room / "data" / "postmaster.pid").read_text().splitlines()[0])
