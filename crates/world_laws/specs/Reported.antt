@@ -68,7 +68,7 @@ CameInRound m w round old report new (inl d) n =
     CameBy round.events n ⊎ CompletesTold m round.events (begin d.alloc w round old) n
 CameInRound m w round old report new (inr d) n = CameBy round.events n
 
--- so it is of one of these rounds
+-- in one of these rounds it came so
 abbrev pub CameInOne : (w : Setting) (played : List Played) (old : List (List ℕ))
     (reports : List ReportView) (new : List (List ℕ)) → PlayedDo w played old reports new
     → Notification → Type 0
@@ -94,7 +94,7 @@ BringsWhatCame journal a = AllByRecursion (ValueCame
     (notifications_in (journal_entries journal) ++ notifications_in a.course)
     (after_head (commands_in (journal_entries journal)) ++ commands_in a.course)) a.answers
 
--- so it is of the attempt of each of these rounds
+-- the attempt of each of these rounds brings what came
 abbrev pub EachBringsWhatCame : (w : Setting) (played : List Played) (old : List (List ℕ))
     (reports : List ReportView) (new : List (List ℕ)) → PlayedDo w played old reports new → Type 0
 EachBringsWhatCame w [] old reports new d = Unit {0}

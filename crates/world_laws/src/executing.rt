@@ -12,8 +12,9 @@ ghost use Rattle.vm_attempt.specs.Courses.{Leads};
 ghost use Rattle.vm_attempt.specs.Told.{Journal, Premises};
 ghost use Rattle.world_laws.specs.Unfinished.{HasNoResult};
 
-/// An attempt executes no run again whose result is stored: if a step hands out a run, that run is pending, and the journal with which the
-/// attempt was begun, which are the entries that Start counts, has no result of it. What comes after these entries may.
+/// An attempt executes no run again whose result is stored: if a step hands out a run, that run is
+/// pending, and the journal with which the attempt was begun, which are the entries that Start
+/// counts, has no result of it. What comes after these entries may.
 pub fn attempts_execute_no_finished_runs()
     ensures { (fixed : Fixed) (alloc : Global) (n : ℕ) (old new : Record)
         (handle : NotificationHandle)

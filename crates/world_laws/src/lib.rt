@@ -1,6 +1,7 @@
-//! Laws of runs, attempts and rounds, on which no other crate depends: which calls are cancelled, where the values of answers come from, what a replay
-//! check proves; when a later attempt passes a suspension, how many steps bring one to its end, which results it proposes and which runs it executes;
-//! what rounds of a family of handlers keep, and where their results come from.
+//! Laws of runs, attempts and rounds, on which no other crate depends: which calls are cancelled,
+//! where the values of answers come from, what a replay check proves; when a later attempt passes a
+//! suspension, how many steps bring one to its end, which results it proposes and which runs it
+//! executes; what rounds of a family of handlers keep, and where their results come from.
 #![tactic(auto)]
 
 mod children;

@@ -11,8 +11,8 @@ ghost use Rattle.vm_attempt.specs.Ending.{IsRunning};
 ghost use Rattle.vm_attempt.specs.Told.{IsKeptUnder, Premises};
 ghost use Rattle.world_laws.specs.Limits.{EndsWithin, StepsAnswered};
 
-/// If the handler ends on a journal, an attempt makes at most as many steps with a result as are missing. The step after these returns
-/// `Ended`, or is out of memory.
+/// If the handler ends on a journal, an attempt makes at most as many steps with a result as are
+/// missing. The step after these returns `Ended`, or is out of memory.
 pub fn finished_attempts_end_in_time()
     ensures most { (fixed : Fixed) (old mid : Record) (n limit : ℕ) → IsKeptUnder fixed old
         → Premises fixed (heard fixed.version old) → IsRunning old

@@ -11,7 +11,8 @@ ghost use Rattle.vm_model.specs.Histories.{History};
 ghost use Rattle.vm_model.specs.Moves.{Point, after, start};
 ghost use Rattle.world_laws.specs.Values.{ValueCame};
 
-/// No value is invented: each value that a handler gets is that of a notification that came, or that of a recorded eager read.
+/// No value is invented: each value that a handler gets is that of a notification that came, or
+/// that of a recorded eager read.
 pub fn answers_bring_what_came()
     ensures run { (s : Setup) (m : Meaning) (n : ℕ) (input : InputCommand)
         (ns : List Notification) (cs : List RawMessage) (q : Point)

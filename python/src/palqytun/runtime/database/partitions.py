@@ -11,6 +11,7 @@ from collections.abc import Iterator
 from typing import NamedTuple
 
 from . import Database, Unsuitable
+from .schema import SIGN
 
 PLACES = {
     **{"invocations": "id", "journal": "invocation", "inbox": "invocation", "timers": "invocation", "waiters": "invocation"},
@@ -25,9 +26,8 @@ _AT_WORK = (12, 60)  # so many transactions at once are to have locks for a clai
 
 _IDEM = "service, handler, key, idem"
 _FOR_ALL_PARTS = "invocations_idem"  # what it makes unique is unique by `idempotency`
-_SIGN = "promise_waiters"  # a table whose name is that of no other application's
-_COUNT = f"SELECT COUNT(*) FROM pg_inherits WHERE inhparent=to_regclass('{_SIGN}')"
-_IN_THEIR_SCHEMA = f"SELECT set_config('search_path', relnamespace::regnamespace::text, true) FROM pg_class WHERE oid=to_regclass('{_SIGN}')"
+_COUNT = f"SELECT COUNT(*) FROM pg_inherits WHERE inhparent=to_regclass('{SIGN}')"
+_IN_THEIR_SCHEMA = f"SELECT set_config('search_path', relnamespace::regnamespace::text, true) FROM pg_class WHERE oid=to_regclass('{SIGN}')"
 _HAVE_NONE = "SELECT relname::text FROM pg_class WHERE oid=to_regclass(relname) AND relname=ANY(?::text[]) AND relkind='r' ORDER BY relname"
 _CAPACITY = (
     "SELECT current_setting('max_locks_per_transaction')::bigint,"
@@ -103,7 +103,7 @@ async def lacks(db: Database, parts: int) -> bool:
     if needed(parts) > each * sessions:
         text = f"{parts} partitions take {needed(parts):,} locks at once, and the server has {each * sessions:,}"
         raise Unsuitable(f"{text}: set max_locks_per_transaction={-(-needed(parts) // sessions)} or more, or take fewer partitions")
-    [(is_there,)] = await db.rows("SELECT to_regclass(?) IS NOT NULL", (_SIGN,))
+    [(is_there,)] = await db.rows("SELECT to_regclass(?) IS NOT NULL", (SIGN,))
     if is_there and (alive := (await db.rows(f"SELECT COUNT(*) FROM workers WHERE lease>={db.clock}"))[0][0]):
         raise Unsuitable(f"{alive} {'workers are' if alive > 1 else 'worker is'} alive, and all is copied into the partitions: stop all workers first")
     return True

@@ -19,7 +19,7 @@ from dataclasses import dataclass, field
 from typing import TYPE_CHECKING, Any, NamedTuple
 
 from . import Asked, Claiming, Conflict, Each, Lost, Reading, StatementFailed, Unsuitable, partitions
-from .schema import MIGRATIONS, TABLES, VERSIONS, failed, missing
+from .schema import MIGRATIONS, SIGN, TABLES, VERSIONS, failed, missing
 
 if TYPE_CHECKING:
     import psycopg
@@ -76,11 +76,10 @@ _SETTINGS = {
 _HURRY = "SET LOCAL lock_timeout='100ms'"
 _ENOUGH = ("local", "remote_write", "remote_apply")  # of synchronous_commit: what is committed is on the disk with these too
 _SCHEMA = "palqytun"  # of the tables, if nobody names another place for them
-_SIGN = "promise_waiters"  # a table of each version, whose name is that of no other application's
 # Tables that are there are used where they are. Else the tables' own schema comes first, and then what the path has, so that tables of the user's are found.
 _PLACED = (
     f"SELECT set_config('search_path', '{_SCHEMA}, ' || setting, false) FROM pg_settings"
-    f" WHERE name='search_path' AND source IN ('default', 'configuration file') AND to_regclass('{_SIGN}') IS NULL"
+    f" WHERE name='search_path' AND source IN ('default', 'configuration file') AND to_regclass('{SIGN}') IS NULL"
 )
 _PLACE = (
     f"SELECT left(current_setting('search_path'), {len(_SCHEMA) + 2})='{_SCHEMA}, ', has_schema_privilege(to_regnamespace('{_SCHEMA}'), 'USAGE'),"
@@ -298,7 +297,7 @@ class Postgres:
 
     async def _version(self) -> int:
         """The schema's version; 0 if there are no tables."""
-        [(is_there,)] = await self.rows(f"SELECT to_regclass('{_SIGN}') IS NOT NULL")
+        [(is_there,)] = await self.rows(f"SELECT to_regclass('{SIGN}') IS NOT NULL")
         return int((await self.rows("SELECT COALESCE(MAX(version), 0) FROM schema_versions"))[0][0]) if is_there else 0
 
     # ---- the clock

@@ -187,6 +187,9 @@ _OLDEST = 3  # what older databases hold can't be read any more
 
 VERSIONS = "CREATE TABLE IF NOT EXISTS schema_versions(version INTEGER PRIMARY KEY)"
 
+SIGN = "promise_waiters"
+"""A table of each version, whose name is that of no other application's: where it is, the tables are."""
+
 TABLES = (
     *("invocations", "journal", "inbox", "timers", "waiters", "state", "promises", "promise_waiters"),
     *("locks", "workers", "attempts", "schedules", "limits", "audit", "serving", "transactions", "queues", "starts", "attributes", "progress"),
