@@ -27,6 +27,16 @@ async def waits(ctx: Context, it):
 
 
 @service.handler()
+async def books(ctx: Context, it):
+    await ctx.run("book", lambda: seen.append("booked"))
+    try:
+        await ctx.sleep(3600)
+    except Cancelled:
+        await ctx.run("undo", lambda: seen.append("undone"))
+        raise
+
+
+@service.handler()
 async def sleeps(ctx: Context, seconds):
     seen.append(("slept", ctx.invocation_id))
     await ctx.sleep(seconds)
@@ -349,6 +359,24 @@ class Restarting(Acting):
         self.assertEqual((await self.entries(runtime, new))[:step], before[:step])
         self.assertEqual((await runtime.result(new))[:3], [1, 2, 4])
         self.assertEqual((seen.count("first"), seen.count("second"), seen.count("doubled")), (1, 2, 1))
+
+    @with_worker
+    async def test_a_cancellation_before_it_has_begun(self, runtime):
+        """One that is restarted from a step is cancelled by its handler, which undoes what stands before the step; from the start nothing of it runs."""
+
+        async def cancelled(db, out, step):
+            new = await restarting.restart(db, app, out, id, "ann", step)
+            await acts.cancel(db, app, out, new, "ann")
+            return new
+
+        id = await runtime.send("Acts/books")
+        await runtime.until(id, "suspended")
+        place = await self.place(runtime, id, "Sleep")
+        await self.act(runtime, "kill", id)
+        for step, undone in ((0, 0), (place, 1)):
+            new = await runtime.engine.done(lambda db, out: cancelled(db, out, step))  # in one transaction, so no worker claims it between
+            self.assertEqual((await runtime.result(new))[:2], (409, "cancelled"))
+            self.assertEqual((seen.count("booked"), seen.count("undone")), (1, undone))
 
     @with_worker
     async def test_what_is_open_before_the_step(self, runtime):
