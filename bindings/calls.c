@@ -70,6 +70,18 @@ palqytun_judged palqytun_is_awake(const uint8_t *suspension, size_t suspension_l
     return made;
 }
 
+palqytun_told palqytun_difference(const uint8_t *recorded, size_t recorded_len, const uint8_t *asked, size_t asked_len, bool ignore_payloads, uint8_t *out, size_t out_len)
+{
+    uint32_t status = PALQYTUN_DONE;
+    recorded = lend_items(&status, recorded, recorded_len, sizeof *recorded);
+    asked = lend_items(&status, asked, asked_len, sizeof *asked);
+    out = lend_room(&status, out, out_len);
+    if (status != PALQYTUN_DONE)
+        return (palqytun_told){.status = status};
+    palqytun_told made = proved_difference(recorded, recorded_len, asked, asked_len, ignore_payloads, out, out_len);
+    return made;
+}
+
 palqytun_told palqytun_journal_entries(palqytun_journal *journal)
 {
     uint32_t status = PALQYTUN_DONE;

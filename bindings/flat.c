@@ -465,3 +465,11 @@ uint32_t palqytun_flat_input_frame(const uint8_t *frame, size_t frame_len, const
         *returned = made;
     return made.status;
 }
+
+uint32_t palqytun_flat_difference(const uint8_t *recorded, size_t recorded_len, const uint8_t *asked, size_t asked_len, bool ignore_payloads, uint8_t *out, size_t out_len, palqytun_told *returned)
+{
+    palqytun_told made = palqytun_difference(recorded, recorded_len, asked, asked_len, ignore_payloads, out, out_len);
+    if (returned != NULL)
+        *returned = made;
+    return made.status;
+}

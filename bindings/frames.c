@@ -1,5 +1,5 @@
-/* Frames: each as its line and back, a result that is put into a notification, and whether a suspension is awake by it; and what a frame says
-   without text. */
+/* Frames: each as its line and back, a result that is put into a notification, whether a suspension is awake by it, and in which field two commands
+   differ; and what a frame says without text. */
 #include "palqytun.h"
 
 #include <inttypes.h>
@@ -108,6 +108,30 @@ static int hold(const uint8_t *value, size_t len)
     return bad ? bad : show(&input);
 }
 
+/* Names the first field in which a call isn't as the recorded one, with payloads and without them. */
+static int differ(void)
+{
+    static const char *const both[] = {
+        "Call service_name=\"Greeter\" handler_name=\"greet\" parameter=\"Ada\" invocation_id_notification_idx=1 result_completion_id=2",
+        "Call service_name=\"Greeter\" handler_name=\"greet\" parameter=\"Bob\" invocation_id_notification_idx=1 result_completion_id=2",
+    };
+    written recorded, asked;
+    uint32_t status = frame_of(both[0], &recorded);
+    if (status == PALQYTUN_DONE)
+        status = frame_of(both[1], &asked);
+    if (status != PALQYTUN_DONE)
+        return failed(status);
+    for (int ignores_payloads = 0; ignores_payloads < 2; ignores_payloads++) {
+        uint8_t field[64];
+        palqytun_told told =
+            palqytun_difference(recorded.bytes, recorded.len, asked.bytes, asked.len, ignores_payloads, field, sizeof field);
+        if (told.status == PALQYTUN_NO_MEMORY)
+            return failed(told.status);
+        printf("status %" PRIu32 ": %.*s\n", told.status, (int)told.len, (const char *)field);
+    }
+    return 0;
+}
+
 int main(void)
 {
     for (size_t at = 0; at < sizeof lines / sizeof *lines; at++) {
@@ -126,5 +150,7 @@ int main(void)
     int bad = wake();
     if (!bad)
         bad = read_parts();
-    return bad ? bad : hold((const uint8_t *)"Till", 4);
+    if (!bad)
+        bad = hold((const uint8_t *)"Till", 4);
+    return bad ? bad : differ();
 }

@@ -739,6 +739,13 @@ palqytun_told palqytun_value_frame(const uint8_t *value, size_t value_len, uint8
 palqytun_told palqytun_input_frame(
     const uint8_t *frame, size_t frame_len, const uint8_t *value, size_t value_len, uint8_t *out, size_t out_len);
 
+/* Writes the name of the first field in which the command of a call isn't as the recorded one to the front of out, and returns how long it is.
+   Both are whole frames: the recorded command, and the one that the call makes where nothing is recorded. The name is that of docs/FRAMES.md, or
+   "type" if the two are of different types; ids come last. PALQYTUN_NO_PART: replay takes the two for one. If ignore_payloads, payloads aren't
+   compared. PALQYTUN_NO_ROOM: len is the length that it needs. */
+palqytun_told palqytun_difference(const uint8_t *recorded, size_t recorded_len, const uint8_t *asked, size_t asked_len, bool ignore_payloads,
+    uint8_t *out, size_t out_len);
+
 /* ---- Which library this is */
 
 /* The number of the library's interface: PALQYTUN_ABI of the header that it was built with. */

@@ -11,6 +11,7 @@ palqytun_told proved_value_frame(const uint8_t *value, size_t value_len, uint8_t
 palqytun_told proved_input_frame(const uint8_t *frame, size_t frame_len, const uint8_t *value, size_t value_len, uint8_t *out, size_t out_len);
 palqytun_told proved_notification(uint32_t kind, uint32_t id, const uint8_t *name, size_t name_len, const uint8_t *frame, size_t frame_len, uint8_t *out, size_t out_len);
 palqytun_judged proved_is_awake(const uint8_t *suspension, size_t suspension_len, const uint8_t *notifications, size_t notifications_len);
+palqytun_told proved_difference(const uint8_t *recorded, size_t recorded_len, const uint8_t *asked, size_t asked_len, bool ignore_payloads, uint8_t *out, size_t out_len);
 uint32_t proved_journal_new(palqytun_held *journal);
 void proved_journal_free(palqytun_held *journal);
 palqytun_told proved_journal_entries(palqytun_held *journal);

@@ -76,6 +76,7 @@ static struct {
     uint32_t (*frame_part)(const uint8_t *, size_t, size_t, uint8_t *, size_t, palqytun_told *);
     uint32_t (*value_frame)(const uint8_t *, size_t, uint8_t *, size_t, palqytun_told *);
     uint32_t (*input_frame)(const uint8_t *, size_t, const uint8_t *, size_t, uint8_t *, size_t, palqytun_told *);
+    uint32_t (*difference)(const uint8_t *, size_t, const uint8_t *, size_t, bool, uint8_t *, size_t, palqytun_told *);
     uint32_t (*abi)(void);
     const char * (*version)(void);
     const char * (*build)(void);
@@ -215,6 +216,8 @@ static bool loads(void *object, const char **lacks)
         is_whole = false, *lacks = "palqytun_flat_value_frame";
     if ((*(void **)&it.input_frame = dlsym(object, "palqytun_flat_input_frame")) == NULL)
         is_whole = false, *lacks = "palqytun_flat_input_frame";
+    if ((*(void **)&it.difference = dlsym(object, "palqytun_flat_difference")) == NULL)
+        is_whole = false, *lacks = "palqytun_flat_difference";
     if ((*(void **)&it.abi = dlsym(object, "palqytun_abi")) == NULL)
         is_whole = false, *lacks = "palqytun_abi";
     if ((*(void **)&it.version = dlsym(object, "palqytun_version")) == NULL)
@@ -596,6 +599,11 @@ uint32_t pq_value_frame(const uint8_t *value, size_t value_len, uint8_t *out, si
 uint32_t pq_input_frame(const uint8_t *frame, size_t frame_len, const uint8_t *value, size_t value_len, uint8_t *out, size_t out_len, palqytun_told *returned)
 {
     return it.input_frame(frame, frame_len, value, value_len, out, out_len, returned);
+}
+
+uint32_t pq_difference(const uint8_t *recorded, size_t recorded_len, const uint8_t *asked, size_t asked_len, bool ignore_payloads, uint8_t *out, size_t out_len, palqytun_told *returned)
+{
+    return it.difference(recorded, recorded_len, asked, asked_len, ignore_payloads, out, out_len, returned);
 }
 
 uint32_t pq_abi(void)

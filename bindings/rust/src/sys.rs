@@ -866,6 +866,7 @@ functions! {
     frame_part = "palqytun_frame_part\0": (*const u8, usize, usize, *mut u8, usize) -> Told;
     value_frame = "palqytun_value_frame\0": (*const u8, usize, *mut u8, usize) -> Told;
     input_frame = "palqytun_input_frame\0": (*const u8, usize, *const u8, usize, *mut u8, usize) -> Told;
+    difference = "palqytun_difference\0": (*const u8, usize, *const u8, usize, bool, *mut u8, usize) -> Told;
     abi = "palqytun_abi\0": () -> u32;
     version = "palqytun_version\0": () -> *const c_char;
     build = "palqytun_build\0": () -> *const c_char;

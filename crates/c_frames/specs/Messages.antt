@@ -1,11 +1,14 @@
 -- What is read of the bytes that C gives.
-use Rattle.std.specs.Prelude.{◌≡◌, ◌⊎◌, ℕ, List, Option, Some, None, Result, Ok, Err}
+use Rattle.std.specs.Prelude.{◌≡◌, ◌⊎◌, ℕ, Bool, List, Option, Some, None, Result, Ok, Err}
 use Rattle.journal_protocol.specs.Message.{Message}
 use Rattle.journal_protocol.specs.RawMessage.{RawMessage}
 use Rattle.journal_protocol.specs.Bodies.{message_in}
 use Rattle.journal_protocol.specs.Frames.{type_of}
 use Rattle.journal_protocol.specs.Types.{type_number}
 use Rattle.journal_entries.specs.Entries.{frame_in}
+use Rattle.journal_messages.specs.declared.field.Field.{Field}
+use Rattle.journal_messages.specs.Fields.{field_text}
+use Rattle.journal_messages.specs.HeaderEqual.{difference}
 use Rattle.c_values.specs.declared.status.Status.{Status}
 use Rattle.c_values.specs.declared.status.Status.TheVariants as status
 use Rattle.c_frames.specs.declared.numbers.FrameRow.{FrameRow}
@@ -39,3 +42,14 @@ found_part (Some part) = Ok part
 abbrev pub part_behind : Option Message → ℕ → Result (List ℕ) Status
 part_behind None at = Err status.NotAFrame
 part_behind (Some m) at = found_part (message_part m at)
+
+-- the name of a field, if one is found
+abbrev pub found_name : Option Field → Result (List ℕ) Status
+found_name None = Err status.NoPart
+found_name (Some it) = Ok (field_text it)
+
+-- the name of the first field in which two messages aren't the same, or why there is none
+abbrev pub named_difference : Bool → Option Message → Option Message → Result (List ℕ) Status
+named_difference ignore None b = Err status.NotAFrame
+named_difference ignore (Some a) None = Err status.NotAFrame
+named_difference ignore (Some a) (Some b) = found_name (difference ignore a b)

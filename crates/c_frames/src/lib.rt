@@ -1,5 +1,6 @@
 //! Frames for callers of C: what each says (the kind of its message, its numbers and its parts, which are texts and bytes), frames that hold a
-//! value as it is given, results as notifications, and whether a suspension is awake. No text is between.
+//! value as it is given, results as notifications, whether a suspension is awake, and in which field two commands differ.
+//! No text is between.
 #![tactic(auto)]
 
 mod answer;
@@ -17,7 +18,7 @@ mod waking;
 pub use answer::{Judged, judge, unjudged};
 pub use future::awake_at;
 pub use making::{input_with, value_frame};
-pub use messages::{message_at, message_row, write_part};
+pub use messages::{message_at, message_row, write_difference, write_part};
 pub use numbers::{FrameRow, unread_row};
 pub use reading::frame_at;
 pub use results::notification_at;

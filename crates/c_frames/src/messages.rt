@@ -2,7 +2,7 @@
 ghost use Rattle.std.specs.Prelude.{◌≡◌, ◌≤◌, IfOk};
 ghost use Rattle.c_values.specs.Statuses.{status_by};
 ghost use Rattle.c_values.specs.Written.{WrittenOrWhy};
-ghost use Rattle.c_frames.specs.Messages.{message_at, message_row, part_behind};
+ghost use Rattle.c_frames.specs.Messages.{message_at, message_row, named_difference, part_behind};
 
 use crate::numbers::{FrameRow, message_numbers, unread_row};
 use crate::parts::message_part;
@@ -10,6 +10,7 @@ use crate::reading::message_in;
 use bytes::Bytes;
 use c_values::{Status, Told, tell, written};
 use journal_entries::entry::frame_in;
+use journal_messages::difference;
 use journal_protocol::Message;
 use std::alloc::{AllocError, Global};
 
@@ -51,5 +52,44 @@ pub fn write_part(message: &Option<Message>, at: usize, out: &mut [u8]) -> Told
             Some(part) => written(part, out),
             None => tell(Status::NoPart, 0),
         },
+    }
+}
+
+/// Writes the name of the first field in which a call's command isn't as the recorded one, or says why there is none.
+fn write_field(
+    recorded: &Option<Message>,
+    asked: &Option<Message>,
+    ignore_payloads: bool,
+    out: &mut [u8],
+) -> Told
+    ensures written { WrittenOrWhy (status_by result.status)
+        (named_difference ignore_payloads recorded.now asked.now) result.len out.old out.new }
+    ensures known { result.status ≤ 24 }
+{
+    match (recorded, asked) {
+        (Some(recorded), Some(asked)) => match difference(recorded, asked, ignore_payloads) {
+            Some(field) => written(field.name().as_bytes(), out),
+            None => tell(Status::NoPart, 0),
+        },
+        _ => tell(Status::NotAFrame, 0),
+    }
+}
+
+/// The same of a call's command that is a frame.
+pub fn write_difference(
+    alloc: Global,
+    recorded: &Option<Message>,
+    asked: &[u8],
+    ignore_payloads: bool,
+    out: &mut [u8],
+) -> Told
+    ensures written { WrittenOrWhy (status_by result.status)
+        (named_difference ignore_payloads recorded.now (message_at asked.now)) result.len out.old
+        out.new }
+    ensures known { result.status ≤ 24 }
+{
+    match message_at(alloc, asked) {
+        Ok(asked) => write_field(recorded, &asked, ignore_payloads, out),
+        Err(_) => tell(Status::NoMemory, 0),
     }
 }

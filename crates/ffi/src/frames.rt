@@ -1,15 +1,16 @@
-//! The calls on frames: what one says, one with a value, the notification of a result, and whether a suspension is awake.
+//! The calls on frames: what one says, one with a value, the notification of a result, whether a suspension is awake, and in which
+//! field two commands differ.
 ghost use Rattle.std.specs.Prelude.{◌≤◌, Ok};
 ghost use Rattle.c_frames.specs.Answers.{IsJudged};
 ghost use Rattle.c_frames.specs.Making.{input_with, value_frame};
-ghost use Rattle.c_frames.specs.Messages.{RowRead, message_at, part_behind};
+ghost use Rattle.c_frames.specs.Messages.{RowRead, message_at, named_difference, part_behind};
 ghost use Rattle.c_frames.specs.Reading.{awake_at, notification_at};
 ghost use Rattle.c_values.specs.Statuses.{status_by};
 ghost use Rattle.c_values.specs.Written.{WrittenOrWhy};
 
 use c_frames::{
     FrameRow, Judged, awake_at, input_with, judge, message_at, message_row, notification_at,
-    unjudged, unread_row, value_frame, write_part,
+    unjudged, unread_row, value_frame, write_difference, write_part,
 };
 use c_values::{Status, Told, answer, tell, written};
 use std::alloc::Global;
@@ -101,5 +102,26 @@ pub extern "C" fn proved_is_awake(alloc: Global, suspension: &[u8], notification
     match awake_at(alloc, suspension, notifications) {
         Ok(found) => judge(found),
         Err(_) => unjudged(Status::NoMemory),
+    }
+}
+
+/// Writes the name of the first field in which the command of a call isn't as the recorded one to the front of `out`, if there is room for
+/// it, and says how long it is.
+#[unsafe(no_mangle)]
+pub extern "C" fn proved_difference(
+    alloc: Global,
+    recorded: &[u8],
+    asked: &[u8],
+    ignore_payloads: bool,
+    out: &mut [u8],
+) -> Told
+    ensures written { WrittenOrWhy (status_by result.status)
+        (named_difference ignore_payloads (message_at recorded.now) (message_at asked.now))
+        result.len out.old out.new }
+    ensures known { result.status ≤ 24 }
+{
+    match message_at(alloc, recorded) {
+        Ok(recorded) => write_difference(alloc, &recorded, asked, ignore_payloads, out),
+        Err(_) => tell(Status::NoMemory, 0),
     }
 }

@@ -5,6 +5,7 @@ pub mod Frames
 pub mod Stream
 pub mod Runs
 pub mod Waiting
+pub mod Fields
 pub mod Headers
 pub mod HeaderEqual
 pub use Rattle.wire.specs.Reads

@@ -1,17 +1,20 @@
-//! Whether replay takes two messages for one.
-ghost use Rattle.std.specs.Prelude.{◌≡◌, ◌↔◌, IsTrue, false};
+//! Whether replay takes two messages for one, and else the first field in which they aren't the same.
+ghost use Rattle.std.specs.Prelude.{◌≡◌, ◌↔◌, IsTrue, false, is_none};
 ghost use Rattle.journal_messages.specs.Headers.{HeaderEqual};
-ghost use Rattle.journal_messages.specs.HeaderEqual.{header_equal, start_equal, suspension_equal, error_equal, sleep_equal, output_equal};
+ghost use Rattle.journal_messages.specs.HeaderEqual.{IsFirst, body_difference, difference, header_equal, input_difference, output_difference, sleep_difference, start_equal, suspension_equal, error_equal, sleep_equal, output_equal};
 
 mod calls;
 mod runtime;
 mod state;
 
 use crate::Message;
+use crate::field::{Field, unless};
 use calls::{
     is_attach_invocation, is_call, is_complete_awakeable, is_complete_promise,
     is_get_invocation_output, is_get_promise, is_one_way_call, is_peek_promise, is_run,
-    is_send_signal,
+    is_send_signal, of_attach_invocation, of_call, of_complete_awakeable, of_complete_promise,
+    of_get_invocation_output, of_get_promise, of_one_way_call, of_peek_promise, of_run,
+    of_send_signal,
 };
 use journal_attempt::{OutputCommand, SleepCommand, Start, Suspension};
 use journal_errors::ErrorMessage;
@@ -21,7 +24,9 @@ use runtime::{
 };
 use state::{
     is_clear_all_state, is_clear_state, is_get_eager_state, is_get_eager_state_keys,
-    is_get_lazy_state, is_get_lazy_state_keys, is_set_state,
+    is_get_lazy_state, is_get_lazy_state_keys, is_set_state, of_clear_all_state, of_clear_state,
+    of_get_eager_state, of_get_eager_state_keys, of_get_lazy_state, of_get_lazy_state_keys,
+    of_set_state,
 };
 use wire::is_same;
 
@@ -125,4 +130,90 @@ fn is_output(a: &OutputCommand, message: &Message, ignore_payloads: bool) -> boo
         Message::Output(b) => ignore_payloads || is_same(&a.result, &b.result),
         _ => false,
     }
+}
+
+fn of_sleep(a: &SleepCommand, message: &Message) -> Option<Field>
+    ensures { result ≡ sleep_difference a.now message.now }
+{
+    let Message::Sleep(b) = message else {
+        return Some(Field::Type);
+    };
+    let found = unless(
+        a.result_completion_id == b.result_completion_id,
+        Field::ResultCompletionId,
+        None,
+    );
+    unless(is_same(&a.name, &b.name), Field::Name, found)
+}
+
+fn of_output(a: &OutputCommand, message: &Message, ignore_payloads: bool) -> Option<Field>
+    ensures { result ≡ output_difference ignore_payloads a.now message.now }
+{
+    let Message::Output(b) = message else {
+        return Some(Field::Type);
+    };
+    unless(
+        ignore_payloads || is_same(&a.result, &b.result),
+        Field::Result,
+        None,
+    )
+}
+
+/// Of an input no field is looked at.
+fn of_input(message: &Message) -> Option<Field>
+    ensures { result ≡ input_difference message.now }
+{
+    match message {
+        Message::Input(_) => None,
+        _ => Some(Field::Type),
+    }
+}
+
+/// Messages that are no commands are compared as a whole.
+fn of_body(a: &Message, b: &Message, ignore_payloads: bool) -> Option<Field>
+    ensures { result ≡ body_difference ignore_payloads a.now b.now }
+{
+    unless(header_eq(a, b, ignore_payloads), Field::Body, None)
+}
+
+#[tactic(auto, unfolding(crate::specs::HeaderEqual::difference))]
+fn first_difference(recorded: &Message, asked: &Message, ignore_payloads: bool) -> Option<Field>
+    ensures { result ≡ difference ignore_payloads recorded.now asked.now }
+{
+    match recorded {
+        Message::Input(_) => of_input(asked),
+        Message::GetEagerState(a) => of_get_eager_state(a, asked, ignore_payloads),
+        Message::GetLazyState(a) => of_get_lazy_state(a, asked),
+        Message::GetEagerStateKeys(a) => of_get_eager_state_keys(a, asked, ignore_payloads),
+        Message::GetLazyStateKeys(a) => of_get_lazy_state_keys(a, asked),
+        Message::SetState(a) => of_set_state(a, asked, ignore_payloads),
+        Message::ClearState(a) => of_clear_state(a, asked),
+        Message::ClearAllState(a) => of_clear_all_state(a, asked),
+        Message::Sleep(a) => of_sleep(a, asked),
+        Message::Call(a) => of_call(a, asked, ignore_payloads),
+        Message::OneWayCall(a) => of_one_way_call(a, asked, ignore_payloads),
+        Message::CompleteAwakeable(a) => of_complete_awakeable(a, asked, ignore_payloads),
+        Message::SendSignal(a) => of_send_signal(a, asked, ignore_payloads),
+        Message::GetPromise(a) => of_get_promise(a, asked),
+        Message::PeekPromise(a) => of_peek_promise(a, asked),
+        Message::CompletePromise(a) => of_complete_promise(a, asked, ignore_payloads),
+        Message::Run(a) => of_run(a, asked),
+        Message::AttachInvocation(a) => of_attach_invocation(a, asked),
+        Message::GetInvocationOutput(a) => of_get_invocation_output(a, asked),
+        Message::Output(a) => of_output(a, asked, ignore_payloads),
+        _ => of_body(recorded, asked, ignore_payloads),
+    }
+}
+
+/// The first field in which a call's command isn't as the recorded one, among those that replay looks at; none if replay takes the two for
+/// one. Ids come last, so what is found first is what the handler's code says. If `ignore_payloads`, payloads aren't looked at.
+#[tactic(auto, using(crate::proofs::Erased::none_test, crate::proofs::Erased::is_first))]
+pub fn difference(recorded: &Message, asked: &Message, ignore_payloads: bool) -> Option<Field>
+    ensures found { result ≡ difference ignore_payloads recorded.now asked.now }
+    // Nothing is found just if replay takes the two for one.
+    ensures none { is_none result ≡ header_equal recorded.now asked.now ignore_payloads }
+    // The field that is found isn't the same in the two, and each field before it is.
+    ensures first { IsFirst ignore_payloads recorded.now asked.now result }
+{
+    first_difference(recorded, asked, ignore_payloads)
 }

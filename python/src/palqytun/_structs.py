@@ -396,6 +396,7 @@ FUNCTIONS: dict[str, tuple[list[Any], Any]] = {
     "frame_part": ([ctypes.c_char_p, ctypes.c_size_t, ctypes.c_size_t, ctypes.c_char_p, ctypes.c_size_t], Told),
     "value_frame": ([ctypes.c_char_p, ctypes.c_size_t, ctypes.c_char_p, ctypes.c_size_t], Told),
     "input_frame": ([ctypes.c_char_p, ctypes.c_size_t, ctypes.c_char_p, ctypes.c_size_t, ctypes.c_char_p, ctypes.c_size_t], Told),
+    "difference": ([ctypes.c_char_p, ctypes.c_size_t, ctypes.c_char_p, ctypes.c_size_t, ctypes.c_bool, ctypes.c_char_p, ctypes.c_size_t], Told),
     "abi": ([], ctypes.c_uint32),
     "version": ([], ctypes.c_char_p),
     "build": ([], ctypes.c_char_p),

@@ -1,5 +1,5 @@
-"""Frames beside a journal: each as its line (docs/FRAMES.md) and back, its result as a notification, and whether a suspension is awake; and
-what a frame says as numbers and parts, without text.
+"""Frames beside a journal: each as its line (docs/FRAMES.md) and back, its result as a notification, whether a suspension is awake, and in which
+field two commands differ; and what a frame says as numbers and parts, without text.
 
 Nothing here knows how a frame is laid out: the core reads and writes them.
 
@@ -23,7 +23,7 @@ from palqytun._words import COUNT, encoded, integer, octets, utf8
 from palqytun.errors import BadFrame, BadLine
 from palqytun.values import Data
 
-__all__ = ["Message", "completion", "frame_of", "input_frame", "is_awake", "line_of", "named_signal", "signal", "value_frame"]
+__all__ = ["Message", "completion", "difference", "frame_of", "input_frame", "is_awake", "line_of", "named_signal", "signal", "value_frame"]
 
 _COMPLETION, _SIGNAL, _NAMED = range(3)
 
@@ -191,3 +191,20 @@ def is_awake(suspension: Data, notifications: Iterable[Data]) -> bool:
     if judged.status:
         _refuse(judged.status)
     return bool(judged.is_awake)
+
+
+def difference(recorded: Data, asked: Data, ignores_payloads: bool = False) -> str | None:
+    """The first field in which the command of a call isn't as the recorded one, by its name on the line of a frame; none if replay takes the two
+    for one. It is `type` if the two are of different types. Ids come last.
+
+    >>> recorded = frame_of('Call service_name="Greeter" handler_name="greet" parameter="Ada" result_completion_id=2')
+    >>> asked = frame_of('Call service_name="Greeter" handler_name="greet" parameter="Bob" result_completion_id=4')
+    >>> difference(recorded, asked), difference(recorded, asked, True), difference(recorded, frame_of("Sleep"))
+    ('parameter', 'result_completion_id', 'type')
+    >>> difference(asked, asked) is None
+    True
+    """
+    try:
+        return _written("difference", octets("recorded", recorded), octets("asked", asked), ignores_payloads).decode("ascii")
+    except _NoPart:
+        return None

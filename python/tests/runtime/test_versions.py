@@ -183,6 +183,8 @@ class Versions(support.OnADatabase):
         self.run_to(go)
         lines = replayed(self.url, made(OTHER, waits=False), ended=True)
         self.assertEqual(lines[:2], ["Shop/order: 0 of 1 ended journals are those of this code", "  command 3, Call Stock/take 'ink 1', is recorded with parameter b'1', and the code gives b'2'"])
+        [it] = [it for it in checked(self.url, made(OTHER, waits=False), ended=True) if it.difference is not None]
+        self.assertEqual((it.detail.command, it.detail.field, it.detail.recorded, it.detail.asked), (3, "parameter", "b'1'", "b'2'"))
 
     def test_a_replay_has_an_outcome(self):
         async def go():

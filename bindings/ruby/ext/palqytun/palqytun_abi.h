@@ -377,6 +377,7 @@ uint32_t pq_frame_read(const uint8_t *frame, size_t frame_len, palqytun_frame_ro
 uint32_t pq_frame_part(const uint8_t *frame, size_t frame_len, size_t at, uint8_t *out, size_t out_len, palqytun_told *returned);
 uint32_t pq_value_frame(const uint8_t *value, size_t value_len, uint8_t *out, size_t out_len, palqytun_told *returned);
 uint32_t pq_input_frame(const uint8_t *frame, size_t frame_len, const uint8_t *value, size_t value_len, uint8_t *out, size_t out_len, palqytun_told *returned);
+uint32_t pq_difference(const uint8_t *recorded, size_t recorded_len, const uint8_t *asked, size_t asked_len, bool ignore_payloads, uint8_t *out, size_t out_len, palqytun_told *returned);
 uint32_t pq_abi(void);
 const char *pq_version(void);
 const char *pq_build(void);

@@ -199,7 +199,8 @@ class Attempt:
         call = None if self._context is None else self._context.refused_call
         if call is not None:
             found = await self.worker.alone(lambda db: replay.stored_of(db, self.claim.invocation))
-            self.claim.parted = None if found is None else replay.parted(found, self._vm.last_command_index(), call)
+            detail = None if found is None else replay.parted(found, self._vm.last_command_index(), call)
+            self.claim.parted = None if detail is None else detail.text
 
     async def _begun(self, input: bytes) -> None:
         """Feeds the stored journal."""

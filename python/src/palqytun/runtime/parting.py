@@ -1,19 +1,22 @@
-"""How a call that the core has refused parts from the journal: the command that is recorded there, and the one that the call makes."""
+"""How a call that the core has refused parts from the journal: the command that is recorded there, the one that the call makes, and the first
+field in which they differ. Which field that is the core says (`palqytun.frames.difference`)."""
 
 from __future__ import annotations
 
 import contextlib
 from collections.abc import Sequence
-from dataclasses import dataclass
+from dataclasses import dataclass, replace
 from typing import Any
 
-from .. import core
+from .. import core, frames
 from . import journal
 from .journal import Begin, Described
 
-_OWN = ("id", "invocation_id", "due", "at")  # what replay doesn't compare, or what follows from the place
 _NAMING = ("name", "service", "handler", "key", "invocation", "target")  # what distinguishes one command from another at a glance
-_LONG = 120  # characters of a field
+_IDS = ("invocation_id_notification_idx", "result_completion_id")  # they follow from the place
+_READ = {"service_name": "service", "handler_name": "handler", "awakeable_id": "awakeable", "target_invocation_id": "target", "completion": "result"}
+"""Fields that have another name where a reader sees them."""
+_LONG = 120  # characters of a value
 
 
 @dataclass(frozen=True)
@@ -25,12 +28,28 @@ class Asked:
     options: dict[str, Any]
 
 
-def commands(frames: Sequence[bytes]) -> list[Described]:
+@dataclass(frozen=True)
+class Difference:
+    """How a call parts from the recorded command with this index, the input being 0. `field` is the first one that isn't the same, by its name on
+    the line of a frame, and `recorded` and `asked` are its two values, shortened. The field is `type` if the commands are of different types, and
+    `recorded` and `asked` are the commands then; it is none if they differ in no field. `text` says it all."""
+
+    command: int
+    field: str | None
+    recorded: str
+    asked: str
+    text: str
+
+    def __str__(self) -> str:
+        return self.text
+
+
+def commands(entries: Sequence[bytes]) -> list[bytes]:
     """The commands among the entries of a journal. The first one is the input."""
-    return [it for frame in frames if (it := journal.described(frame)).name != "Notification"]
+    return [frame for frame in entries if journal.described(frame).name != "Notification"]
 
 
-def made(call: Asked, input: bytes, version: int, begin: Begin) -> list[Described]:
+def made(call: Asked, input: bytes, version: int, begin: Begin) -> list[bytes]:
     """The commands that a call makes if only the input is recorded."""
     recorded = journal.Journal(version)
     recorded.entry(input)
@@ -40,7 +59,7 @@ def made(call: Asked, input: bytes, version: int, begin: Begin) -> list[Describe
         vm.sys_input()
         with contextlib.suppress(core.VMError):
             getattr(vm, call.name)(*call.arguments, **call.options)
-        return [journal.described(frame) for _, frame in journal.commands_in(vm.take_output())]
+        return [frame for _, frame in journal.commands_in(vm.take_output())]
 
 
 def named(it: Described) -> str:
@@ -51,32 +70,43 @@ def named(it: Described) -> str:
     return " ".join([it.name, *names.values()])
 
 
-def _compared(it: Described) -> dict[str, str]:
-    """The fields that replay compares."""
-    return {name: shown for name, shown in it.fields if name not in _OWN}
+def _found(recorded: bytes, asked: bytes, call: Asked) -> str | None:
+    """The first field in which they differ. The made command has the ids of an empty journal, so a difference in ids alone is none."""
+    ignores_payloads = bool(call.options.get("unstable")) or call.name.startswith("sys_state_get")
+    found = frames.difference(recorded, asked, ignores_payloads)
+    return None if found in _IDS else found
 
 
-def _are_alike(one: Described, other: Described) -> bool:
-    return one.name == other.name and _compared(one) == _compared(other)
+def _shortened(shown: str) -> str:
+    return f"{shown:.{_LONG}}"
 
 
-def in_words(at: int, recorded: Described, asked: Described) -> str:
-    """The command with this index that is recorded, and the other one that the code makes there."""
-    if recorded.name != asked.name:
-        return f"command {at} is recorded as {named(recorded)}, and the code makes {named(asked)}"
-    here = _compared(asked)
-    for name, shown in _compared(recorded).items():
-        if shown != here.get(name):
-            said = f"{name} {shown:.{_LONG}}, and the code gives {here.get(name, 'none'):.{_LONG}}"
-            return f"command {at}, {named(recorded)}, is recorded with {said}"
-    return f"command {at} is recorded as {recorded}, and the code makes {asked}"
+def between(at: int, recorded: bytes, asked: bytes, field: str | None) -> Difference:
+    """The recorded command with this index, and the other one that the code makes there, which differ first in this field."""
+    one, other = journal.described(recorded), journal.described(asked)
+    if field == "type":
+        here, there = named(one), named(other)
+        return Difference(at, field, here, there, f"command {at} is recorded as {here}, and the code makes {there}")
+    name = "" if field is None else _READ.get(field, field)
+    here, there = (_shortened(dict(it.fields).get(name, "")) for it in (one, other))
+    if here != there:
+        text = f"command {at}, {named(one)}, is recorded with {name} {here}, and the code gives {there}"
+        return Difference(at, field, here, there, text)
+    here, there = _shortened(frames.line_of(recorded)), _shortened(frames.line_of(asked))
+    by_field = "" if field is None else f", which differ in {field}"
+    return Difference(at, field, here, there, f"command {at} is recorded as {here}, and the code makes {there}{by_field}")
 
 
-def parted(entries: Sequence[bytes], at: int, call: Asked, version: int, begin: Begin) -> str | None:
+def parted(entries: Sequence[bytes], at: int, call: Asked, version: int, begin: Begin) -> Difference | None:
     """How a call that was refused parts from the recorded command with this index, the input being 0; none if there is no such command, or the
-    call makes none. A call may make two commands, of which the second is refused."""
-    recorded, asked = commands(entries), made(call, entries[0], version, begin)
-    if at >= len(recorded) or not asked:
+    call makes none. A call may make two commands, of which the second is refused. A read of the state is made in the form that is recorded."""
+    recorded = commands(entries)
+    if at >= len(recorded):
         return None
-    is_second = len(asked) > 1 and at > 0 and _are_alike(recorded[at - 1], asked[0])
-    return in_words(at, recorded[at], asked[is_second])
+    is_lazy = journal.described(recorded[at]).name.startswith("GetLazy")
+    asked = made(call, entries[0], version, replace(begin, partial=is_lazy))
+    if not asked:
+        return None
+    is_second = len(asked) > 1 and at > 0 and _found(recorded[at - 1], asked[0], call) is None
+    it = asked[is_second]
+    return between(at, recorded[at], it, _found(recorded[at], it, call))

@@ -21,6 +21,7 @@ from .database import Database
 from .durable import Task
 from .invocations import CLAIMED, Claimable, load
 from .journal import Begin, Failed
+from .parting import Difference
 from .services import App, Cancelled, Handler, TerminalError
 from .tasks import Tasks
 from .traces import Trace
@@ -42,7 +43,8 @@ class ReplayOutcome(enum.Enum):
 @dataclass(frozen=True)
 class Checked:
     """A stored journal, and what its replay has shown. `difference` says it in words, and is none if the invocation goes on. `command` is the
-    index, from 0, of the command at which code and journal part; -1 is before any. `is_open`: the invocation hasn't ended."""
+    index, from 0, of the command at which code and journal part; -1 is before any. `is_open`: the invocation hasn't ended. `detail` has the
+    field that differs and both of its values, if the code makes another call than is recorded."""
 
     invocation: str
     handler: str
@@ -50,6 +52,7 @@ class Checked:
     command: int
     difference: str | None
     outcome: ReplayOutcome
+    detail: Difference | None = None
 
 
 @dataclass(frozen=True)
@@ -188,17 +191,19 @@ def _drive(app: App, vm: core.VM, context: Context, tasks: Tasks) -> None:
 
 def difference(app: App, it: Stored) -> str | None:
     """How the code parts from a journal, with both commands; none if the invocation goes on by this code."""
-    return _in_words(it, replayed(app, it))
+    return _in_words(it, replayed(app, it))[0]
 
 
-def _in_words(it: Stored, found: Replayed) -> str | None:
+def _in_words(it: Stored, found: Replayed) -> tuple[str | None, Difference | None]:
     if found.error is None or found.command < 0 or found.context is None or not found.error.startswith("570"):
-        return found.error
+        return found.error, None
     call = found.context.refused_call
-    return (parted(it, found.command, call) if call else _awaited(it, found.command)) or found.error
+    detail = parted(it, found.command, call) if call else None
+    said = _awaited(it, found.command) if call is None else detail and detail.text
+    return said or found.error, detail
 
 
-def parted(it: Stored, command: int, call: parting.Asked) -> str | None:
+def parted(it: Stored, command: int, call: parting.Asked) -> Difference | None:
     """How a call that the core has refused parts from the recorded command with this index; none if it makes no command."""
     return parting.parted(it.entries, command, call, it.row.version, _begin(it.row))
 
@@ -206,7 +211,10 @@ def parted(it: Stored, command: int, call: parting.Asked) -> str | None:
 def _awaited(it: Stored, command: int) -> str | None:
     """What is recorded where the code awaits."""
     recorded = parting.commands(it.entries)
-    return f"command {command} is recorded as {parting.named(recorded[command])}, and the code awaits what hasn't come" if command < len(recorded) else None
+    if command >= len(recorded):
+        return None
+    name = parting.named(journal.described(recorded[command]))
+    return f"command {command} is recorded as {name}, and the code awaits what hasn't come"
 
 
 # ---- all journals of a database
@@ -218,7 +226,8 @@ async def _all(app: App, db: Database, status: str | None, ended: bool) -> Async
         it = await stored(db, Claimable(*row))
         found = replayed(app, it)
         handler, is_open = f"{it.row.service}/{it.row.handler}", it.row.status != "done"
-        yield Checked(it.row.id, handler, is_open, found.command, _in_words(it, found), found.outcome)
+        said, detail = _in_words(it, found)
+        yield Checked(it.row.id, handler, is_open, found.command, said, found.outcome, detail)
 
 
 async def replay_all(app: App, db: Database, status: str | None = None, ended: bool = False) -> list[Checked]:

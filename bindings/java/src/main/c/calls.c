@@ -789,6 +789,20 @@ CALL(input_frame)
     return give_bytes(&lent, &out);
 }
 
+CALL(difference)
+{
+    BEGIN(3);
+    palqytun_bytes recorded = read_bytes(&lent, ARG(0));
+    palqytun_bytes asked = read_bytes(&lent, ARG(1));
+    bool ignore_payloads = read_bool(&lent, ARG(2));
+    struct out out = {0};
+    do
+        if (is_read(&lent))
+            pq_difference(recorded.at, recorded.len, asked.at, asked.len, ignore_payloads, out_at(&out), out_len(&out), &out.told);
+    while (is_short(&out));
+    return give_bytes(&lent, &out);
+}
+
 const struct made CALLS[] = {
     MAKES(feed)
     MAKES(take_output)
@@ -849,5 +863,6 @@ const struct made CALLS[] = {
     MAKES(frame_part)
     MAKES(value_frame)
     MAKES(input_frame)
+    MAKES(difference)
     {0},
 };

@@ -62,6 +62,7 @@ final class Calls {
     static native Object frame_part(Object... given);
     static native Object value_frame(Object... given);
     static native Object input_frame(Object... given);
+    static native Object difference(Object... given);
 
     private Calls() {}
 }
