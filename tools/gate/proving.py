@@ -1,4 +1,4 @@
-"""./prove: proves every crate except those of tests, and then tries what no proof covers over the proved builds."""
+"""./prove: proves every crate except those of tests and the bench, and then tries what no proof covers over the proved builds."""
 
 from __future__ import annotations
 
@@ -28,7 +28,7 @@ HOURS = 6 * 3600  # that rt ci may take
 SMALL = 1_500_000  # kilobytes for a job that proves nothing
 LOOK = 2  # seconds between two looks at the processes
 
-ABOUT = """Proves every crate except those of tests, and has the prover refuse the wrong bodies of the gate (rt ci, in a folder of its own).
+ABOUT = """Proves every crate except those of tests and the bench, and has the prover refuse the wrong bodies of the gate (rt ci, in a folder of its own).
 Then each program runs once without each of its allocations in turn, and so do the examples in C and Python, over the library built from
 what is proved; and both builds of each program play their rows. The last line is 'N passed, M failed'. Each part's output is kept in
 out/prove/logs. 'all' is the night run, which proves the crates of tests too: ./prove all --help."""
@@ -43,7 +43,7 @@ class Part:
 
 
 PARTS = [
-    Part(PROOFS, "rt ci: each crate except those of tests is proved, the wrong bodies in must-fail/ are refused, programs are run"),
+    Part(PROOFS, "rt ci: each crate except those of tests and the bench is proved, the wrong bodies in must-fail/ are refused, programs are run"),
     Part("library", "the static library, built from what is proved"),
     Part(BUILDS, "what was built is put into crates/NAME/out"),
     Part("refused", "each program on each of its inputs, once without each allocation in turn, as both compilers build it"),
@@ -67,7 +67,7 @@ def every_job() -> Iterator[Job]:
     yield replace(library, counts=counts.of_status, cores=0, limit=HOURS, folder=str(room))
     take = job(BUILDS, sys.executable, "-m", "tools.gate.tree", "take")
     yield replace(take, seconds=1, counts=counts.of_status, after=(PROOFS, "library"))
-    for program in programs():
+    for program in (it for it in programs() if not tree.promises_nothing(it)):
         cases = sorted(Path("crates", program, "runs").glob("*.in"))
         for it in cases:
             arguments = it.with_suffix(".args")

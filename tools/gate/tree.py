@@ -1,5 +1,5 @@
-"""The folder in which ./prove has rt ci prove the repository: every crate, except the crates of tests, which promise nothing. Their tests run
-in ./test without a proof, and the night run proves them.
+"""The folder in which ./prove has rt ci prove the repository: every crate, except the crates of tests and the bench, which promise nothing. They
+run in ./test without a proof, and the night run proves them.
 
 usage: python3 -m tools.gate.tree take      hands what rt ci has built there to crates/NAME/out, and removes the folder
 """
@@ -19,6 +19,7 @@ from .texts import sum_of_crates
 STAMP = "rlib/stamp"  # of out/: that a crate's author has built this library, so it stays
 TEXT = "out/rlib/text"  # a sum of the texts by which the library beside it was proved
 NOT_COPIED = ("out", "wrong-bodies")
+BENCHES = ("vmbench",)
 
 
 def place(top: Path = TOP) -> Path:
@@ -36,13 +37,14 @@ def below(crates: Mapping[str, Crate], names: Iterable[str]) -> set[str]:
     return found
 
 
-def is_of_tests(name: str) -> bool:
-    return name.startswith("test_")
+def promises_nothing(name: str) -> bool:
+    """Whether a crate only tests or measures."""
+    return name.startswith("test_") or name in BENCHES
 
 
 def promising(crates: Mapping[str, Crate]) -> list[str]:
-    """Every crate except those of tests, as far as no other crate stands on these."""
-    wanted = below(crates, (it for it in crates if not is_of_tests(it)))
+    """Every crate except those of tests and the bench, as far as no other crate stands on these."""
+    wanted = below(crates, (it for it in crates if not promises_nothing(it)))
     return [it for it in crates if it in wanted]
 
 

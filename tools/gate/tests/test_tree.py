@@ -32,7 +32,7 @@ class Trees(unittest.TestCase):
 
     def test_crates_of_tests_are_left_out_but_those_that_others_need(self) -> None:
         self.assertEqual(tree.promising(read_crates(self.top, ())), ["low", "test_bytes", "high"])
-        self.assertEqual(tree.promising({"test_a": Crate("test_a")}), [])
+        self.assertEqual(tree.promising({"test_a": Crate("test_a"), "vmbench": Crate("vmbench", ("test_a",))}), [])
 
     def test_a_copy_is_a_repository_without_what_was_built(self) -> None:
         for _ in range(2):
