@@ -1,4 +1,5 @@
 pub mod Bringing
+pub mod Checking
 pub mod Relating
 pub mod Tracking
 pub mod Running
@@ -7,5 +8,7 @@ pub mod Suspending
 pub mod Stepping
 pub mod Proposing
 pub mod OneByOne
+pub mod Parting
+pub mod Replaying
 pub mod Telling
 pub mod Unfinished

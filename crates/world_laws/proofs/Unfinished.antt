@@ -210,7 +210,7 @@ module _ (fixed : Fixed) where
   abbrev told : Record → Heard
   told r = heard fixed.version r
 
-  call_comes : (old new : Record) → HasCome fixed old → OneCall fixed.handler old new → HasCome fixed new
+  pub call_comes : (old new : Record) → HasCome fixed old → OneCall fixed.handler old new → HasCome fixed new
   call_comes old new came (Feeding piece result does) = feed_comes fixed piece old result new came does
   call_comes old new came (Closing result does) = close_comes fixed old result new came does
   call_comes old new came (Stepping result does) = step_comes fixed old result new came does

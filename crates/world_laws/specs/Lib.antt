@@ -4,6 +4,7 @@ pub mod ToldSets
 pub mod Values
 pub mod Suspensions
 pub mod Limits
+pub mod Replays
 pub mod Reports
 pub mod PlayedRounds
 pub mod Reported
