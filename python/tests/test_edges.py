@@ -3,6 +3,7 @@
 import contextlib
 import copy
 import gc
+import hashlib
 import pathlib
 import pickle
 import threading
@@ -13,10 +14,10 @@ import unittest
 from collections.abc import Callable
 
 import palqytun
-from attempt import begun, completion, fed, input_frame, sleep_frame, start
+from attempt import begun, cancel_signal, completion, fed, input_frame, sleep_frame, start
 from palqytun import VM, VOID, Awakeable, BadLine, Cancelled, ExecuteRun, Failure, Fault, Future, Input, InvocationId, Journal, JournalFault
 from palqytun import JournalMismatch, Related, Retryable, RetryPolicy, Run, Suspended, VMError, Waiting, WorkflowId, all_completed, first_completed
-from palqytun import retry_fixed, retry_never
+from palqytun import CANCEL_HANDLE, SUPPORTED_VERSIONS, content_type, retry_fixed, retry_never, seed_of_start
 from palqytun.errors import BadFrame, error_of
 from palqytun.frames import frame_of
 from palqytun.frames import input_frame as input_with
@@ -50,6 +51,99 @@ class Errors(unittest.TestCase):
         with self.assertRaises(JournalMismatch) as raised:
             vm.sys_run("charge")
         self.assertEqual(raised.exception.related, Related(1, 26, "charge"))
+
+
+class OwnErrors(unittest.TestCase):
+    """An error of the handler's own is no other than that, whatever its code and its text."""
+
+    OWN = [(500, ""), (570, "CommandMismatchError"), (598, "ClosedError"), (599, "SUSPENDED"), (599, "mine"), (500, "\udcff")]
+
+    def check(self, raised: Callable[[], object], code: int) -> None:
+        with self.assertRaises(VMError) as found:
+            raised()
+        self.assertEqual((type(found.exception), found.exception.code, found.exception.hint), (VMError, code, None))
+
+    def test_that_was_reported(self) -> None:
+        for code, text in self.OWN:
+            with self.subTest(code=code, text=text):
+                vm = begun()
+                vm.notify_error(code, text)
+                for call in (lambda: vm.sys_sleep(1000), lambda: vm.do_await(1), vm.sys_end, lambda: vm.sys_state_set("k", b"v")):
+                    self.check(call, code)
+
+    def test_of_a_run(self) -> None:
+        for code, text in self.OWN:
+            with self.subTest(code=code, text=text):
+                vm = begun()
+                run = vm.sys_run("charge")
+                vm.do_await(run.handle)
+                self.check(lambda: vm.propose_run_completion(run.handle, Retryable(code, text)), code)
+                self.check(lambda: vm.do_await(run.handle), code)
+
+    def test_the_vm_has_its_own_still(self) -> None:
+        vm = begun()
+        vm.notify_input_closed()
+        with self.assertRaises(Suspended):
+            vm.do_await(vm.sys_sleep(1000))
+        for code in (570, 599):
+            vm = fed(start(2), input_frame(), sleep_frame(1000, 1))
+            vm.sys_input()
+            with self.assertRaises(JournalMismatch):
+                vm.sys_run("charge")
+            vm.notify_error(code, "CommandTypeMismatchError")  # it keeps its first error
+            with self.assertRaises(JournalMismatch):
+                vm.sys_run("charge")
+
+    def test_another_run_that_is_tried_again(self) -> None:
+        """What a policy keeps from the VM isn't its error."""
+        vm = begun()
+        run = vm.sys_run("charge")
+        vm.do_await(run.handle)
+        vm.propose_run_completion(run.handle, Retryable(599, "mine"), policy=retry_never())
+        vm.notify_input_closed()
+        with self.assertRaises(Suspended):
+            vm.do_await(vm.sys_sleep(1000))
+
+
+class Offers(unittest.TestCase):
+    """What an SDK has to say of the VM before there is one, and what it writes into a log."""
+
+    def test_versions(self) -> None:
+        self.assertEqual(list(SUPPORTED_VERSIONS), [5, 6, 7, 8])
+        for version in SUPPORTED_VERSIONS:
+            self.assertEqual(VM(content_type(version)).version, f"V{version}")
+        for version in (4, 9):
+            self.assertRaises(ValueError, content_type, version)
+            self.assertRaises(VMError, VM, f"application/vnd.restate.invocation.v{version}")
+
+    def test_the_cancel_handle(self) -> None:
+        vm = begun(cancel="off")
+        self.assertEqual(vm.do_await(CANCEL_HANDLE), Waiting(True, False))
+        vm.notify_input(cancel_signal())
+        self.assertIs(vm.do_await(CANCEL_HANDLE), True)
+
+    def test_a_seed(self) -> None:
+        """Its bytes are those of the SHA-256 of "abc" and of nothing (FIPS 180-2)."""
+        self.assertEqual(seed_of_start(start()), 0xBA7816BF8F01CFEA)
+        self.assertEqual(seed_of_start(frame_of("Start")), 0xE3B0C44298FC1C14)
+        seed = seed_of_start(frame_of('Start debug_id="d" id="\\xff\\x22" known_entries=1'))
+        self.assertEqual(seed, int.from_bytes(hashlib.sha256(b'\xff"').digest()[:8], "big"))
+        vm = VM(content_type(5), seed=seed)
+        vm.notify_input(start() + input_frame())
+        self.assertEqual(vm.sys_input().random_seed, seed)
+        self.assertRaises(BadFrame, seed_of_start, input_frame())
+        self.assertRaises(BadFrame, seed_of_start, b"x")
+
+    def test_a_line_for_a_log(self) -> None:
+        vm = fed(start(2), input_frame())
+        self.assertEqual(vm.describe(), "V7 WaitingPreFlight, no command")
+        vm.notify_input(sleep_frame(1000, 1))
+        vm.sys_input()
+        self.assertEqual(vm.describe(), "V7 abc Replaying, last command 0")
+        vm.sys_sleep(1000)
+        self.assertEqual(vm.describe(), "V7 abc Processing, last command 1")
+        vm.notify_error(500, "")
+        self.assertEqual(vm.describe(), "V7 abc Closed, last command 1")
 
 
 class ReplayChecks(unittest.TestCase):

@@ -68,6 +68,7 @@ from palqytun.futures import (
     unknown,
 )
 from palqytun.journals import Journal, Row, Stored
+from palqytun.versions import CANCEL_HANDLE, SUPPORTED_VERSIONS, content_type, seed_of_start
 from palqytun.retries import RetryPolicy, retry_exponential, retry_fixed, retry_forever, retry_never
 from palqytun.values import (
     VOID,
@@ -91,6 +92,8 @@ from palqytun.values import (
 )
 
 __all__ = [
+    "CANCEL_HANDLE",
+    "SUPPORTED_VERSIONS",
     "VM",
     "VOID",
     "AnyOf",
@@ -129,12 +132,14 @@ __all__ = [
     "WorkflowId",
     "all_completed",
     "all_succeeded_or_first_failed",
+    "content_type",
     "first_completed",
     "first_succeeded_or_all_failed",
     "retry_exponential",
     "retry_fixed",
     "retry_forever",
     "retry_never",
+    "seed_of_start",
     "unknown",
 ]
 
@@ -184,7 +189,7 @@ class VM:
         - `mismatch`: what becomes of an invocation whose journal doesn't fit its handler: it follows the retry policy, pauses, or fails.
         - `replay`: whether recorded commands are replayed or skipped.
         - `delivery`: whether several deliveries of one signal queue up, or the newest replaces the others.
-        - `seed`: the handler's random seed, if the version hands none out.
+        - `seed`: the handler's random seed, if the version hands none out, as `seed_of_start` makes one.
 
         >>> VM("application/vnd.restate.invocation.v7", awaiting="never").version
         'V7'
@@ -207,7 +212,9 @@ class VM:
             raise MemoryError("no memory for a VM")
         self._session = session
         self._parts = Parts(self._calls["part"], session)
-        self._is_begun = False
+        self._is_begun, self._invocation_id = False, ""
+        self._has_failed = False  # by an error that wasn't handed in
+        self._own: tuple[int, int] | None = None  # the code and the hash of the text, which may be long, of the error that was handed in
         self.version = f"V{self._made(self._calls['make'](self._session, asked, words)).first}"
 
     def __enter__(self) -> Self:
@@ -287,8 +294,16 @@ class VM:
         if replied.status:
             raise RuntimeError(f"the call was not made: status {replied.status}")
 
+    def _hand_in(self, error: _abi.Error) -> None:
+        """An error of the handler's own fails the VM, if it hasn't failed: from now on this error isn't told by its code."""
+        if not self._has_failed:
+            self._own = error.code, hash(error.message)
+
     def _refusal(self, code: int, said: str, is_first: bool, stacktrace: str = "", related: Related | None = None) -> Exception:
-        """What a call is refused by: this error."""
+        """What a call is refused by: this error. A suspension fails no VM."""
+        if self._own == (code, hash(said.encode())):
+            return VMError(code, said, None, stacktrace, related)
+        self._has_failed |= code != Code.SUSPENDED
         if code == Code.INTERNAL and not said:
             return MemoryError("the VM found no memory")
         return error_of(code, said, self._hint(code, said, is_first), stacktrace, related)
@@ -334,6 +349,8 @@ class VM:
     ) -> None:
         """The handler failed by an error of its own, which fails the VM; one that has failed keeps its first error.
 
+        Each later call raises it as a `VMError`, with any code: only the VM's own errors are a `Suspended`, a `MemoryError` or another class.
+
         `code` is below 65536. `behaviour` is `retry`, `pause` or `fail`, `delay` that of the next try in ms, and `related` the command of the
         error as a line has it, as `last`. What is no UTF-8 in `message` and `stacktrace` is written as `\\udcff`.
 
@@ -343,6 +360,7 @@ class VM:
         palqytun.errors.VMError: 418 no tea
         """
         error = lent_error("", code, message, stacktrace, behaviour, delay)
+        self._hand_in(error)
         self._made(self._calls["report_error"](self._session, error, lent_command(related)))
 
     def take_output(self) -> bytes:
@@ -352,6 +370,19 @@ class VM:
         b''
         """
         return self._written("take_output")
+
+    def describe(self) -> str:
+        """The VM in a line for a log: its version, the invocation's id once `sys_input` has returned it, its state, and the index of its last
+        command, the Input being 0.
+
+        >>> vm.describe()
+        'V7 abc Processing, last command 0'
+        >>> VM("application/vnd.restate.invocation.v8").describe()
+        'V8 WaitingPreFlight, no command'
+        """
+        index = self.last_command_index()
+        name = f" {self._invocation_id}" if self._invocation_id else ""
+        return f"{self.version}{name} {self.state()}, " + ("no command" if index < 0 else f"last command {index}")
 
     def is_ready_to_execute(self) -> bool:
         """Whether the handler may begin: all known entries were fed.
@@ -411,11 +442,12 @@ class VM:
         replied: Replied = self._calls["input"](self._session)
         self._check_made(replied, is_first=True)
         found = input_of(replied, self._parts)
-        self._is_begun = True
+        self._is_begun, self._invocation_id = True, found.invocation_id
         return found
 
     def sys_sleep(self, wake_up_time: int, *, name: str = "", now: int | None = None) -> int:
-        """A sleep until a time; returns its handle, whose result is `VOID`. The present time has no effect.
+        """A sleep until a time; returns its handle, whose result is `VOID`. The present time, `now`, is checked and has no effect: the core has
+        no clock, and writes the time alone.
 
         >>> vm.sys_sleep(1000, name="nap")
         17
@@ -605,8 +637,9 @@ class VM:
         """
         under, of = lent_policy(policy), integer("handle", handle, HANDLE)
         if isinstance(result, Retryable):
-            after = integer("result.duration", result.duration)
-            self._made(self._calls["propose_retryable"](self._session, of, after, lent_retryable("result", result), under))
+            after, error = integer("result.duration", result.duration), lent_retryable("result", result)
+            self._hand_in(error)
+            self._made(self._calls["propose_retryable"](self._session, of, after, error, under))
         else:
             self._made(self._copying("propose", result)(self._session, of, lent_value("result", result), under))
 
