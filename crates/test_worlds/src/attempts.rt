@@ -4,10 +4,10 @@ use bytes::Bytes;
 use std::alloc::Global;
 use std::process::Abort;
 use std::test::Fail;
-use test_attempts::asker::Asker;
-use test_attempts::frames::AWAITING_ON_SIGNAL_17;
-use test_attempts::napper::Napper;
-use test_attempts::told::{
+use crate::asker::Asker;
+use crate::frames::AWAITING_ON_SIGNAL_17;
+use crate::napper::Napper;
+use crate::told::{
     Told, attempt_of, expect_answers, expect_error, expect_frames, feed_copy,
 };
 use test_support::frames::{

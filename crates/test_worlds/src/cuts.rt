@@ -3,10 +3,10 @@
 use std::alloc::{AllocError, Global};
 use std::process::Abort;
 use std::test::Fail;
-use test_attempts::told::{
+use crate::told::{
     drives_to, expect_answers, expect_error, expect_frames, feed_copy, quiet_attempt_of,
 };
-use test_attempts::whole_runs::{Ending, Replay, Run};
+use crate::whole_runs::{Ending, Replay, Run};
 use vm_attempt::Attempt;
 use vm_steps::Progress;
 use vm_types::Handler;

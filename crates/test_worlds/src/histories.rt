@@ -2,14 +2,14 @@
 // Recorded and written commands together are those of the uncut run, and the answers are the same.
 use crate::cuts::assert_replays;
 use std::test::Fail;
-use test_attempts::chooser::Chooser;
-use test_attempts::frames::{
+use crate::chooser::Chooser;
+use crate::frames::{
     CLEAR_A, COMPLETE_1, SET_B, SIGNAL_17_EMPTY, SIGNAL_17_FAILURE, SIGNAL_17_X,
     SUSPENSION_ON_SIGNAL_17,
 };
-use test_attempts::keeper::Keeper;
-use test_attempts::told::Told;
-use test_attempts::whole_runs::{Ending, Entry, Run};
+use crate::keeper::Keeper;
+use crate::told::Told;
+use crate::whole_runs::{Ending, Entry, Run};
 use test_support::frames::{
     COMPLETION_1, INPUT_TILL, OUTPUT_EMPTY, OUTPUT_X, SIGNAL_17, SLEEP_TO_1000, SUSPENSION_ON_1,
 };

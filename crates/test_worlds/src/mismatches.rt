@@ -2,15 +2,15 @@
 // It is refused there with one Error frame, and the answers so far stay.
 use crate::cuts::assert_recorded;
 use std::test::Fail;
-use test_attempts::chooser::Chooser;
-use test_attempts::frames::{
+use crate::chooser::Chooser;
+use crate::frames::{
     ANOTHER_CLEAR_AT_1, ANOTHER_COMPLETE_AT_1, ANOTHER_OUTPUT_AT_2, ANOTHER_SET_AT_2, CLEAR_A,
     CLEAR_C, COMPLETE_1, COMPLETE_2, NO_CLEAR_AT_1, NO_OUTPUT_AT_2, NO_OUTPUT_AT_4, NO_SET_AT_2,
     NO_SLEEP_AT_2, NO_SLEEP_AT_3, OUTPUT_Y, SET_B, SET_B_TO_Y, SIGNAL_17_X,
 };
-use test_attempts::keeper::Keeper;
-use test_attempts::told::Told;
-use test_attempts::whole_runs::{Ending, Entry, Run};
+use crate::keeper::Keeper;
+use crate::told::Told;
+use crate::whole_runs::{Ending, Entry, Run};
 use test_support::frames::{
     COMPLETION_1, ERROR_STATE, INPUT_TILL, OUTPUT_EMPTY, OUTPUT_X, SIGNAL_17, SLEEP_TO_1000,
 };

@@ -5,7 +5,7 @@ use handlers::sleeper::Sleeper;
 use std::alloc::Global;
 use std::process::Abort;
 use std::test::Fail;
-use test_attempts::told::{Told, expect_answers};
+use crate::told::{Told, expect_answers};
 use test_support::frames::{
     AWAITING_ON_1, COMPLETION_1, END, INPUT_TILL, OUTPUT_EMPTY, SLEEP_TO_1000,
 };

@@ -5,14 +5,14 @@ use bytes::Bytes;
 use std::alloc::Global;
 use std::process::Abort;
 use std::test::Fail;
-use test_attempts::chooser::Chooser;
-use test_attempts::frames::{CLEAR_A, COMPLETE_1, SET_B};
-use test_attempts::keeper::Keeper;
-use test_attempts::starving::Starving;
-use test_attempts::told::{
+use crate::chooser::Chooser;
+use crate::frames::{CLEAR_A, COMPLETE_1, SET_B};
+use crate::keeper::Keeper;
+use crate::starving::Starving;
+use crate::told::{
     Told, attempt_of, drive, expect_answers, expect_error, expect_frames, feed_copy,
 };
-use test_attempts::whole_runs::Run;
+use crate::whole_runs::Run;
 use test_support::frames::{CLEAR_ALL, OUTPUT_EMPTY, OUTPUT_X, SLEEP_TO_1000};
 use vm_attempt::Attempt;
 use vm_types::Handler;

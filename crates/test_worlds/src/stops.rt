@@ -5,9 +5,9 @@ use crate::bench::{assert_journal, played};
 use std::alloc::Global;
 use std::process::Abort;
 use std::test::Fail;
-use test_attempts::chooser::Chooser;
-use test_attempts::frames::{CLEAR_A, COMPLETE_1, SET_B, SIGNAL_17_X};
-use test_attempts::keeper::Keeper;
+use crate::chooser::Chooser;
+use crate::frames::{CLEAR_A, COMPLETE_1, SET_B, SIGNAL_17_X};
+use crate::keeper::Keeper;
 use test_support::frames::{COMPLETION_1, INPUT_TILL, OUTPUT_EMPTY, OUTPUT_X, SLEEP_TO_1000};
 use vm_types::Handler;
 

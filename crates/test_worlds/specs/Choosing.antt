@@ -10,7 +10,7 @@ use Rattle.await_trees.specs.declared.tree.UnresolvedFuture.TheVariants.{Single}
 use Rattle.vm_types.specs.declared.values.NonEmptyValue.TheVariants.{Success}
 use Rattle.vm_types.specs.declared.values.Value.{Value}
 use Rattle.vm_types.specs.declared.values.Value.TheVariants as value
-use Rattle.test_attempts.specs.Steps.{first_handle, sleep_step, output_step}
+use Rattle.test_worlds.specs.Steps.{first_handle, sleep_step, output_step}
 
 -- the second handle that an attempt hands out
 abbrev pub second_handle : NotificationHandle

@@ -16,7 +16,7 @@ pub struct Keeper {
 }
 
 impl Handler for Keeper {
-    ghost use Rattle.test_attempts.specs.Keeping.{keep_step};
+    ghost use Rattle.test_worlds.specs.Keeping.{keep_step};
 
     ghost meaning = { λ h. keep_step };
 

@@ -4,7 +4,7 @@ use Rattle.vm_types.specs.declared.steps.Answer.{Answer}
 use Rattle.vm_types.specs.declared.steps.Step.{Step}
 use Rattle.vm_types.specs.declared.steps.Step.TheVariants as step
 use Rattle.await_trees.specs.declared.tree.UnresolvedFuture.TheVariants.{Single}
-use Rattle.test_attempts.specs.Steps.{first_handle, sleep_step, output_step}
+use Rattle.test_worlds.specs.Steps.{first_handle, sleep_step, output_step}
 
 -- the handler's next step, by the number of its answers so far
 abbrev pub nap_step : List Answer → Step

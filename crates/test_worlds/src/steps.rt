@@ -1,7 +1,7 @@
 //! Steps that several handlers make.
 //! Each handler names its handles itself: an attempt hands them out from 17 on.
 ghost use Rattle.std.specs.Prelude.{◌≡◌};
-ghost use Rattle.test_attempts.specs.Steps.{sleep_step, output_step};
+ghost use Rattle.test_worlds.specs.Steps.{sleep_step, output_step};
 
 use bytes::Bytes;
 use plain::Text;

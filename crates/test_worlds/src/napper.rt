@@ -14,7 +14,7 @@ pub struct Napper {
 }
 
 impl Handler for Napper {
-    ghost use Rattle.test_attempts.specs.Napping.{nap_step};
+    ghost use Rattle.test_worlds.specs.Napping.{nap_step};
 
     ghost meaning = { λ h. nap_step };
 

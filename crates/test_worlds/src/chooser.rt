@@ -2,7 +2,7 @@
 //! It completes the awakeable of another, and waits for one of its own.
 ghost use Rattle.std.specs.Prelude.{◌≡◌, slice_get};
 ghost use Rattle.std.specs.Option.{option_copied};
-ghost use Rattle.test_attempts.specs.Choosing.{success_bytes, bytes_taken};
+ghost use Rattle.test_worlds.specs.Choosing.{success_bytes, bytes_taken};
 
 use crate::steps::{output, sleep};
 use await_trees::{NotificationHandle, UnresolvedFuture};
@@ -39,7 +39,7 @@ fn taken(answers: &[Answer]) -> Option<&Bytes>
 }
 
 impl Handler for Chooser {
-    ghost use Rattle.test_attempts.specs.Choosing.{choose_step};
+    ghost use Rattle.test_worlds.specs.Choosing.{choose_step};
 
     ghost meaning = { λ h. choose_step };
 

@@ -10,7 +10,7 @@ use vm_types::{Answer, Handler, Step};
 pub struct Asker;
 
 impl Handler for Asker {
-    ghost use Rattle.test_attempts.specs.Asking.{ask_step};
+    ghost use Rattle.test_worlds.specs.Asking.{ask_step};
 
     ghost meaning = { λ h. ask_step };
 
