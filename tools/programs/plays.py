@@ -2,6 +2,7 @@
 
 from __future__ import annotations
 
+import shlex
 from collections.abc import Iterator
 from dataclasses import dataclass
 from pathlib import Path
@@ -29,6 +30,7 @@ class Answered(Play):
     """A script of one VM, whose lines have their answers."""
 
     lines: tuple[tuple[str, str], ...] = ()  # the wanted answer of each, and where it stands
+    details: tuple[tuple[int, str], ...] = ()  # what standard error says of some lines, and which these are, counted from 1
 
 
 @dataclass(frozen=True)
@@ -48,11 +50,18 @@ def seed_of(version: int, options: str) -> str:
     return said[0] if said and version < 6 else "0"
 
 
+ABOUT = "about "
+"""What a line begins with that says what the error of the line above it is about."""
+
+
 def answered(group: Group, names: Names) -> Iterator[Play]:
     """Yields the plays of rows whose lines have their answers."""
     under = [(version, options) for options in names.option_sets(group.words.get("options", "none")) for version in group.versions()]
     for row in group.rows():
-        lines = list(names.all_lines([*group.part("first"), *row, *group.part("then")]))
+        all_lines = list(names.all_lines([*group.part("first"), *row, *group.part("then")]))
+        lines = [it for it in all_lines if not it.text.startswith(ABOUT)]
+        about = [at - number for number, at in enumerate(at for at, it in enumerate(all_lines) if it.text.startswith(ABOUT))]
+        told = [it.text.removeprefix(ABOUT) for it in all_lines if it.text.startswith(ABOUT)]
         asked = [names.expanded(it.asked, it.place) for it in lines]
         wanted = [(names.expanded(it.wanted, it.place), it.place) for it in lines]
         place = row[0].place if row else group.place
@@ -62,14 +71,16 @@ def answered(group: Group, names: Names) -> Iterator[Play]:
             seed = seed_of(version, options)
             said = [(it.replace("$seed", seed).replace("$version", str(version)), at) for it, at in wanted]
             script = "".join(f"{it}\n" for it in [*making, *asked]).encode()
-            yield Answered(place, f"version {version} {options}".rstrip() if version else "", script, (), (*made, *said))
+            details = tuple((at + len(making), it.replace("$version", str(version))) for at, it in zip(about, told))
+            yield Answered(place, f"version {version} {options}".rstrip() if version else "", script, (), (*made, *said), details)
 
 
 def arguments_of(program: str, group: Group, version: int) -> tuple[str, ...]:
     """The arguments by which a program plays a row under a version."""
     match program:
         case "vmrounds":
-            return (f"{KIND}{version}", *group.words["handler"].split())
+            details = ("--details",) if "details" in group.words else ()
+            return (*details, f"{KIND}{version}", *shlex.split(group.words["handler"]))
         case "vmengine":
             return (f"{KIND}{version}",)
         case _:

@@ -155,7 +155,7 @@ class Group:
 
 
 PARTS = {"first", "lines", "rows", "then"}
-WORDS = {"versions", "options", "handler", "status", "said", "hint", "script", "output"}
+WORDS = {"versions", "options", "handler", "details", "status", "said", "hint", "script", "output"}
 
 
 def groups(name: str, text: str) -> Iterator[Group]:

@@ -1,8 +1,8 @@
 """The inputs of programs in crates/NAME/runs, and what a program has to do with them.
 
 An input is CASE.in, with its arguments in CASE.args, one word a line. If CASE.out and CASE.status stand beside it, the ordinary run must
-write the one and end with the other. A program that writes text has CASE.lines in the place of CASE.out, vmscript CASE.transcript,
-vmrounds CASE.report, and vmengine CASE.engine."""
+write the one and end with the other; if CASE.said does, it must write that to standard error. A program that writes text has CASE.lines in the
+place of CASE.out, vmscript CASE.transcript, vmrounds CASE.report, and vmengine CASE.engine."""
 
 from __future__ import annotations
 
@@ -45,17 +45,19 @@ def expected(given: str, ending: str) -> bytes | None:
 
 @dataclass(frozen=True)
 class Wanted:
-    """What the ordinary run must write and end with, if that is given, and whether it writes lines."""
+    """What the ordinary run must write and end with, if that is given, whether it writes lines, and what it must write to standard error."""
 
     output: bytes | None
     status: int | None
     by_lines: bool
+    said: bytes | None = None
 
     @classmethod
     def of(cls, path: str) -> Wanted:
         text = next((it for ending in TEXTS if (it := expected(path, ending)) is not None), None)
         status = expected(path, ".status")
-        return cls(expected(path, ".out") if text is None else text, None if status is None else int(status), text is not None)
+        output, number = expected(path, ".out") if text is None else text, None if status is None else int(status)
+        return cls(output, number, text is not None, expected(path, ".said"))
 
     def wrong(self, ran: Run) -> str | None:
         """Returns what is wrong with the run that nothing is refused to."""
@@ -65,6 +67,8 @@ class Wanted:
             return f"{ran.ended()}, and not {self.status}"
         if self.output is not None and ran.output != self.output:
             return f"wrote {shown(ran.output)}, and not {shown(self.output)}"
+        if self.said is not None and ran.said != self.said:
+            return f"wrote {ran.said[:300]!r} to standard error, and not {self.said[:300]!r}"
         if self.output is None and not is_whole(ran.output, self.by_lines):
             return "wrote no whole frames or lines"
         return None

@@ -1,15 +1,13 @@
 // One attempt of a handler, from the bytes of its journal to the bytes of its commands.
 // Rows say what happens to it in turn.
+use crate::asker::Asker;
+use crate::frames::AWAITING_ON_SIGNAL_17;
+use crate::napper::Napper;
+use crate::told::{Told, attempt_of, expect_answers, expect_error, expect_frames, feed_copy};
 use bytes::Bytes;
 use std::alloc::Global;
 use std::process::Abort;
 use std::test::Fail;
-use crate::asker::Asker;
-use crate::frames::AWAITING_ON_SIGNAL_17;
-use crate::napper::Napper;
-use crate::told::{
-    Told, attempt_of, expect_answers, expect_error, expect_frames, feed_copy,
-};
 use test_support::frames::{
     AWAITING_ON_1, COMPLETION_1, END, ERROR_INPUT_CLOSED, ERROR_KNOWN_ENTRIES, INPUT_TILL,
     OUTPUT_EMPTY, SIGNAL_17, SLEEP_TO_1000, SLEEP_TO_2024, START_0, START_1, START_2, START_3,

@@ -1,12 +1,12 @@
 // Journals of whole runs, cut at each byte, and one byte at a time.
 // However a journal is cut, an attempt is ready when the known entries are there, and makes the same run.
-use std::alloc::{AllocError, Global};
-use std::process::Abort;
-use std::test::Fail;
 use crate::told::{
     drives_to, expect_answers, expect_error, expect_frames, feed_copy, quiet_attempt_of,
 };
 use crate::whole_runs::{Ending, Replay, Run};
+use std::alloc::{AllocError, Global};
+use std::process::Abort;
+use std::test::Fail;
 use vm_attempt::Attempt;
 use vm_steps::Progress;
 use vm_types::Handler;

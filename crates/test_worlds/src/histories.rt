@@ -1,8 +1,7 @@
 // Whole runs of handlers, replayed from each beginning of their entries.
 // Recorded and written commands together are those of the uncut run, and the answers are the same.
-use crate::cuts::assert_replays;
-use std::test::Fail;
 use crate::chooser::Chooser;
+use crate::cuts::assert_replays;
 use crate::frames::{
     CLEAR_A, COMPLETE_1, SET_B, SIGNAL_17_EMPTY, SIGNAL_17_FAILURE, SIGNAL_17_X,
     SUSPENSION_ON_SIGNAL_17,
@@ -10,6 +9,7 @@ use crate::frames::{
 use crate::keeper::Keeper;
 use crate::told::Told;
 use crate::whole_runs::{Ending, Entry, Run};
+use std::test::Fail;
 use test_support::frames::{
     COMPLETION_1, INPUT_TILL, OUTPUT_EMPTY, OUTPUT_X, SIGNAL_17, SLEEP_TO_1000, SUSPENSION_ON_1,
 };

@@ -1,8 +1,7 @@
 // Journals of another handler: at each of its commands a handler makes another call than the journal has.
 // It is refused there with one Error frame, and the answers so far stay.
-use crate::cuts::assert_recorded;
-use std::test::Fail;
 use crate::chooser::Chooser;
+use crate::cuts::assert_recorded;
 use crate::frames::{
     ANOTHER_CLEAR_AT_1, ANOTHER_COMPLETE_AT_1, ANOTHER_OUTPUT_AT_2, ANOTHER_SET_AT_2, CLEAR_A,
     CLEAR_C, COMPLETE_1, COMPLETE_2, NO_CLEAR_AT_1, NO_OUTPUT_AT_2, NO_OUTPUT_AT_4, NO_SET_AT_2,
@@ -11,6 +10,7 @@ use crate::frames::{
 use crate::keeper::Keeper;
 use crate::told::Told;
 use crate::whole_runs::{Ending, Entry, Run};
+use std::test::Fail;
 use test_support::frames::{
     COMPLETION_1, ERROR_STATE, INPUT_TILL, OUTPUT_EMPTY, OUTPUT_X, SIGNAL_17, SLEEP_TO_1000,
 };

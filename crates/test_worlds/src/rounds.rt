@@ -1,11 +1,11 @@
 // Worked rounds, as a test of a handler of one's own is written: a sleep that is over in the second round.
 use crate::bench::Happens::{self, Arrive, Feed, Step, Store};
 use crate::bench::{assert_journal, played};
+use crate::told::{Told, expect_answers};
 use handlers::sleeper::Sleeper;
 use std::alloc::Global;
 use std::process::Abort;
 use std::test::Fail;
-use crate::told::{Told, expect_answers};
 use test_support::frames::{
     AWAITING_ON_1, COMPLETION_1, END, INPUT_TILL, OUTPUT_EMPTY, SLEEP_TO_1000,
 };

@@ -1,18 +1,18 @@
 // A handler that is out of memory: the attempt answers that to each further step, and does nothing more.
 // What was written before stays, and no Error frame is added.
-use crate::histories::{CHOSE_SUCCESS, KEPT};
-use bytes::Bytes;
-use std::alloc::Global;
-use std::process::Abort;
-use std::test::Fail;
 use crate::chooser::Chooser;
 use crate::frames::{CLEAR_A, COMPLETE_1, SET_B};
+use crate::histories::{CHOSE_SUCCESS, KEPT};
 use crate::keeper::Keeper;
 use crate::starving::Starving;
 use crate::told::{
     Told, attempt_of, drive, expect_answers, expect_error, expect_frames, feed_copy,
 };
 use crate::whole_runs::Run;
+use bytes::Bytes;
+use std::alloc::Global;
+use std::process::Abort;
+use std::test::Fail;
 use test_support::frames::{CLEAR_ALL, OUTPUT_EMPTY, OUTPUT_X, SLEEP_TO_1000};
 use vm_attempt::Attempt;
 use vm_types::Handler;

@@ -2,12 +2,12 @@
 // nothing stops, each once.
 use crate::bench::Happens::{self, Arrive, Feed, Step, Store};
 use crate::bench::{assert_journal, played};
-use std::alloc::Global;
-use std::process::Abort;
-use std::test::Fail;
 use crate::chooser::Chooser;
 use crate::frames::{CLEAR_A, COMPLETE_1, SET_B, SIGNAL_17_X};
 use crate::keeper::Keeper;
+use std::alloc::Global;
+use std::process::Abort;
+use std::test::Fail;
 use test_support::frames::{COMPLETION_1, INPUT_TILL, OUTPUT_EMPTY, OUTPUT_X, SLEEP_TO_1000};
 use vm_types::Handler;
 

@@ -1,35 +1,88 @@
 //! `vmrun`: runs one attempt of a handler over the journal on standard input, and writes what the attempt sends.
 #![tactic(auto)]
 
+mod details;
+
+use crate::details::explain;
 use program_runs::command_line::asks_for_help;
 use program_runs::exit_status::ExitStatus;
-use program_runs::streams::Plain;
+use program_runs::streams::{Plain, Source};
 use program_vmrun::run::run;
 use std::env::{self, Env};
 use std::io;
 use std::process::ExitCode;
 
-const USAGE: &str = "usage: vmrun <content-type> <sleeper|race|parent|counter|deadline>";
+const USAGE: &str =
+    "usage: vmrun [--details] <content-type> <sleeper|race|parent|counter|deadline>";
 
 /// What `--help` answers after the usage.
 const HELP: &str = "
 Runs one attempt of a handler over the journal on standard input, and writes what the attempt sends.
+With --details standard error says what the error of a failed attempt is about.
 Exit status: 0 the handler has ended, 3 it is suspended, 1 a failure, 2 other arguments than these.";
 
-/// The two arguments, if there are just two.
-fn arguments(rt: &(impl Env + AllocGlobal)) -> io::Result<Option<(String, String)>> {
+/// The arguments.
+#[derive(Drop)]
+struct Arguments {
+    details: bool,
+    content_type: String,
+    handler: String,
+}
+
+/// The arguments, if there are just two, or three of which the first is `--details`.
+fn read_arguments(rt: &(impl Env + AllocGlobal)) -> io::Result<Option<Arguments>> {
     let mut arguments = env::args(rt)?;
     let _program = arguments.next();
-    let Some(content_type) = arguments.next() else {
+    let Some(first) = arguments.next() else {
         return Ok(None);
     };
-    let Some(handler) = arguments.next() else {
+    let Some(second) = arguments.next() else {
         return Ok(None);
     };
+    let third = arguments.next();
     if arguments.next().is_some() {
         return Ok(None);
     }
-    Ok(Some((content_type, handler)))
+    match third {
+        None => Ok(Some(Arguments {
+            details: false,
+            content_type: first,
+            handler: second,
+        })),
+        Some(handler) if first.as_str() == "--details" => Ok(Some(Arguments {
+            details: true,
+            content_type: second,
+            handler,
+        })),
+        Some(_) => Ok(None),
+    }
+}
+
+/// Runs the handler, and says what its error is about.
+fn run_with_details(rt: &HostRuntime, content_type: &str, handler: &str) -> ExitStatus {
+    let mut input = Vec::new(rt.alloc());
+    if Plain(rt.reader()).read_whole(&mut input).is_err() {
+        return ExitStatus::Failed;
+    }
+    let mut writer = Plain(io::writer(rt));
+    let mut reader = Plain(input.as_slice());
+    let status = run(rt.alloc(), content_type, handler, &mut reader, &mut writer).status();
+    if let Ok(Some(told)) = explain(rt.alloc(), content_type, handler, input) {
+        let _ = rt.eprintln(told.as_str());
+    }
+    status
+}
+
+/// Runs the handler that the arguments name.
+fn run_named(rt: &HostRuntime, arguments: &Arguments) -> ExitStatus {
+    let content_type = arguments.content_type.as_str();
+    let handler = arguments.handler.as_str();
+    if arguments.details {
+        return run_with_details(rt, content_type, handler);
+    }
+    let mut writer = Plain(io::writer(rt));
+    let mut reader = Plain(rt.reader());
+    run(rt.alloc(), content_type, handler, &mut reader, &mut writer).status()
 }
 
 fn main(rt: HostRuntime) -> ExitCode {
@@ -37,18 +90,8 @@ fn main(rt: HostRuntime) -> ExitCode {
         let _ = rt.println(format_args!("{USAGE}\n{HELP}"));
         return ExitCode::SUCCESS;
     }
-    let status = match arguments(&rt) {
-        Ok(Some((content_type, handler))) => {
-            let mut writer = Plain(io::writer(&rt));
-            run(
-                rt.alloc(),
-                content_type.as_str(),
-                handler.as_str(),
-                &mut Plain(rt.reader()),
-                &mut writer,
-            )
-            .status()
-        }
+    let status = match read_arguments(&rt) {
+        Ok(Some(arguments)) => run_named(&rt, &arguments),
         Ok(None) => ExitStatus::Usage,
         Err(_) => ExitStatus::Failed,
     };

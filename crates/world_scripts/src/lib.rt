@@ -3,6 +3,7 @@
 #![tactic(auto)]
 
 pub mod given;
+pub mod handed;
 pub mod opening;
 pub mod parse;
 pub mod play;

@@ -25,7 +25,7 @@ pub struct Played {
 
 /// The world of a script: it begins with the entries, or with its input if there are none.
 #[tactic(auto, using(crate::proofs::Playing::begins_with_input, crate::proofs::Playing::none_has_a_fault, crate::proofs::Playing::input_makes_no_world, crate::proofs::Playing::begins_with_entries, crate::proofs::Playing::entries_make_no_world))]
-fn world_of(
+pub(crate) fn world_of(
     alloc: Global,
     version: Version,
     given: Given,
