@@ -95,7 +95,8 @@ palqytun_told palqytun_answer(palqytun_vm *vm, uint8_t *out, size_t out_len);
 uint32_t palqytun_feed(palqytun_vm *vm, const uint8_t *bytes, size_t bytes_len);
 
 /* Moves all bytes that wait to be sent to the front of out, and returns how many there are: the line `output` without hex digits.
-   They are whole frames. PALQYTUN_NO_ROOM: len is the room that they need; so a call with out_len 0 asks for it.
+   They are whole frames. PALQYTUN_NO_ROOM: len is the room that they need; so a call with out_len 0 asks for it. The memory of more than
+   64 KiB is given back; else it stays for the next ones.
    PALQYTUN_NO_MEMORY: they still wait. */
 palqytun_told palqytun_take_output(palqytun_vm *vm, uint8_t *out, size_t out_len);
 
@@ -399,7 +400,12 @@ enum {
     PALQYTUN_INVOCATION_ID = 20,
     /* number: the code; first: 1 if it relates to a command; second: its index; third: the type of its message (docs/WIRE.md).
        Parts: 0 the text, 1 the stack trace, 2 the command's name. */
-    PALQYTUN_ERROR = 21
+    PALQYTUN_ERROR = 21,
+    /* Errors by which no VM has failed, with the numbers and parts of an error. So no error that a handler reports is of these kinds.
+       An await's: the invocation is suspended. */
+    PALQYTUN_SUSPENDED = 22,
+    /* A call that changes nothing found no memory, and may be made again: palqytun_head or palqytun_output. */
+    PALQYTUN_OUT_OF_MEMORY = 23
 };
 
 /* The state of a VM: before the known entries are there, in replay, in processing, or closed. */

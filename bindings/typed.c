@@ -49,8 +49,8 @@ static int show(palqytun_vm *vm, const char *call, palqytun_replied replied)
 {
     if (replied.status != PALQYTUN_DONE && replied.status != PALQYTUN_REFUSED)
         return failed(replied.status);
-    /* The VM found no memory, and has failed. */
-    if (replied.kind == PALQYTUN_ERROR && replied.number == 500 && replied.len == 0)
+    /* The VM found no memory. */
+    if (replied.status == PALQYTUN_REFUSED && replied.number == 500 && replied.len == 0)
         return failed(PALQYTUN_NO_MEMORY);
     char line[512];
     int end = snprintf(line, sizeof line, "%-20s %" PRIu32 "  %" PRIu32 " %" PRIu32 " %" PRIu32 " %" PRIu64 "  %zu %zu", call,
@@ -195,6 +195,26 @@ static int report(palqytun_vm *vm)
     return ended;
 }
 
+/* A suspension, and an error of the handler's own that says the same, which is no suspension. */
+static int suspend(palqytun_vm *vm)
+{
+    const palqytun_error error = {599, 0, bytes("SUSPENDED"), bytes(""), false, 0};
+    int ended = begin_again(vm);
+    if (ended == 0)
+        ended = show(vm, "signal", palqytun_signal(vm, bytes("s")));
+    if (ended == 0)
+        ended = show(vm, "close_input", palqytun_close_input(vm));
+    if (ended == 0)
+        ended = show(vm, "await", palqytun_await(vm, 17));
+    if (ended == 0)
+        ended = begin_again(vm);
+    if (ended == 0)
+        ended = show(vm, "report_error", palqytun_report_error(vm, &error, NULL));
+    if (ended == 0)
+        ended = show(vm, "await", palqytun_await(vm, 1));
+    return ended;
+}
+
 /* The handler's result, its output, and a call of a VM that is closed. */
 static int finish(palqytun_vm *vm)
 {
@@ -239,6 +259,8 @@ static int run(palqytun_vm *vm)
         ended = retry(vm);
     if (ended == 0)
         ended = report(vm);
+    if (ended == 0)
+        ended = suspend(vm);
     return ended;
 }
 

@@ -6,6 +6,7 @@ import gc
 import hashlib
 import pathlib
 import pickle
+import resource
 import threading
 import time
 import tomllib
@@ -288,6 +289,16 @@ class Buffers(unittest.TestCase):
         del row
         self.assert_given_back()
         journal.free()
+
+    def test_those_of_the_core(self) -> None:
+        """What the process has of memory, in pages: a payload of 32 MiB that was sent isn't kept."""
+        pages, vm, payload = pathlib.Path("/proc/self/statm"), begun(), b"x" * (16 * LARGE)
+        before = int(pages.read_text().split()[1])
+        vm.sys_complete_awakeable("sign_1", payload)
+        self.assertGreater(len(vm.take_output()), len(payload))
+        after = int(pages.read_text().split()[1])
+        self.assertLess((after - before) * resource.getpagesize(), len(payload) // 2)
+        vm.free()
 
     def test_a_part_that_is_gone(self) -> None:
         vm = begun()

@@ -1,5 +1,5 @@
 -- What a call of a session's VM from C does, whichever it is, and how its reply is read.
-use Rattle.std.specs.Prelude.{◌≡◌, ℕ, List, Option, Some, None, Result, Ok, Err}
+use Rattle.std.specs.Prelude.{◌≡◌, ℕ, List, Option, Some, None, Result, Ok, Err, is_some}
 use Rattle.std.proofs.Common.{Global}
 use Rattle.journal_protocol.specs.Error.{Error}
 use Rattle.journal_protocol.specs.Version.{Version}
@@ -14,7 +14,7 @@ use Rattle.c_sessions.specs.declared.session.Session.{Session}
 use Rattle.c_values.specs.declared.status.Status.{Status}
 use Rattle.c_values.specs.declared.status.Status.TheVariants as status
 use Rattle.c_values.specs.Written.{BytesWritten}
-use Rattle.c_sessions.specs.Replies.{kept_told, part_of, summary}
+use Rattle.c_sessions.specs.Replies.{kept_told, part_of, summary, numbers_by}
 
 -- what a call returns to C: its reply's summary; or, if it isn't made, the reason
 abbrev pub outcome_told : Result Reply Status → Replied
@@ -33,12 +33,13 @@ abbrev pub IsMadeOf : (Result Reply Status → View → View → Type 0) → Res
 IsMadeOf does (Ok told) old new last kept = does (Ok kept) old new × (told ≡ summary kept)
 IsMadeOf does (Err status) old new last kept = does (Err status) old new × (kept ≡ last)
 
--- `does` says what the call does to the VM. C gets the call's outcome, and its reply is kept.
+-- `does` says what the call does to the VM. C gets the call's outcome, and its reply is kept. An
+-- error by which the VM hasn't failed has a kind of its own.
 pub record IsCalled (does : Result Reply Status → View → View → Type 0) (replied : Replied)
     (old new : CoreVM) (last next : Reply) : Type 0 where
   pub outcome : Result Reply Status
   pub done : does outcome (seen old) (seen new)
-  pub told : replied ≡ outcome_told outcome
+  pub told : replied ≡ numbers_by (is_some (seen new).machine.failure) (outcome_told outcome)
   pub kept : next ≡ reply_kept outcome last
 
 -- A call is made of the VM that there is.

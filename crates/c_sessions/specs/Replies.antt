@@ -49,6 +49,8 @@ kind_code kind.Failure = 18
 kind_code kind.Keys = 19
 kind_code kind.InvocationId = 20
 kind_code kind.Error = 21
+kind_code kind.Suspended = 22
+kind_code kind.OutOfMemory = 23
 
 abbrev pub flag_code : Bool → ℕ
 flag_code true = 1
@@ -121,6 +123,18 @@ error_numbers code is_related index ty = record {
   rows = 0;
   len = 0;
 }
+
+-- What an error is by which no VM has failed: by its code an await's, that the invocation is
+-- suspended; any other one is of a call that changes nothing, and found no memory.
+abbrev pub unfailed_kind : ℕ → ℕ
+unfailed_kind code = if code == 599 then kind_code kind.Suspended else kind_code kind.OutOfMemory
+
+-- The numbers of a reply by whether the VM has failed then: if it has, an error is that one.
+abbrev pub numbers_by : Bool → Replied → Replied
+numbers_by true told = told
+numbers_by false told = if told.status == 5
+    then record told { kind = unfailed_kind told.number }
+    else told
 
 abbrev pub related_told : ℕ → Option RelatedCommand → Replied
 related_told code (Some command) = error_numbers code 1 command.index (type_number command.ty)

@@ -49,6 +49,10 @@ pub enum Kind {
     InvocationId,
     /// An error.
     Error,
+    /// The error of an await by which no VM has failed: the invocation is suspended.
+    Suspended,
+    /// Another error by which no VM has failed: a call found no memory.
+    OutOfMemory,
 }
 
 impl Kind {
@@ -79,6 +83,8 @@ impl Kind {
             Kind::Keys => 19,
             Kind::InvocationId => 20,
             Kind::Error => 21,
+            Kind::Suspended => 22,
+            Kind::OutOfMemory => 23,
         }
     }
 }

@@ -1,6 +1,6 @@
 //! What C is given at once of a reply: numbers.
 ghost use Rattle.std.specs.Prelude.{◌≡◌};
-ghost use Rattle.c_sessions.specs.Replies.{with_rows, error_told, error_numbers, flag_code, handles_told, kept_told, number_told, response_told, state_code, taken_told, numbered_reply, told_of, value_told, version_code};
+ghost use Rattle.c_sessions.specs.Replies.{with_rows, error_told, error_numbers, flag_code, handles_told, kept_told, number_told, response_told, state_code, taken_told, numbered_reply, numbers_by, told_of, unfailed_kind, value_told, version_code};
 
 use crate::kind::Kind;
 use c_values::Status;
@@ -223,6 +223,29 @@ pub(crate) fn tell(reply: &Reply) -> Replied
             numbered(Kind::Nothing, 0, 0, 0)
         },
     }
+}
+
+/// What an error of this code is by which no VM has failed.
+fn unfailed_kind(code: u64) -> u32
+    ensures { result ≡ unfailed_kind code }
+{
+    if code == 599 {
+        Kind::Suspended.code()
+    } else {
+        Kind::OutOfMemory.code()
+    }
+}
+
+/// Of a call of a VM that has failed then, or hasn't.
+pub(crate) fn numbers_by(has_failed: bool, told: Replied) -> Replied
+    ensures { result ≡ numbers_by has_failed told }
+{
+    if has_failed || told.status != 5 {
+        return told;
+    }
+    let mut unfailed = told;
+    unfailed.kind = unfailed_kind(told.number);
+    unfailed
 }
 
 /// Of a call that isn't made.

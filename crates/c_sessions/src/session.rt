@@ -1,6 +1,7 @@
 //! One VM, its last answer to a line, and its last reply to a call.
-ghost use Rattle.std.specs.Prelude.{◌≡◌, Some, codes};
+ghost use Rattle.std.specs.Prelude.{◌≡◌, [], Some, codes};
 ghost use Rattle.invocation_vm.specs.Making.{version_in};
+ghost use Rattle.invocation_vm.specs.Seen.{seen};
 ghost use Rattle.vm_types.specs.ContentTypes.{header_under};
 ghost use Rattle.vm_calls.specs.Making.{VmIsMade};
 ghost use Rattle.c_sessions.specs.Calls.{OnVm, part_read};
@@ -9,7 +10,7 @@ ghost use Rattle.c_sessions.specs.Sessions.{AnswerRead, Drained, Fed, IsEmpty};
 
 use crate::kept::keep;
 use crate::parts::part_of;
-use crate::replied::{Replied, tell_status};
+use crate::replied::{Replied, numbers_by, tell_status};
 use crate::vm_call::VmCall;
 use bytes::Bytes;
 use c_values::{Status, write};
@@ -17,7 +18,11 @@ use invocation_vm::{CoreVM, VM};
 use plain::Text;
 use std::alloc::Global;
 use vm_calls::making::make_anew;
+use vm_parts::Outbox;
 use vm_types::{ContentType, Reply, VMOptions};
+
+/// How many bytes of output a VM has room for without taking memory again, at most.
+const KEPT: usize = 65_536;
 
 /// One VM, if it was made, the answer to the last line, and the reply to the last call.
 #[derive(Drop)]
@@ -40,6 +45,18 @@ fn feed_vm(alloc: Global, vm: &mut CoreVM, bytes: &[u8]) -> Status
     }
 }
 
+/// Drops a VM's output, which was taken. The memory of a long one is given back.
+fn drop_output(vm: &mut CoreVM)
+    ensures { seen vm.new ≡ record (seen vm.old)
+        { machine = record (seen vm.old).machine { output = [] } } }
+{
+    if vm.waiting_len() > KEPT {
+        vm.machine.output = Outbox::new(vm.machine.alloc);
+    } else {
+        vm.clear_output();
+    }
+}
+
 /// Moves all of a VM's output to the front of `out`, if it has room for it. Returns the output's length either way.
 fn drain_vm(vm: &mut CoreVM, out: &mut [u8]) -> (Status, usize)
     ensures { Drained result.0 result.1 out.old out.new (Some vm.old) (Some vm.new) }
@@ -49,7 +66,7 @@ fn drain_vm(vm: &mut CoreVM, out: &mut [u8]) -> (Status, usize)
         return (Status::NoRoom, len);
     }
     out[..len].copy_from_slice(vm.waiting_bytes());
-    vm.clear_output();
+    drop_output(vm);
     (Status::Done, len)
 }
 
@@ -82,8 +99,8 @@ impl Session {
             return tell_status(Status::NoVm);
         };
         match call.make(alloc, vm, &mut self.reply) {
-            Ok(replied) => replied,
-            Err(status) => tell_status(status),
+            Ok(replied) => numbers_by(vm.has_failed(), replied),
+            Err(status) => numbers_by(vm.has_failed(), tell_status(status)),
         }
     }
 

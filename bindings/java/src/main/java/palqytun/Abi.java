@@ -107,6 +107,8 @@ final class Abi {
     static final int KEYS = 19;
     static final int INVOCATION_ID = 20;
     static final int ERROR = 21;
+    static final int SUSPENDED = 22;
+    static final int OUT_OF_MEMORY = 23;
     static final int STATE_WAITING_PRE_FLIGHT = 0;
     static final int STATE_REPLAYING = 1;
     static final int STATE_PROCESSING = 2;
