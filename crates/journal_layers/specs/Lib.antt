@@ -1,2 +1,5 @@
 pub mod Layers
 pub mod Own
+pub mod Kept
+pub mod Steps
+pub mod Rest

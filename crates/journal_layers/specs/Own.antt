@@ -3,7 +3,6 @@ use Rattle.std.proofs.Common.{◌≡◌, ℕ, ◌<◌, List, ◌++◌, length, O
 use Rattle.journal_protocol.specs.Frames.{IsWhole, body, encoding, type_of, NextFrame, next_of}
 use Rattle.journal_protocol.specs.Bodies.{message_in}
 use Rattle.journal_protocol.specs.Message.{Message}
-use Rattle.journal_protocol.specs.RawMessage.{RawMessage}
 use Rattle.journal_protocol.specs.Frames as frame
 use Rattle.journal_protocol.proofs.Facts as law
 use Rattle.journal_layers.specs.Layers.{Front, Whole, Partial, Malformed}

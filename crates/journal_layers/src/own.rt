@@ -13,22 +13,32 @@ pub struct Own {
 }
 
 impl Layer for Own {
+    ghost use Rattle.std.specs.Prelude.{refl};
+    ghost use Rattle.std.proofs.Common.{inl};
     ghost use Rattle.journal_protocol.specs.Frames.{IsWhole, encoding};
     ghost use Rattle.journal_layers.specs.Own.{own_malformed_stays, own_front, own_read_back, own_rest_is_shorter, own_whole_stays};
 
     ghost frame = { λ _. encoding };
 
-    ghost Fits = { IsWhole };
+    ghost Has = { λ _ _. Unit {0} };
 
-    ghost front = { own_front };
+    ghost Fits = { λ _. IsWhole };
+
+    ghost as_read = { λ _ m. m };
+
+    ghost front = { λ _. own_front };
+
+    ghost fits_has = { λ _ _ _. tt };
 
     ghost read_back = { λ _. own_read_back };
 
-    ghost whole_stays = { own_whole_stays };
+    ghost keeps = { λ _ _ _. inl refl };
 
-    ghost malformed_stays = { own_malformed_stays };
+    ghost whole_stays = { λ _. own_whole_stays };
 
-    ghost shorter = { own_rest_is_shorter };
+    ghost malformed_stays = { λ _. own_malformed_stays };
+
+    ghost shorter = { λ _. own_rest_is_shorter };
 
     fn encode(&self, message: &Message, out: &mut Vec<u8>) -> Result<(), LayerFault> {
         let frame = Encoder::new(self.alloc).encode(message)?;

@@ -1,5 +1,5 @@
 -- The frame of a message in the VM's own layer, read off again.
-use Rattle.std.proofs.Common.{◌≡◌, List, [], ◌++◌, ℕ, Err, refl, sym, ap, ◌∙◌}
+use Rattle.std.proofs.Common.{◌≡◌, List, [], ℕ, Err, refl, sym, ap, ◌∙◌}
 use Rattle.std.proofs.lemmas.List.{append-nil}
 use Rattle.journal_protocol.specs.Frames.{IsWhole, body, encoding, type_of, Malformed, NextFrame, Partial, Whole, next_of, NextIs}
 use Rattle.journal_protocol.specs.Message.{Message}

@@ -1,22 +1,30 @@
 -- The laws of messages in other bytes.
-use Rattle.std.proofs.Common.{◌≡◌, ℕ, ◌+◌, ◌<◌, ◌≤◌, ◌^◌, List, [], ◌∷◌, ◌++◌, length, take, drop, Bool, true, false, Option, Some, None, refl, sym, ap, subst, ◌∙◌, append_assoc, arith}
+use Rattle.std.proofs.Common.{◌≡◌, ℕ, ◌+◌, ◌<◌, ◌≤◌, ◌^◌, List, ◌∷◌, ◌++◌, length, take, drop, Bool, true, false, Option, Some, None, refl, sym, ap, subst, ◌∙◌, append_assoc, inl, inr, arith}
 use Rattle.std.specs.Prelude.{nat_lt, if◌then◌else◌}
 use Rattle.std.specs.Int.{w16, w32, to_be_bytes, from_be_bytes}
 use Rattle.std.proofs.lemmas.List.{drop-drop, length-append, length-drop, take-append-le, drop-append-le, drop_at}
 use Rattle.std.proofs.lemmas.Nat.{from_be_bytes-to_be_bytes_2, from_be_bytes-to_be_bytes_4}
 use Rattle.std.proofs.lemmas.Bool.Decides.{nat_tests}
 use Rattle.std.proofs.Math.Seq.{take-append_seam}
-use Rattle.journal_protocol.specs.Types.{type_at, type_number}
+use Rattle.journal_protocol.specs.Types.{type_number}
 use Rattle.journal_protocol.specs.MessageType.{MessageType}
 use Rattle.journal_protocol.specs.Frames.{body, type_of}
 use Rattle.journal_protocol.specs.Bodies.{message_in}
 use Rattle.journal_protocol.specs.Message.{Message}
+use Rattle.journal_protocol.specs.Message.TheVariants as message
+use Rattle.journal_protocol.specs.Suspension.{Suspension}
+use Rattle.journal_protocol.specs.Version.{Version}
+use Rattle.journal_protocol.specs.Versions.{is_from_v7}
 use Rattle.journal_protocol.proofs.Facts as alone
 use Rattle.journal_protocol.proofs.Facts.{small_number, type_found}
+use Rattle.journal_layers.specs.Kept.{Keeps, without_tree}
 use Rattle.journal_layers.specs.Layers.{Front, Whole, Partial, Malformed}
 use Rattle.journal_layers.specs.Own.{front_if, malformed_if, rest_if, whole_if}
 use Rattle.test_journals.specs.declared.short.Short.{Short}
-use Rattle.test_journals.specs.Short.{IsShort, body_in, mark_of, short, short_frame, short_front, sized, short_front_in}
+use Rattle.test_journals.specs.Short.{IsShort, body_in, knows_type, type_if_known, mark_of, short, short_frame, short_front, short_front_in, sized, suspension_of, type_in, sent_form, sent_if}
+
+some_is : {a s : Suspension} → Some a ≡ Some s → a ≡ s
+some_is e = cc
 
 not_less : (m n : ℕ) → nat_lt m n ≡ false → n ≤ m
 not_less m n e = grind (arith, nat_tests)
@@ -43,48 +51,49 @@ malformed_if_long : (b : Bool) (x : Front)
 malformed_if_long true x e = absurd cc
 malformed_if_long false x e = (refl, e)
 
-front_is : (bs : List ℕ) → short_front bs ≡ (if nat_lt (length bs) 4 then Partial
-    else sized (from_be_bytes w32 (take 4 bs)) (drop 4 bs))
+front_is : (v : Version) (bs : List ℕ) → short_front v bs ≡ (if nat_lt (length bs) 4 then Partial
+    else sized v (from_be_bytes w32 (take 4 bs)) (drop 4 bs))
 unfolding short_front
-front_is bs = refl
+front_is v bs = refl
 
-long_enough : (bs : List ℕ) → 4 ≤ length bs
-    → short_front bs ≡ sized (from_be_bytes w32 (take 4 bs)) (drop 4 bs)
-long_enough bs l = front_is bs ∙ ap (λ b. if b then Partial
-    else sized (from_be_bytes w32 (take 4 bs)) (drop 4 bs)) (less_not (length bs) 4 l)
+long_enough : (v : Version) (bs : List ℕ) → 4 ≤ length bs
+    → short_front v bs ≡ sized v (from_be_bytes w32 (take 4 bs)) (drop 4 bs)
+long_enough v bs l = front_is v bs ∙ ap (λ b. if b then Partial
+    else sized v (from_be_bytes w32 (take 4 bs)) (drop 4 bs)) (less_not (length bs) 4 l)
 
-sized_long : (n : ℕ) (bs : List ℕ) → n + 2 ≤ length bs → sized n bs
-    ≡ short_front_in (type_at (from_be_bytes w16 (take 2 (drop n bs)))) (body_in (take n bs))
+sized_long : (v : Version) (n : ℕ) (bs : List ℕ) → n + 2 ≤ length bs → sized v n bs
+    ≡ short_front_in (type_in v (from_be_bytes w16 (take 2 (drop n bs)))) (body_in (take n bs))
     (drop (n + 2) bs)
-sized_long n bs l = ap (λ b. if b then Partial
-    else short_front_in (type_at (from_be_bytes w16 (take 2 (drop n bs)))) (body_in (take n bs))
+sized_long v n bs l = ap (λ b. if b then Partial
+    else short_front_in (type_in v (from_be_bytes w16 (take 2 (drop n bs)))) (body_in (take n bs))
     (drop (n + 2) bs)) (less_not (length bs) (n + 2) l)
 
 -- ---- what is at the front, by its parts
 
-pub part_of_length : (bs : List ℕ) → length bs < 4 → short_front bs ≡ Partial
+pub part_of_length : (v : Version) (bs : List ℕ) → length bs < 4 → short_front v bs ≡ Partial
 unfolding short_front
-part_of_length bs l = rw (less_is (length bs) 4 l) refl
+part_of_length v bs l = rw (less_is (length bs) 4 l) refl
 
-pub part_of_frame : (bs : List ℕ) → 4 ≤ length bs
-    → length bs < from_be_bytes w32 (take 4 bs) + 6 → short_front bs ≡ Partial
-part_of_frame bs l k = long_enough bs l
+pub part_of_frame : (v : Version) (bs : List ℕ) → 4 ≤ length bs
+    → length bs < from_be_bytes w32 (take 4 bs) + 6 → short_front v bs ≡ Partial
+part_of_frame v bs l k = long_enough v bs l
     ∙ rw (less_is (length (drop 4 bs)) (from_be_bytes w32 (take 4 bs) + 2)
     (omega (arith, l, k, length-drop 4 bs))) refl
 
 six : (n : ℕ) → n + 2 + 4 ≡ n + 6
 six n = omega arith
 
-pub whole_frame : (bs : List ℕ) (n : ℕ) → n + 6 ≤ length bs → n ≡ from_be_bytes w32 (take 4 bs)
-    → short_front bs ≡ short_front_in (type_at (from_be_bytes w16 (take 2 (drop (n + 4) bs))))
+pub whole_frame : (v : Version) (bs : List ℕ) (n : ℕ) → n + 6 ≤ length bs
+    → n ≡ from_be_bytes w32 (take 4 bs)
+    → short_front v bs ≡ short_front_in (type_in v (from_be_bytes w16 (take 2 (drop (n + 4) bs))))
     (body_in (take n (drop 4 bs))) (drop (n + 6) bs)
-whole_frame bs n l e = long_enough bs (omega (arith, l))
-    ∙ ap (λ z. sized z (drop 4 bs)) (sym e)
-    ∙ sized_long n (drop 4 bs) (omega (arith, l, length-drop 4 bs))
-    ∙ ap (λ z. short_front_in (type_at (from_be_bytes w16 (take 2 z)))
+whole_frame v bs n l e = long_enough v bs (omega (arith, l))
+    ∙ ap (λ z. sized v z (drop 4 bs)) (sym e)
+    ∙ sized_long v n (drop 4 bs) (omega (arith, l, length-drop 4 bs))
+    ∙ ap (λ z. short_front_in (type_in v (from_be_bytes w16 (take 2 z)))
     (body_in (take n (drop 4 bs)))
     (drop (n + 2) (drop 4 bs))) (drops n 4 bs)
-    ∙ ap (short_front_in (type_at (from_be_bytes w16 (take 2 (drop (n + 4) bs))))
+    ∙ ap (short_front_in (type_in v (from_be_bytes w16 (take 2 (drop (n + 4) bs))))
     (body_in (take n (drop 4 bs)))) (drops (n + 2) 4 bs ∙ ap (λ z. drop z bs) (six n))
 
 -- ---- a message is read back
@@ -111,11 +120,12 @@ size_read : (n : ℕ) (rest : List ℕ) → n < 2 ^ 32
 size_read n rest l = ap (from_be_bytes w32) (take-append_seam (to_be_bytes w32 n) rest)
     ∙ from_be_bytes-to_be_bytes_4 n l
 
-number_read : (ty : MessageType) (rest : List ℕ)
-    → type_at (from_be_bytes w16 (take 2 (to_be_bytes w16 (type_number ty) ++ rest))) ≡ Some ty
-number_read ty rest = ap (λ z. type_at (from_be_bytes w16 z))
+number_read : (v : Version) (ty : MessageType) (rest : List ℕ) → knows_type v ty ≡ true
+    → type_in v (from_be_bytes w16 (take 2 (to_be_bytes w16 (type_number ty) ++ rest))) ≡ Some ty
+number_read v ty rest h = ap (λ z. type_in v (from_be_bytes w16 z))
     (take-append_seam (to_be_bytes w16 (type_number ty)) rest)
-    ∙ ap type_at (from_be_bytes-to_be_bytes_2 (type_number ty) (small_number ty)) ∙ type_found ty
+    ∙ ap (type_in v) (from_be_bytes-to_be_bytes_2 (type_number ty) (small_number ty))
+    ∙ ap (type_if_known v) (type_found ty) ∙ ap (λ b. if b then Some ty else None) h
 
 after_payload : (ty : MessageType) (p rest : List ℕ)
     → drop (length p + 2) (p ++ (to_be_bytes w16 (type_number ty) ++ rest)) ≡ rest
@@ -124,44 +134,69 @@ after_payload ty p rest =
     ∙ drop_at (p ++ to_be_bytes w16 (type_number ty)) rest (length p + 2)
     (omega (arith, length-append p (to_be_bytes w16 (type_number ty)), two (type_number ty)))
 
-payload_read : (ty : MessageType) (p rest : List ℕ)
-    → sized (length p) (p ++ (to_be_bytes w16 (type_number ty) ++ rest))
+payload_read : (v : Version) (ty : MessageType) (p rest : List ℕ) → knows_type v ty ≡ true
+    → sized v (length p) (p ++ (to_be_bytes w16 (type_number ty) ++ rest))
     ≡ short_front_in (Some ty) (body_in p) rest
-payload_read ty p rest =
+payload_read v ty p rest h =
     let tail = to_be_bytes w16 (type_number ty) ++ rest in
-    sized_long (length p) (p ++ tail) (omega (
+    sized_long v (length p) (p ++ tail) (omega (
       arith,
       length-append p tail,
       length-append (to_be_bytes w16 (type_number ty)) rest,
       two (type_number ty),
     ))
-    ∙ ap (λ z. short_front_in (type_at (from_be_bytes w16 (take 2 z)))
+    ∙ ap (λ z. short_front_in (type_in v (from_be_bytes w16 (take 2 z)))
     (body_in (take (length p) (p ++ tail)))
     (drop (length p + 2) (p ++ tail))) (drop_at p tail (length p) refl)
     ∙ ap (λ z. short_front_in z (body_in (take (length p) (p ++ tail)))
     (drop (length p + 2) (p ++ tail)))
-    (number_read ty rest)
+    (number_read v ty rest h)
     ∙ ap (λ z. short_front_in (Some ty) (body_in z) (drop (length p + 2) (p ++ tail)))
     (take-append_seam p tail)
     ∙ ap (short_front_in (Some ty) (body_in p)) (after_payload ty p rest)
 
-frame_read : (ty : MessageType) (p rest : List ℕ) → length p < 2 ^ 32
-    → short_front (short_frame ty p ++ rest) ≡ short_front_in (Some ty) (body_in p) rest
-frame_read ty p rest l =
+frame_read : (v : Version) (ty : MessageType) (p rest : List ℕ) → knows_type v ty ≡ true
+    → length p < 2 ^ 32
+    → short_front v (short_frame ty p ++ rest) ≡ short_front_in (Some ty) (body_in p) rest
+frame_read v ty p rest h l =
     let tail = p ++ (to_be_bytes w16 (type_number ty) ++ rest) in
     let head = to_be_bytes w32 (length p) in
-    ap short_front (frame_parts ty p rest)
-    ∙ long_enough (head ++ tail) (omega (arith, length-append head tail, four (length p)))
-    ∙ ap (λ z. sized z (drop 4 (head ++ tail))) (size_read (length p) tail l)
-    ∙ ap (sized (length p)) (drop_at head tail 4 (four (length p)))
-    ∙ payload_read ty p rest
+    ap (short_front v) (frame_parts ty p rest)
+    ∙ long_enough v (head ++ tail) (omega (arith, length-append head tail, four (length p)))
+    ∙ ap (λ z. sized v z (drop 4 (head ++ tail))) (size_read (length p) tail l)
+    ∙ ap (sized v (length p)) (drop_at head tail 4 (four (length p)))
+    ∙ payload_read v ty p rest h
 
-pub short_read_back : (layer : Short) (m : Message) (rest : List ℕ) → IsShort m
-    → short_front (short layer m ++ rest) ≡ Whole m rest
+-- ---- what is written of a message
+
+is_suspension : (m : Message) (s : Suspension) → suspension_of m ≡ Some s
+    → m ≡ message.Suspension s
+is_suspension (message.Suspension a) s e = ap message.Suspension (some_is e)
+is_suspension m s e = absurd cc
+
+kept_written : (o : Option Suspension) (m : Message) → suspension_of m ≡ o
+    → Keeps m (sent_if o m)
+kept_written None m e = inl refl
+kept_written (Some s) m e = inr (sym (ap without_tree (is_suspension m s e)))
+
+kept_if : (b : Bool) (m : Message)
+    → Keeps m (sent_if (if b then None else suspension_of m) m)
+kept_if true m = inl refl
+kept_if false m = kept_written (suspension_of m) m refl
+
+pub short_keeps : (layer : Short) (m : Message) → IsShort layer m → Keeps m (sent_form layer m)
+short_keeps layer m w = kept_if (is_from_v7 layer.version) m
+
+-- ---- a message is read back
+
+pub short_read_back : (layer : Short) (m : Message) (rest : List ℕ) → IsShort layer m
+    → short_front layer.version (short layer m ++ rest) ≡ Whole (sent_form layer m) rest
 short_read_back layer m rest w =
-    frame_read (type_of m) (mark_of layer.mark ∷ body m) rest (omega (arith, w.1))
-    ∙ ap (λ b. short_front_in (Some (type_of m)) b rest) (marked layer.mark (body m))
-    ∙ ap (λ x. front_if x rest) (alone.read_back m w.0)
+    let m' = sent_form layer m in
+    frame_read layer.version (type_of m') (mark_of layer.mark ∷ body m') rest
+    w.0 (omega (arith, w.2))
+    ∙ ap (λ b. short_front_in (Some (type_of m')) b rest) (marked layer.mark (body m'))
+    ∙ ap (λ x. front_if x rest) (alone.read_back m' w.1)
 
 -- ---- bytes that follow change nothing
 
@@ -186,54 +221,54 @@ rest_spelled (Some ty) None rest m next e = absurd cc
 rest_spelled (Some ty) (Some b) rest m next e = rest_if (message_in ty b) rest m next e
 
 -- more bytes after a payload and a number
-sized_more : (n : ℕ) (bs more : List ℕ) → n + 2 ≤ length bs → sized n (bs ++ more)
-    ≡ short_front_in (type_at (from_be_bytes w16 (take 2 (drop n bs)))) (body_in (take n bs))
+sized_more : (v : Version) (n : ℕ) (bs more : List ℕ) → n + 2 ≤ length bs → sized v n (bs ++ more)
+    ≡ short_front_in (type_in v (from_be_bytes w16 (take 2 (drop n bs)))) (body_in (take n bs))
     (drop (n + 2) bs ++ more)
-sized_more n bs more l =
-    sized_long n (bs ++ more) (omega (arith, length-append bs more, l))
-    ∙ ap (λ z. short_front_in (type_at (from_be_bytes w16 (take 2 z)))
+sized_more v n bs more l =
+    sized_long v n (bs ++ more) (omega (arith, length-append bs more, l))
+    ∙ ap (λ z. short_front_in (type_in v (from_be_bytes w16 (take 2 z)))
     (body_in (take n (bs ++ more)))
     (drop (n + 2) (bs ++ more))) (drop-append-le n bs more (omega (arith, l)))
-    ∙ ap (λ z. short_front_in (type_at (from_be_bytes w16 z)) (body_in (take n (bs ++ more)))
+    ∙ ap (λ z. short_front_in (type_in v (from_be_bytes w16 z)) (body_in (take n (bs ++ more)))
     (drop (n + 2) (bs ++ more)))
     (take-append-le 2 (drop n bs) more (omega (arith, length-drop n bs, l)))
-    ∙ ap (λ z. short_front_in (type_at (from_be_bytes w16 (take 2 (drop n bs)))) (body_in z)
+    ∙ ap (λ z. short_front_in (type_in v (from_be_bytes w16 (take 2 (drop n bs)))) (body_in z)
     (drop (n + 2) (bs ++ more))) (take-append-le n bs more (omega (arith, l)))
-    ∙ ap (short_front_in (type_at (from_be_bytes w16 (take 2 (drop n bs)))) (body_in (take n bs)))
+    ∙ ap (short_front_in (type_in v (from_be_bytes w16 (take 2 (drop n bs)))) (body_in (take n bs)))
     (drop-append-le (n + 2) bs more l)
 
-more_after_four : (bs more : List ℕ) → 4 ≤ length bs → short_front (bs ++ more)
-    ≡ sized (from_be_bytes w32 (take 4 bs)) (drop 4 bs ++ more)
-more_after_four bs more l = long_enough (bs ++ more) (omega (arith, length-append bs more, l))
-    ∙ ap (λ z. sized (from_be_bytes w32 z) (drop 4 (bs ++ more))) (take-append-le 4 bs more l)
-    ∙ ap (sized (from_be_bytes w32 (take 4 bs))) (drop-append-le 4 bs more l)
+more_after_four : (v : Version) (bs more : List ℕ) → 4 ≤ length bs → short_front v (bs ++ more)
+    ≡ sized v (from_be_bytes w32 (take 4 bs)) (drop 4 bs ++ more)
+more_after_four v bs more l = long_enough v (bs ++ more) (omega (arith, length-append bs more, l))
+    ∙ ap (λ z. sized v (from_be_bytes w32 z) (drop 4 (bs ++ more))) (take-append-le 4 bs more l)
+    ∙ ap (sized v (from_be_bytes w32 (take 4 bs))) (drop-append-le 4 bs more l)
 
-pub short_whole_stays : (bs more : List ℕ) (m : Message) (rest : List ℕ)
-    → short_front bs ≡ Whole m rest → short_front (bs ++ more) ≡ Whole m (rest ++ more)
-short_whole_stays bs more m rest e =
-    let h = whole_if_long _ _ m rest (sym (front_is bs) ∙ e) in
+pub short_whole_stays : (v : Version) (bs more : List ℕ) (m : Message) (rest : List ℕ)
+    → short_front v bs ≡ Whole m rest → short_front v (bs ++ more) ≡ Whole m (rest ++ more)
+short_whole_stays v bs more m rest e =
+    let h = whole_if_long _ _ m rest (sym (front_is v bs) ∙ e) in
     let l = not_less (length bs) 4 h.0 in
     let n = from_be_bytes w32 (take 4 bs) in
     let k = whole_if_long _ _ m rest h.1 in
     let j = not_less (length (drop 4 bs)) (n + 2) k.0 in
-    more_after_four bs more l ∙ sized_more n (drop 4 bs) more j
+    more_after_four v bs more l ∙ sized_more v n (drop 4 bs) more j
     ∙ whole_spelled _ _ (drop (n + 2) (drop 4 bs)) m rest more k.1
 
-pub short_malformed_stays : (bs more : List ℕ)
-    → short_front bs ≡ Malformed → short_front (bs ++ more) ≡ Malformed
-short_malformed_stays bs more e =
-    let h = malformed_if_long _ _ (sym (front_is bs) ∙ e) in
+pub short_malformed_stays : (v : Version) (bs more : List ℕ)
+    → short_front v bs ≡ Malformed → short_front v (bs ++ more) ≡ Malformed
+short_malformed_stays v bs more e =
+    let h = malformed_if_long _ _ (sym (front_is v bs) ∙ e) in
     let l = not_less (length bs) 4 h.0 in
     let n = from_be_bytes w32 (take 4 bs) in
     let k = malformed_if_long _ _ h.1 in
     let j = not_less (length (drop 4 bs)) (n + 2) k.0 in
-    more_after_four bs more l ∙ sized_more n (drop 4 bs) more j
+    more_after_four v bs more l ∙ sized_more v n (drop 4 bs) more j
     ∙ malformed_spelled _ _ (drop (n + 2) (drop 4 bs)) (drop (n + 2) (drop 4 bs) ++ more) k.1
 
-pub short_rest_is_shorter : (bs : List ℕ) (m : Message) (rest : List ℕ)
-    → short_front bs ≡ Whole m rest → length rest < length bs
-short_rest_is_shorter bs m rest e =
-    let h = whole_if_long _ _ m rest (sym (front_is bs) ∙ e) in
+pub short_rest_is_shorter : (v : Version) (bs : List ℕ) (m : Message) (rest : List ℕ)
+    → short_front v bs ≡ Whole m rest → length rest < length bs
+short_rest_is_shorter v bs m rest e =
+    let h = whole_if_long _ _ m rest (sym (front_is v bs) ∙ e) in
     let l = not_less (length bs) 4 h.0 in
     let n = from_be_bytes w32 (take 4 bs) in
     let k = whole_if_long _ _ m rest h.1 in

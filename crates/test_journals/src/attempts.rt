@@ -4,7 +4,8 @@ use crate::short::Short;
 use await_trees::{NotificationHandle, UnresolvedFuture};
 use bytes::Bytes;
 use invocation_vm::{CoreVM, VM};
-use journal_layers::{Layer, LayerFault, Own, translate};
+use journal_layers::{Layer, LayerFault, Own, Translator, translate};
+use journal_protocol::Version;
 use std::alloc::Global;
 use std::process::Abort;
 use std::test::Fail;
@@ -22,19 +23,10 @@ fn answered<T>(given: VMResult<T>) -> Result<T, Fail> {
     }
 }
 
-fn fail(fault: LayerFault) -> Fail {
-    Fail::new(format_args!("{fault:?}"))
-}
-
-fn translated<A: Layer, B: Layer>(
-    alloc: Global,
-    from: &A,
-    to: &B,
-    stream: &mut Bytes,
-) -> Result<Bytes, Fail> {
-    match translate(alloc, from, to, stream) {
-        Ok(out) => Ok(out),
-        Err(fault) => Err(fail(fault)),
+fn done(translated: Result<(), LayerFault>) -> Result<(), Fail> {
+    match translated {
+        Ok(()) => Ok(()),
+        Err(fault) => Err(Fail::new(format_args!("{fault:?}"))),
     }
 }
 
@@ -47,9 +39,10 @@ fn whole<A: Layer, B: Layer>(
     bytes: &[u8],
 ) -> Result<Bytes, Fail> {
     let mut stream = Bytes::copy_from_slice(alloc, bytes)?;
-    let out = translated(alloc, from, to, &mut stream)?;
+    let mut out = Vec::new(alloc);
+    done(translate(alloc, from, to, &mut stream, &mut out))?;
     assert!(rt; stream.is_empty());
-    Ok(out)
+    Ok(Bytes::from_vec(out)?)
 }
 
 /// A VM whose peer speaks the layer.
@@ -58,8 +51,8 @@ struct Session<L: Layer + Drop> {
     alloc: Global,
     layer: L,
     vm: CoreVM,
-    /// What the peer has sent of a frame that isn't whole yet.
-    waiting: Vec<u8>,
+    /// What the peer sends.
+    input: Translator,
 }
 
 impl<L: Layer + Drop> Session<L> {
@@ -68,14 +61,13 @@ impl<L: Layer + Drop> Session<L> {
         let own = Own { alloc: self.alloc };
         let sent = whole(rt, self.alloc, &own, &self.layer, frames)?;
         for byte in sent.as_slice() {
-            self.waiting.push(*byte)?;
-            let mut stream = Bytes::copy_from_slice(self.alloc, self.waiting.as_slice())?;
-            let fed = translated(self.alloc, &self.layer, &own, &mut stream)?;
-            self.waiting.clear();
-            self.waiting.extend_from_slice(stream.as_slice())?;
-            self.vm.notify_input(fed)?;
+            self.input
+                .push(Bytes::copy_from_slice(self.alloc, &[*byte])?)?;
+            let mut fed = Vec::new(self.alloc);
+            done(self.input.translate(&self.layer, &own, &mut fed))?;
+            self.vm.notify_input(Bytes::from_vec(fed)?)?;
         }
-        assert!(rt; self.waiting.as_slice().is_empty());
+        assert!(rt; self.input.waiting().is_empty());
         Ok(())
     }
 
@@ -146,7 +138,7 @@ fn attempt<L: Layer + Drop>(rt: &impl Abort, alloc: Global, layer: L) -> Result<
         alloc,
         layer,
         vm,
-        waiting: Vec::new(alloc),
+        input: Translator::new(alloc),
     };
     let slept = sleeps(rt, &mut session)?;
     ends(rt, &mut session, slept)
@@ -160,10 +152,19 @@ fn an_attempt_over_our_own_bytes(rt: HostRuntime) -> Result<(), Fail> {
     Ok(())
 }
 
+/// Our bytes by another layout, with this mark, in the newest version.
+fn short(alloc: Global, mark: bool) -> Short {
+    Short {
+        alloc,
+        mark,
+        version: Version::V8,
+    }
+}
+
 #[test]
 fn an_attempt_over_other_bytes(rt: HostRuntime) -> Result<(), Fail> {
     let alloc = rt.alloc();
-    let received = attempt(&rt, alloc, Short { alloc, mark: false })?;
+    let received = attempt(&rt, alloc, short(alloc, false))?;
     assert_eq!(rt;
         received.as_slice(),
         b"\0\0\0\x0b\0\0\0\0\0\0\0\0\0\x01x\0\x1d\0\0\0\x01\0\0\x04".as_slice()
@@ -174,28 +175,10 @@ fn an_attempt_over_other_bytes(rt: HostRuntime) -> Result<(), Fail> {
 #[test]
 fn an_attempt_over_the_other_spelling(rt: HostRuntime) -> Result<(), Fail> {
     let alloc = rt.alloc();
-    let received = attempt(&rt, alloc, Short { alloc, mark: true })?;
+    let received = attempt(&rt, alloc, short(alloc, true))?;
     assert_eq!(rt;
         received.as_slice(),
         b"\0\0\0\x0b\x01\0\0\0\0\0\0\0\0\x01x\0\x1d\0\0\0\x01\x01\0\x04".as_slice()
     );
-    Ok(())
-}
-
-#[test]
-fn what_is_no_frame_is_refused(rt: HostRuntime) -> Result<(), Fail> {
-    let alloc = rt.alloc();
-    let (short, own) = (Short { alloc, mark: false }, Own { alloc });
-    // A mark of 2, no mark at all, and a type that there isn't.
-    for bytes in [
-        &b"\0\0\0\x01\x02\0\x04"[..],
-        b"\0\0\0\0\0\x04",
-        b"\0\0\0\x01\0\xff\xff",
-    ] {
-        let mut stream = Bytes::copy_from_slice(alloc, bytes)?;
-        let refused = translate(alloc, &short, &own, &mut stream);
-        assert!(rt; matches!(refused, Err(LayerFault::Malformed)));
-        assert_eq!(rt; stream.as_slice(), bytes);
-    }
     Ok(())
 }

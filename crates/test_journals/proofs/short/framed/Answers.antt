@@ -1,5 +1,5 @@
-use Rattle.std.proofs.Common.{◌≡◌, refl, ap, ◌∙◌, ◌++◌, [], sym}
-use Rattle.journal_protocol.specs.Frames.{encoding, next_of}
+use Rattle.std.proofs.Common.{refl, ap, ◌∙◌, sym}
+use Rattle.journal_protocol.specs.Frames.{next_of}
 use Rattle.test_journals.proofs.Framed.{found, no_part, only_memory}
 use Rattle.test_journals.proofs.short.framed.Goals as goal
 
