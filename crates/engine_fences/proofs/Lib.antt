@@ -1,2 +1,12 @@
 pub mod Granting
 pub mod Unseen
+pub mod Inboxes
+pub mod Causing
+pub mod Counting
+pub mod Events
+pub mod Naming
+pub mod Ordered
+pub mod Places
+pub mod Settling
+pub mod Signalling
+pub mod Turning

@@ -10,7 +10,11 @@ use Rattle.engines.proofs.Keeping.{kept_from_nothing}
 use Rattle.engines.proofs.Replaying.{all_replay}
 use Rattle.engine_fences.specs.declared.fences.Asked.{Asked}
 use Rattle.engine_fences.specs.declared.fences.FencedEngine.{FencedEngine}
+use Rattle.engine_fences.specs.Causes.{InboxesHaveCauses}
 use Rattle.engine_fences.specs.Fences.{AllFenced, FencedIf, grants}
+use Rattle.engine_fences.specs.Signals.{NoneFromNowhere}
+use Rattle.engine_fences.proofs.Inboxes.{inboxes_caused}
+use Rattle.engine_fences.proofs.Signalling.{none_from_nowhere}
 
 -- The events that are granted happen to the engine, one after another, and no others do.
 record Granted {H : Type 0} (meaning : H → Meaning) (old new : Engine H) : Type 0 where
@@ -36,6 +40,16 @@ pub fenced_kept : {H : Type 0} (meaning : H → Meaning) (es : List Asked) (old 
 fenced_kept meaning es old new none h =
     let g = are_granted meaning es old new h in
     kept_from_nothing meaning g.events old.engine new.engine none g.happen
+
+pub fenced_signals : {H : Type 0} (meaning : H → Meaning) (es : List Asked) (old new : FencedEngine H) → old.engine.invocations.items ≡ [] → AllFenced meaning es old new → NoneFromNowhere new.engine
+fenced_signals meaning es old new none h =
+    let g = are_granted meaning es old new h in
+    none_from_nowhere meaning g.events old.engine new.engine none g.happen
+
+pub fenced_inboxes : {H : Type 0} (meaning : H → Meaning) (es : List Asked) (old new : FencedEngine H) → old.engine.invocations.items ≡ [] → AllFenced meaning es old new → InboxesHaveCauses new.engine
+fenced_inboxes meaning es old new none h =
+    let g = are_granted meaning es old new h in
+    inboxes_caused meaning g.events old.engine new.engine none g.happen
 
 -- and all attempts go on to replay and queue
 pub fenced_replay : {H : Type 0} (meaning : H → Meaning) (es : List Asked) (old new : FencedEngine H) → AllFenced meaning es old new → AllReplay old.engine → AllReplay new.engine

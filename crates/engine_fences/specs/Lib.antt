@@ -1,1 +1,6 @@
+pub mod Causes
 pub mod Fences
+pub mod KeyStates
+pub mod KeyTurns
+pub mod Ordering
+pub mod Signals

@@ -4,6 +4,8 @@ ghost use Rattle.engines.specs.Between.{AllKept};
 ghost use Rattle.engines.specs.Faults.{IsMemoryOrFull, IsNoArrival};
 ghost use Rattle.engines.specs.Replaying.{AllReplay};
 ghost use Rattle.world_rounds.specs.Rounds.{ReplaysAndQueues};
+ghost use Rattle.engine_fences.specs.Causes.{InboxesHaveCauses};
+ghost use Rattle.engine_fences.specs.Signals.{NoneFromNowhere};
 ghost use Rattle.engine_fences.specs.Fences.{AllFenced, FencedDoes, NamesEpoch, grants};
 
 use crate::epochs::Epochs;
@@ -124,6 +126,10 @@ pub fn play_fenced<'a, H: Handler + Drop>(
 ) -> Result<FencedEngine<'a, H>, EngineFault>
     // What holds between invocations holds also while attempts that are lost go on, and ask for more.
     ensures kept { IfOk result (λ f. AllKept f.engine) }
+    // No signal comes that wasn't sent.
+    ensures signals { IfOk result (λ f. NoneFromNowhere f.engine) }
+    // All that waits can come, or it is a sleep whose time hasn't come, or the result of an invocation that hasn't ended.
+    ensures inboxes { IfOk result (λ f. InboxesHaveCauses f.engine) }
     // No arrival has a fault.
     ensures err { IfErr result IsNoArrival }
     // If recorded commands are replayed and signals queue, out of memory and a full journal are the only faults.
