@@ -3,7 +3,9 @@ the headers of this Python.
 
 It is on the limited API (abi3), so the same file is for each CPython from 3.11 on. It loads the shared object at run time, and isn't linked to it.
 
-usage: build_extension.py FILE"""
+usage: build_extension.py FILE
+
+A module that is newer than its sources stays as it is."""
 
 from __future__ import annotations
 
@@ -63,11 +65,18 @@ def build(*more: str) -> bytes:
         return made.read_bytes()
 
 
+def is_current(made: pathlib.Path) -> bool:
+    """Whether a module is newer than each file of which it is built."""
+    return made.is_file() and all(it.stat().st_mtime < made.stat().st_mtime for it in (pathlib.Path(__file__), *SOURCES.iterdir()))
+
+
 def main(words: list[str]) -> None:
     if len(words) != 1:
         sys.exit("usage: build_extension.py FILE")
+    made = pathlib.Path(words[0])
     try:
-        put(build(), pathlib.Path(words[0]))
+        if not is_current(made):
+            put(build(), made)
     except Unbuilt as error:
         sys.exit(f"build_extension.py: {error}")
 

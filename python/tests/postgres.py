@@ -11,6 +11,7 @@ from __future__ import annotations
 import argparse
 import atexit
 import contextlib
+import fcntl
 import functools
 import os
 import pathlib
@@ -221,23 +222,21 @@ def _room(user: str | None) -> pathlib.Path:
 
 
 def _initialised(data: pathlib.Path, user: str | None) -> None:
-    """Makes the folder of a new cluster. It is a copy of one that `initdb` has made for all tests of this host, which takes it some seconds."""
-    number = ".".join(map(str, _version(programs())))
-    kept = _KEPT / f"{number}-{user or os.geteuid()}"
-    if not kept.is_dir():
-        words = [programs() / "initdb", "-D", data, "-U", _OWNER, "-A", "trust", "-E", "UTF8", "--locale=C", "--no-sync", "--no-instructions"]
-        _ran(words, user, data.parent)
-        _KEPT.mkdir(parents=True, exist_ok=True)
-        made = pathlib.Path(tempfile.mkdtemp(dir=_KEPT))
-        shutil.copytree(data, made / "data")
-        with contextlib.suppress(OSError):  # another process was the first
-            (made / "data").rename(kept)
-        shutil.rmtree(made)
-        return
-    shutil.copytree(kept, data)
-    if user is not None:
-        for it in (data, *data.rglob("*")):
-            shutil.chown(it, user, pwd.getpwnam(user).pw_gid)
+    """Makes the folder of a new cluster: a copy of one that `initdb` makes once for all tests of this host. `cp` leaves the files to whom they
+    belong, and takes a third of what it takes to copy and give away each of a thousand."""
+    kept = _KEPT / f"{'.'.join(map(str, _version(programs())))}-of-{user or os.geteuid()}"
+    _KEPT.mkdir(parents=True, exist_ok=True)
+    with (_KEPT / "lock").open("w") as lock:
+        fcntl.flock(lock, fcntl.LOCK_EX)  # the tests that begin side by side wait for the first
+        if not kept.is_dir():
+            words = [programs() / "initdb", "-D", data, "-U", _OWNER, "-A", "trust", "-E", "UTF8", "--locale=C", "--no-sync", "--no-instructions"]
+            _ran(words, user, data.parent)
+            made = pathlib.Path(tempfile.mkdtemp(dir=_KEPT)) / "data"  # it gets its name once it is whole
+            subprocess.run(["cp", "-a", data, made], check=True)
+            made.rename(kept)
+            made.parent.rmdir()
+            return
+    subprocess.run(["cp", "-a", kept, data], check=True)
 
 
 def _made(folder: pathlib.Path, user: str | None, settings: Mapping[str, str]) -> Cluster:

@@ -84,8 +84,8 @@ def tests_of(suite: unittest.TestSuite, options: argparse.Namespace) -> Iterator
         elif type(it).__name__ == "_FailedTest":
             yield it
         else:
-            kind, is_wanted = getattr(it, "kind", None), not options.files or type(it).__module__ in options.files
-            if is_wanted and options.only in (None, kind) and (options.but is None or kind != options.but):
+            kind = getattr(it, "kind", None)
+            if options.only in (None, kind) and (options.but is None or kind != options.but):
                 yield it
 
 
@@ -106,7 +106,8 @@ def main() -> int:
     sys.path.insert(0, str(folder.parent))
     if options.stalls:
         stalls.begin(options.stalls)
-    found = unittest.TestLoader().discover(str(folder))
+    patterns = [f"{it}.py" for it in options.files] or ["test*.py"]
+    found = unittest.TestSuite(unittest.TestLoader().discover(str(folder), it) for it in patterns)
     result = Result()
     unittest.TestSuite(tests_of(found, options)).run(result)
     result.say()
