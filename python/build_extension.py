@@ -1,6 +1,8 @@
 """Builds the module in C, `palqytun._c`, of the sources in `extension`: by the C compiler `cc`, or the one that the environment variable `CC` names, and
 the headers of this Python.
 
+What the environment variable `CFLAGS` has comes after the flags of this file.
+
 It is on the limited API (abi3), so the same file is for each CPython from 3.11 on. It loads the shared object at run time, and isn't linked to it.
 
 usage: build_extension.py FILE
@@ -59,7 +61,8 @@ def build(*more: str) -> bytes:
     given = ["-include", str(SOURCES / "portable.h"), f"-I{headers()}", *map(str, sorted(SOURCES.glob("*.c")))]
     with tempfile.TemporaryDirectory(prefix="palqytun-") as room:
         made = pathlib.Path(room, NAME)
-        ran = subprocess.run([*compiler(), *FLAGS, *more, *given, "-o", str(made)], capture_output=True, text=True)
+        flags = [*FLAGS, *shlex.split(os.environ.get("CFLAGS", "")), *more]
+        ran = subprocess.run([*compiler(), *flags, *given, "-o", str(made)], capture_output=True, text=True)
         if ran.returncode:
             raise Unbuilt(f"the C compiler refused it: {ran.stderr.strip()[-2000:]}")
         return made.read_bytes()

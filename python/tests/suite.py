@@ -1,7 +1,8 @@
-"""Runs the tests of a folder: suite.py [--only DATABASE | --but DATABASE] [--files NAME,..] [--stalls CHANCE] FOLDER. A line for each, with its seconds, and
-those of a processor; then what failed and why, the slowest, and what was skipped. The last line is 'N passed, M failed, K skipped'. With --only just the
-tests on this database are run, sqlite or postgres, and with --but all others, also those on none. With --files just those of these files are run. With
---stalls each iteration of an event loop begins late by this chance (stalls.py), which shows tests that go by chance."""
+"""Runs the tests of a folder: suite.py [--only DATABASE | --but DATABASE] [--files NAME,..] [--share N/OF] [--stalls CHANCE] FOLDER. A line for each, with its
+seconds, and those of a processor; then what failed and why, the slowest, and what was skipped. The last line is 'N passed, M failed, K skipped'. With --only
+just the tests on this database are run, sqlite or postgres, and with --but all others, also those on none. With --files just those of these files are run.
+With --share they are divided, so that all shares side by side are all tests. With --stalls each iteration of an event loop begins late by this chance
+(stalls.py), which shows tests that go by chance."""
 
 from __future__ import annotations
 
@@ -89,6 +90,24 @@ def tests_of(suite: unittest.TestSuite, options: argparse.Namespace) -> Iterator
                 yield it
 
 
+def share(text: str) -> tuple[int, int]:
+    """A share: its number from 1 on, and of how many."""
+    number, _, of = text.partition("/")
+    found = int(number), int(of)
+    if not 1 <= found[0] <= found[1]:
+        raise ValueError
+    return found
+
+
+def of_share(tests: list[unittest.TestCase], number: int, of: int) -> list[unittest.TestCase]:
+    """The tests of a share. A class is of one share, since what it sets up is for all its tests; it goes to the share that has the fewest tests so far."""
+    counts, places = [0] * of, dict[type, int]()
+    for kind, count in Counter(map(type, tests)).items():
+        places[kind] = counts.index(min(counts))
+        counts[places[kind]] += count
+    return [it for it in tests if places[type(it)] == number - 1]
+
+
 def main() -> int:
     parser = argparse.ArgumentParser("suite.py", description="Runs the tests of a folder.")
     parser.add_argument("folder", type=pathlib.Path)
@@ -96,6 +115,7 @@ def main() -> int:
     which.add_argument("--only", choices=DATABASES, help="only the tests on this database")
     which.add_argument("--but", choices=DATABASES, help="all tests but those on this database")
     parser.add_argument("--files", type=lambda it: it.split(","), default=[], metavar="NAME,..", help="only the tests of these files")
+    parser.add_argument("--share", type=share, default=(1, 1), metavar="N/OF", help="only the tests of this share, as of 2/3")
     parser.add_argument("--stalls", type=float, default=0.0, metavar="CHANCE", help="event loops go on late, by this chance at each iteration")
     options = parser.parse_args()
     if not options.folder.is_dir():
@@ -109,7 +129,7 @@ def main() -> int:
     patterns = [f"{it}.py" for it in options.files] or ["test*.py"]
     found = unittest.TestSuite(unittest.TestLoader().discover(str(folder), it) for it in patterns)
     result = Result()
-    unittest.TestSuite(tests_of(found, options)).run(result)
+    unittest.TestSuite(of_share(list(tests_of(found, options)), *options.share)).run(result)
     result.say()
     return 1 if result.counts["failed"] else 0
 

@@ -23,9 +23,10 @@ PORTABLE = {"platform": "manylinux_2_17"}
 def build(
     hook: str, project: pathlib.Path, into: pathlib.Path, settings: dict[str, str] | None = None, **more: str
 ) -> subprocess.CompletedProcess[str]:
-    """Calls a function of the backend as pip does: in the project's folder, with more variables in the environment."""
+    """Calls a function of the backend as pip does: in the project's folder, with more variables in the environment. The compiler optimises nothing, unless
+    that is asked: a module is made in a third of the time, and is only looked at."""
     code = f"import build_wheel; print(build_wheel.{hook}({str(into)!r}, {settings!r}))"
-    env = {name: it for name, it in os.environ.items() if name != "PALQYTUN_LIBRARY"} | more
+    env = {name: it for name, it in os.environ.items() if name != "PALQYTUN_LIBRARY"} | {"CFLAGS": "-O0"} | more
     return subprocess.run([sys.executable, "-B", "-c", code], cwd=project, env=env, capture_output=True, text=True)
 
 
@@ -143,7 +144,7 @@ class Wheels(unittest.TestCase):
     def test_the_module_loads_everywhere(self) -> None:
         """What it needs of glibc is as old as `PORTABLE` says."""
         self.compiled("int it(void) { return 1; }\n")
-        wheel = self.built("build_wheel", self.project, {**PORTABLE, "implementation": "c"})
+        wheel = self.built("build_wheel", self.project, {**PORTABLE, "implementation": "c"}, CFLAGS="")
         self.assertRegex(wheel.name, r"^palqytun-[\d.]+-cp311-abi3-manylinux_2_17_\w+\.whl$")
         self.assertIn("palqytun/_c.abi3.so", zipfile.ZipFile(wheel).namelist())
 

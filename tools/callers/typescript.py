@@ -56,22 +56,21 @@ def beside_a_database(*words: str) -> list[str]:
 
 
 def built(it: Bindings, env: dict[str, str]) -> str | None:
-    """The folder of a copy in which the SDK and its tests are built, beside a binding of its own; none if that fails."""
+    """The folder of a copy in which the SDK, its tests and README's example are built, beside a binding of its own; none if that fails."""
     folder = f"{it.room}/typescript"
     shutil.copytree("typescript", folder, ignore=shutil.ignore_patterns("out", "node_modules"))
     binding = copied(it, "node", f"{folder}/node_modules/palqytun")
-    steps = {"its addon is compiled": (["node", "build.js"], binding), "types of typescript": (["tsc", "-p", "."], folder), "types of its tests": (["tsc", "-p", "test"], folder)}
+    declared = "declare const process: { env: { DATABASE?: string } };\ndeclare const console: { log(text: string): void };\n"
+    Path(folder, "test/readme.ts").write_text(declared + example_of("../typescript", "ts")[0], encoding="utf-8")
+    steps = {"its addon is compiled": (["node", "build.js"], binding), "types of typescript": (["tsc", "-p", "."], folder)}
+    steps["types of its tests, and of the example of typescript/README.md"] = (["tsc", "-p", "test"], folder)
     return folder if all(it.checks.build(f"typescript: {name}", words, env, cwd) for name, (words, cwd) in steps.items()) else None
 
 
 def example(it: Bindings, env: dict[str, str], folder: str) -> None:
-    """README's example, whose types are checked, by `require` and by `import`."""
-    code, printed = example_of("../typescript", "ts")
-    declared = "declare const process: { env: { DATABASE?: string } };\ndeclare const console: { log(text: string): void };\n"
-    Path(folder, "test/readme.ts").write_text(declared + code, encoding="utf-8")
-    if it.checks.build("types of the example of typescript/README.md", ["tsc", "-p", "test"], env, folder):
-        run = f"DATABASE=\"$PALQYTUN_TEST_POSTGRES\" exec node {folder}/out/test/readme.js"
-        it.checks.prints("the example of typescript/README.md", beside_a_database("sh", "-c", run), printed, env)
+    """README's example, by `require` and by `import`."""
+    run = f"DATABASE=\"$PALQYTUN_TEST_POSTGRES\" exec node {folder}/out/test/readme.js"
+    it.checks.prints("the example of typescript/README.md", beside_a_database("sh", "-c", run), example_of("../typescript", "ts")[1], env)
     for module in ("@palqytun/sdk", "@palqytun/sdk/testing"):
         names = f"import('{module}').then((it) => console.log(Object.keys(it).filter((name) => name !== 'default').length === Object.keys(require('{module}')).length))"
         it.checks.prints(f"import and require give the same names of {module}", ["node", "-e", names], "true\n", env, folder)

@@ -83,7 +83,7 @@ def build(room: Path) -> Path:
     top, made = copied(room), room / "vmengine"
     for it in edits():
         it.apply(top)
-    subprocess.run([sys.executable, "tools/unproved", "program", "vmengine", made], cwd=top, check=True)
+    subprocess.run([sys.executable, "tools/unproved", "program", "vmengine", made, "--quick"], cwd=top, check=True)
     return made
 
 

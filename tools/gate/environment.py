@@ -50,11 +50,20 @@ def same(one: str, other: str) -> bool:
     return os.path.realpath(shutil.which(one) or one) == os.path.realpath(other)
 
 
+def processors() -> int:
+    """How many processors this process may run on."""
+    return len(os.sched_getaffinity(0))
+
+
+def free_memory() -> int:
+    """How many kilobytes of memory can be had."""
+    with open("/proc/meminfo", encoding="ascii") as lines:
+        return next(int(it.split()[1]) for it in lines if it.startswith("MemAvailable:"))
+
+
 def cores(kilobytes: int) -> int:
     """How many jobs run at a time: as many as there are cores for us, if each has this much memory."""
-    with open("/proc/meminfo", encoding="ascii") as lines:
-        free = next(int(it.split()[1]) for it in lines if it.startswith("MemAvailable:"))
-    return max(1, min(len(os.sched_getaffinity(0)), free // kilobytes))
+    return max(1, min(processors(), free_memory() // kilobytes))
 
 
 def lanes() -> int:

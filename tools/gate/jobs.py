@@ -88,12 +88,18 @@ def with_needed(wanted: Iterable[Job], every: Iterable[Job]) -> list[Job]:
     return [it for it in all_jobs if it.name in names]
 
 
-class Runner:
-    """Runs jobs in an order that keeps all cores busy. Their output goes to files in `logs`."""
+def never() -> bool:
+    return False
 
-    def __init__(self, jobs: list[Job], cores: int, logs: Path, watch: Watch, env: Mapping[str, str] | None = None) -> None:
+
+class Runner:
+    """Runs jobs in an order that keeps all cores busy. Their output goes to files in `logs`. Whenever `spare` says so, one more begins than there are cores."""
+
+    def __init__(
+        self, jobs: list[Job], cores: int, logs: Path, watch: Watch, env: Mapping[str, str] | None = None, spare: Callable[[], bool] = never
+    ) -> None:
         self.jobs, self.cores, self.logs, self.watch = jobs, cores, logs, watch
-        self.env = dict(os.environ if env is None else env)
+        self.env, self.spare = dict(os.environ if env is None else env), spare
         self.done: dict[str, Done] = {}
         self._running: dict[Future[Done], Job] = {}
         self._processes: set[subprocess.Popen[bytes]] = set()
@@ -125,6 +131,8 @@ class Runner:
     def _start(self, pool: ThreadPoolExecutor, waiting: list[Job]) -> list[Job]:
         """Starts what can be started, and returns what still waits."""
         left, free = list[Job](), self.cores - sum(map(self._cores, self._running.values()))
+        if free < 1 and self.spare():
+            free = 1
         for job in waiting:
             ended = [self.done[it] for it in job.needs if it in self.done]
             failed = [it.job.name for it in ended if it.counts.failed]

@@ -11,9 +11,10 @@ import time
 from pathlib import Path
 
 from .environment import TOP, cores, environment, start_anew
-from .jobs import Job, Runner, total, with_needed
+from .jobs import Job, Runner, never, total, with_needed
 from .parts import OUT, PARTS, all_jobs
 from .show import Show, minutes
+from .spare import Spare
 
 MEMORY = 1_500_000  # kilobytes that a job takes at most
 
@@ -55,7 +56,8 @@ def run(options: argparse.Namespace) -> int:
     jobs, begun = wanted(options.parts), time.monotonic()
     print(f"{len(jobs)} jobs on {options.jobs} cores; nothing is proved; logs: {OUT}/logs", flush=True)
     show = Show(jobs, options.no_skips)
-    runner = Runner(jobs, options.jobs, Path(OUT, "logs"), show, environment(TOP / OUT / "bin"))
+    spare = Spare(MEMORY) if options.jobs == cores(MEMORY) else never
+    runner = Runner(jobs, options.jobs, Path(OUT, "logs"), show, environment(TOP / OUT / "bin"), spare)
     done = runner.run()
     show.close()
     found = total(done, options.no_skips)

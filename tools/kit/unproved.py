@@ -71,14 +71,14 @@ def build_library(made: Path, progress: Progress) -> bool:
     return not is_current
 
 
-def build_program(name: str, made: Path, progress: Progress) -> bool:
-    """Makes a program of the repository. Returns whether its sources were compiled."""
+def build_program(name: str, made: Path, progress: Progress, level: int = 2) -> bool:
+    """Makes a program of the repository, which LLVM optimises by this level. Returns whether its sources were compiled."""
     crates, its_kit = Crates(TOP), kit()
     if name not in crates.programs():
         raise Refused(f"there is no program {name}: they are {', '.join(crates.programs())}")
     crate = crates[name]
     made.parent.mkdir(parents=True, exist_ok=True)
-    stamp = Stamp(TOP, made, _parts(its_kit, [*crates.below(crate.uses), crate]))
+    stamp = Stamp(TOP, made, [*_parts(its_kit, [*crates.below(crate.uses), crate]), f"level {level}"])
     if stamp.is_current():
         return False
     stamp.forget()
@@ -87,7 +87,7 @@ def build_program(name: str, made: Path, progress: Progress) -> bool:
         progress.step(f"{name} is lowered to LLVM: a minute or two")
         module = module_of(crates, its_kit, name, crate.folder, crate.uses)
         progress.step(f"LLVM compiles {name}: about a minute")
-        compile_module(its_kit, module, compiled, "-fPIE")
+        compile_module(its_kit, module, compiled, "-fPIE", level=level)
         link_program(its_kit, made, compiled)
     stamp.keep()
     return True

@@ -124,6 +124,17 @@ class Counts(support.InAFolder, unittest.TestCase):
         self.assertEqual(self.counted("unittest.SkipTest('')", "--files", "test_more")[1].splitlines()[-1], "1 passed, 0 failed, 0 skipped")
         self.assertEqual(self.counted("unittest.SkipTest('')", "--files", "test_more,test_none")[0], 2)
 
+    def test_shares(self):
+        """Each test is of one share, and a class isn't divided."""
+        (self.folder / "test_more.py").write_text("import unittest\nclass More(unittest.TestCase):\n    def test_more(self):\n        pass\n")
+        said = [self.counted("unittest.SkipTest('no server')", "--share", f"{it}/3")[1].splitlines() for it in (1, 2, 3)]
+        whole = self.counted("unittest.SkipTest('no server')")[1].splitlines()
+        ran = [[line.rpartition("  ")[2] for line in lines if re.match(r"\w+ +[\d.]+ s ", line)] for lines in (*said, whole)]
+        self.assertEqual(sorted(it for one in ran[:3] for it in one), sorted(ran[3]))
+        self.assertEqual(sorted(len(it) for it in ran[:3]), [0, 1, 3])
+        self.assertEqual([lines[-1] for lines in (*said, whole)].count("1 passed, 0 failed, 0 skipped"), 1)
+        self.assertEqual(self.counted("", "--share", "4/3")[0], 2)
+
     def test_a_module_that_cannot_be_loaded(self):
         (self.folder / "test_other.py").write_text("import nothing_of_this_name\n")
         self.assertEqual(self.counted("unittest.SkipTest('')", "--only", "postgres")[0], 1)

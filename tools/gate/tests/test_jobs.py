@@ -68,6 +68,15 @@ class Running(unittest.TestCase):
         self.assertGreaterEqual(done["b"].begun, done["a"].ended)
         self.assertEqual(total(done, True), Counts(3))
 
+    def test_one_more_begins_while_processors_are_idle(self) -> None:
+        """The first two end once the third has begun, for which there is no core."""
+        room = Path(self.enterContext(tempfile.TemporaryDirectory()))
+        says, waits = "echo 1 passed, 0 failed", "while [ ! -e c ]; do sleep 0.05; done"
+        jobs = [Job(name, ("sh", "-c", f"{waits}; {says}"), 9, folder=str(room), limit=LONG) for name in "ab"]
+        jobs.append(Job("c", ("sh", "-c", f"touch c; {says}"), 1, folder=str(room)))
+        done = Runner(jobs, 2, room / "logs", Quiet(), spare=lambda: True).run()
+        self.assertEqual(total(done, True), Counts(3))
+
     def test_what_does_not_end_fails_and_ends(self) -> None:
         words = ("sh", "-c", "sleep 3600 & echo 1 passed, 0 failed; sleep 3600")
         begun = time.monotonic()
