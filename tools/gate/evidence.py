@@ -3,6 +3,7 @@
 from __future__ import annotations
 
 import datetime
+import fcntl
 import os
 import subprocess
 from dataclasses import dataclass
@@ -67,9 +68,14 @@ def page(today: datetime.date | None = None) -> Path:
 
 
 def add(it: Evidence, to: Path) -> None:
-    """Adds a row to the table of a page, which is made if it isn't there. What stands below the table stays there."""
+    """Adds a row to the table of a page, which is made if it isn't there. What stands below the table stays there. Parts that run side by side may end at once,
+    so each waits until the other has written its row."""
     to.parent.mkdir(parents=True, exist_ok=True)
-    text = to.read_text(encoding="utf-8") if to.is_file() else HEAD.format(date=to.stem)
-    lines = text.splitlines(keepends=True)
-    last = max(at for at, line in enumerate(lines) if line.startswith("|"))
-    to.write_text("".join([*lines[: last + 1], row(it), *lines[last + 1 :]]), encoding="utf-8")
+    with to.open("a+", encoding="utf-8") as page:
+        fcntl.flock(page, fcntl.LOCK_EX)
+        page.seek(0)
+        text = page.read() or HEAD.format(date=to.stem)
+        lines = text.splitlines(keepends=True)
+        last = max(at for at, line in enumerate(lines) if line.startswith("|"))
+        page.truncate(0)
+        page.write("".join([*lines[: last + 1], row(it), *lines[last + 1 :]]))

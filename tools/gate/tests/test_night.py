@@ -5,7 +5,9 @@ import datetime
 import io
 import os
 import tempfile
+import time
 import unittest
+from concurrent.futures import ThreadPoolExecutor
 from pathlib import Path
 from unittest import mock
 
@@ -130,6 +132,18 @@ class Pages(unittest.TestCase):
 
     def test_the_page_of_a_day(self) -> None:
         self.assertEqual(evidence.page(datetime.date(2026, 1, 2)), Path("docs/evidence/2026-01-02.md"))
+
+    def test_rows_that_are_written_at_once(self) -> None:
+        """Each is made slowly, between the reading of the page and its writing."""
+
+        def row(it: evidence.Evidence) -> str:
+            time.sleep(0.05)
+            return f"| {it.part} |\n"
+
+        to, names = Path(self.enterContext(tempfile.TemporaryDirectory()), "2026-11-29.md"), [f"part-{number}" for number in range(8)]
+        with mock.patch.object(evidence, "row", row), ThreadPoolExecutor(len(names)) as pool:
+            list(pool.map(lambda it: evidence.add(evidence.Evidence(it, "nothing", 1), to), names))
+        self.assertEqual(sorted(to.read_text(encoding="utf-8").splitlines()[-len(names) :]), [f"| {it} |" for it in names])
 
     def test_parts_say_what_was_run(self) -> None:
         options, parts = night.arguments(["simulate", "kills-sqlite", "--minutes", "2", "--kills", "7", "--unproved"])
