@@ -1,5 +1,8 @@
 package palqytun
 
+// #include "palqytun_abi.h"
+import "C"
+
 import (
 	"errors"
 	"fmt"
@@ -13,11 +16,13 @@ var (
 	ErrClosed = errors.New("the handler has ended")
 	// ErrJournalMismatch: the handler makes another call than the journal has recorded.
 	ErrJournalMismatch = errors.New("the handler makes another call than the journal has recorded")
-	// ErrNoMemory: the VM found no memory, and has failed. [StatusNoMemory] is one too.
+	// ErrNoMemory: a call that changes nothing found no memory, and may be made again. [StatusNoMemory] is one too. Once a VM has failed since it
+	// found no memory, its error has the code [CodeInternal] and no message, as one that a handler reports may have: it isn't one.
 	ErrNoMemory = errors.New("no memory was found")
 )
 
-// Error is what the VM refuses a call by. It has failed, or is suspended or closed, and returns the same from each later call.
+// Error is what the VM refuses a call by. It has failed, or is suspended or closed, and returns the same from each later call; or it is an
+// [ErrNoMemory].
 type Error struct {
 	// Code is a Code constant of this package, or that of the handler's own error.
 	Code       uint16
@@ -25,6 +30,8 @@ type Error struct {
 	Stacktrace string
 	// Related is the command that it relates to, or nil.
 	Related *Related
+	// The kind of the reply, by which a suspension isn't an error with the same code that a handler reports.
+	kind uint32
 }
 
 // Related is a command that an error relates to.
@@ -46,13 +53,13 @@ func (e *Error) Error() string {
 func (e *Error) Is(target error) bool {
 	switch target {
 	case ErrSuspended:
-		return e.Code == CodeSuspended
+		return e.kind == C.PALQYTUN_SUSPENDED
 	case ErrClosed:
 		return e.Code == CodeClosed
 	case ErrJournalMismatch:
 		return e.Code == CodeJournalMismatch
 	case ErrNoMemory:
-		return e.Code == CodeInternal && e.Message == ""
+		return e.kind == C.PALQYTUN_OUT_OF_MEMORY
 	}
 	return false
 }

@@ -451,7 +451,7 @@ func (vm *VM) refusal() error {
 		}
 		texts[i] = text
 	}
-	found := &Error{Code: uint16(it.number), Message: texts[0], Stacktrace: texts[1]}
+	found := &Error{Code: uint16(it.number), Message: texts[0], Stacktrace: texts[1], kind: uint32(it.kind)}
 	if it.first == 1 {
 		found.Related = &Related{Index: uint32(it.second), Message: MessageType(it.third), Name: texts[2]}
 	}

@@ -173,6 +173,24 @@ func TestSuspensionAndEnd(t *testing.T) {
 	wants(t, err, ErrClosed)
 }
 
+func TestAHandlersErrorIsNoneOfTheVMsOwn(t *testing.T) {
+	for _, given := range []HandlerError{{Code: CodeSuspended, Message: "SUSPENDED"}, {Code: CodeInternal}} {
+		vm := begun()
+		must(0, vm.NotifyError(given, nil))
+		_, err := vm.DoAwait(CancelHandle)
+		var found *Error
+		if !errors.As(err, &found) || found.Code != given.Code || found.Message != given.Message {
+			t.Errorf("%#v", err)
+		}
+		if errors.Is(err, ErrSuspended) || errors.Is(err, ErrNoMemory) {
+			t.Error(err)
+		}
+		must(0, vm.Close())
+	}
+	wants(t, &Error{kind: 23}, ErrNoMemory) // PALQYTUN_OUT_OF_MEMORY, since a test of Go has no names of C
+	wants(t, StatusNoMemory, ErrNoMemory)
+}
+
 func TestAJournalAndItsEffects(t *testing.T) {
 	input, sleep := must(FrameOf(`Input value="Till"`)), must(FrameOf("Sleep wake_up_time=1000 result_completion_id=1"))
 	journal := must(NewJournal(input, sleep))

@@ -54,9 +54,9 @@ function pairs(it, session, first, rows) {
 function made(it, session, status) {
   if (status === NUMBERS.DONE) return it.reply;
   if (status !== NUMBERS.REFUSED) throw new StatusError(status);
-  const [, , isRelated, index, type, code] = it.reply;
+  const [, kind, isRelated, index, type, code] = it.reply;
   const [message, stacktrace, name] = [0, 1, 2].map((at) => text(it, session, at) ?? '');
-  throw refusal(code, message, stacktrace, isRelated ? { index, type, name } : undefined);
+  throw refusal(kind, code, message, stacktrace, isRelated ? { index, type, name } : undefined);
 }
 
 module.exports = { addon, done, made, pairs, part, text, written };

@@ -43,16 +43,18 @@ class Closed extends VMError {}
 /** The handler makes another call than the journal has recorded. */
 class JournalMismatch extends VMError {}
 
-const CLASSES = { [NUMBERS.CODE_SUSPENDED]: Suspended, [NUMBERS.CODE_CLOSED]: Closed, [NUMBERS.CODE_JOURNAL_MISMATCH]: JournalMismatch };
+const CLASSES = { [NUMBERS.CODE_CLOSED]: Closed, [NUMBERS.CODE_JOURNAL_MISMATCH]: JournalMismatch };
 
 /** The case of a number. */
 function caseOf(group, number) {
   return Object.keys(group).find((it) => group[it] === number) ?? `${number}`;
 }
 
-function refusal(code, text, stacktrace, related) {
+/** A suspension is told by the kind of the reply, since a handler may report an error with any code. */
+function refusal(kind, code, text, stacktrace, related) {
   const known = related && { index: related.index, type: caseOf(MessageType, related.type), name: related.name };
-  return new (CLASSES[code] ?? VMError)(code, text, stacktrace, known);
+  const made = kind === NUMBERS.SUSPENDED ? Suspended : (CLASSES[code] ?? VMError);
+  return new made(code, text, stacktrace, known);
 }
 
 module.exports = { Closed, JournalMismatch, LoadError, StatusError, Suspended, VMError, caseOf, refusal };

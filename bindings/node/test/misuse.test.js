@@ -4,7 +4,7 @@
 const assert = require('node:assert');
 const { test } = require('node:test');
 const { Worker } = require('node:worker_threads');
-const { Closed, Journal, JournalMismatch, StatusError, Suspended, VM, VMError, allCompleted, firstCompleted, frames } = require('..');
+const { CANCEL_HANDLE, Closed, Journal, JournalMismatch, StatusError, Suspended, VM, VMError, allCompleted, firstCompleted, frames } = require('..');
 const { begun, fed } = require('./common');
 
 const status = (name) => (error) => error instanceof StatusError && error.status === name;
@@ -93,6 +93,12 @@ test('a suspension and an end', () => {
   other.sysWriteOutput(Buffer.from('done'));
   other.sysEnd();
   assert.throws(() => other.sysSleep(1), Closed);
+});
+
+test("a handler's error is no suspension", () => {
+  const vm = begun();
+  vm.notifyError({ code: 599, message: 'SUSPENDED' });
+  assert.throws(() => vm.doAwait(CANCEL_HANDLE), (it) => it.constructor === VMError && it.code === 599 && it.text === 'SUSPENDED');
 });
 
 test('a journal, and what its rows ask for', () => {

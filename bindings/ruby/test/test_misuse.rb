@@ -118,6 +118,13 @@ class TestMisuse < Minitest::Test
     assert_raises(Closed) { other.sys_sleep(1) }
   end
 
+  def test_a_handlers_error_is_no_suspension
+    vm = begun
+    vm.notify_error(HandlerError.new(code: 599, message: "SUSPENDED"))
+    error = assert_raises(VMError) { vm.do_await(CANCEL_HANDLE) }
+    assert_equal [VMError, 599, "SUSPENDED"], [error.class, error.code, error.text]
+  end
+
   def test_a_journal_and_its_effects
     journal = Journal.new([Frames.frame_of('Input value="Till"'), Frames.frame_of("Sleep wake_up_time=1000 result_completion_id=1")])
     slept = Frames.frame_of("Notification id=completion(1) result=void")

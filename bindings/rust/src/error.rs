@@ -30,6 +30,8 @@ pub struct VmError {
     pub stacktrace: String,
     /// The command that it relates to.
     pub related: Option<Related>,
+    /// The kind of the reply, by which a suspension isn't an error with the same code that a handler reports.
+    pub(crate) kind: u32,
 }
 
 /// A command that an error relates to.
@@ -57,13 +59,17 @@ impl Error {
         self.vm().map(|it| it.code)
     }
 
+    fn has_kind(&self, kind: u32) -> bool {
+        self.vm().map(|it| it.kind) == Some(kind)
+    }
+
     fn has_code(&self, code: u32) -> bool {
         self.code().map(u32::from) == Some(code)
     }
 
     /// Whether the invocation is suspended: what is awaited can't come in this attempt.
     pub fn is_suspended(&self) -> bool {
-        self.has_code(sys::CODE_SUSPENDED)
+        self.has_kind(sys::SUSPENDED)
     }
 
     /// Whether the handler has ended, so no call comes after.
@@ -76,13 +82,10 @@ impl Error {
         self.has_code(sys::CODE_JOURNAL_MISMATCH)
     }
 
-    /// Whether no memory was found, by the library or by the VM, which has failed then.
+    /// Whether no memory was found: by the library, or by a call of the VM that changes nothing and may be made again. Once a VM has failed
+    /// since it found no memory, its error has code 500 and no message, as one that a handler reports may have: for this it is false.
     pub fn is_no_memory(&self) -> bool {
-        match self {
-            Error::Status(status) => *status == Status::NoMemory,
-            Error::Vm(it) => u32::from(it.code) == sys::CODE_INTERNAL && it.message.is_empty(),
-            Error::Load(_) => false,
-        }
+        *self == Error::Status(Status::NoMemory) || self.has_kind(sys::OUT_OF_MEMORY)
     }
 
     /// The error of a status that isn't done. A number that no status has can't come from a library of this interface.

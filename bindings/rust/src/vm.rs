@@ -414,7 +414,8 @@ impl Vm {
         } else {
             None
         };
-        Ok(VmError { code: replied.number as u16, message: self.text(0)?, stacktrace: self.text(1)?, related })
+        let (message, stacktrace) = (self.text(0)?, self.text(1)?);
+        Ok(VmError { code: replied.number as u16, message, stacktrace, related, kind: replied.kind })
     }
 
     fn taken(&self, replied: &Replied) -> Result<Option<Value>> {

@@ -150,6 +150,27 @@ fn an_error_of_the_handlers_own() {
 }
 
 #[test]
+fn a_suspension() {
+    let mut vm = begun();
+    let slept = vm.sys_sleep("nap", 1000).unwrap();
+    vm.notify_input_closed().unwrap();
+    assert!(vm.do_await(slept).unwrap_err().is_suspended());
+}
+
+#[test]
+fn an_error_of_the_handlers_own_is_none_of_the_vms() {
+    for (code, message) in [(599, "SUSPENDED"), (500, "")] {
+        let mut vm = begun();
+        vm.notify_error(&HandlerError { code, message, ..LATER }, None).unwrap();
+        let error = vm.do_await(NotificationHandle::from(1)).unwrap_err();
+        let found = error.vm().unwrap();
+        assert_eq!((found.code, found.message.as_str()), (code, message));
+        assert!(!error.is_suspended() && !error.is_no_memory());
+    }
+    assert!(Error::Status(Status::NoMemory).is_no_memory());
+}
+
+#[test]
 fn a_call_after_the_end() {
     let mut vm = begun();
     vm.sys_write_output(&NonEmptyValue::Success(b"done"), PayloadOptions::STABLE).unwrap();

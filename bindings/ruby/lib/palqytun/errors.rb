@@ -37,7 +37,11 @@ module Palqytun
       @code, @text, @stacktrace, @related = code, text, stacktrace, related
     end
 
-    def self.of(code, *rest) = CLASSES.fetch(code, VMError).new(code, *rest)
+    # A suspension is told by the kind of the reply, since a handler may report an error with any code.
+    def self.of(kind, code, *rest)
+      made = kind == ABI::SUSPENDED ? Suspended : CLASSES.fetch(code, VMError)
+      made.new(code, *rest)
+    end
   end
 
   # The invocation is suspended: what is awaited can't come in this attempt.
@@ -50,7 +54,6 @@ module Palqytun
   class JournalMismatch < VMError; end
 
   VMError::CLASSES = {
-    ABI::CODE_SUSPENDED => Suspended,
     ABI::CODE_CLOSED => Closed,
     ABI::CODE_JOURNAL_MISMATCH => JournalMismatch,
   }.freeze

@@ -246,10 +246,10 @@ module Palqytun
     def one(name, *given) = call(name, *given) { |it| it[2] }
 
     def refuse(replied)
-      status, _, related, index, type, code = replied
+      status, kind, related, index, type, code = replied
       raise StatusError, status unless status == ABI::REFUSED
       known = related == 1 ? Related.new(index, ABI::MESSAGE_TYPE_CASES.key(type), text(2).to_s) : nil
-      raise VMError.of(code, text(0).to_s, text(1).to_s, known)
+      raise VMError.of(kind, code, text(0).to_s, text(1).to_s, known)
     end
 
     def taken(replied)

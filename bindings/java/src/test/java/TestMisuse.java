@@ -153,6 +153,13 @@ public final class TestMisuse {
         Common.thrown(VMException.Closed.class, () -> other.sysSleep(1));
     }
 
+    private static void aHandlersErrorIsNoSuspension() {
+        VM vm = Common.begun();
+        vm.notifyError(HandlerError.of(599, "SUSPENDED"));
+        VMException error = Common.thrown(VMException.class, () -> vm.doAwait(Palqytun.CANCEL_HANDLE));
+        Common.equal(List.of(VMException.class, 599, "SUSPENDED"), List.of(error.getClass(), error.code(), error.text()));
+    }
+
     private static void aJournalAndItsEffects() {
         Journal journal = new Journal(List.of(Frames.frameOf("Input value=\"Till\""), Frames.frameOf("Sleep wake_up_time=1000 result_completion_id=1")));
         byte[] slept = Frames.frameOf("Notification id=completion(1) result=void");
@@ -194,6 +201,7 @@ public final class TestMisuse {
         Common.test("what names no case", TestMisuse::whatNamesNoCase);
         Common.test("errors have all their fields", TestMisuse::errorsHaveAllTheirFields);
         Common.test("a suspension and an end", TestMisuse::aSuspensionAndAnEnd);
+        Common.test("a handler's error is no suspension", TestMisuse::aHandlersErrorIsNoSuspension);
         Common.test("a journal and its effects", TestMisuse::aJournalAndItsEffects);
         Common.test("frames", TestMisuse::frames);
         Common.end();

@@ -388,7 +388,7 @@ public final class VM implements AutoCloseable {
         if (it[FIRST] == 1) {
             related = new VMException.Related((int) it[SECOND], MessageType.of(it[THIRD]), orEmpty(text(2)));
         }
-        throw VMException.of((int) it[NUMBER], orEmpty(text(0)), orEmpty(text(1)), related);
+        throw VMException.of(it[KIND], (int) it[NUMBER], orEmpty(text(0)), orEmpty(text(1)), related);
     }
 
     private int one(Object returned) {

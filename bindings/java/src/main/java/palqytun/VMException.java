@@ -18,9 +18,12 @@ public class VMException extends PalqytunException {
         this.related = related;
     }
 
-    static VMException of(int code, String text, String stacktrace, Related related) {
+    /** A suspension is told by the kind of the reply, since a handler may report an error with any code. */
+    static VMException of(long kind, int code, String text, String stacktrace, Related related) {
+        if (kind == Abi.SUSPENDED) {
+            return new Suspended(code, text, stacktrace, related);
+        }
         return switch (code) {
-            case Abi.CODE_SUSPENDED -> new Suspended(code, text, stacktrace, related);
             case Abi.CODE_CLOSED -> new Closed(code, text, stacktrace, related);
             case Abi.CODE_JOURNAL_MISMATCH -> new JournalMismatch(code, text, stacktrace, related);
             default -> new VMException(code, text, stacktrace, related);
