@@ -8,9 +8,13 @@ use program_runs::command_line::asks_for_help;
 use program_runs::exit_status::ExitStatus;
 use program_runs::streams::{Plain, Source};
 use program_vmrun::run::run;
+use program_vmrun::run_end::{AttemptEnd, RunEnd};
 use std::env::{self, Env};
 use std::io;
 use std::process::ExitCode;
+
+/// The code of an error of the VM that found no memory.
+const OUT_OF_MEMORY: u16 = 500;
 
 const USAGE: &str =
     "usage: vmrun [--details] <content-type> <sleeper|race|parent|counter|deadline>";
@@ -58,6 +62,14 @@ fn read_arguments(rt: &(impl Env + AllocGlobal)) -> io::Result<Option<Arguments>
     }
 }
 
+/// Whether the attempt has failed by an error that another run of it has too. Want of memory isn't one.
+fn has_failed(end: &RunEnd) -> bool {
+    match end {
+        RunEnd::Written(AttemptEnd::Failed(error)) => error.code() != OUT_OF_MEMORY,
+        _ => false,
+    }
+}
+
 /// Runs the handler, and says what its error is about.
 fn run_with_details(rt: &HostRuntime, content_type: &str, handler: &str) -> ExitStatus {
     let mut input = Vec::new(rt.alloc());
@@ -66,11 +78,13 @@ fn run_with_details(rt: &HostRuntime, content_type: &str, handler: &str) -> Exit
     }
     let mut writer = Plain(io::writer(rt));
     let mut reader = Plain(input.as_slice());
-    let status = run(rt.alloc(), content_type, handler, &mut reader, &mut writer).status();
-    if let Ok(Some(told)) = explain(rt.alloc(), content_type, handler, input) {
+    let end = run(rt.alloc(), content_type, handler, &mut reader, &mut writer);
+    if has_failed(&end)
+        && let Ok(Some(told)) = explain(rt.alloc(), content_type, handler, input)
+    {
         let _ = rt.eprintln(told.as_str());
     }
-    status
+    end.status()
 }
 
 /// Runs the handler that the arguments name.
