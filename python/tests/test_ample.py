@@ -159,6 +159,7 @@ CALLS: dict[str, list[Call]] = {
     "sys_write_output": variants(VM.sys_write_output, (b"v",), (FAILURE,), unstable=True),
     "sys_end": variants(VM.sys_end, ()),
     "state": variants(VM.state, ()),
+    "describe": variants(VM.describe, ()),
     "last_command_index": variants(VM.last_command_index, ()),
 }
 

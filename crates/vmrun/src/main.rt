@@ -62,7 +62,7 @@ fn read_arguments(rt: &(impl Env + AllocGlobal)) -> io::Result<Option<Arguments>
     }
 }
 
-/// Whether the attempt has failed by an error that another run of it has too. Want of memory isn't one.
+/// Whether the attempt has failed by an error that another run of it has too. An attempt that was out of memory has not.
 fn has_failed(end: &RunEnd) -> bool {
     match end {
         RunEnd::Written(AttemptEnd::Failed(error)) => error.code() != OUT_OF_MEMORY,
