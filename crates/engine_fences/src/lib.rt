@@ -1,6 +1,6 @@
 //! A fence before an engine, and laws of an engine's events. An invocation may have many attempts at once, each with its epoch. What an attempt asks
 //! for is refused once a later one has begun. So attempts that are lost and don't know it change nothing. Each signal comes once, in order if deliveries
-//! are. The state of a key is settled once its next invocation has begun. No key is stuck, and nothing waits without a cause.
+//! are. The state of a key is settled once its next invocation has begun. The first of a key that hasn't ended may begin. Nothing waits without a cause.
 #![tactic(auto)]
 
 mod causes;

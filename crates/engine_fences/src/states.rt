@@ -15,7 +15,7 @@ pub fn key_states_are_settled<'a, H: Handler + Drop>(engine: &Engine<'a, H>)
         → AllHappen (λ h. H.meaning h) events engine.now new → AreSettled engine.now new }
 {}
 
-/// No key is stuck: of its invocations that haven't ended the first may begin, once its time has come.
+/// Of a key's invocations that haven't ended the first may begin, once its time has come.
 pub fn key_turns_go_on<'a, H: Handler + Drop>(engine: &Engine<'a, H>)
     ensures turns { TurnsGoOn engine.now }
 {}
