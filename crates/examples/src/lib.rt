@@ -1,10 +1,8 @@
-//! Handlers as ordinary code, to read and to copy: each with its tree in `specs/`, and so with all that is proved of handlers, and with a
-//! crash test, in which each attempt dies one step later than the one before it.
+//! Handlers as ordinary code, to read and to copy: each with its tree in `specs/`, and so with all that is proved of handlers. `test_scripts` has
+//! their crash tests, in which each attempt dies one step later than the one before it.
 #![tactic(auto)]
 
 pub mod approval;
-#[cfg(test)]
-mod crashes;
 pub mod race;
 pub mod reminder;
 pub mod retry;

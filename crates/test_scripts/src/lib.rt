@@ -1,11 +1,14 @@
 //! What no row can say of scripts: of `vmscript` and `vmrounds`, readers and writers that fail, arguments with which nothing is read, and
-//! the forms that hints show; and of what crash tests are written with, worlds that a test describes, and reports that it asks.
+//! the forms that hints show; of what crash tests are written with, worlds that a test describes, and reports
+//! that it asks; and of the handlers of `examples`.
 #![tactic(auto)]
 
 #[cfg(test)]
 mod crash_reports;
 #[cfg(test)]
 mod crash_worlds;
+#[cfg(test)]
+mod example_crashes;
 #[cfg(test)]
 mod forms;
 #[cfg(test)]

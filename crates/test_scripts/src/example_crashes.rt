@@ -1,10 +1,10 @@
-// Each example through a crash at every step. Steps count from 1, the input; an await and the take after it are two steps.
-use crate::approval::Approval;
-use crate::race::Race;
-use crate::reminder::Reminder;
-use crate::retry::Retry;
-use crate::saga::Saga;
-use crate::sleeper::Sleeper;
+// Each handler of `examples` through a crash at every step. Steps count from 1, the input; an await and the take after it are two steps.
+use examples::approval::Approval;
+use examples::race::Race;
+use examples::reminder::Reminder;
+use examples::retry::Retry;
+use examples::saga::Saga;
+use examples::sleeper::Sleeper;
 use palqytun::handler::Durable;
 use palqytun::testing::{
     cancel, crash_at_each_step, crash_at_each_step_with_runs, expect_end, expect_entry, failed,
