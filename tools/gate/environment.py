@@ -66,7 +66,18 @@ def cores(kilobytes: int) -> int:
     return max(1, min(processors(), free_memory() // kilobytes))
 
 
+def named_lanes() -> int | None:
+    """How many crates RT_JOBS says to prove at a time."""
+    named = os.environ.get("RT_JOBS", "")
+    return int(named) if re.fullmatch("[1-9][0-9]*", named) else None
+
+
 def lanes() -> int:
     """How many crates are proved at a time: RT_JOBS, or as many as there are cores, if each has 4 GB."""
-    named = os.environ.get("RT_JOBS", "")
-    return int(named) if re.fullmatch("[1-9][0-9]*", named) else cores(MEMORY)
+    return named_lanes() or cores(MEMORY)
+
+
+def keeps_proofs() -> bool:
+    """Whether `rt ci` can keep what it has proved, beside the kit, for a later one on this machine."""
+    rt = shutil.which("rt")
+    return rt is not None and os.access(Path(rt).resolve().parents[2], os.W_OK)

@@ -52,9 +52,10 @@ class Proofs:
     spent: dict[str, float] = field(default_factory=dict)
 
     def said(self, line: str) -> None:
-        """Takes a line of rt ci's output."""
+        """Takes a line of rt ci's output. What an rt ci of this run has proved, and a second one takes, is proved and not kept."""
         if found := KEPT.match(line):
-            self.kept.add(found[1])
+            if found[1] not in self.proved:
+                self.kept.add(found[1])
             self.ended.add(found[1])
         elif found := PROVED.match(line) or FAILED.match(line):
             self.proved.add(found[1])

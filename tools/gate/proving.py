@@ -9,21 +9,23 @@ import shutil
 import signal
 import sys
 import time
-from collections.abc import Iterator
+from collections.abc import Iterator, Mapping
 from dataclasses import dataclass, replace
 from pathlib import Path
 
 from . import counts, tree
-from .environment import TOP, cores, environment, lanes, start_anew
+from .environment import TOP, cores, environment, keeps_proofs, lanes, named_lanes, start_anew
 from .jobs import Done, Job, Runner, total
 from .parts import has_tests, job, programs, script
-from .proofs import Processors, Proofs, read_crates, read_times
+from .proofs import Crate, Processors, Proofs, read_crates, read_times
 from .show import Show, minutes
 
 OUT = "out/prove"
 TIMES = Path(OUT, "times.json")
 ARCHIVE = "crates/ffi/out/libffi.a"
 PROOFS, BUILDS = "proofs", "builds"
+NARROW = f"{PROOFS}/narrow"
+WAIST = "world_rounds"  # below it a crate of the longest chain is seldom ready beside another
 HOURS = 6 * 3600  # that rt ci may take
 SMALL = 1_500_000  # kilobytes for a job that proves nothing
 LOOK = 2  # seconds between two looks at the processes
@@ -52,16 +54,21 @@ PARTS = [
 ]
 
 
-def jobs(seconds: dict[str, float]) -> Iterator[Job]:
-    """The jobs of ./prove, with the seconds that they took last time."""
-    for it in every_job():
+def jobs(seconds: dict[str, float], narrow: Path | None) -> Iterator[Job]:
+    """The jobs of ./prove, with the seconds that they took last time. If there is a folder of the crates below the waist, these are proved first."""
+    for it in every_job(narrow):
         yield replace(it, seconds=max(round(seconds.get(it.name, it.seconds)), 1))
 
 
-def every_job() -> Iterator[Job]:
+def every_job(narrow: Path | None) -> Iterator[Job]:
     # rt ci takes all cores for itself; the library is built in its last minutes, as soon as what it stands on is proved.
-    room = tree.place()
-    yield replace(job(PROOFS, "rt", "ci"), seconds=2400, cores=1000, limit=HOURS, folder=str(room))
+    room, first = tree.place(), ()
+    if narrow:
+        # Without RT_JOBS a check has up to four processes while no other waits. The second rt ci takes what this one keeps.
+        alone = replace(job(NARROW, "rt", "ci"), seconds=1500, cores=1000, limit=HOURS, folder=str(narrow))
+        yield replace(alone, counts=counts.of_status, env={"RT_JOBS": ""})
+        first = (NARROW,)
+    yield replace(job(PROOFS, "rt", "ci"), seconds=2400, cores=1000, limit=HOURS, folder=str(room), after=first)
     log = str(TOP / OUT / "logs" / f"{PROOFS}.log")
     library = script("library", str(TOP / "tools/static-library"), "ffi", log)
     yield replace(library, counts=counts.of_status, cores=0, limit=HOURS, folder=str(room))
@@ -86,11 +93,11 @@ class ShowProofs(Show):
     def __init__(self, those: list[Job], proofs: Proofs, cores: int, is_strict: bool) -> None:
         super().__init__(those, is_strict)
         self.proofs, self.cores, self.processors = proofs, cores, Processors()
-        self.log, self.read = Path(OUT, "logs", f"{PROOFS}.log"), 0
+        self.read = {it: 0 for it in (NARROW, PROOFS)}
         self.looked = 0.0
 
     def ticked(self) -> None:
-        if PROOFS in self.running and time.monotonic() - self.looked >= LOOK:
+        if self._proves() and time.monotonic() - self.looked >= LOOK:
             self.looked = time.monotonic()
             self.processors.look()
             self.proofs.spent = self.processors.by_crate()
@@ -98,25 +105,32 @@ class ShowProofs(Show):
         super().ticked()
 
     def ended(self, done: Done) -> None:
-        if done.job.name == PROOFS:
+        if done.job.name in self.read:
             self._read()
         super().ended(done)
 
+    def _proves(self) -> bool:
+        return any(it in self.running for it in self.read)
+
     def _read(self) -> None:
-        """Reads the lines that rt ci has printed since."""
-        with self.log.open("rb") as it:
-            it.seek(self.read)
-            said = it.read()
-        whole = said[: said.rfind(b"\n") + 1]
-        self.read += len(whole)
-        for line in whole.decode(errors="replace").splitlines():
-            self.proofs.said(line)
+        """Reads the lines that each rt ci has printed since."""
+        for name, begun in self.read.items():
+            log = Path(OUT, "logs", f"{name.replace('/', '-')}.log")
+            if not log.is_file():
+                continue
+            with log.open("rb") as it:
+                it.seek(begun)
+                said = it.read()
+            whole = said[: said.rfind(b"\n") + 1]
+            self.read[name] += len(whole)
+            for line in whole.decode(errors="replace").splitlines():
+                self.proofs.said(line)
 
     def _share(self) -> float:
-        return self.proofs.done() / max(len(self.proofs.crates), 1) if PROOFS in self.running else super()._share()
+        return self.proofs.done() / max(len(self.proofs.crates), 1) if self._proves() else super()._share()
 
     def _names(self) -> str:
-        if PROOFS not in self.running:
+        if not self._proves():
             return super()._names()
         left = self.proofs.left(self.cores)
         more = "no time is known yet" if left is None else f"about {minutes(left + self._later())} left"
@@ -125,7 +139,7 @@ class ShowProofs(Show):
 
     def _later(self) -> float:
         """The seconds of what follows rt ci. The library is built beside it."""
-        return sum(seconds for name, seconds in self.seconds.items() if name not in (PROOFS, "library", BUILDS)) / self.cores
+        return sum(seconds for name, seconds in self.seconds.items() if name not in (NARROW, PROOFS, "library", BUILDS)) / self.cores
 
 
 def arguments(words: list[str]) -> argparse.Namespace:
@@ -148,6 +162,16 @@ def write_times(proofs: Proofs, last: dict[str, float], done: dict[str, Done]) -
     TIMES.write_text(json.dumps(found, indent=1) + "\n", encoding="utf-8")
 
 
+def narrow_tree(crates: Mapping[str, Crate], is_set: bool) -> Path | None:
+    """The folder of the crates up to the waist, which are proved first: unless somebody has said how many to prove at a time, or nothing would
+    be kept."""
+    if is_set or not keeps_proofs():
+        return None
+    place = tree.place(name="prove-narrow")
+    tree.make(TOP, place, tree.below(crates, [WAIST]))
+    return place
+
+
 def run(options: argparse.Namespace) -> int:
     """Proves, and returns the status."""
     times, begun = read_times(TIMES), time.monotonic()
@@ -155,8 +179,9 @@ def run(options: argparse.Namespace) -> int:
     crates = read_crates(TOP, [it.name for it in TOP.glob("crates/*") if has_tests(it)])
     crates = {name: crates[name] for name in tree.promising(crates)}
     tree.make(TOP, tree.place(), crates)
+    narrow = narrow_tree(crates, is_set=bool(options.jobs or named_lanes()))
     proofs = Proofs(crates, {name: it for name, it in times.items() if name in crates})
-    those = list(jobs(of_jobs))
+    those = list(jobs(of_jobs, narrow))
     at_a_time = options.jobs or lanes()
     print(f"{len(crates)} crates, {at_a_time} at a time; logs: {OUT}/logs", flush=True)
     show = ShowProofs(those, proofs, at_a_time, options.no_skips)
@@ -166,6 +191,8 @@ def run(options: argparse.Namespace) -> int:
         done = runner.run()
     finally:
         write_times(proofs, of_jobs, runner.done)
+        if narrow:
+            shutil.rmtree(narrow, ignore_errors=True)
     show.close()
     found = total(done, options.no_skips)
     print(f"./prove took {minutes(time.monotonic() - begun)}")

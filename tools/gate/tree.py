@@ -22,10 +22,10 @@ NOT_COPIED = ("out", "wrong-bodies")
 BENCHES = ("vmbench",)
 
 
-def place(top: Path = TOP) -> Path:
-    """Where the folder is: beside what git and rt ci keep, since rt ci wants no second crates.txt among the repository's files."""
+def place(top: Path = TOP, name: str = "prove") -> Path:
+    """Where a folder of this name is: beside what git and rt ci keep, since rt ci wants no second crates.txt among the repository's files."""
     git = top / ".git"
-    return git / "prove" if git.is_dir() and os.access(git, os.W_OK) else top / "out/prove/tree"
+    return git / name if git.is_dir() and os.access(git, os.W_OK) else top / "out/prove" / name
 
 
 def below(crates: Mapping[str, Crate], names: Iterable[str]) -> set[str]:

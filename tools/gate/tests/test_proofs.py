@@ -61,6 +61,13 @@ class Left(unittest.TestCase):
         it.said("rt: left proved")
         self.assertEqual(it.times(), {"low": 100, "left": 60, "right": 30, "top": 20})
 
+    def test_what_this_run_proved_and_then_took_has_its_time(self) -> None:
+        it = self.proofs()
+        it.spent = {"low": 60.0}
+        it.said("rt: low proved")
+        it.said("rt: low is kept: an earlier run on this machine proved the same files over the same libraries")
+        self.assertEqual((it.done(), it.times()["low"]), (1, 60))
+
 
 class Files(unittest.TestCase):
     def setUp(self) -> None:
