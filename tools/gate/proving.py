@@ -22,7 +22,7 @@ from .show import Show, minutes
 
 OUT = "out/prove"
 TIMES = Path(OUT, "times.json")
-ARCHIVE = "crates/ffi/out/libffi.a"
+ARCHIVE = "crates/ffi/out/libffi.a"  # below the folder in which it is proved
 PROOFS, BUILDS = "proofs", "builds"
 NARROW = f"{PROOFS}/narrow"
 WAIST = "world_rounds"  # below it a crate of the longest chain is seldom ready beside another
@@ -72,8 +72,12 @@ def every_job(narrow: Path | None) -> Iterator[Job]:
     log = str(TOP / OUT / "logs" / f"{PROOFS}.log")
     library = script("library", str(TOP / "tools/static-library"), "ffi", log)
     yield replace(library, counts=counts.of_status, cores=0, limit=HOURS, folder=str(room))
+    # So are the examples run over it, which wait for a core as little.
+    groups = ("examples", "header", "refused")
+    bindings = script("bindings", "tools/bindings", "--archive", str(room / ARCHIVE), *groups, needs=("library",))
+    yield replace(bindings, seconds=200, cores=0)
     take = job(BUILDS, sys.executable, "-m", "tools.gate.tree", "take")
-    yield replace(take, seconds=1, counts=counts.of_status, after=(PROOFS, "library"))
+    yield replace(take, seconds=1, counts=counts.of_status, after=(PROOFS, "library", "bindings"))
     for program in (it for it in programs() if not tree.promises_nothing(it)):
         cases = sorted(Path("crates", program, "runs").glob("*.in"))
         for it in cases:
@@ -83,8 +87,6 @@ def every_job(narrow: Path | None) -> Iterator[Job]:
         if not cases:
             yield replace(job(f"refused/{program}", "sh", "-c", f"echo crates/{program}/runs has no input; exit 1"), after=(BUILDS,))
     yield replace(script("rows", "tools/rows"), after=(BUILDS,))
-    groups = ("examples", "header", "refused")
-    yield replace(script("bindings", "tools/bindings", "--archive", ARCHIVE, *groups, needs=("library",)), seconds=200, after=(BUILDS,))
 
 
 class ShowProofs(Show):
@@ -138,8 +140,8 @@ class ShowProofs(Show):
         return f"{self.proofs.done()} of {len(self.proofs.crates)} crates proved, {more}: {working}"
 
     def _later(self) -> float:
-        """The seconds of what follows rt ci. The library is built beside it."""
-        return sum(seconds for name, seconds in self.seconds.items() if name not in (NARROW, PROOFS, "library", BUILDS)) / self.cores
+        """The seconds of what follows rt ci. The library is built beside it, and the examples run over it."""
+        return sum(seconds for name, seconds in self.seconds.items() if name not in (NARROW, PROOFS, "library", "bindings", BUILDS)) / self.cores
 
 
 def arguments(words: list[str]) -> argparse.Namespace:

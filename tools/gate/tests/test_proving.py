@@ -19,6 +19,12 @@ class Order(unittest.TestCase):
     def test_all_is_proved_at_once_if_nothing_is_kept(self) -> None:
         self.assertEqual([(it.name, it.after) for it in proving.every_job(None) if it.part == proving.PROOFS], [(proving.PROOFS, ())])
 
+    def test_the_library_is_tried_beside_the_proofs_and_before_it_is_moved(self) -> None:
+        those = {it.name: it for it in proving.every_job(None)}
+        self.assertEqual((those["bindings"].needs, those["bindings"].after, those["bindings"].cores), (("library",), (), 0))
+        self.assertIn(str(tree.place() / proving.ARCHIVE), those["bindings"].words)
+        self.assertIn("bindings", those[proving.BUILDS].after)
+
 
 class Narrow(unittest.TestCase):
     def setUp(self) -> None:
