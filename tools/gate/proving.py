@@ -62,15 +62,17 @@ def jobs(seconds: dict[str, float], narrow: Path | None) -> Iterator[Job]:
 
 def every_job(narrow: Path | None) -> Iterator[Job]:
     # rt ci takes all cores for itself; the library is built in its last minutes, as soon as what it stands on is proved.
-    room, first = tree.place(), ()
+    room, logs = tree.place(), TOP / OUT / "logs"
+    proofs = replace(job(PROOFS, "rt", "ci"), seconds=2400, cores=1000, limit=HOURS, folder=str(room))
     if narrow:
-        # Without RT_JOBS a check has up to four processes while no other waits. The second rt ci takes what this one keeps.
+        # Without RT_JOBS a check has up to four processes while no other waits. The second rt ci takes what this one keeps; it reads all
+        # crates for a minute before it proves one, so it begins while the last one here is proved.
         alone = replace(job(NARROW, "rt", "ci"), seconds=1500, cores=1000, limit=HOURS, folder=str(narrow))
         yield replace(alone, counts=counts.of_status, env={"RT_JOBS": ""})
-        first = (NARROW,)
-    yield replace(job(PROOFS, "rt", "ci"), seconds=2400, cores=1000, limit=HOURS, folder=str(room), after=first)
-    log = str(TOP / OUT / "logs" / f"{PROOFS}.log")
-    library = script("library", str(TOP / "tools/static-library"), "ffi", log)
+        words = (sys.executable, "-m", "tools.gate.later", str(logs / f"{NARROW.replace('/', '-')}.log"), WAIST, *proofs.words)
+        proofs = replace(proofs, words=words, cores=0, env={"PYTHONPATH": str(TOP)})
+    yield proofs
+    library = script("library", str(TOP / "tools/static-library"), "ffi", str(logs / f"{PROOFS}.log"))
     yield replace(library, counts=counts.of_status, cores=0, limit=HOURS, folder=str(room))
     # So are the examples run over it, which wait for a core as little.
     groups = ("examples", "header", "refused")

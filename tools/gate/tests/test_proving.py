@@ -14,7 +14,8 @@ class Order(unittest.TestCase):
     def test_what_is_narrow_is_proved_first_with_as_many_processes_as_rt_gives_a_check(self) -> None:
         narrow, proofs = [it for it in proving.every_job(Path("narrow")) if it.part == proving.PROOFS]
         self.assertEqual((narrow.name, narrow.words, narrow.folder, narrow.env), (proving.NARROW, ("rt", "ci"), "narrow", {"RT_JOBS": ""}))
-        self.assertEqual((proofs.after, dict(proofs.env)), ((proving.NARROW,), {}))
+        self.assertEqual((proofs.words[-3:], proofs.after), ((proving.WAIST, "rt", "ci"), ()))
+        self.assertNotIn("RT_JOBS", proofs.env)
 
     def test_all_is_proved_at_once_if_nothing_is_kept(self) -> None:
         self.assertEqual([(it.name, it.after) for it in proving.every_job(None) if it.part == proving.PROOFS], [(proving.PROOFS, ())])
