@@ -8,6 +8,7 @@ import shutil
 import signal
 import sys
 import time
+from dataclasses import replace
 from pathlib import Path
 
 from .environment import TOP, cores, environment, start_anew
@@ -38,9 +39,11 @@ def arguments(words: list[str]) -> argparse.Namespace:
 
 
 def wanted(names: list[str]) -> list[Job]:
-    """The jobs of these parts, or of all, and those that they need."""
+    """The jobs of these parts, or of all, and those that they need. What they only come after may be left out."""
     every = all_jobs()
-    return with_needed([it for it in every if it.part in names], every) if names else every
+    those = with_needed([it for it in every if it.part in names], every) if names else every
+    present = {it.name for it in those}
+    return [replace(it, after=tuple(one for one in it.after if one in present)) for it in those]
 
 
 def listed() -> None:

@@ -7,14 +7,14 @@ from pathlib import Path
 from tools.kit.linking import soname
 
 # Stands for rt: a program that was built is run as it is, and tests are tried without a second process that checks them. It has the real one in REAL,
-# the copy of the repository in COPY, and the repository in BUILT, or the programs in PROGRAMS.
+# the copy of the repository in COPY, and the repository in BUILT, or the programs in PROGRAMS. RESULTS may have what tests have printed before.
 RT = r"""#!/usr/bin/env bash
 name=$(basename "$PWD") verb=${1:-} cases=
 program=${PROGRAMS:-$BUILT/crates/$name/out}/$name
 [[ $verb == check ]] && exit 0
 if [[ $verb == try && " $* " == *" --test "* ]]; then
     set -o pipefail
-    "$PYTHON" "$COPY/tools/unproved" tests "$name" | grep '^test'
+    "$PYTHON" "$COPY/tools/unproved" tests "$name" ${RESULTS:+--results "$RESULTS"} | grep '^test'
     exit
 fi
 if [[ $verb == try || $verb == run ]] && [[ -x $program ]]; then

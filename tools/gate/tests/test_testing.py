@@ -1,0 +1,31 @@
+"""Which jobs ./test runs for which parts."""
+
+from __future__ import annotations
+
+import unittest
+
+from tools.gate.parts import PARTS, all_jobs
+from tools.gate.testing import wanted
+
+
+class Wanted(unittest.TestCase):
+    def test_each_job_stands_once_and_what_it_needs_is_one(self) -> None:
+        names = [it.name for it in all_jobs()]
+        self.assertEqual(len(names), len(set(names)))
+        for it in all_jobs():
+            self.assertLessEqual({*it.needs, *it.after}, set(names), it.name)
+            self.assertIn(it.part, {part.name for part in PARTS})
+
+    def test_a_part_comes_with_what_it_needs(self) -> None:
+        self.assertEqual([it.name for it in wanted(["header"])], ["programs/lowered", "library", "header"])
+
+    def test_what_a_job_only_comes_after_is_left_out_with_its_part(self) -> None:
+        alone = {it.name: it for it in wanted(["tutorial"])}
+        self.assertNotIn("crates", alone)
+        self.assertEqual(alone["tutorial/handlers"].after, ())
+        whole = {it.name: it for it in wanted([])}
+        self.assertEqual(whole["tutorial/handlers"].after, ("crates",))
+
+
+if __name__ == "__main__":
+    unittest.main()
