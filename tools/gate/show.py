@@ -38,6 +38,13 @@ def shown(log: Path) -> str:
     return "\n".join([*left, *lines[-MOST:]])
 
 
+def times(done: Iterable[Done]) -> str:
+    """A line for each job: when it began and ended, in seconds since the first one began, and the seconds of a core that it took."""
+    those = sorted(done, key=lambda it: it.begun)
+    rows = (f"{it.begun - those[0].begun:7.1f} {it.ended - those[0].begun:7.1f} {it.used:7.1f}  {it.job.name}\n" for it in those)
+    return "".join([f"{'began':>7} {'ended':>7} {'core':>7}  job\n", *rows])
+
+
 class Show:
     """Prints how far jobs are."""
 

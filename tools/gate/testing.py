@@ -14,13 +14,13 @@ from pathlib import Path
 from .environment import TOP, cores, environment, start_anew
 from .jobs import Job, Runner, never, total, with_needed
 from .parts import OUT, PARTS, all_jobs
-from .show import Show, minutes
+from .show import Show, minutes, times
 from .spare import Spare
 
 MEMORY = 1_500_000  # kilobytes that a job takes at most
 
 ABOUT = """Runs every test, and proves nothing: what is proved, ./prove proves. Parts that don't need each other run side by side.
-The last line is 'N passed, M failed, K skipped'. Each part's output is kept in out/test/logs."""
+The last line is 'N passed, M failed, K skipped'. Each job's output is kept in out/test/logs, and their times in out/test/times."""
 
 
 def arguments(words: list[str]) -> argparse.Namespace:
@@ -63,6 +63,7 @@ def run(options: argparse.Namespace) -> int:
     runner = Runner(jobs, options.jobs, Path(OUT, "logs"), show, environment(TOP / OUT / "bin"), spare)
     done = runner.run()
     show.close()
+    Path(OUT, "times").write_text(times(done.values()), encoding="utf-8")
     found = total(done, options.no_skips)
     print(f"./test took {minutes(time.monotonic() - begun)}, and {minutes(sum(it.used for it in done.values()))} of a core")
     print(found)

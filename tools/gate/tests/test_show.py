@@ -4,11 +4,12 @@ import contextlib
 import io
 import tempfile
 import unittest
+from dataclasses import replace
 from pathlib import Path
 
 from tools.gate.counts import Counts
 from tools.gate.jobs import Done, Job
-from tools.gate.show import Show, minutes, skips
+from tools.gate.show import Show, minutes, skips, times
 
 
 class Showing(unittest.TestCase):
@@ -33,6 +34,11 @@ class Showing(unittest.TestCase):
     def test_a_line_a_part(self) -> None:
         lines = self.printed(self.done("a/x", Counts(2)), self.done("b", Counts(1), seconds=130), self.done("a/y", Counts(3)))
         self.assertEqual(lines, ["b  1 passed, 0 failed, 0 skipped, 2 min 10 s, 65 s of a core", "a  5 passed, 0 failed, 0 skipped, 1 s, 1 s of a core"])
+
+    def test_when_jobs_began_and_ended(self) -> None:
+        later = replace(self.done("b/x", Counts(1)), begun=12.5, ended=20.0)
+        wanted = "  began   ended    core  job\n    0.0     3.0     1.5  a\n    2.5    10.0     0.5  b/x\n"
+        self.assertEqual(times([later, self.done("a", Counts(2), seconds=3)]), wanted)
 
     def test_the_output_of_what_fails(self) -> None:
         lines = self.printed(self.done("a", Counts(2, 1), "what is wrong\n2 passed, 1 failed\n"))
