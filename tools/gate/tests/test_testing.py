@@ -4,7 +4,7 @@ from __future__ import annotations
 
 import unittest
 
-from tools.gate.parts import PARTS, all_jobs
+from tools.gate.parts import PARTS, SECONDS, all_jobs
 from tools.gate.testing import wanted
 
 
@@ -15,6 +15,10 @@ class Wanted(unittest.TestCase):
         for it in all_jobs():
             self.assertLessEqual({*it.needs, *it.after}, set(names), it.name)
             self.assertIn(it.part, {part.name for part in PARTS})
+
+    def test_seconds_are_those_of_jobs_or_of_their_parts(self) -> None:
+        known = {name for it in all_jobs() for name in (it.name, it.part)}
+        self.assertLessEqual(SECONDS.keys(), known)
 
     def test_a_part_comes_with_what_it_needs(self) -> None:
         self.assertEqual([it.name for it in wanted(["header"])], ["programs/lowered", "library", "header"])
