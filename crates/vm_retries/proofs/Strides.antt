@@ -1,6 +1,7 @@
 -- Multiplications that change a number by the same amount, one after another.
-use Rattle.std.proofs.Common.{◌≡◌, ℕ, zero, suc, ◌+◌, ◌-◌, ◌*◌, ◌/◌, ◌%◌, ◌<◌, ◌≤◌, refl, sym, ap, ◌∙◌, arith, inl, inr}
-use Rattle.std.proofs.Math.Nat.{div-div-eq-div-mul, div-mul-le_self, mod-lt, mul-le-mul_right}
+use Rattle.std.proofs.Common.{◌≡◌, ℕ, zero, suc, ◌+◌, ◌-◌, ◌*◌, ◌/◌, ◌%◌, ◌<◌, ◌≤◌, min, refl, sym, ap, ◌∙◌, arith, inl, inr}
+use Rattle.std.proofs.Math.Nat.{div-div-eq-div-mul, div-le_self, div-mul-le_self, mod-lt, mul-le-mul_right}
+use Rattle.std.specs.Duration.{max_nanos}
 use Rattle.std.specs.Int.{abs_diff}
 use Rattle.std.proofs.lemmas.Bool.{cases_lt}
 use Rattle.std.proofs.lemmas.Nat.{div-add-mod'}
@@ -61,6 +62,24 @@ within_room room change apart j h =
     let c = mul-le-mul_right (change * apart) h in
     let d : room / change / apart * (change * apart) ≡ room / (change * apart) * (change * apart) = ap (λ (m : ℕ). m * (change * apart)) a in
     omega (arith, b, c, d)
+
+-- what they change the number by is less than the denominator
+pub change_within : (x n d change apart j further : ℕ) → j ≡ min ((d - 1 - x * n % d) / change / apart) further → j * change ≤ d - 1
+change_within x n d change apart j further is =
+    let room = d - 1 - x * n % d in
+    let few : j ≤ room / change = omega (arith, is, div-le_self (room / change) apart) in
+    omega (arith, mul-le-mul_right change few, div-mul-le_self room change)
+
+-- so what they lead to has room in 128 bits
+pub reached_within : (x n d change apart j further : ℕ) → j ≡ min ((d - 1 - x * n % d) / change / apart) further → x ≤ max_nanos → n < 4294967296 → d < 4294967296
+    → x * n / d + j * change < 340282366920938463463374607431768211456
+reached_within x n d change apart j further is most small short =
+    let product : x * n ≤ max_nanos * n = mul-le-mul_right n most in
+    omega (arith, product, div-le_self (x * n) d, change_within x n d change apart j further is)
+
+-- they are no more than those left
+pub step_within : (left further j most : ℕ) → 0 < left → further ≡ left - 1 → j ≡ min most further → 1 + j ≤ left
+step_within left further j most some less is = omega arith
 
 -- ---- a stride over numbers as a program has them
 

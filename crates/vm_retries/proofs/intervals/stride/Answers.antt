@@ -1,7 +1,7 @@
-use Rattle.std.proofs.Common.{◌≡◌, ◌≤◌, ℕ, ◌-◌, ◌*◌, ◌/◌, ◌%◌, arith, sym, ap, ◌∙◌}
+use Rattle.std.proofs.Common.{◌≡◌, ◌<◌, ◌≤◌, ℕ, ◌-◌, ◌*◌, ◌/◌, ◌%◌, arith, sym, ap, ◌∙◌, rules}
 use Rattle.vm_retries.specs.Intervals.{times}
 use Rattle.vm_retries.proofs.Multiples.{multiplied-same}
-use Rattle.vm_retries.proofs.Strides.{strides_up, strides_down}
+use Rattle.vm_retries.proofs.Strides.{change_within, reached_within, step_within, strides_up, strides_down}
 use Rattle.vm_retries.proofs.intervals.stride.Goals as goal
 use Rattle.vm_retries.proofs.intervals.stride.Goals.{then-next-interval-2, else-next-interval-2}
 
@@ -31,3 +31,15 @@ returns-clause-next c =
           c.from-numerator.ensures c.from-denominator.ensures c.abs_diff-change.ensures c.abs_diff.ensures few (omega arith) in
           omega (arith, up, w.reached-is)
     ]
+
+pub returns-clause-within : goal.returns-clause-within
+returns-clause-within c = step_within c.args.left c.from.result c.min-further.result _ c.requires.left c.from.ensures c.min-further.ensures
+
+pub overflow_mul-changed : goal.overflow_mul-changed
+overflow_mul-changed c = omega (arith, change_within c.args.interval c.from-numerator.result c.from-denominator.result c.abs_diff-change.result c.abs_diff.result c.min-further.result _ c.min-further.ensures)
+
+pub overflow_add-reached : goal.overflow_add-reached
+overflow_add-reached c =
+    let n : c.args.factor.numerator < 4294967296 = search (rules, c.well_formed) in
+    let d : c.args.factor.denominator < 4294967296 = search (rules, c.well_formed) in
+    omega (arith, reached_within c.args.interval c.from-numerator.result c.from-denominator.result c.abs_diff-change.result c.abs_diff.result c.min-further.result _ c.min-further.ensures c.requires.interval (rw c.from-numerator.ensures n) (rw c.from-denominator.ensures d))
