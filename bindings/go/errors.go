@@ -8,7 +8,8 @@ import (
 	"fmt"
 )
 
-// What an [*Error] may be, for errors.Is.
+// What an [*Error] may be, for errors.Is. One that was handed in, by [VM.NotifyError] or [VM.ProposeRetryableFailure], is none of these, with any
+// code.
 var (
 	// ErrSuspended: the invocation is suspended, since what is awaited can't come in this attempt.
 	ErrSuspended = errors.New("the invocation is suspended")
@@ -30,8 +31,10 @@ type Error struct {
 	Stacktrace string
 	// Related is the command that it relates to, or nil.
 	Related *Related
-	// The kind of the reply, by which a suspension isn't an error with the same code that a handler reports.
+	// The kind of the reply, by which a suspension isn't an error with the same code that was handed in.
 	kind uint32
+	// It was handed in, so its code says nothing of the VM.
+	handedIn bool
 }
 
 // Related is a command that an error relates to.
@@ -55,14 +58,17 @@ func (e *Error) Is(target error) bool {
 	case ErrSuspended:
 		return e.kind == C.PALQYTUN_SUSPENDED
 	case ErrClosed:
-		return e.Code == CodeClosed
+		return e.has(CodeClosed)
 	case ErrJournalMismatch:
-		return e.Code == CodeJournalMismatch
+		return e.has(CodeJournalMismatch)
 	case ErrNoMemory:
-		return e.kind == C.PALQYTUN_OUT_OF_MEMORY
+		return e.kind == C.PALQYTUN_OUT_OF_MEMORY && e.has(CodeInternal)
 	}
 	return false
 }
+
+// has says whether it is an error of the VM's own, and has the code.
+func (e *Error) has(code uint16) bool { return e.Code == code && !e.handedIn }
 
 // Error says why a call wasn't made.
 func (it Status) Error() string {

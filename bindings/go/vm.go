@@ -16,6 +16,8 @@ type VM struct {
 	handle  C.uintptr_t
 	replied C.palqytun_replied
 	version int
+	// It has failed by an error that was handed in, which each later call returns.
+	failedByHandedIn bool
 }
 
 // New makes a VM for the version that the content type names. It fails by an [*Error] with [CodeUnsupportedMediaType] if that names none that is
@@ -94,12 +96,13 @@ func (vm *VM) NotifyInputClosed() error {
 	return vm.told(func(it *C.palqytun_replied) { C.pq_close_input(vm.handle, it) }, nil)
 }
 
-// NotifyError says that the handler failed by an error of its own, which fails the VM; one that has failed keeps its first error.
+// NotifyError says that the handler failed by an error of its own, which fails the VM; one that has failed keeps its first error. Each later call
+// returns it, and errors.Is takes it for none of the VM's own errors, with any code.
 func (vm *VM) NotifyError(of HandlerError, related *RelatedCommand) error {
 	var lent room
 	defer lent.free()
 	given, command := lent.error(of), lent.command(related)
-	return vm.told(func(it *C.palqytun_replied) { C.pq_report_error(vm.handle, given, command, it) }, nil)
+	return vm.handIn(func(it *C.palqytun_replied) { C.pq_report_error(vm.handle, given, command, it) })
 }
 
 // TakeOutput takes all bytes that wait to be sent: whole frames.
@@ -400,9 +403,9 @@ func (vm *VM) ProposeRetryableFailure(handle Handle, tookMillis uint64, of Handl
 	var lent room
 	defer lent.free()
 	given, under := lent.error(of), policyOf(policy)
-	return vm.told(func(it *C.palqytun_replied) {
+	return vm.handIn(func(it *C.palqytun_replied) {
 		C.pq_propose_retryable(vm.handle, C.uint32_t(handle), C.uint64_t(tookMillis), given, under, it)
-	}, nil)
+	})
 }
 
 // SysWriteOutput is the handler's result.
@@ -430,6 +433,25 @@ func (vm *VM) told(call func(it *C.palqytun_replied), read func() error) error {
 	return read()
 }
 
+// handIn makes a call that hands in an error. A VM that fails by this call fails by that error.
+func (vm *VM) handIn(call func(it *C.palqytun_replied)) error {
+	vm.guard.Lock()
+	defer vm.guard.Unlock()
+	if vm.hasFailed() {
+		return vm.made(call)
+	}
+	vm.failedByHandedIn = true
+	err := vm.made(call)
+	vm.failedByHandedIn = vm.hasFailed()
+	return err
+}
+
+// hasFailed says whether the VM has failed: only then an error that it returns is of this kind.
+func (vm *VM) hasFailed() bool {
+	C.pq_is_ready(vm.handle, &vm.replied)
+	return Status(vm.replied.status) == StatusRefused && vm.replied.kind == C.PALQYTUN_ERROR
+}
+
 func (vm *VM) made(call func(it *C.palqytun_replied)) error {
 	call(&vm.replied)
 	switch Status(vm.replied.status) {
@@ -451,7 +473,7 @@ func (vm *VM) refusal() error {
 		}
 		texts[i] = text
 	}
-	found := &Error{Code: uint16(it.number), Message: texts[0], Stacktrace: texts[1], kind: uint32(it.kind)}
+	found := &Error{Code: uint16(it.number), Message: texts[0], Stacktrace: texts[1], kind: uint32(it.kind), handedIn: vm.failedByHandedIn}
 	if it.first == 1 {
 		found.Related = &Related{Index: uint32(it.second), Message: MessageType(it.third), Name: texts[2]}
 	}

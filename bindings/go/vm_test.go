@@ -187,8 +187,77 @@ func TestAHandlersErrorIsNoneOfTheVMsOwn(t *testing.T) {
 		}
 		must(0, vm.Close())
 	}
-	wants(t, &Error{kind: 23}, ErrNoMemory) // PALQYTUN_OUT_OF_MEMORY, since a test of Go has no names of C
+	wants(t, &Error{Code: CodeInternal, kind: 23}, ErrNoMemory) // PALQYTUN_OUT_OF_MEMORY, since a test of Go has no names of C
 	wants(t, StatusNoMemory, ErrNoMemory)
+}
+
+var handedIn = []HandlerError{
+	{Code: CodeJournalMismatch, Message: "CommandTypeMismatchError"},
+	{Code: CodeClosed, Message: "ClosedError"},
+	{Code: CodeSuspended, Message: "SUSPENDED"},
+	{Code: CodeInternal},
+}
+
+// isPlain wants an error with this code that is none of the VM's own.
+func isPlain(t *testing.T, err error, code uint16) {
+	t.Helper()
+	var found *Error
+	if !errors.As(err, &found) || found.Code != code {
+		t.Errorf("%#v", err)
+	}
+	for _, own := range []error{ErrSuspended, ErrClosed, ErrJournalMismatch, ErrNoMemory} {
+		if errors.Is(err, own) {
+			t.Errorf("%v is %v", err, own)
+		}
+	}
+}
+
+func TestAnErrorThatIsHandedInIsPlain(t *testing.T) {
+	for _, given := range handedIn {
+		vm, ended, ran := begun(), begun(), begun()
+		must(0, vm.NotifyError(given, nil))
+		must(0, vm.NotifyError(HandlerError{Code: 418}, nil)) // it keeps its first error
+		must(0, ended.SysEnd())
+		must(ended.State())
+		must(0, ended.NotifyError(given, nil))
+		run := must(ran.SysRun("charge"))
+		must(ran.DoAwait(run.Handle))
+		isPlain(t, ran.ProposeRetryableFailure(run.Handle, 1, given, RetryPolicy{}), given.Code)
+		for _, it := range []*VM{vm, ended, ran} {
+			_, err := it.SysSleep("", 1)
+			isPlain(t, err, given.Code)
+			isPlain(t, it.SysEnd(), given.Code)
+			must(0, it.Close())
+		}
+	}
+}
+
+func TestAnErrorAfterAFailureIsNotHandedIn(t *testing.T) {
+	vm := begun()
+	defer vm.Close()
+	must(0, vm.SysEnd())
+	_, err := vm.SysSleep("", 1)
+	wants(t, err, ErrClosed)
+	must(0, vm.NotifyError(HandlerError{Code: CodeClosed, Message: "ClosedError"}, nil))
+	_, err = vm.SysSleep("", 1)
+	wants(t, err, ErrClosed)
+}
+
+func TestAFailureThatIsTheResultOfARunIsNotHandedIn(t *testing.T) {
+	vm := begun()
+	defer vm.Close()
+	run := must(vm.SysRun("charge"))
+	must(vm.DoAwait(run.Handle))
+	must(0, vm.ProposeRetryableFailure(run.Handle, 1, HandlerError{Code: CodeClosed}, RetryPolicy{Kind: RetryNever}))
+	wants(t, vm.NotifyError(HandlerError{Code: CodeClosed, Behavior: 9}, nil), StatusBadNumber)
+	must(0, vm.SysEnd())
+	_, err := vm.IsReadyToExecute()
+	wants(t, err, ErrClosed)
+	if errors.Is(err, ErrNoMemory) {
+		t.Error(err)
+	}
+	_, err = vm.SysSleep("", 1)
+	wants(t, err, ErrClosed)
 }
 
 func TestAJournalAndItsEffects(t *testing.T) {

@@ -50,13 +50,13 @@ function pairs(it, session, first, rows) {
   return Array.from({ length: rows }, (_, row) => [text(it, session, first + 2 * row), text(it, session, first + 2 * row + 1)]);
 }
 
-/** The reply to a call: `[status, kind, first, second, third, low, high, rows]`. An error is raised. */
-function made(it, session, status) {
+/** The reply to a call: `[status, kind, first, second, third, low, high, rows]`. An error is raised, which may be one that was handed in. */
+function made(it, session, status, isHandedIn = false) {
   if (status === NUMBERS.DONE) return it.reply;
   if (status !== NUMBERS.REFUSED) throw new StatusError(status);
   const [, kind, isRelated, index, type, code] = it.reply;
   const [message, stacktrace, name] = [0, 1, 2].map((at) => text(it, session, at) ?? '');
-  throw refusal(kind, code, message, stacktrace, isRelated ? { index, type, name } : undefined);
+  throw refusal(kind, code, message, stacktrace, isRelated ? { index, type, name } : undefined, isHandedIn);
 }
 
 module.exports = { addon, done, made, pairs, part, text, written };

@@ -50,10 +50,15 @@ function caseOf(group, number) {
   return Object.keys(group).find((it) => group[it] === number) ?? `${number}`;
 }
 
-/** A suspension is told by the kind of the reply, since a handler may report an error with any code. */
-function refusal(kind, code, text, stacktrace, related) {
+/** The class of an error. The code of one that was handed in may be any, and says nothing of the VM; no such one is of a suspension's kind. */
+function classOf(kind, code, isHandedIn) {
+  if (kind === NUMBERS.SUSPENDED) return Suspended;
+  return isHandedIn ? VMError : (CLASSES[code] ?? VMError);
+}
+
+function refusal(kind, code, text, stacktrace, related, isHandedIn) {
   const known = related && { index: related.index, type: caseOf(MessageType, related.type), name: related.name };
-  const made = kind === NUMBERS.SUSPENDED ? Suspended : (CLASSES[code] ?? VMError);
+  const made = classOf(kind, code, isHandedIn);
   return new made(code, text, stacktrace, known);
 }
 

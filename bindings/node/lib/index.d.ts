@@ -178,7 +178,7 @@ export class VM {
   /** The next bytes of the attempt, cut anywhere. What they spell may fail the VM, which the next call raises. */
   notifyInput(data: Uint8Array): void;
   notifyInputClosed(): void;
-  /** The handler failed by an error of its own, which fails the VM. */
+  /** The handler failed by an error of its own, which fails the VM. Each later call raises it as a `VMError` of no other class, with any code. */
   notifyError(error: HandlerError, related?: RelatedCommand): void;
   /** Takes all bytes that wait to be sent: whole frames. */
   takeOutput(): Uint8Array;
@@ -279,7 +279,8 @@ export namespace frames {
   function isAwake(suspension: Uint8Array, notifications: Uint8Array): boolean;
 }
 
-/** The VM refused a call. It has failed, or is suspended or closed, and raises the same from each later call. */
+/** The VM refused a call. It has failed, or is suspended or closed, and raises the same from each later call. An error that was handed in, by
+ * `notifyError` or `proposeRetryableFailure`, is of this class alone, with any code; the classes below are the VM's own errors. */
 export class VMError extends Error {
   readonly code: number;
   readonly text: string;

@@ -18,6 +18,8 @@ class VM {
   #addon;
   #session;
   #version;
+  /** It has failed by an error that was handed in, which each later call raises. */
+  #failedByHandedIn = false;
 
   constructor(contentType, options) {
     const asked = lent.optional('contentType', contentType);
@@ -44,7 +46,23 @@ class VM {
   }
 
   #made(status) {
-    return made(this.#addon, this.#session, status);
+    return made(this.#addon, this.#session, status, this.#failedByHandedIn);
+  }
+
+  /** Makes a call that hands in an error. A VM that fails by this call fails by that error. */
+  #handIn(call) {
+    const isFirst = !this.#hasFailed();
+    if (isFirst) this.#failedByHandedIn = true;
+    try {
+      this.#made(call());
+    } finally {
+      if (isFirst) this.#failedByHandedIn = this.#hasFailed();
+    }
+  }
+
+  /** Whether the VM has failed: only then an error that it returns is of this kind. */
+  #hasFailed() {
+    return this.#addon.is_ready(this.#session) === NUMBERS.REFUSED && this.#addon.reply[1] === NUMBERS.ERROR;
   }
 
   #one(status) {
@@ -71,7 +89,8 @@ class VM {
   }
 
   notifyError(error, related) {
-    this.#made(this.#addon.report_error(this.#session, lent.error('error', error), lent.command(related)));
+    const given = [lent.error('error', error), lent.command(related)];
+    this.#handIn(() => this.#addon.report_error(this.#session, ...given));
   }
 
   takeOutput() {
@@ -256,7 +275,7 @@ class VM {
 
   proposeRetryableFailure(handle, tookMillis, error, policy) {
     const given = [lent.u32('handle', handle), lent.u64('tookMillis', tookMillis), lent.error('error', error), lent.policy(policy)];
-    this.#made(this.#addon.propose_retryable(this.#session, ...given));
+    this.#handIn(() => this.#addon.propose_retryable(this.#session, ...given));
   }
 
   sysWriteOutput(value, how) {

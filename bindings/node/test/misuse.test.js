@@ -101,6 +101,43 @@ test("a handler's error is no suspension", () => {
   assert.throws(() => vm.doAwait(CANCEL_HANDLE), (it) => it.constructor === VMError && it.code === 599 && it.text === 'SUSPENDED');
 });
 
+/** An error with this code that is none of the VM's own. */
+const plain = (code) => (error) => error.constructor === VMError && error.code === code;
+
+test('an error that is handed in is plain', () => {
+  for (const [code, message] of [[570, 'CommandTypeMismatchError'], [598, 'ClosedError'], [599, 'SUSPENDED'], [500, '']]) {
+    const [vm, ended, ran] = [begun(), begun(), begun()];
+    vm.notifyError({ code, message });
+    vm.notifyError({ code: 418, message: 'no tea' }); // it keeps its first error
+    ended.sysEnd();
+    ended.notifyError({ code, message });
+    const run = ran.sysRun('charge');
+    ran.doAwait(run.handle);
+    assert.throws(() => ran.proposeRetryableFailure(run.handle, 1, { code, message }), plain(code));
+    for (const it of [vm, ended, ran]) {
+      assert.throws(() => it.sysSleep(1), plain(code));
+      assert.throws(() => it.sysEnd(), plain(code));
+    }
+  }
+});
+
+test('an error after a failure is not handed in', () => {
+  const vm = fed('Start id="a" debug_id="a" known_entries=2', 'Input value=""', 'Sleep wake_up_time=1000 result_completion_id=1');
+  vm.sysInput();
+  assert.throws(() => vm.sysRun('charge'), JournalMismatch);
+  vm.notifyError({ code: 570, message: 'CommandTypeMismatchError' });
+  assert.throws(() => vm.sysRun('charge'), JournalMismatch);
+});
+
+test('a failure that is the result of a run is not handed in', () => {
+  const vm = begun();
+  const run = vm.sysRun('charge');
+  vm.doAwait(run.handle);
+  vm.proposeRetryableFailure(run.handle, 1, { code: 598, message: '' }, { kind: 'none' });
+  vm.sysEnd();
+  assert.throws(() => vm.sysSleep(1), Closed);
+});
+
 test('a journal, and what its rows ask for', () => {
   const journal = new Journal([frames.frameOf('Input value="Till"'), frames.frameOf('Sleep wake_up_time=1000 result_completion_id=1')]);
   const slept = frames.frameOf('Notification id=completion(1) result=void');

@@ -125,6 +125,47 @@ class TestMisuse < Minitest::Test
     assert_equal [VMError, 599, "SUSPENDED"], [error.class, error.code, error.text]
   end
 
+  # The block raises an error with this code that is none of the VM's own.
+  def plain(code, &block)
+    error = assert_raises(VMError, &block)
+    assert_equal [VMError, code], [error.class, error.code]
+  end
+
+  def test_an_error_that_is_handed_in_is_plain
+    { 570 => "CommandTypeMismatchError", 598 => "ClosedError", 599 => "SUSPENDED", 500 => "" }.each do |code, message|
+      vm, ended, ran = begun, begun, begun
+      given = HandlerError.new(code: code, message: message)
+      vm.notify_error(given)
+      vm.notify_error(HandlerError.new(code: 418, message: "no tea")) # it keeps its first error
+      ended.sys_end
+      ended.notify_error(given)
+      run = ran.sys_run("charge")
+      ran.do_await(run.handle)
+      plain(code) { ran.propose_retryable_failure(run.handle, 1, given) }
+      [vm, ended, ran].each do |it|
+        plain(code) { it.sys_sleep(1) }
+        plain(code) { it.sys_end }
+      end
+    end
+  end
+
+  def test_an_error_after_a_failure_is_not_handed_in
+    vm = fed('Start id="a" debug_id="a" known_entries=2', 'Input value=""', "Sleep wake_up_time=1000 result_completion_id=1")
+    vm.sys_input
+    assert_raises(JournalMismatch) { vm.sys_run("charge") }
+    vm.notify_error(HandlerError.new(code: 570, message: "CommandTypeMismatchError"))
+    assert_raises(JournalMismatch) { vm.sys_run("charge") }
+  end
+
+  def test_a_failure_that_is_the_result_of_a_run_is_not_handed_in
+    vm = begun
+    run = vm.sys_run("charge")
+    vm.do_await(run.handle)
+    vm.propose_retryable_failure(run.handle, 1, HandlerError.new(code: 598, message: ""), policy: RetryPolicy.new(kind: :none))
+    vm.sys_end
+    assert_raises(Closed) { vm.sys_sleep(1) }
+  end
+
   def test_a_journal_and_its_effects
     journal = Journal.new([Frames.frame_of('Input value="Till"'), Frames.frame_of("Sleep wake_up_time=1000 result_completion_id=1")])
     slept = Frames.frame_of("Notification id=completion(1) result=void")

@@ -19,7 +19,9 @@ pub enum Error {
     Load(LoadError),
 }
 
-/// An error that the VM returned.
+/// An error that the VM returned. For one that was handed in, by [`Vm::notify_error`](crate::Vm::notify_error) or
+/// [`Vm::propose_run_completion`](crate::Vm::propose_run_completion), each of [`Error::is_suspended`], [`Error::is_closed`],
+/// [`Error::is_journal_mismatch`] and [`Error::is_no_memory`] is false, with any code.
 #[derive(Clone, Debug, PartialEq, Eq)]
 pub struct VmError {
     /// A `CODE_` of [`sys`](crate::sys), or that of the handler's own error.
@@ -30,8 +32,10 @@ pub struct VmError {
     pub stacktrace: String,
     /// The command that it relates to.
     pub related: Option<Related>,
-    /// The kind of the reply, by which a suspension isn't an error with the same code that a handler reports.
+    /// The kind of the reply, by which a suspension isn't an error with the same code that was handed in.
     pub(crate) kind: u32,
+    /// It was handed in, so its code says nothing of the VM.
+    pub(crate) is_handed_in: bool,
 }
 
 /// A command that an error relates to.
@@ -63,8 +67,9 @@ impl Error {
         self.vm().map(|it| it.kind) == Some(kind)
     }
 
+    /// Whether it is an error of the VM's own that has this code.
     fn has_code(&self, code: u32) -> bool {
-        self.code().map(u32::from) == Some(code)
+        self.vm().map_or(false, |it| u32::from(it.code) == code && !it.is_handed_in)
     }
 
     /// Whether the invocation is suspended: what is awaited can't come in this attempt.
@@ -85,7 +90,8 @@ impl Error {
     /// Whether no memory was found: by the library, or by a call of the VM that changes nothing and may be made again. Once a VM has failed
     /// since it found no memory, its error has code 500 and no message, as one that a handler reports may have: for this it is false.
     pub fn is_no_memory(&self) -> bool {
-        *self == Error::Status(Status::NoMemory) || self.has_kind(sys::OUT_OF_MEMORY)
+        let is_refused = self.has_kind(sys::OUT_OF_MEMORY) && self.has_code(sys::CODE_INTERNAL);
+        is_refused || *self == Error::Status(Status::NoMemory)
     }
 
     /// The error of a status that isn't done. A number that no status has can't come from a library of this interface.

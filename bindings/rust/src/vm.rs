@@ -41,6 +41,8 @@ pub struct Vm {
     library: &'static Library,
     handle: Handle,
     version: u32,
+    /// It has failed by an error that was handed in, which each later call returns.
+    failed_by_handed_in: bool,
     /// A VM isn't `Sync`.
     _one_thread: PhantomData<Cell<()>>,
 }
@@ -77,7 +79,7 @@ impl Vm {
         if status != sys::DONE {
             return Err(Error::of_status(status));
         }
-        let mut vm = Vm { library, handle, version: 0, _one_thread: PhantomData };
+        let mut vm = Vm { library, handle, version: 0, failed_by_handed_in: false, _one_thread: PhantomData };
         let (asked, options) = (optional(content_type.into()), lent::options(options));
         vm.version = vm.made(|it, vm| unsafe { (it.make)(vm, asked, &options) })?.first;
         Ok(vm)
@@ -107,10 +109,11 @@ impl Vm {
         self.nothing(|it, vm| unsafe { (it.close_input)(vm) })
     }
 
-    /// The handler failed by an error of its own, which fails the VM; one that has failed keeps its first error.
+    /// The handler failed by an error of its own, which fails the VM; one that has failed keeps its first error. Each later call returns it, and
+    /// it is none of the VM's own errors, with any code: [`Error::is_closed`] and the others are false.
     pub fn notify_error(&mut self, error: &HandlerError<'_>, related: Option<RelatedCommand<'_>>) -> Result<()> {
         let (error, command) = (lent::error(error), lent::command(&related));
-        self.nothing(|it, vm| unsafe { (it.report_error)(vm, &error, &command) })
+        self.hand_in(|it, vm| unsafe { (it.report_error)(vm, &error, &command) })
     }
 
     /// Takes all bytes that wait to be sent: whole frames.
@@ -366,7 +369,7 @@ impl Vm {
             }
             RunResult::RetryableFailure { attempt_duration_millis: took, error } => {
                 let error = lent::error(error);
-                self.nothing(|it, vm| unsafe { (it.propose_retryable)(vm, handle.into(), *took, &error, &policy) })
+                self.hand_in(|it, vm| unsafe { (it.propose_retryable)(vm, handle.into(), *took, &error, &policy) })
             }
         }
     }
@@ -399,6 +402,24 @@ impl Vm {
         self.made(call).map(|_| ())
     }
 
+    /// Makes a call that hands in an error. A VM that fails by this call fails by that error.
+    fn hand_in(&mut self, call: impl FnOnce(&sys::Functions, Handle) -> Replied) -> Result<()> {
+        if self.has_failed() {
+            return self.nothing(call);
+        }
+        self.failed_by_handed_in = true;
+        let made = self.nothing(call);
+        self.failed_by_handed_in = self.has_failed();
+        made
+    }
+
+    /// Whether the VM has failed: only then an error that it returns is of this kind.
+    fn has_failed(&mut self) -> bool {
+        // SAFETY: the handle is that of this VM.
+        let replied = unsafe { (self.library.functions.is_ready)(self.handle) };
+        replied.status == sys::REFUSED && replied.kind == sys::ERROR
+    }
+
     fn flag(&mut self, call: impl FnOnce(&sys::Functions, Handle) -> Replied) -> Result<bool> {
         Ok(self.made(call)?.first == 1)
     }
@@ -415,7 +436,8 @@ impl Vm {
             None
         };
         let (message, stacktrace) = (self.text(0)?, self.text(1)?);
-        Ok(VmError { code: replied.number as u16, message, stacktrace, related, kind: replied.kind })
+        let (code, is_handed_in) = (replied.number as u16, self.failed_by_handed_in);
+        Ok(VmError { code, message, stacktrace, related, kind: replied.kind, is_handed_in })
     }
 
     fn taken(&self, replied: &Replied) -> Result<Option<Value>> {

@@ -170,6 +170,66 @@ fn an_error_of_the_handlers_own_is_none_of_the_vms() {
     assert!(Error::Status(Status::NoMemory).is_no_memory());
 }
 
+/// A VM that replays a sleep.
+fn replaying() -> Vm {
+    let mut vm = Vm::new("application/vnd.restate.invocation.v7", &Options::default()).unwrap();
+    let lines = ["Start known_entries=2", "Input", "Sleep wake_up_time=1000 result_completion_id=1"];
+    for line in lines {
+        vm.notify_input(&frames::frame_of(line).unwrap()).unwrap();
+    }
+    vm.sys_input().unwrap();
+    vm
+}
+
+/// Wants an error with this code that is none of the VM's own.
+fn is_plain(error: Error, code: u16) {
+    assert_eq!(error.code(), Some(code));
+    assert!(!error.is_suspended() && !error.is_closed() && !error.is_journal_mismatch() && !error.is_no_memory());
+}
+
+#[test]
+fn an_error_that_is_handed_in_is_plain() {
+    for (code, message) in [(570, "CommandTypeMismatchError"), (598, "ClosedError"), (599, "SUSPENDED"), (500, "")] {
+        let given = HandlerError { code, message, ..LATER };
+        let [mut vm, mut ended, mut ran] = [begun(), begun(), begun()];
+        vm.notify_error(&given, None).unwrap();
+        vm.notify_error(&LATER, None).unwrap(); // it keeps its first error
+        ended.sys_end().unwrap();
+        ended.notify_error(&given, None).unwrap();
+        let run = ran.sys_run("charge").unwrap();
+        ran.do_await(run.handle).unwrap();
+        let failed = RunResult::RetryableFailure { attempt_duration_millis: 1, error: given };
+        is_plain(ran.propose_run_completion(run.handle, &failed, &RetryPolicy::Infinite).unwrap_err(), code);
+        for mut it in [vm, ended, ran] {
+            is_plain(it.sys_sleep("", 1).unwrap_err(), code);
+            is_plain(it.sys_end().unwrap_err(), code);
+        }
+    }
+}
+
+#[test]
+fn an_error_after_a_failure_is_not_handed_in() {
+    let mut vm = replaying();
+    assert!(vm.sys_run("charge").unwrap_err().is_journal_mismatch());
+    let same = HandlerError { code: 570, message: "CommandTypeMismatchError", ..LATER };
+    vm.notify_error(&same, None).unwrap();
+    assert!(vm.sys_run("charge").unwrap_err().is_journal_mismatch());
+}
+
+#[test]
+fn a_failure_that_is_the_result_of_a_run_is_not_handed_in() {
+    let mut vm = begun();
+    let run = vm.sys_run("charge").unwrap();
+    vm.do_await(run.handle).unwrap();
+    let failed =
+        RunResult::RetryableFailure { attempt_duration_millis: 1, error: HandlerError { code: 598, ..LATER } };
+    vm.propose_run_completion(run.handle, &failed, &RetryPolicy::None).unwrap();
+    vm.sys_end().unwrap();
+    let ended = vm.is_ready_to_execute().unwrap_err();
+    assert!(ended.is_closed() && !ended.is_no_memory());
+    assert!(vm.sys_sleep("", 1).unwrap_err().is_closed());
+}
+
 #[test]
 fn a_call_after_the_end() {
     let mut vm = begun();

@@ -27,7 +27,8 @@ module Palqytun
   # A command that an error relates to: its index, the type of its message as a symbol, and its name.
   Related = Struct.new(:index, :type, :name)
 
-  # The VM refused a call. It has failed, or is suspended or closed, and raises the same from each later call.
+  # The VM refused a call. It has failed, or is suspended or closed, and raises the same from each later call. An error that was handed in, by
+  # `notify_error` or `propose_retryable_failure`, is of this class alone, with any code; the classes below are the VM's own errors.
   class VMError < Error
     attr_reader :code, :text, :stacktrace, :related
 
@@ -37,9 +38,9 @@ module Palqytun
       @code, @text, @stacktrace, @related = code, text, stacktrace, related
     end
 
-    # A suspension is told by the kind of the reply, since a handler may report an error with any code.
-    def self.of(kind, code, *rest)
-      made = kind == ABI::SUSPENDED ? Suspended : CLASSES.fetch(code, VMError)
+    # The code of an error that was handed in may be any, and says nothing of the VM; no such one is of a suspension's kind.
+    def self.of(kind, handed_in, code, *rest)
+      made = kind == ABI::SUSPENDED ? Suspended : CLASSES.fetch(handed_in ? nil : code, VMError)
       made.new(code, *rest)
     end
   end

@@ -40,6 +40,7 @@ module Palqytun
       given[:seed] = A.u64("fallback_random_seed", fallback_random_seed)
       asked = A.optional("content_type", content_type)
       @guard = Mutex.new
+      @failed_by_handed_in = false # by an error that was handed in, which each later call raises
       @ext = L.ext
       @handle = @ext.pq_open
       raise StatusError, @handle if @handle.is_a?(Integer)
@@ -70,10 +71,9 @@ module Palqytun
     # No more bytes come.
     def notify_input_closed = call(:pq_close_input) { nil }
 
-    # The handler failed by an error of its own, which fails the VM; one that has failed keeps its first error.
-    def notify_error(error, related: nil)
-      call(:pq_report_error, A.error(error), A.command(related)) { nil }
-    end
+    # The handler failed by an error of its own, which fails the VM; one that has failed keeps its first error. Each later call raises it as a
+    # VMError of no other class, with any code.
+    def notify_error(error, related: nil) = hand_in(:pq_report_error, A.error(error), A.command(related))
 
     # Takes all bytes that wait to be sent: whole frames.
     def take_output
@@ -223,7 +223,7 @@ module Palqytun
     # A try of a run failed after this many milliseconds, and may be made again.
     def propose_retryable_failure(handle, took_millis, error, policy: RetryPolicy.new(kind: :infinite))
       given = [A.u32("handle", handle), A.u64("took_millis", took_millis), A.error(error), A.policy(policy)]
-      call(:pq_propose_retryable, *given) { nil }
+      hand_in(:pq_propose_retryable, *given)
     end
 
     # The handler's result, a String or a Failure.
@@ -243,13 +243,28 @@ module Palqytun
       end
     end
 
+    # Makes a call that hands in an error. A VM that fails by this call fails by that error.
+    def hand_in(name, *given)
+      @guard.synchronize do
+        is_first = !failed?
+        @failed_by_handed_in ||= is_first
+        replied = @ext.public_send(name, @handle, *given)
+        refuse(replied) unless replied.first == ABI::DONE
+      ensure
+        @failed_by_handed_in = failed? if is_first
+      end
+    end
+
+    # Whether the VM has failed: only then an error that it returns is of this kind.
+    def failed? = @ext.pq_is_ready(@handle).first(2) == [ABI::REFUSED, ABI::ERROR]
+
     def one(name, *given) = call(name, *given) { |it| it[2] }
 
     def refuse(replied)
       status, kind, related, index, type, code = replied
       raise StatusError, status unless status == ABI::REFUSED
       known = related == 1 ? Related.new(index, ABI::MESSAGE_TYPE_CASES.key(type), text(2).to_s) : nil
-      raise VMError.of(kind, code, text(0).to_s, text(1).to_s, known)
+      raise VMError.of(kind, @failed_by_handed_in, code, text(0).to_s, text(1).to_s, known)
     end
 
     def taken(replied)

@@ -160,6 +160,53 @@ public final class TestMisuse {
         Common.equal(List.of(VMException.class, 599, "SUSPENDED"), List.of(error.getClass(), error.code(), error.text()));
     }
 
+    /** The call throws an error with this code that is none of the VM's own. */
+    private static void plain(int code, Common.Test call) {
+        VMException error = Common.thrown(VMException.class, call);
+        Common.equal(List.of(VMException.class, code), List.of(error.getClass(), error.code()));
+    }
+
+    private static void anErrorThatIsHandedInIsPlain(HandlerError given, int code) {
+        VM vm = Common.begun();
+        vm.notifyError(given);
+        vm.notifyError(HandlerError.of(418, "no tea")); // it keeps its first error
+        VM ended = Common.begun();
+        ended.sysEnd();
+        ended.notifyError(given);
+        VM ran = Common.begun();
+        VM.Run run = ran.sysRun("charge");
+        ran.doAwait(run.handle());
+        plain(code, () -> ran.proposeRetryableFailure(run.handle(), 1, given, RetryPolicy.INFINITE));
+        for (VM it : List.of(vm, ended, ran)) {
+            plain(code, () -> it.sysSleep(1));
+            plain(code, it::sysEnd);
+        }
+    }
+
+    private static void errorsThatAreHandedInArePlain() {
+        anErrorThatIsHandedInIsPlain(HandlerError.of(570, "CommandTypeMismatchError"), 570);
+        anErrorThatIsHandedInIsPlain(HandlerError.of(598, "ClosedError"), 598);
+        anErrorThatIsHandedInIsPlain(HandlerError.of(599, "SUSPENDED"), 599);
+        anErrorThatIsHandedInIsPlain(HandlerError.of(500, ""), 500);
+    }
+
+    private static void anErrorAfterAFailureIsNotHandedIn() {
+        VM vm = Common.fed("Start id=\"a\" debug_id=\"a\" known_entries=2", "Input value=\"\"", "Sleep wake_up_time=1000 result_completion_id=1");
+        vm.sysInput();
+        Common.thrown(VMException.JournalMismatch.class, () -> vm.sysRun("charge"));
+        vm.notifyError(HandlerError.of(570, "CommandTypeMismatchError"));
+        Common.thrown(VMException.JournalMismatch.class, () -> vm.sysRun("charge"));
+    }
+
+    private static void aFailureThatIsTheResultOfARunIsNotHandedIn() {
+        VM vm = Common.begun();
+        VM.Run run = vm.sysRun("charge");
+        vm.doAwait(run.handle());
+        vm.proposeRetryableFailure(run.handle(), 1, HandlerError.of(598, ""), RetryPolicy.NONE);
+        vm.sysEnd();
+        Common.thrown(VMException.Closed.class, () -> vm.sysSleep(1));
+    }
+
     private static void aJournalAndItsEffects() {
         Journal journal = new Journal(List.of(Frames.frameOf("Input value=\"Till\""), Frames.frameOf("Sleep wake_up_time=1000 result_completion_id=1")));
         byte[] slept = Frames.frameOf("Notification id=completion(1) result=void");
@@ -202,6 +249,9 @@ public final class TestMisuse {
         Common.test("errors have all their fields", TestMisuse::errorsHaveAllTheirFields);
         Common.test("a suspension and an end", TestMisuse::aSuspensionAndAnEnd);
         Common.test("a handler's error is no suspension", TestMisuse::aHandlersErrorIsNoSuspension);
+        Common.test("errors that are handed in are plain", TestMisuse::errorsThatAreHandedInArePlain);
+        Common.test("an error after a failure is not handed in", TestMisuse::anErrorAfterAFailureIsNotHandedIn);
+        Common.test("a failure that is the result of a run is not handed in", TestMisuse::aFailureThatIsTheResultOfARunIsNotHandedIn);
         Common.test("a journal and its effects", TestMisuse::aJournalAndItsEffects);
         Common.test("frames", TestMisuse::frames);
         Common.end();

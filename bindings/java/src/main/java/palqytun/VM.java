@@ -4,6 +4,7 @@ import java.nio.charset.StandardCharsets;
 import java.util.ArrayList;
 import java.util.List;
 import java.util.Optional;
+import java.util.function.Supplier;
 
 /**
  * One VM, for one attempt of an invocation. Threads may share it: one call is made after the other. It is closed by {@link #close}, or once it is garbage.
@@ -39,6 +40,8 @@ public final class VM implements AutoCloseable {
 
     private final Handle handle;
     private final int version;
+    /** It has failed by an error that was handed in, which each later call throws. */
+    private boolean failedByHandedIn;
 
     /** A VM for the version that the content type names; null stands for an absent header. */
     public VM(String contentType) {
@@ -88,14 +91,17 @@ public final class VM implements AutoCloseable {
         done(Calls.close_input(at()));
     }
 
-    /** The handler failed by an error of its own, which fails the VM; one that has failed keeps its first error. */
+    /**
+     * The handler failed by an error of its own, which fails the VM; one that has failed keeps its first error. Each later call throws it as a
+     * {@link VMException} of no other class, with any code.
+     */
     public void notifyError(HandlerError error) {
         notifyError(error, new RelatedCommand.None());
     }
 
     /** The same, with the command that it relates to. */
     public synchronized void notifyError(HandlerError error, RelatedCommand related) {
-        done(Calls.report_error(at(), Given.error(error), Given.command(related)));
+        handIn(() -> Calls.report_error(at(), Given.error(error), Given.command(related)));
     }
 
     /** Takes all bytes that wait to be sent: whole frames. */
@@ -351,7 +357,7 @@ public final class VM implements AutoCloseable {
 
     /** A try of a run failed after this many milliseconds, and may be made again. */
     public synchronized void proposeRetryableFailure(int run, long tookMillis, HandlerError error, RetryPolicy policy) {
-        done(Calls.propose_retryable(at(), Given.u32(run), tookMillis, Given.error(error), Given.policy(policy)));
+        handIn(() -> Calls.propose_retryable(at(), Given.u32(run), tookMillis, Given.error(error), Given.policy(policy)));
     }
 
     /** The handler's result. */
@@ -388,7 +394,26 @@ public final class VM implements AutoCloseable {
         if (it[FIRST] == 1) {
             related = new VMException.Related((int) it[SECOND], MessageType.of(it[THIRD]), orEmpty(text(2)));
         }
-        throw VMException.of(it[KIND], (int) it[NUMBER], orEmpty(text(0)), orEmpty(text(1)), related);
+        throw VMException.of(it[KIND], failedByHandedIn, (int) it[NUMBER], orEmpty(text(0)), orEmpty(text(1)), related);
+    }
+
+    /** Makes a call that hands in an error. A VM that fails by this call fails by that error. */
+    private void handIn(Supplier<Object> call) {
+        boolean isFirst = !hasFailed();
+        failedByHandedIn |= isFirst;
+        try {
+            done(call.get());
+        } finally {
+            if (isFirst) {
+                failedByHandedIn = hasFailed();
+            }
+        }
+    }
+
+    /** Whether the VM has failed: only then an error that it returns is of this kind. */
+    private boolean hasFailed() {
+        long[] it = (long[]) Calls.is_ready(at());
+        return it[STATUS] == Abi.REFUSED && it[KIND] == Abi.ERROR;
     }
 
     private int one(Object returned) {

@@ -2,7 +2,12 @@ package palqytun;
 
 import java.util.Optional;
 
-/** The VM refused a call. It has failed, or is suspended or closed, and each later call throws the same. */
+/**
+ * The VM refused a call. It has failed, or is suspended or closed, and each later call throws the same.
+ *
+ * <p>An error that was handed in, by {@link VM#notifyError} or {@link VM#proposeRetryableFailure}, is of this class alone, with any code; the classes
+ * below are the VM's own errors.
+ */
 public class VMException extends PalqytunException {
     private static final long serialVersionUID = 1L;
     private final int code;
@@ -18,10 +23,13 @@ public class VMException extends PalqytunException {
         this.related = related;
     }
 
-    /** A suspension is told by the kind of the reply, since a handler may report an error with any code. */
-    static VMException of(long kind, int code, String text, String stacktrace, Related related) {
+    /** The code of an error that was handed in may be any, and says nothing of the VM; no such one is of a suspension's kind. */
+    static VMException of(long kind, boolean isHandedIn, int code, String text, String stacktrace, Related related) {
         if (kind == Abi.SUSPENDED) {
             return new Suspended(code, text, stacktrace, related);
+        }
+        if (isHandedIn) {
+            return new VMException(code, text, stacktrace, related);
         }
         return switch (code) {
             case Abi.CODE_CLOSED -> new Closed(code, text, stacktrace, related);
