@@ -294,69 +294,100 @@ impl RawMessage {
     }
 }
 
+/// A message of the body that was read. With a `?` in each arm `read_typed` takes twice as long to prove.
+macro_rules! as_message {
+    ($body:expr, $message:path) => {
+        match $body {
+            Ok(body) => Ok($message(body)),
+            Err(fault) => Err(fault),
+        }
+    };
+}
+
 #[tactic(auto, unfolding(crate::specs::Reading::message_in))]
 impl RawMessage {
     fn read_typed(&self, alloc: Global) -> Result<Message, Fault>
         ensures { Read (message_in self.now.ty self.now.body) result }
     {
         match self.ty {
-            MessageType::Start => Ok(Message::Start(self.read_start(alloc)?)),
-            MessageType::Suspension => Ok(Message::Suspension(self.read_as(alloc)?)),
-            MessageType::Error => Ok(Message::Error(self.read_as(alloc)?)),
-            MessageType::End => {
-                self.read_as::<()>(alloc)?;
-                Ok(Message::End)
-            }
-            MessageType::ProposeRunCompletion => {
-                Ok(Message::ProposeRunCompletion(self.read_proposal(alloc)?))
-            }
-            MessageType::ProposeRunCompletionAck => {
-                Ok(Message::ProposeRunCompletionAck(self.read_acknowledgement(alloc)?))
-            }
-            MessageType::AwaitingOn => Ok(Message::AwaitingOn(self.read_as(alloc)?)),
-            MessageType::GetStateEphemeralCommand => {
-                Ok(Message::GetStateEphemeralCommand(self.read_as(alloc)?))
-            }
-            MessageType::GetStateEphemeralNotification => {
-                Ok(Message::GetStateEphemeralNotification(self.read_ephemeral_notification(alloc)?))
-            }
-            MessageType::InputCommand => Ok(Message::Input(self.read_input(alloc)?)),
-            MessageType::GetEagerStateCommand => {
-                Ok(Message::GetEagerState(self.read_as(alloc)?))
-            }
-            MessageType::GetLazyStateCommand => { Ok(Message::GetLazyState(self.read_as(alloc)?)) }
-            MessageType::GetEagerStateKeysCommand => {
-                Ok(Message::GetEagerStateKeys(self.read_as(alloc)?))
-            }
-            MessageType::GetLazyStateKeysCommand => {
-                Ok(Message::GetLazyStateKeys(self.read_as(alloc)?))
-            }
-            MessageType::SetStateCommand => Ok(Message::SetState(self.read_as(alloc)?)),
-            MessageType::ClearStateCommand => { Ok(Message::ClearState(self.read_as(alloc)?)) }
-            MessageType::ClearAllStateCommand => {
-                Ok(Message::ClearAllState(self.read_as(alloc)?))
-            }
-            MessageType::SleepCommand => Ok(Message::Sleep(self.read_as(alloc)?)),
-            MessageType::CallCommand => Ok(Message::Call(self.read_as(alloc)?)),
-            MessageType::OneWayCallCommand => { Ok(Message::OneWayCall(self.read_as(alloc)?)) }
-            MessageType::CompleteAwakeableCommand => {
-                Ok(Message::CompleteAwakeable(self.read_as(alloc)?))
-            }
-            MessageType::SendSignalCommand => { Ok(Message::SendSignal(self.read_as(alloc)?)) }
-            MessageType::GetPromiseCommand => Ok(Message::GetPromise(self.read_as(alloc)?)),
-            MessageType::PeekPromiseCommand => Ok(Message::PeekPromise(self.read_as(alloc)?)),
-            MessageType::CompletePromiseCommand => {
-                Ok(Message::CompletePromise(self.read_as(alloc)?))
-            }
-            MessageType::RunCommand => Ok(Message::Run(self.read_as(alloc)?)),
-            MessageType::AttachInvocationCommand => {
-                Ok(Message::AttachInvocation(self.read_as(alloc)?))
-            }
-            MessageType::GetInvocationOutputCommand => {
-                Ok(Message::GetInvocationOutput(self.read_as(alloc)?))
-            }
-            MessageType::OutputCommand => Ok(Message::Output(self.read_as(alloc)?)),
-            MessageType::Notification => Ok(Message::Notification(self.read_notification(alloc)?)),
+            MessageType::Start => as_message!(self.read_start(alloc), Message::Start),
+            MessageType::Suspension => as_message!(self.read_as(alloc), Message::Suspension),
+            MessageType::Error => as_message!(self.read_as(alloc), Message::Error),
+            MessageType::End => match self.read_as::<()>(alloc) {
+                Ok(()) => Ok(Message::End),
+                Err(fault) => Err(fault),
+            },
+            MessageType::ProposeRunCompletion => as_message!(
+                self.read_proposal(alloc),
+                Message::ProposeRunCompletion
+            ),
+            MessageType::ProposeRunCompletionAck => as_message!(
+                self.read_acknowledgement(alloc),
+                Message::ProposeRunCompletionAck
+            ),
+            MessageType::AwaitingOn => as_message!(self.read_as(alloc), Message::AwaitingOn),
+            MessageType::GetStateEphemeralCommand => as_message!(
+                self.read_as(alloc),
+                Message::GetStateEphemeralCommand
+            ),
+            MessageType::GetStateEphemeralNotification => as_message!(
+                self.read_ephemeral_notification(alloc),
+                Message::GetStateEphemeralNotification
+            ),
+            MessageType::InputCommand => as_message!(self.read_input(alloc), Message::Input),
+            MessageType::GetEagerStateCommand => as_message!(
+                self.read_as(alloc),
+                Message::GetEagerState
+            ),
+            MessageType::GetLazyStateCommand => as_message!(
+                self.read_as(alloc),
+                Message::GetLazyState
+            ),
+            MessageType::GetEagerStateKeysCommand => as_message!(
+                self.read_as(alloc),
+                Message::GetEagerStateKeys
+            ),
+            MessageType::GetLazyStateKeysCommand => as_message!(
+                self.read_as(alloc),
+                Message::GetLazyStateKeys
+            ),
+            MessageType::SetStateCommand => as_message!(self.read_as(alloc), Message::SetState),
+            MessageType::ClearStateCommand => as_message!(self.read_as(alloc), Message::ClearState),
+            MessageType::ClearAllStateCommand => as_message!(
+                self.read_as(alloc),
+                Message::ClearAllState
+            ),
+            MessageType::SleepCommand => as_message!(self.read_as(alloc), Message::Sleep),
+            MessageType::CallCommand => as_message!(self.read_as(alloc), Message::Call),
+            MessageType::OneWayCallCommand => as_message!(self.read_as(alloc), Message::OneWayCall),
+            MessageType::CompleteAwakeableCommand => as_message!(
+                self.read_as(alloc),
+                Message::CompleteAwakeable
+            ),
+            MessageType::SendSignalCommand => as_message!(self.read_as(alloc), Message::SendSignal),
+            MessageType::GetPromiseCommand => as_message!(self.read_as(alloc), Message::GetPromise),
+            MessageType::PeekPromiseCommand => as_message!(
+                self.read_as(alloc),
+                Message::PeekPromise
+            ),
+            MessageType::CompletePromiseCommand => as_message!(
+                self.read_as(alloc),
+                Message::CompletePromise
+            ),
+            MessageType::RunCommand => as_message!(self.read_as(alloc), Message::Run),
+            MessageType::AttachInvocationCommand => as_message!(
+                self.read_as(alloc),
+                Message::AttachInvocation
+            ),
+            MessageType::GetInvocationOutputCommand => as_message!(
+                self.read_as(alloc),
+                Message::GetInvocationOutput
+            ),
+            MessageType::OutputCommand => as_message!(self.read_as(alloc), Message::Output),
+            MessageType::Notification => as_message!(
+                self.read_notification(alloc),
+                Message::Notification
+            ),
         }
     }
 }
