@@ -1,7 +1,9 @@
 -- The courses of leaves and nodes.
-use Rattle.std.proofs.Common.{◌≡◌, ℕ, zero, suc, ◌<◌, ◌≤◌, Bool, true, false, cond, ◌||◌, List, [], ◌∷◌, ◌++◌, length, take, drop, Option, Some, None, refl, sym, ap, ◌∙◌, arith, append_assoc, append-nil}
+use Rattle.std.proofs.Common.{◌≡◌, ℕ, zero, suc, ◌<◌, ◌≤◌, Bool, true, false, cond, ◌||◌, List, [], ◌∷◌, ◌++◌, length, take, drop, Option, Some, None, refl, sym, ap, subst, ◌∙◌, arith, append_assoc, append-nil, ◌⊎◌, inl, inr}
 use Rattle.std.specs.Option.{is_some, option_or}
-use Rattle.std.proofs.lemmas.List.{take-append-drop}
+use Rattle.std.proofs.Math.ListN.{set}
+use Rattle.std.proofs.lemmas.Bool.{cases_eq}
+use Rattle.std.proofs.lemmas.List.{take-append-drop, get_or-set_same, get_or-set_other}
 use Rattle.journal_protocol.specs.FutureKind.{FutureKind}
 use Rattle.journal_protocol.specs.Notification.{Notification}
 use Rattle.journal_protocol.specs.NotificationId.{NotificationId}
@@ -22,7 +24,7 @@ use Rattle.journal_protocol.specs.SignalDelivery.{SignalDelivery}
 use Rattle.vm_parts.specs.Arrived.{Arrived}
 use Rattle.vm_parts.specs.Deliveries.{id_at, is_listed, present_result, present_result_for, has_result_for, ready_after, first_result_for}
 use Rattle.await_tries.specs.Await.{earlier, outcomes}
-use Rattle.await_tries.specs.Courses.{FollowsCourse, any_fires_by, all_wait_by}
+use Rattle.await_tries.specs.Courses.{FollowsCourse, never, course_at, any_fires_by, all_wait_by}
 use Rattle.await_tries.specs.Leaves.{result_outcome, leaf_outcome}
 use Rattle.await_tries.specs.Spells.{node_at, children, AllAbove, Spells, SpellAll, no_more, one_more}
 use Rattle.await_tries.specs.Used.{used}
@@ -69,6 +71,18 @@ module _ (at : ℕ → ℕ → Outcome) (ns : List Node) (kids : List ℕ) (cs :
 
 pub leaf_follows : (at : ℕ → ℕ → Outcome) (ns : List Node) (kids : List ℕ) (i h : ℕ) (t : Tree) (c : Course) → (node_at ns i).label ≡ Leaf h → Spells ns kids i t → FollowsCourse at (leaf h) c → FollowsCourse at t c
 leaf_follows at ns kids i h t c l s f = rw (leaf_is ns kids i h t l s) f
+
+-- one course more is known, that of the node before those that are
+pub known_before : (at : ℕ → ℕ → Outcome) (ns : List Node) (kids : List ℕ) (cs : List Course) (i : ℕ) (c : Course) → i < length cs
+    → ((m : ℕ) (t : Tree) → i < m → Spells ns kids m t → FollowsCourse at t (course_at cs m)) → ((t : Tree) → Spells ns kids i t → FollowsCourse at t c)
+    → (m : ℕ) (t : Tree) → i ≤ m → Spells ns kids m t → FollowsCourse at t (course_at (set cs i c) m)
+known_before at ns kids cs i c within behind here m t b s = go (cases_eq m i)
+  where
+    go : (m ≡ i) ⊎ (m ≡ i → ⊥) → FollowsCourse at t (course_at (set cs i c) m)
+    go (inl e) =
+        let own : Spells ns kids i t = subst (λ n. Spells ns kids n t) e s in
+        rw (e, get_or-set_same cs i c never within) (here t own)
+    go (inr n) = rw (get_or-set_other cs i m c never n) (behind m t (omega arith) s)
 
 -- ---- first outcomes
 
