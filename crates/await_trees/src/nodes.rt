@@ -2,14 +2,14 @@
 use journal_protocol::FutureKind;
 
 /// What stands at a node: a handle's number, or a kind over children.
-#[derive(Clone, Copy, Debug)]
+#[derive(Clone, Copy)]
 pub enum Label {
     Leaf(u32),
     Inner(FutureKind),
 }
 
 /// A node; the numbers of its children are `count` entries of the second list, from `first` on.
-#[derive(Clone, Copy, Debug)]
+#[derive(Clone, Copy)]
 pub struct Node {
     pub label: Label,
     pub first: usize,

@@ -29,6 +29,11 @@ fn close<W: fmt::Write>(f: &mut fmt::Formatter<W>, left: &mut Vec<usize>) -> fmt
     Ok(())
 }
 
+/// Opens a node that has children, of which all are still to be written.
+fn open(left: &mut Vec<usize>, children: usize) -> fmt::Result {
+    left.push(children).map_err(|_| fmt::Error)
+}
+
 /// Writes one node; `left` has for each open node how many of its children are still to be written, this one too.
 fn show_node<W: fmt::Write>(
     f: &mut fmt::Formatter<W>,
@@ -40,8 +45,7 @@ fn show_node<W: fmt::Write>(
         Label::Inner(kind) => {
             f.write_str(name_of(kind))?;
             if node.count > 0 {
-                left.push(node.count).map_err(|_| fmt::Error)?;
-                return Ok(());
+                return open(left, node.count);
             }
             f.write_str(")")?;
         }
