@@ -50,17 +50,19 @@ piece_said Says (p ∷ ps) (q ∷ qs) [] i d same all h = absurd all
 piece_said Says (p ∷ ps) (q ∷ qs) (it ∷ items) zero d same all h = (it, subst (λ t. SaysInside Says t it) (sym same.0) all.0)
 piece_said Says (p ∷ ps) (q ∷ qs) (it ∷ items) (suc i) d same all h = piece_said Says ps qs items i d same.1 all.1 (omega arith)
 
+-- no piece yet
+pub none_said : {A : Type 0} (Says : List ℕ → A → Type 0) (items : List A) → items ≡ [] → AllZip (λ (p : Bor (List ℕ)) it. SaysInside Says p.now it) [] items
+none_said Says items is = rw is tt
+
 -- a piece is refused
-pub piece_blamed : {A : Type 0} (Says : List ℕ → A → Type 0) (text inside : List ℕ) (pieces : List (Bor (List ℕ))) (i : ℕ) (d : Bor (List ℕ)) (fault : Fault) → (length text ≡ 0 → ⊥) → ArePieces 44 text pieces → i < length pieces
-    → IsTrimAscii (get_or pieces i d).now inside → Blames (Says inside) fault → Blames (SayItems Says text) fault
-piece_blamed {A = A} Says text inside pieces i d fault some are h is blames = record { nothing = go }
+pub piece_blamed : {A : Type 0} (Says : List ℕ → A → Type 0) (text : List ℕ) (pieces : List (Bor (List ℕ))) (i : ℕ) (d : Bor (List ℕ)) (fault : Fault) → (length text ≡ 0 → ⊥) → ArePieces 44 text pieces → i < length pieces → Blames (SaysInside Says (get_or pieces i d).now) fault
+    → Blames (SayItems Says text) fault
+piece_blamed {A = A} Says text pieces i d fault some are h blames = record { nothing = go }
   where
     go : fault ≡ Malformed → (items : List A) → SayItems Says text items → ⊥
     go bad items (inl (empty, none)) = some (ap length empty)
     go bad items (inr (others, be, all)) =
-        let said = piece_said Says pieces others items i d (pieces_once 44 text pieces others are be) all h in
-        let inner = inside_blamed Says (get_or pieces i d).now inside fault is blames in
-        inner.nothing bad said.0 said.1
+        let said = piece_said Says pieces others items i d (pieces_once 44 text pieces others are be) all h in blames.nothing bad said.0 said.1
 
 -- a list that isn't closed
 pub unclosed_items_blamed : {A : Type 0} (Says : List ℕ → A → Type 0) (text : List ℕ) (fault : Fault) → (fault ≡ Malformed → place text ≢ outside) → Blames (SayItems Says text) fault

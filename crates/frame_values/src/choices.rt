@@ -64,7 +64,7 @@ fn held<'a>(text: &'a [u8], word: &str) -> Option<&'a [u8]>
 
 /// The value in brackets.
 #[tactic(auto, using(crate::proofs::Refusing::inside_blamed))]
-fn value_in<T: Value>(alloc: Global, inside: &[u8]) -> Result<T, Fault>
+pub fn value_in<T: Value>(alloc: Global, inside: &[u8]) -> Result<T, Fault>
     ensures value { IfOk result (SaysInside T.notation.Says inside.now) }
     ensures none { IfErr result (λ fault. T.notation.IsExact
         → Blames (SaysInside T.notation.Says inside.now) fault) }

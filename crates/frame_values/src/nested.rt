@@ -346,7 +346,7 @@ fn read_on<'a>(
 }
 
 /// The nodes of the future that a text says.
-#[tactic(auto, using(crate::proofs::Reading::stands_placed, crate::proofs::Reading::stands_on, crate::proofs::Reading::on_denied, crate::proofs::Reading::unopened_denied))]
+#[tactic(auto, using(crate::proofs::Reading::unopened_denied))]
 pub fn nodes_of(alloc: Global, text: &[u8]) -> Result<Vec<FutureNode>, Fault>
     ensures value { IfOk result (λ nodes. SaysFuture text.now nodes.items) }
     ensures none { IfErr result (Blames (SaysFuture text.now)) }

@@ -1,9 +1,12 @@
 //! The values of fields as they are written on a line.
-ghost use Rattle.std.specs.Prelude.{◌≡◌, ◌<◌, ◌++◌, length, IfErr, IfNone, IfOk, IfSome, OnOk, false, true};
+ghost use Rattle.std.specs.Prelude.{◌≡◌, ◌<◌, ◌++◌, ℕ, List, [], length, IfErr, IfNone, IfOk, IfSome, OnOk, false, true};
+ghost use Rattle.std.specs.List.{AllZip};
+ghost use Rattle.lines.specs.Pieces.{ArePieces};
 ghost use Rattle.lines.specs.Readings.{Blames};
 ghost use Rattle.lines.specs.Words.{IsNumberOf, text_at};
 ghost use Rattle.frame_values.specs.Notation.{Notation, SayItems, SaysInside, SaysPair, bytes_notation, flag_notation, header_notation, list_notation, items_text, number, optional, pair, string};
 
+use crate::choices::value_in;
 use bytes::Bytes;
 use journal_protocol::Header;
 use lines::atoms::{shared_of, text_of, u32_of, u64_of};
@@ -178,22 +181,41 @@ fn print_items<T: Value>(items: &[T], line: &mut Line) -> Result<(), AllocError>
     Ok(())
 }
 
+/// Reads an item from each piece.
+fn add_items<T: Value>(alloc: Global, pieces: &[&[u8]], items: &mut Items<T>) -> Result<(), Fault>
+    requires { items.old ≡ [] }
+    ensures items { OnOk result (AllZip
+        (λ piece item. SaysInside T.notation.Says piece.now item) pieces.now items.new) }
+    ensures none { IfErr result (λ fault. T.notation.IsExact → (text : List ℕ)
+        → (length text ≡ 0 → ⊥) → ArePieces 44 text pieces.now
+        → Blames (SayItems T.notation.Says text) fault) }
+{
+    for piece in pieces {
+        let item = value_in(alloc, piece)?;
+        items.push(item)?;
+    }
+    Ok(())
+}
+
 /// The items between commas.
-#[tactic(auto, using(crate::proofs::Refusing::piece_blamed, crate::proofs::Refusing::unclosed_items_blamed))]
+#[tactic(auto, using(crate::proofs::Refusing::unclosed_items_blamed))]
 fn items_of<T: Value>(alloc: Global, text: &[u8]) -> Result<Items<T>, Fault>
     ensures value { IfOk result (SayItems T.notation.Says text.now) }
     ensures none { IfErr result (λ fault. T.notation.IsExact
         → Blames (SayItems T.notation.Says text.now) fault) }
 {
-    let mut items = Items::new(alloc);
     if text.is_empty() {
-        return Ok(items);
+        return Ok(Items::new(alloc));
     }
     let pieces = pieces(alloc, text, b',')?;
-    for piece in &pieces {
-        items.push(T::parse(alloc, piece.trim_ascii())?)?;
+    let mut items = Items::new(alloc);
+    match add_items(alloc, pieces.as_slice(), &mut items) {
+        Ok(()) => Ok(items),
+        Err(fault) => {
+            drop(items);
+            Err(fault)
+        }
     }
-    Ok(items)
 }
 
 #[tactic(auto, using(crate::proofs::Refusing::list_blamed, crate::proofs::Refusing::no_list_blamed))]
@@ -246,7 +268,7 @@ fn value_at<T: Value>(alloc: Global, words: &[&[u8]], place: usize) -> Result<T,
 }
 
 /// The two values in round brackets.
-#[tactic(auto, using(crate::proofs::Refusing::no_pair_blamed, crate::proofs::Refusing::not_two_blamed, crate::proofs::Refusing::first_blamed, crate::proofs::Refusing::second_blamed))]
+#[tactic(auto, using(crate::proofs::Refusing::not_two_blamed, crate::proofs::Refusing::second_blamed))]
 fn pair_of<A: Value, B: Value>(alloc: Global, text: &[u8]) -> Result<(A, B), Fault>
     ensures value { IfOk result (SaysPair A.notation.Says B.notation.Says text.now) }
     ensures none { IfErr result (λ fault. A.notation.IsExact → B.notation.IsExact

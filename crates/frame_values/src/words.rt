@@ -4,7 +4,7 @@ ghost use Rattle.frame_values.specs.FutureWords.{after_word, ends_word, first_wo
 ghost use Rattle.frame_values.specs.declared.words.Within.TheVariants.{Nothing};
 
 /// What a place of a word stands in.
-#[derive(Clone, Copy, PartialEq, Eq)]
+#[derive(Clone, Copy)]
 enum Within {
     Nothing,
     List,

@@ -1,7 +1,0 @@
-use Rattle.std.proofs.Common.{take}
-use Rattle.std.specs.List.{AllZip}
-use Rattle.frame_values.specs.Notation.{SaysInside}
-use Rattle.frame_values.proofs.value.items_of.Given as goal
-
-abbrev pub invariant-loop-piece : goal.invariant-loop-piece
-invariant-loop-piece g l = AllZip (λ piece item. SaysInside g.T.Value.notation.Says piece.now item) (take l.piece-index l.piece-items) l.items
