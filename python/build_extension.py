@@ -7,10 +7,11 @@ It is on the limited API (abi3), so the same file is for each CPython from 3.11 
 
 usage: build_extension.py FILE
 
-A module that is newer than its sources stays as it is."""
+A module stays as it is if it was built of the same sources, by the same compiler with the same flags: a file beside it says by what it was built."""
 
 from __future__ import annotations
 
+import hashlib
 import os
 import pathlib
 import shlex
@@ -46,12 +47,33 @@ def headers() -> pathlib.Path:
     return folder
 
 
+def flags() -> list[str]:
+    """The flags of this file, and those of the environment."""
+    return [*FLAGS, *shlex.split(os.environ.get("CFLAGS", ""))]
+
+
+def built_by() -> str:
+    """By what a module is built: the compiler, its flags, the folder of the headers, and the sum of the sources and of this file."""
+    words = compiler()
+    found = os.path.realpath(shutil.which(words[0]) or words[0])
+    files = [pathlib.Path(__file__), *sorted(it for it in SOURCES.iterdir() if it.suffix in (".c", ".h"))]
+    sums = "".join(f"{it.name} {hashlib.sha256(it.read_bytes()).hexdigest()}\n" for it in files)
+    return f"{shlex.join([found, *words[1:], *flags(), f'-I{headers()}'])}\n{hashlib.sha256(sums.encode()).hexdigest()}\n"
+
+
+def stamp(made: pathlib.Path) -> pathlib.Path:
+    """The file that says by what a module was built."""
+    return made.with_name(f".{made.name}.built")
+
+
 def put(module: bytes, made: pathlib.Path) -> None:
-    """Writes a module in the place of the one before, so that no program is disturbed which has loaded that."""
+    """Writes a module that was built now in the place of the one before, so that no program is disturbed which has loaded that."""
     beside = made.with_name(f".{os.getpid()}.{made.name}")
     beside.write_bytes(module)
     beside.chmod(0o755)
+    stamp(made).unlink(missing_ok=True)
     beside.replace(made)
+    stamp(made).write_text(built_by())
 
 
 def build(*more: str) -> bytes:
@@ -61,16 +83,15 @@ def build(*more: str) -> bytes:
     given = ["-include", str(SOURCES / "portable.h"), f"-I{headers()}", *map(str, sorted(SOURCES.glob("*.c")))]
     with tempfile.TemporaryDirectory(prefix="palqytun-") as room:
         made = pathlib.Path(room, NAME)
-        flags = [*FLAGS, *shlex.split(os.environ.get("CFLAGS", "")), *more]
-        ran = subprocess.run([*compiler(), *flags, *given, "-o", str(made)], capture_output=True, text=True)
+        ran = subprocess.run([*compiler(), *flags(), *more, *given, "-o", str(made)], capture_output=True, text=True)
         if ran.returncode:
             raise Unbuilt(f"the C compiler refused it: {ran.stderr.strip()[-2000:]}")
         return made.read_bytes()
 
 
 def is_current(made: pathlib.Path) -> bool:
-    """Whether a module is newer than each file of which it is built."""
-    return made.is_file() and all(it.stat().st_mtime < made.stat().st_mtime for it in (pathlib.Path(__file__), *SOURCES.iterdir()))
+    """Whether a module was built by what it would be built by now."""
+    return made.is_file() and stamp(made).is_file() and stamp(made).read_text() == built_by()
 
 
 def main(words: list[str]) -> None:
