@@ -31,12 +31,16 @@ _NAMES.many = (
     f" ORDER BY service, key, name, number DESC{_SET}"
 )
 
+_AWAKEABLE = "sign_1"  # the beginning of each one's id
+
 
 def awakeable_of(id: str) -> tuple[str, int]:
-    """Whose signal completes an awakeable, and its number."""
-    text = id.removeprefix("sign_1")
+    """Whose signal completes an awakeable, and its number. No other text names the same, as in the core's engine (`engine_effects`)."""
+    text = id.removeprefix(_AWAKEABLE)
     try:
         data = base64.urlsafe_b64decode(text + "=" * (-len(text) % 4))
+        if id != _AWAKEABLE + base64.urlsafe_b64encode(data).decode().rstrip("="):
+            raise ValueError
         return data[:-4].decode(), struct.unpack(">I", data[-4:])[0]
     except (ValueError, struct.error):
         raise TerminalError(f"{id[:200]} is no awakeable", 400) from None
