@@ -33,6 +33,13 @@ come_next xs i count l b =
 pub on_top : (rs rest : List Row) (r : Row) → rs ≡ rest ++ r ∷ [] → reverse rs ≡ r ∷ reverse rest
 on_top rs rest r e = ap reverse e ∙ reverse-append rest (r ∷ [])
 
+-- the next number of the row on top is a node's
+pub next_within : (ns : List Node) (kids : List ℕ) (rows rest : List Row) (r : Row) → Ranged ns kids → Sound ns kids (reverse rows) → rows ≡ rest ++ r ∷ [] → r.place < r.end → get_or kids r.place 0 < length ns
+next_within ns kids rows rest r ranged sound e l =
+    let top : Sound ns kids (r ∷ reverse rest) = subst (Sound ns kids) (on_top rows rest r e) sound in
+    let fits = top.0 in
+    ranged.numbers r.place (omega arith)
+
 pub same_sum : (a b : ℕ) → a + b - a ≡ b
 same_sum a b = omega arith
 
@@ -184,6 +191,13 @@ nested_joined : (id : ℕ → Option NotificationId) (us rs : Forest) → nested
 nested_joined id none rs = refl
 nested_joined id (more (leaf h) ts) rs = nested_joined id ts rs
 nested_joined id (more (node k us) ts) rs = ap (λ z. head_of id k us ∷ z) (ap (λ z. nested id us ++ z) (nested_joined id ts rs) ∙ sym (append_assoc (nested id us) (nested id ts) (nested id rs)))
+
+pub leaf_passed : (id : ℕ → Option NotificationId) (ns : List Node) (kids : List ℕ) (rows after : List Row) (n h : ℕ) (sent : List FutureNode) → (node_at ns n).label ≡ Leaf h → Steps ns kids rows (Some n) after
+    → sent ++ nested id (coming ns kids after) ≡ sent ++ nested id (coming ns kids rows)
+leaf_passed id ns kids rows after n h sent label (rs, is_next, s, later, sound) =
+    let is = leaf_is ns kids n h (read ns kids (length ns) n) label s in
+    let all : coming ns kids rows ≡ more (leaf h) rs = is_next ∙ ap (λ z. more z rs) is in
+    ap (λ z. sent ++ nested id z) (later ∙ ap forest_after_root all) ∙ sym (ap (λ z. sent ++ nested id z) all)
 
 pub head_next : (id : ℕ → Option NotificationId) (ns : List Node) (kids : List ℕ) (rows after : List Row) (n : ℕ) (k : FutureKind) (head : FutureNode) (sent_so_far sent_now : List FutureNode) → (node_at ns n).label ≡ Inner k
     → Steps ns kids rows (Some n) after → head ≡ head_of id k (reads ns kids (children ns kids n)) → sent_now ≡ sent_so_far ++ head ∷ []

@@ -1,5 +1,5 @@
 //! What an await waits for, as it is sent: the nodes of what is left that are no leaves, each with the ids of its leaves.
-ghost use Rattle.std.specs.Prelude.{◌≡◌, ◌<◌, ◌∷◌, [], ℕ, List, IfOk, length, slice_index_or};
+ghost use Rattle.std.specs.Prelude.{◌≡◌, ◌<◌, ◌∷◌, ◌++◌, [], ℕ, List, IfOk, length, slice_index_or};
 ghost use Rattle.std.specs.Option.{option_copied};
 ghost use Rattle.await_trees.specs.Tree.{leaf};
 ghost use Rattle.await_trees.specs.Wires.{sent, head_of};
@@ -89,6 +89,24 @@ fn head_at(
     head_over(alloc, results, nodes, kind, &kids[first..first + count])
 }
 
+/// Adds the node of this number, without those that nest in it.
+fn send_head(
+    alloc: Global,
+    results: &AsyncResults,
+    left: &Residue,
+    kind: FutureKind,
+    number: usize,
+    sent: &mut Items<FutureNode>,
+) -> Result<(), AllocError>
+    requires { number < length left.now.nodes }
+    ensures { IfOk result (λ _. sent.new
+        ≡ sent.old ++ head_of (ids results.now) kind
+        (reads left.now.nodes left.now.kids (children left.now.nodes left.now.kids number)) ∷ []) }
+{
+    let head = head_at(alloc, results, left, kind, number)?;
+    sent.push(head)
+}
+
 /// A leaf alone is the first of one.
 fn leaf_sent(
     alloc: Global,
@@ -124,7 +142,7 @@ fn nodes_sent(
         Label::Inner(kind) => kind,
     };
     let mut sent = Items::new(alloc);
-    sent.push(head_at(alloc, results, left, kind, 0)?)?;
+    send_head(alloc, results, left, kind, 0, &mut sent)?;
     let mut rows = Vec::new(alloc);
     rows.push(Row {
         place: first,
@@ -132,7 +150,7 @@ fn nodes_sent(
     })?;
     while let Some(number) = next_node(nodes, kids, &mut rows)? {
         if let Label::Inner(kind) = nodes[number].label {
-            sent.push(head_at(alloc, results, left, kind, number)?)?;
+            send_head(alloc, results, left, kind, number, &mut sent)?;
         }
     }
     Ok(sent)
