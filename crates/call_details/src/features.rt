@@ -6,7 +6,7 @@ use vm_retries::RetryPolicy;
 use vm_types::RunExitResult;
 
 /// What some versions don't have.
-#[derive(Clone, Copy, Debug)]
+#[derive(Clone, Copy)]
 pub enum Feature {
     Metadata,
     Scope,

@@ -2,7 +2,7 @@
 use vm_types::{Call, ContentType, VMOptions};
 
 /// A line of the script, read as a whole.
-#[derive(Debug, Drop)]
+#[derive(Drop)]
 pub enum Request {
     /// Nothing: a blank line or a comment.
     Nothing,

@@ -15,7 +15,7 @@ use std::alloc::Global;
 use world_rounds::Event as AttemptEvent;
 
 /// What an event of a script has done.
-#[derive(Clone, Copy, Debug, PartialEq, Eq)]
+#[derive(Clone, Copy, PartialEq, Eq)]
 pub enum Did {
     Nothing,
     Something,

@@ -5,14 +5,14 @@ use engines::EngineFault;
 use program_runs::exit_status::{ExitStatus, HasStatus};
 
 /// How a script ends.
-#[derive(Clone, Copy, Debug, PartialEq, Eq)]
+#[derive(Clone, Copy)]
 pub struct Ending {
     /// The fault that has stopped it; then nothing was to be written. If none has, all its events have happened.
     pub stopped_by: Option<EngineFault>,
 }
 
 /// Why a run is refused.
-#[derive(Debug, Drop)]
+#[derive(Drop)]
 pub enum Refusal {
     /// The arguments are others than one content type. Nothing was read.
     OtherArguments,

@@ -4,7 +4,7 @@ use std::alloc::{AllocError, Global};
 use vm_types::{Answer, Handler, Step};
 
 /// Makes these steps, one after another, and then ends.
-#[derive(Debug, Drop)]
+#[derive(Drop)]
 pub struct Plan {
     pub alloc: Global,
     pub steps: Vec<Step>,

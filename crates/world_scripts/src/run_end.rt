@@ -6,7 +6,7 @@ use crate::stop::Stop;
 use program_runs::exit_status::{ExitStatus, HasStatus};
 
 /// How a script ends.
-#[derive(Clone, Copy, Debug, PartialEq, Eq)]
+#[derive(Clone, Copy)]
 pub struct Ending {
     /// What has stopped it: the report names the fault. If nothing has, all its rounds have run, and the report says what they did.
     pub stopped_by: Option<Stop>,
@@ -24,7 +24,7 @@ impl HasStatus for Ending {
 }
 
 /// Why a run is refused.
-#[derive(Debug, Drop)]
+#[derive(Drop)]
 pub enum Refusal {
     /// There is no handler of this name. Nothing was read.
     UnknownHandler,

@@ -23,7 +23,7 @@ pub struct Script {
 }
 
 /// Why a script isn't read.
-#[derive(Clone, Copy, Debug, PartialEq, Eq)]
+#[derive(Clone, Copy)]
 pub enum Unread {
     Memory,
     /// The line of this number, counted from 1, has no meaning.
