@@ -6,8 +6,8 @@ use Rattle.plain.specs.declared.fault.Fault.{Fault}
 use Rattle.plain.specs.declared.fault.Fault.TheVariants as fault
 use Rattle.journal_protocol.specs.MessageType.{MessageType}
 use Rattle.journal_protocol.specs.Message.{Message}
-use Rattle.journal_layers.specs.Layers.{IsFrontRead, Malformed, Whole, layer_fault}
-use Rattle.journal_layers.specs.Own.{front_if}
+use Rattle.vm_layers.specs.Layers.{IsFrontRead, Malformed, Whole, layer_fault}
+use Rattle.vm_layers.specs.Own.{front_if}
 use Rattle.test_journals.specs.Laws.{whole_frame}
 use Rattle.journal_protocol.specs.Version.{Version}
 use Rattle.test_journals.specs.Short.{body_in, short_front, short_front_in, type_in}

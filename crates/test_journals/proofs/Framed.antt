@@ -7,8 +7,8 @@ use Rattle.journal_protocol.specs.RawMessage.{RawMessage}
 use Rattle.journal_protocol.proofs.Facts as alone
 use Rattle.plain.specs.declared.fault.Fault.{Fault}
 use Rattle.plain.specs.declared.fault.Fault.TheVariants as fault
-use Rattle.journal_layers.specs.Layers.{layer_fault}
-use Rattle.journal_layers.specs.declared.layer.LayerFault.TheVariants.{Memory}
+use Rattle.vm_layers.specs.Layers.{layer_fault}
+use Rattle.vm_layers.specs.declared.layer.LayerFault.TheVariants.{Memory}
 
 own : (m : Message) → IsWhole m → next_of (encoding m) ≡ Whole (record { ty = type_of m; body = body m }) []
 own m w = ap next_of (sym (append-nil (encoding m))) ∙ alone.framed m [] w

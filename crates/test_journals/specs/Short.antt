@@ -15,11 +15,11 @@ use Rattle.journal_protocol.specs.Message.TheVariants as message
 use Rattle.journal_protocol.specs.Suspension.{Suspension}
 use Rattle.journal_protocol.specs.Version.{Version}
 use Rattle.journal_protocol.specs.Versions.{is_from_v7}
-use Rattle.journal_layers.specs.Kept.{kept_ids}
-use Rattle.journal_layers.specs.Layers.{Front, Partial, Malformed}
-use Rattle.journal_layers.specs.Own.{front_if}
-use Rattle.journal_layers.specs.declared.layer.LayerFault.{LayerFault}
-use Rattle.journal_layers.specs.declared.layer.LayerFault.TheVariants as fault
+use Rattle.vm_layers.specs.Kept.{kept_ids}
+use Rattle.vm_layers.specs.Layers.{Front, Partial, Malformed}
+use Rattle.vm_layers.specs.Own.{front_if}
+use Rattle.vm_layers.specs.declared.layer.LayerFault.{LayerFault}
+use Rattle.vm_layers.specs.declared.layer.LayerFault.TheVariants as fault
 use Rattle.test_journals.specs.declared.short.Short.{Short}
 
 -- ---- what a version has

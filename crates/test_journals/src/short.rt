@@ -5,20 +5,20 @@ ghost use Rattle.std.specs.Int.{from_be_bytes, w16, w32};
 ghost use Rattle.std.specs.List.{flat_map};
 ghost use Rattle.journal_protocol.specs.FutureNode.{FutureNode};
 ghost use Rattle.journal_protocol.specs.Frames.{IsWhole, body, type_of};
-ghost use Rattle.journal_layers.specs.Kept.{kept_ids};
+ghost use Rattle.vm_layers.specs.Kept.{kept_ids};
 ghost use Rattle.journal_protocol.specs.Version.{Version};
-ghost use Rattle.journal_layers.specs.Layers.{Partial};
-ghost use Rattle.journal_layers.specs.declared.layer.LayerFault.TheVariants.{Memory};
+ghost use Rattle.vm_layers.specs.Layers.{Partial};
+ghost use Rattle.vm_layers.specs.declared.layer.LayerFault.TheVariants.{Memory};
 ghost use Rattle.test_journals.specs.Short.{Framed, body_in, cut_in, knows_type, short_front, suspension_of, type_in, sent_form};
 
 use bytes::Bytes;
-use journal_layers::{Layer, LayerFault};
 use journal_protocol::{
     Decoder, Encoder, Future, FutureKind, FutureNode, Message, MessageType, RawMessage, Suspension,
     Version,
 };
 use plain::{Items, Text};
 use std::alloc::{AllocError, Global};
+use vm_layers::{Layer, LayerFault};
 
 /// A frame is a length (4 bytes, the most significant first), as many bytes, and the type's number (2 bytes). The first of those bytes is a
 /// mark, 0 or 1, and the body follows; the frames with either mark encode the same message. Below version 7 a suspension is written without

@@ -1,2 +1,0 @@
-pub mod Translating
-pub mod Cutting

@@ -1,5 +1,0 @@
-pub mod Layers
-pub mod Own
-pub mod Kept
-pub mod Steps
-pub mod Rest

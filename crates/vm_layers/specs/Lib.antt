@@ -1,0 +1,6 @@
+pub mod Layers
+pub mod Own
+pub mod Kept
+pub mod Steps
+pub mod Rest
+pub mod Transcoding
