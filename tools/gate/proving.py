@@ -14,7 +14,7 @@ from dataclasses import dataclass, replace
 from pathlib import Path
 
 from . import counts, tree
-from .environment import TOP, cores, environment, keeps_proofs, lanes, named_lanes, start_anew
+from .environment import TOP, cores, environment, free_memory, keeps_proofs, lanes, named_lanes, processors, start_anew
 from .jobs import Done, Job, Runner, total
 from .parts import has_tests, job, programs, script
 from .proofs import Crate, Processors, Proofs, read_crates, read_times
@@ -24,8 +24,9 @@ OUT = "out/prove"
 TIMES = Path(OUT, "times.json")
 ARCHIVE = "crates/ffi/out/libffi.a"  # below the folder in which it is proved
 PROOFS, BUILDS = "proofs", "builds"
-NARROW = f"{PROOFS}/narrow"
-WAIST = "world_rounds"  # below it a crate of the longest chain is seldom ready beside another
+CHAIN = f"{PROOFS}/chain"
+HEAD = "engines"  # the longest chain of crates leads to it
+ROOM = 5_000_000  # kilobytes for each processor, if two runs of rt ci prove beside each other
 HOURS = 6 * 3600  # that rt ci may take
 SMALL = 1_500_000  # kilobytes for a job that proves nothing
 LOOK = 2  # seconds between two looks at the processes
@@ -54,23 +55,21 @@ PARTS = [
 ]
 
 
-def jobs(seconds: dict[str, float], narrow: Path | None) -> Iterator[Job]:
-    """The jobs of ./prove, with the seconds that they took last time. If there is a folder of the crates below the waist, these are proved first."""
-    for it in every_job(narrow):
+def jobs(seconds: dict[str, float], chain: Path | None) -> Iterator[Job]:
+    """The jobs of ./prove, with the seconds that they took last time. If there is a folder of the crates of the longest chain, these are also proved there."""
+    for it in every_job(chain):
         yield replace(it, seconds=max(round(seconds.get(it.name, it.seconds)), 1))
 
 
-def every_job(narrow: Path | None) -> Iterator[Job]:
+def every_job(chain: Path | None) -> Iterator[Job]:
     # rt ci takes all cores for itself; the library is built in its last minutes, as soon as what it stands on is proved.
     room, logs = tree.place(), TOP / OUT / "logs"
     proofs = replace(job(PROOFS, "rt", "ci"), seconds=2400, cores=1000, limit=HOURS, folder=str(room))
-    if narrow:
-        # Without RT_JOBS a check has up to four processes while no other waits. The second rt ci takes what this one keeps; it reads all
-        # crates for a minute before it proves one, so it begins while the last one here is proved.
-        alone = replace(job(NARROW, "rt", "ci"), seconds=1500, cores=1000, limit=HOURS, folder=str(narrow))
+    if chain:
+        # Without RT_JOBS a check has two processes while no other of its run waits. Each run takes what the other keeps.
+        alone = replace(job(CHAIN, "rt", "ci"), seconds=2400, cores=1000, limit=HOURS, folder=str(chain))
         yield replace(alone, counts=counts.of_status, env={"RT_JOBS": ""})
-        words = (sys.executable, "-m", "tools.gate.later", str(logs / f"{NARROW.replace('/', '-')}.log"), WAIST, *proofs.words)
-        proofs = replace(proofs, words=words, cores=0, env={"PYTHONPATH": str(TOP)})
+        proofs = replace(proofs, words=("nice", "-n", "5", *proofs.words), cores=0, env={"RT_JOBS": str(max(lanes() - 1, 1))})
     yield proofs
     library = script("library", str(TOP / "tools/static-library"), "ffi", str(logs / f"{PROOFS}.log"))
     yield replace(library, counts=counts.of_status, cores=0, limit=HOURS, folder=str(room))
@@ -97,7 +96,7 @@ class ShowProofs(Show):
     def __init__(self, those: list[Job], proofs: Proofs, cores: int, is_strict: bool) -> None:
         super().__init__(those, is_strict)
         self.proofs, self.cores, self.processors = proofs, cores, Processors()
-        self.read = {it: 0 for it in (NARROW, PROOFS)}
+        self.read = {it: 0 for it in (CHAIN, PROOFS)}
         self.looked = 0.0
 
     def ticked(self) -> None:
@@ -143,7 +142,7 @@ class ShowProofs(Show):
 
     def _later(self) -> float:
         """The seconds of what follows rt ci. The library is built beside it, and the examples run over it."""
-        return sum(seconds for name, seconds in self.seconds.items() if name not in (NARROW, PROOFS, "library", "bindings", BUILDS)) / self.cores
+        return sum(seconds for name, seconds in self.seconds.items() if name not in (CHAIN, PROOFS, "library", "bindings", BUILDS)) / self.cores
 
 
 def arguments(words: list[str]) -> argparse.Namespace:
@@ -166,13 +165,13 @@ def write_times(proofs: Proofs, last: dict[str, float], done: dict[str, Done]) -
     TIMES.write_text(json.dumps(found, indent=1) + "\n", encoding="utf-8")
 
 
-def narrow_tree(crates: Mapping[str, Crate], is_set: bool) -> Path | None:
-    """The folder of the crates up to the waist, which are proved first: unless somebody has said how many to prove at a time, or nothing would
-    be kept."""
-    if is_set or not keeps_proofs():
+def chain_tree(crates: Mapping[str, Crate], is_set: bool) -> Path | None:
+    """The folder of the crates up to the head of the longest chain, which a second rt ci proves: unless somebody has said how many to prove at a time,
+    memory is short, or nothing would be kept."""
+    if is_set or not keeps_proofs() or free_memory() < ROOM * processors():
         return None
-    place = tree.place(name="prove-narrow")
-    tree.make(TOP, place, tree.below(crates, [WAIST]))
+    place = tree.place(name="prove-chain")
+    tree.make(TOP, place, tree.below(crates, [HEAD]))
     return place
 
 
@@ -183,9 +182,9 @@ def run(options: argparse.Namespace) -> int:
     crates = read_crates(TOP, [it.name for it in TOP.glob("crates/*") if has_tests(it)])
     crates = {name: crates[name] for name in tree.promising(crates)}
     tree.make(TOP, tree.place(), crates)
-    narrow = narrow_tree(crates, is_set=bool(options.jobs or named_lanes()))
+    chain = chain_tree(crates, is_set=bool(options.jobs or named_lanes()))
     proofs = Proofs(crates, {name: it for name, it in times.items() if name in crates})
-    those = list(jobs(of_jobs, narrow))
+    those = list(jobs(of_jobs, chain))
     at_a_time = options.jobs or lanes()
     print(f"{len(crates)} crates, {at_a_time} at a time; logs: {OUT}/logs", flush=True)
     show = ShowProofs(those, proofs, at_a_time, options.no_skips)
@@ -195,8 +194,8 @@ def run(options: argparse.Namespace) -> int:
         done = runner.run()
     finally:
         write_times(proofs, of_jobs, runner.done)
-        if narrow:
-            shutil.rmtree(narrow, ignore_errors=True)
+        if chain:
+            shutil.rmtree(chain, ignore_errors=True)
     show.close()
     found = total(done, options.no_skips)
     print(f"./prove took {minutes(time.monotonic() - begun)}")

@@ -11,11 +11,11 @@ from tools.gate.proofs import read_crates
 
 
 class Order(unittest.TestCase):
-    def test_what_is_narrow_is_proved_first_with_as_many_processes_as_rt_gives_a_check(self) -> None:
-        narrow, proofs = [it for it in proving.every_job(Path("narrow")) if it.part == proving.PROOFS]
-        self.assertEqual((narrow.name, narrow.words, narrow.folder, narrow.env), (proving.NARROW, ("rt", "ci"), "narrow", {"RT_JOBS": ""}))
-        self.assertEqual((proofs.words[-3:], proofs.after), ((proving.WAIST, "rt", "ci"), ()))
-        self.assertNotIn("RT_JOBS", proofs.env)
+    def test_the_chain_is_proved_beside_all_with_as_many_processes_as_rt_gives_a_check(self) -> None:
+        chain, proofs = [it for it in proving.every_job(Path("chain")) if it.part == proving.PROOFS]
+        self.assertEqual((chain.name, chain.words, chain.folder, chain.env), (proving.CHAIN, ("rt", "ci"), "chain", {"RT_JOBS": ""}))
+        self.assertEqual((proofs.words[-2:], proofs.after, proofs.needs, proofs.cores), (("rt", "ci"), (), (), 0))
+        self.assertEqual(proofs.env, {"RT_JOBS": str(max(proving.lanes() - 1, 1))})
 
     def test_all_is_proved_at_once_if_nothing_is_kept(self) -> None:
         self.assertEqual([(it.name, it.after) for it in proving.every_job(None) if it.part == proving.PROOFS], [(proving.PROOFS, ())])
@@ -27,24 +27,26 @@ class Order(unittest.TestCase):
         self.assertIn("bindings", those[proving.BUILDS].after)
 
 
-class Narrow(unittest.TestCase):
+class Chain(unittest.TestCase):
     def setUp(self) -> None:
-        self.place = Path(self.enterContext(tempfile.TemporaryDirectory())) / "narrow"
+        self.place = Path(self.enterContext(tempfile.TemporaryDirectory())) / "chain"
         self.enterContext(mock.patch.object(tree, "place", return_value=self.place))
         self.crates = read_crates(TOP, ())
 
-    def test_it_has_the_crates_up_to_the_waist(self) -> None:
-        with mock.patch.object(proving, "keeps_proofs", return_value=True):
-            self.assertEqual(proving.narrow_tree(self.crates, is_set=False), self.place)
-        found = read_crates(self.place, ())
-        self.assertEqual(set(found), tree.below(self.crates, [proving.WAIST]))
-        self.assertIn("vm_machine", found)
-        self.assertNotIn("engines", found)
+    def made(self, keeps: bool = True, free: int = 1 << 40, is_set: bool = False) -> Path | None:
+        with mock.patch.object(proving, "keeps_proofs", return_value=keeps), mock.patch.object(proving, "free_memory", return_value=free):
+            return proving.chain_tree(self.crates, is_set=is_set)
 
-    def test_there_is_none_where_it_would_be_proved_twice_or_jobs_are_set(self) -> None:
-        for keeps, is_set in ((False, False), (True, True)):
-            with mock.patch.object(proving, "keeps_proofs", return_value=keeps):
-                self.assertIsNone(proving.narrow_tree(self.crates, is_set=is_set))
+    def test_it_has_the_crates_up_to_its_head(self) -> None:
+        self.assertEqual(self.made(), self.place)
+        found = read_crates(self.place, ())
+        self.assertEqual(set(found), tree.below(self.crates, [proving.HEAD]))
+        self.assertIn("vm_machine", found)
+        self.assertNotIn("vmengine", found)
+
+    def test_there_is_none_where_it_would_be_proved_twice_or_memory_is_short_or_jobs_are_set(self) -> None:
+        for more in ({"keeps": False}, {"free": 1 << 20}, {"is_set": True}):
+            self.assertIsNone(self.made(**more))  # type: ignore[arg-type]
         self.assertFalse(self.place.exists())
 
 
