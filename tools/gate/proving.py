@@ -171,7 +171,7 @@ def chain_tree(crates: Mapping[str, Crate], is_set: bool) -> Path | None:
     if is_set or not keeps_proofs() or free_memory() < ROOM * processors():
         return None
     place = tree.place(name="prove-chain")
-    tree.make(TOP, place, tree.below(crates, [HEAD]))
+    tree.make(TOP, place, tree.below(crates, [HEAD]), but=["must-fail"])  # the other run tries these
     return place
 
 

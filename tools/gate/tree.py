@@ -55,15 +55,15 @@ def rows(top: Path, names: Iterable[str]) -> str:
     return "".join(f"{it}\n" for it in lines if (words := it.partition(":")[0].split()) and words[0] in wanted)
 
 
-def make(top: Path, tree: Path, names: Iterable[str]) -> None:
-    """Copies these crates, without what was built, to a folder that rt takes for a repository."""
+def make(top: Path, tree: Path, names: Iterable[str], *, but: Iterable[str] = ()) -> None:
+    """Copies these crates, without what was built and without folders of these names, to a folder that rt takes for a repository."""
     those = list(names)
     shutil.rmtree(tree, ignore_errors=True)
     (tree / ".git").mkdir(parents=True)
     (tree / "crates.txt").write_text(rows(top, those), encoding="utf-8")
     shutil.copy(top / "HANDLES", tree)
     for it in those:
-        shutil.copytree(top / "crates" / it, tree / "crates" / it, ignore=shutil.ignore_patterns(*NOT_COPIED))
+        shutil.copytree(top / "crates" / it, tree / "crates" / it, ignore=shutil.ignore_patterns(*NOT_COPIED, *but))
 
 
 def take(tree: Path, top: Path) -> int:

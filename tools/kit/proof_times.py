@@ -9,7 +9,6 @@ from __future__ import annotations
 import os
 import re
 import subprocess
-from collections import Counter
 from collections.abc import Callable, Iterable, Sequence
 from dataclasses import dataclass, field
 from pathlib import Path
@@ -29,7 +28,7 @@ _ENDED = re.compile(rf"{_SAID}(\S+): artifact encoded")
 class Times:
     """The seconds of each module, as far as the lines tell."""
 
-    seconds: Counter[str] = field(default_factory=Counter)
+    seconds: dict[str, float] = field(default_factory=dict)
     _open: list[str] = field(default_factory=list)
     _used: float = 0
 
@@ -37,7 +36,8 @@ class Times:
         """Takes a line, and the seconds that the process had taken by then."""
         if not line.startswith(_SAID):
             return
-        self.seconds[self._open[-1] if self._open else LOADING] += used - self._used
+        name = self._open[-1] if self._open else LOADING
+        self.seconds[name] = self.seconds.get(name, 0) + used - self._used
         self._used = used
         if found := _BEGUN.match(line):
             self._open.append(found[1])
@@ -46,8 +46,8 @@ class Times:
 
     def lines(self, most: int) -> list[str]:
         """The modules that took most, and the sum of all."""
-        whole = sum(self.seconds.values())
-        return [*(f"{taken:7.2f}  {name}" for name, taken in self.seconds.most_common(most)), f"{whole:7.2f}  in all"]
+        dearest = sorted(self.seconds.items(), key=lambda it: -it[1])[:most]
+        return [*(f"{taken:7.2f}  {name}" for name, taken in dearest), f"{sum(self.seconds.values()):7.2f}  in all"]
 
 
 def words(crates: Crates, kit: Kit, crate: Crate, paths: Iterable[str]) -> list[str]:

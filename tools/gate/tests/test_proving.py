@@ -43,6 +43,7 @@ class Chain(unittest.TestCase):
         self.assertEqual(set(found), tree.below(self.crates, [proving.HEAD]))
         self.assertIn("vm_machine", found)
         self.assertNotIn("vmengine", found)
+        self.assertEqual(list(self.place.glob("crates/*/must-fail")), [])
 
     def test_there_is_none_where_it_would_be_proved_twice_or_memory_is_short_or_jobs_are_set(self) -> None:
         for more in ({"keeps": False}, {"free": 1 << 20}, {"is_set": True}):
