@@ -69,7 +69,7 @@ def every_job(chain: Path | None) -> Iterator[Job]:
         # Without RT_JOBS a check has two processes while no other of its run waits. Each run takes what the other keeps.
         alone = replace(job(CHAIN, "rt", "ci"), seconds=2400, cores=1000, limit=HOURS, folder=str(chain))
         yield replace(alone, counts=counts.of_status, env={"RT_JOBS": ""})
-        proofs = replace(proofs, words=("nice", "-n", "5", *proofs.words), cores=0, env={"RT_JOBS": str(max(lanes() - 1, 1))})
+        proofs = replace(proofs, words=("nice", "-n", "5", *proofs.words), cores=0, env={"RT_JOBS": str(beside_chain())})
     yield proofs
     library = script("library", str(TOP / "tools/static-library"), "ffi", str(logs / f"{PROOFS}.log"))
     yield replace(library, counts=counts.of_status, cores=0, limit=HOURS, folder=str(room))
@@ -165,6 +165,11 @@ def write_times(proofs: Proofs, last: dict[str, float], done: dict[str, Done]) -
     TIMES.write_text(json.dumps(found, indent=1) + "\n", encoding="utf-8")
 
 
+def beside_chain() -> int:
+    """How many crates are proved at a time beside those of the longest chain."""
+    return max(lanes() - 1, 1)
+
+
 def chain_tree(crates: Mapping[str, Crate], is_set: bool) -> Path | None:
     """The folder of the crates up to the head of the longest chain, which a second rt ci proves: unless somebody has said how many to prove at a time,
     memory is short, or nothing would be kept."""
@@ -186,7 +191,8 @@ def run(options: argparse.Namespace) -> int:
     proofs = Proofs(crates, {name: it for name, it in times.items() if name in crates})
     those = list(jobs(of_jobs, chain))
     at_a_time = options.jobs or lanes()
-    print(f"{len(crates)} crates, {at_a_time} at a time; logs: {OUT}/logs", flush=True)
+    how = f"{beside_chain()} at a time, beside those of the longest chain" if chain else f"{at_a_time} at a time"
+    print(f"{len(crates)} crates, {how}; logs: {OUT}/logs", flush=True)
     show = ShowProofs(those, proofs, at_a_time, options.no_skips)
     env = {**environment(TOP / OUT / "bin"), "RT_JOBS": str(at_a_time)}
     runner = Runner(those, options.jobs or cores(SMALL), Path(OUT, "logs"), show, env)

@@ -6,7 +6,7 @@ import time
 import unittest
 from pathlib import Path
 
-from tools.gate.later import wait_for
+from tools.gate.waiting import wait_for
 
 KEPT = "rt: low is kept: an earlier run on this machine proved the same files over the same libraries"
 
