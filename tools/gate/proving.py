@@ -166,8 +166,9 @@ def write_times(proofs: Proofs, last: dict[str, float], done: dict[str, Done]) -
 
 
 def beside_chain() -> int:
-    """How many crates are proved at a time beside those of the longest chain."""
-    return max(lanes() - 1, 1)
+    """How many crates rt ci works at beside the run of the longest chain: more than there are processors, since it waits for those that the other run is
+    proving, up to three at a time, and they take no processor in this one."""
+    return lanes() + 2
 
 
 def chain_tree(crates: Mapping[str, Crate], is_set: bool) -> Path | None:
@@ -191,7 +192,7 @@ def run(options: argparse.Namespace) -> int:
     proofs = Proofs(crates, {name: it for name, it in times.items() if name in crates})
     those = list(jobs(of_jobs, chain))
     at_a_time = options.jobs or lanes()
-    how = f"{beside_chain()} at a time, beside those of the longest chain" if chain else f"{at_a_time} at a time"
+    how = f"{at_a_time} at a time, those of the longest chain first" if chain else f"{at_a_time} at a time"
     print(f"{len(crates)} crates, {how}; logs: {OUT}/logs", flush=True)
     show = ShowProofs(those, proofs, at_a_time, options.no_skips)
     env = {**environment(TOP / OUT / "bin"), "RT_JOBS": str(at_a_time)}

@@ -15,7 +15,7 @@ class Order(unittest.TestCase):
         chain, proofs = [it for it in proving.every_job(Path("chain")) if it.part == proving.PROOFS]
         self.assertEqual((chain.name, chain.words, chain.folder, chain.env), (proving.CHAIN, ("rt", "ci"), "chain", {"RT_JOBS": ""}))
         self.assertEqual((proofs.words[-2:], proofs.after, proofs.needs, proofs.cores), (("rt", "ci"), (), (), 0))
-        self.assertEqual(proofs.env, {"RT_JOBS": str(max(lanes() - 1, 1))})
+        self.assertEqual(proofs.env, {"RT_JOBS": str(lanes() + 2)})
 
     def test_all_is_proved_at_once_if_nothing_is_kept(self) -> None:
         self.assertEqual([(it.name, it.after) for it in proving.every_job(None) if it.part == proving.PROOFS], [(proving.PROOFS, ())])
