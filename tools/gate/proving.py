@@ -55,13 +55,19 @@ PARTS = [
 ]
 
 
-def jobs(seconds: dict[str, float], chain: Path | None) -> Iterator[Job]:
-    """The jobs of ./prove, with the seconds that they took last time. If there is a folder of the crates of the longest chain, these are also proved there."""
-    for it in every_job(chain):
+def jobs(seconds: dict[str, float], chain: Path | None, after: int | None) -> Iterator[Job]:
+    """The jobs of ./prove, with the seconds that they took last time. If there is a folder of the crates of the longest chain, these are also proved there,
+    and begin at once. The crates beside them wait until a process has ended, if one is given."""
+    for it in every_job(chain, after):
         yield replace(it, seconds=max(round(seconds.get(it.name, it.seconds)), 1))
 
 
-def every_job(chain: Path | None) -> Iterator[Job]:
+def once_ended(process: int | None, words: tuple[str, ...]) -> tuple[str, ...]:
+    """A command that begins once a process has ended."""
+    return words if process is None else ("sh", "-c", 'tail --pid="$0" -f /dev/null; exec "$@"', str(process), *words)
+
+
+def every_job(chain: Path | None, after: int | None = None) -> Iterator[Job]:
     # rt ci takes all cores for itself; the library is built in its last minutes, as soon as what it stands on is proved.
     room, logs = tree.place(), TOP / OUT / "logs"
     proofs = replace(job(PROOFS, "rt", "ci"), seconds=2400, cores=1000, limit=HOURS, folder=str(room))
@@ -70,7 +76,7 @@ def every_job(chain: Path | None) -> Iterator[Job]:
         alone = replace(job(CHAIN, "rt", "ci"), seconds=2400, cores=1000, limit=HOURS, folder=str(chain))
         yield replace(alone, counts=counts.of_status, env={"RT_JOBS": ""})
         proofs = replace(proofs, words=("nice", "-n", "5", *proofs.words), cores=0, env={"RT_JOBS": str(beside_chain())})
-    yield proofs
+    yield replace(proofs, words=once_ended(after, proofs.words))
     library = script("library", str(TOP / "tools/static-library"), "ffi", str(logs / f"{PROOFS}.log"))
     yield replace(library, counts=counts.of_status, cores=0, limit=HOURS, folder=str(room))
     # So are the examples run over it, which wait for a core as little.
@@ -151,6 +157,7 @@ def arguments(words: list[str]) -> argparse.Namespace:
     parser.add_argument("--no-skips", action="store_true", help="a skip is a failure")
     many = f"how many crates are proved at a time, and then how many jobs run ({lanes()} and {cores(SMALL)})"
     parser.add_argument("--jobs", type=int, metavar="N", help=many)
+    parser.add_argument("--after", type=int, metavar="PID", help="only the longest chain of crates is proved until this process has ended")
     options = parser.parse_args(words)
     if options.jobs is not None and options.jobs < 1:
         parser.error("--jobs wants a number above 0")
@@ -190,7 +197,7 @@ def run(options: argparse.Namespace) -> int:
     tree.make(TOP, tree.place(), crates)
     chain = chain_tree(crates, is_set=bool(options.jobs or named_lanes()))
     proofs = Proofs(crates, {name: it for name, it in times.items() if name in crates})
-    those = list(jobs(of_jobs, chain))
+    those = list(jobs(of_jobs, chain, options.after))
     at_a_time = options.jobs or lanes()
     how = f"{at_a_time} at a time, those of the longest chain first" if chain else f"{at_a_time} at a time"
     print(f"{len(crates)} crates, {how}; logs: {OUT}/logs", flush=True)

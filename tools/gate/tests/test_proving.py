@@ -1,5 +1,6 @@
 """What ./prove runs, and in which order."""
 
+import subprocess
 import tempfile
 import unittest
 from pathlib import Path
@@ -16,6 +17,14 @@ class Order(unittest.TestCase):
         self.assertEqual((chain.name, chain.words, chain.folder, chain.env), (proving.CHAIN, ("rt", "ci"), "chain", {"RT_JOBS": ""}))
         self.assertEqual((proofs.words[-2:], proofs.after, proofs.needs, proofs.cores), (("rt", "ci"), (), (), 0))
         self.assertEqual(proofs.env, {"RT_JOBS": str(lanes() + 2)})
+
+    def test_what_stands_beside_the_chain_waits_for_a_process_if_one_is_named(self) -> None:
+        with subprocess.Popen(("sleep", "0.5")) as other:
+            chain, proofs = [it for it in proving.every_job(Path("chain"), after=other.pid) if it.part == proving.PROOFS]
+            self.assertEqual((chain.words, proofs.words[-2:]), (("rt", "ci"), ("rt", "ci")))
+            waits = subprocess.Popen((*proofs.words[: proofs.words.index("nice")], "echo", "begun"), stdout=subprocess.PIPE, text=True)
+            self.assertIsNone(waits.poll())
+        self.assertEqual(waits.communicate(timeout=60)[0], "begun\n")
 
     def test_all_is_proved_at_once_if_nothing_is_kept(self) -> None:
         self.assertEqual([(it.name, it.after) for it in proving.every_job(None) if it.part == proving.PROOFS], [(proving.PROOFS, ())])
