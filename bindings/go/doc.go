@@ -8,6 +8,6 @@
 // as libpalqytun.so.1. If there is none that can be used, each call fails by a [*LoadError].
 //
 // An error of the VM is an [*Error], and one of [ErrSuspended], [ErrClosed], [ErrJournalMismatch] and [ErrNoMemory] if errors.Is says so. A call that
-// can't be made fails by a [Status]; then nothing was done. Times are whole milliseconds since the Unix epoch, and a name may be empty: then the
-// command has none.
+// can't be made fails by a [Status], or by an [*ArgumentError] that names the argument; then nothing was done. Times are whole milliseconds since
+// the Unix epoch, and a name may be empty: then the command has none.
 package palqytun

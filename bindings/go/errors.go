@@ -6,6 +6,7 @@ import "C"
 import (
 	"errors"
 	"fmt"
+	"strings"
 )
 
 // What an [*Error] may be, for errors.Is. One that was handed in, by [VM.NotifyError] or [VM.ProposeRetryableFailure], is none of these, with any
@@ -44,8 +45,31 @@ type Related struct {
 	Name    string
 }
 
+// namesOfCodes has the names of the codes of the VM's own errors.
+var namesOfCodes = map[uint16]string{
+	CodeBadRequest:           "BadRequest",
+	CodeUnsupportedMediaType: "UnsupportedMediaType",
+	CodeInternal:             "Internal",
+	CodeJournalMismatch:      "JournalMismatch",
+	CodeProtocolViolation:    "ProtocolViolation",
+	CodeUnsupportedFeature:   "UnsupportedFeature",
+	CodeClosed:               "Closed",
+	CodeSuspended:            "Suspended",
+}
+
+// Error is the code, its name if the error is the VM's own, the message and the command that it relates to.
 func (e *Error) Error() string {
-	text := fmt.Sprintf("%d %s", e.Code, e.Message)
+	text := fmt.Sprint(e.Code)
+	if name := namesOfCodes[e.Code]; name != "" && !e.handedIn && !strings.EqualFold(name, strings.ReplaceAll(e.Message, "_", "")) {
+		text += " " + name + ":"
+	}
+	text += " " + e.Message
+	if e.has(CodeInternal) && e.Message == "" {
+		text += ErrNoMemory.Error()
+	}
+	if e.has(CodeUnsupportedMediaType) {
+		text += fmt.Sprintf(" (the content type must be application/vnd.restate.invocation.vN with N from %d to %d)", MinimumVersion, MaximumVersion)
+	}
 	if it := e.Related; it != nil {
 		text += fmt.Sprintf(" (command %d: %v %q)", it.Index, it.Message, it.Name)
 	}

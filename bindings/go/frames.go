@@ -6,11 +6,11 @@ import "C"
 // What writes to a buffer of C.
 type writes = func(out *C.uint8_t, most C.size_t, told *C.palqytun_told)
 
-func writtenByLibrary(call writes) ([]byte, error) {
+func writtenByLibrary(call writes, of ...argument) ([]byte, error) {
 	if err := load(); err != nil {
 		return nil, err
 	}
-	return written(call)
+	return written(call, of...)
 }
 
 // LineOf is the line of a frame (docs/FRAMES.md).
@@ -25,13 +25,13 @@ func LineOf(frame []byte) (string, error) {
 func FrameOf(line string) ([]byte, error) {
 	return writtenByLibrary(func(out *C.uint8_t, most C.size_t, told *C.palqytun_told) {
 		C.pq_line_frame(textAt(line), textSize(line), out, most, told)
-	})
+	}, named("line", line))
 }
 
 func notification(kind, id C.uint32_t, name string, frame []byte) ([]byte, error) {
 	return writtenByLibrary(func(out *C.uint8_t, most C.size_t, told *C.palqytun_told) {
 		C.pq_notification(kind, id, textAt(name), textSize(name), at(frame), size(frame), out, most, told)
-	})
+	}, named("name", name))
 }
 
 // Completion is the notification that completes an id, with the result that a frame has: an output, a notification, the proposal of a run, or the

@@ -42,3 +42,18 @@ func AllSucceededOrFirstFailed(children ...Future) Future {
 
 // Unknown is some way of the caller's own: asked again at each result of a child.
 func Unknown(children ...Future) Future { return tree{C.PALQYTUN_UNKNOWN, children} }
+
+// checked refuses what is nil, or has a child that is nil.
+func checked(name string, future Future) error {
+	switch it := future.(type) {
+	case nil:
+		return &ArgumentError{StatusBadTree, name, "must be a Handle or what FirstCompleted and the others make, not nil"}
+	case tree:
+		for _, child := range it.children {
+			if err := checked("a child of "+name, child); err != nil {
+				return err
+			}
+		}
+	}
+	return nil
+}

@@ -4,6 +4,7 @@ package palqytun
 import "C"
 
 import (
+	"fmt"
 	"log"
 	"runtime"
 	"sync"
@@ -107,6 +108,10 @@ func (journal *Journal) Arrive(notification []byte) (Row, error) {
 // Store is what is stored of what an attempt of this version wrote since the last store, as [VM.TakeOutput] gave it: its commands, and the
 // completions that its proposals are.
 func (journal *Journal) Store(version int, output []byte) (Stored, error) {
+	if version < MinimumVersion || MaximumVersion < version {
+		why := fmt.Sprintf("must be from %d to %d, not %d", MinimumVersion, MaximumVersion, version)
+		return Stored{}, &ArgumentError{StatusBadNumber, "version", why}
+	}
 	journal.guard.Lock()
 	defer journal.guard.Unlock()
 	var told C.palqytun_stored

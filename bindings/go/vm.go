@@ -43,7 +43,7 @@ func newVM(contentType *string, options Options) (*VM, error) {
 		text := append([]byte(*contentType), 0)
 		asked, many = at(text), textSize(*contentType)
 	}
-	err := vm.made(func(it *C.palqytun_replied) { C.pq_make(vm.handle, asked, many, optionsOf(options), it) })
+	err := vm.made(func(it *C.palqytun_replied) { C.pq_make(vm.handle, asked, many, optionsOf(options), it) }, casesOf(options)...)
 	if err != nil {
 		C.pq_close(vm.handle)
 		return nil, err
@@ -102,7 +102,7 @@ func (vm *VM) NotifyError(of HandlerError, related *RelatedCommand) error {
 	var lent room
 	defer lent.free()
 	given, command := lent.error(of), lent.command(related)
-	return vm.handIn(func(it *C.palqytun_replied) { C.pq_report_error(vm.handle, given, command, it) })
+	return vm.handIn(func(it *C.palqytun_replied) { C.pq_report_error(vm.handle, given, command, it) }, lent.of...)
 }
 
 // TakeOutput takes all bytes that wait to be sent: whole frames.
@@ -144,6 +144,9 @@ func (vm *VM) LastCommandIndex() (index int64, err error) {
 
 // DoAwait says whether a future is awake, and if it isn't, what to do next.
 func (vm *VM) DoAwait(future Future) (awaited Awaited, err error) {
+	if err := checked("future", future); err != nil {
+		return awaited, err
+	}
 	call := func(it *C.palqytun_replied) {
 		if handle, isOne := future.(Handle); isOne {
 			C.pq_await(vm.handle, C.uint32_t(handle), it)
@@ -221,25 +224,25 @@ func (vm *VM) SysInput() (input Input, err error) {
 func (vm *VM) SysSleep(name string, wakeUpMillis uint64) (Handle, error) {
 	return vm.one(func(it *C.palqytun_replied) {
 		C.pq_sleep(vm.handle, textAt(name), textSize(name), C.uint64_t(wakeUpMillis), it)
-	})
+	}, named("name", name))
 }
 
 // SysStateGet reads the value of a state key: [Success], or [Void].
 func (vm *VM) SysStateGet(key, name string) (Handle, error) {
 	return vm.one(func(it *C.palqytun_replied) {
 		C.pq_state_get(vm.handle, textAt(key), textSize(key), textAt(name), textSize(name), it)
-	})
+	}, named("key", key), named("name", name))
 }
 
 // SysStateGetKeys reads the keys that have a value: [StateKeys].
 func (vm *VM) SysStateGetKeys(name string) (Handle, error) {
-	return vm.one(func(it *C.palqytun_replied) { C.pq_state_get_keys(vm.handle, textAt(name), textSize(name), it) })
+	return vm.one(func(it *C.palqytun_replied) { C.pq_state_get_keys(vm.handle, textAt(name), textSize(name), it) }, named("name", name))
 }
 
 // EphemeralStateGet reads the value of a state key and leaves nothing of it in the journal; it returns the read's id. It needs version 8, and is
 // refused in replay.
 func (vm *VM) EphemeralStateGet(key string) (uint32, error) {
-	id, err := vm.one(func(it *C.palqytun_replied) { C.pq_ephemeral_state_get(vm.handle, textAt(key), textSize(key), it) })
+	id, err := vm.one(func(it *C.palqytun_replied) { C.pq_ephemeral_state_get(vm.handle, textAt(key), textSize(key), it) }, named("key", key))
 	return uint32(id), err
 }
 
@@ -247,19 +250,19 @@ func (vm *VM) EphemeralStateGet(key string) (uint32, error) {
 func (vm *VM) SysStateSet(key string, value []byte, name string, unstable bool) error {
 	return vm.told(func(it *C.palqytun_replied) {
 		C.pq_state_set(vm.handle, textAt(key), textSize(key), at(value), size(value), textAt(name), textSize(name), C.bool(unstable), it)
-	}, nil)
+	}, nil, named("key", key), named("name", name))
 }
 
 // SysStateClear takes a state key's value away.
 func (vm *VM) SysStateClear(key, name string) error {
 	return vm.told(func(it *C.palqytun_replied) {
 		C.pq_state_clear(vm.handle, textAt(key), textSize(key), textAt(name), textSize(name), it)
-	}, nil)
+	}, nil, named("key", key), named("name", name))
 }
 
 // SysStateClearAll takes each state key's value away.
 func (vm *VM) SysStateClearAll(name string) error {
-	return vm.told(func(it *C.palqytun_replied) { C.pq_state_clear_all(vm.handle, textAt(name), textSize(name), it) }, nil)
+	return vm.told(func(it *C.palqytun_replied) { C.pq_state_clear_all(vm.handle, textAt(name), textSize(name), it) }, nil, named("name", name))
 }
 
 // SysCall calls another handler.
@@ -273,7 +276,7 @@ func (vm *VM) SysCall(target Target, input []byte, name string, unstable bool) (
 	err = vm.told(call, func() error {
 		handles = CallHandles{Handle(vm.replied.first), Handle(vm.replied.second)}
 		return nil
-	})
+	}, lent.with(named("name", name))...)
 	return handles, err
 }
 
@@ -288,7 +291,7 @@ func (vm *VM) SysCallWithDeadline(target Target, input []byte, deadlineMillis ui
 	err = vm.told(call, func() error {
 		handles = DeadlineHandles{Handle(vm.replied.first), Handle(vm.replied.second), Handle(vm.replied.third)}
 		return nil
-	})
+	}, lent.with(named("name", name))...)
 	return handles, err
 }
 
@@ -299,30 +302,36 @@ func (vm *VM) SysSend(target Target, input []byte, atMillis uint64, name string,
 	to := lent.target(target)
 	return vm.one(func(it *C.palqytun_replied) {
 		C.pq_send(vm.handle, to, at(input), size(input), C.uint64_t(atMillis), textAt(name), textSize(name), C.bool(unstable), it)
-	})
+	}, lent.with(named("name", name))...)
 }
 
 // SysCancelInvocation sends the cancel signal to another invocation.
 func (vm *VM) SysCancelInvocation(invocationID string) error {
 	return vm.told(func(it *C.palqytun_replied) {
 		C.pq_cancel_invocation(vm.handle, textAt(invocationID), textSize(invocationID), it)
-	}, nil)
+	}, nil, named("invocationID", invocationID))
 }
 
-// SysAttachInvocation attaches to another invocation; it returns the handle of its result. A target that is nil is [StatusBadPointer].
+// SysAttachInvocation attaches to another invocation; it returns the handle of its result.
 func (vm *VM) SysAttachInvocation(target InvocationTarget) (Handle, error) {
 	var lent room
 	defer lent.free()
-	to := lent.invocation(target)
-	return vm.one(func(it *C.palqytun_replied) { C.pq_attach(vm.handle, to, it) })
+	to, err := lent.invocation(target)
+	if err != nil {
+		return 0, err
+	}
+	return vm.one(func(it *C.palqytun_replied) { C.pq_attach(vm.handle, to, it) }, lent.of...)
 }
 
 // SysGetInvocationOutput looks whether another invocation has an output; it returns the handle of it, or of [Void].
 func (vm *VM) SysGetInvocationOutput(target InvocationTarget) (Handle, error) {
 	var lent room
 	defer lent.free()
-	to := lent.invocation(target)
-	return vm.one(func(it *C.palqytun_replied) { C.pq_get_output(vm.handle, to, it) })
+	to, err := lent.invocation(target)
+	if err != nil {
+		return 0, err
+	}
+	return vm.one(func(it *C.palqytun_replied) { C.pq_get_output(vm.handle, to, it) }, lent.of...)
 }
 
 // SysAwakeable makes an awakeable.
@@ -342,12 +351,12 @@ func (vm *VM) SysCompleteAwakeable(id string, value Given, unstable bool) error 
 	given := lent.given(value)
 	return vm.told(func(it *C.palqytun_replied) {
 		C.pq_complete_awakeable(vm.handle, textAt(id), textSize(id), given, C.bool(unstable), it)
-	}, nil)
+	}, nil, lent.with(named("id", id))...)
 }
 
 // CreateSignalHandle is a handle for the signal of this name.
 func (vm *VM) CreateSignalHandle(name string) (Handle, error) {
-	return vm.one(func(it *C.palqytun_replied) { C.pq_signal(vm.handle, textAt(name), textSize(name), it) })
+	return vm.one(func(it *C.palqytun_replied) { C.pq_signal(vm.handle, textAt(name), textSize(name), it) }, named("name", name))
 }
 
 // SysCompleteSignal sends a named signal to another invocation.
@@ -357,17 +366,17 @@ func (vm *VM) SysCompleteSignal(invocationID, name string, value Given) error {
 	given := lent.given(value)
 	return vm.told(func(it *C.palqytun_replied) {
 		C.pq_complete_signal(vm.handle, textAt(invocationID), textSize(invocationID), textAt(name), textSize(name), given, it)
-	}, nil)
+	}, nil, lent.with(named("invocationID", invocationID), named("name", name))...)
 }
 
 // SysGetPromise awaits a promise of the workflow; it returns the handle of its value.
 func (vm *VM) SysGetPromise(key string) (Handle, error) {
-	return vm.one(func(it *C.palqytun_replied) { C.pq_get_promise(vm.handle, textAt(key), textSize(key), it) })
+	return vm.one(func(it *C.palqytun_replied) { C.pq_get_promise(vm.handle, textAt(key), textSize(key), it) }, named("key", key))
 }
 
 // SysPeekPromise looks whether a promise of the workflow is completed; it returns the handle of its value, or of [Void].
 func (vm *VM) SysPeekPromise(key string) (Handle, error) {
-	return vm.one(func(it *C.palqytun_replied) { C.pq_peek_promise(vm.handle, textAt(key), textSize(key), it) })
+	return vm.one(func(it *C.palqytun_replied) { C.pq_peek_promise(vm.handle, textAt(key), textSize(key), it) }, named("key", key))
 }
 
 // SysCompletePromise completes a promise of the workflow; it returns the handle of [Void], or of a failure if it had been completed before.
@@ -377,7 +386,7 @@ func (vm *VM) SysCompletePromise(key string, value Given, unstable bool) (Handle
 	given := lent.given(value)
 	return vm.one(func(it *C.palqytun_replied) {
 		C.pq_complete_promise(vm.handle, textAt(key), textSize(key), given, C.bool(unstable), it)
-	})
+	}, lent.with(named("key", key))...)
 }
 
 // SysRun calls a run, an effect whose result is recorded; an await says when to execute it.
@@ -385,7 +394,7 @@ func (vm *VM) SysRun(name string) (run RunHandle, err error) {
 	err = vm.told(func(it *C.palqytun_replied) { C.pq_run(vm.handle, textAt(name), textSize(name), it) }, func() error {
 		run = RunHandle{Handle(vm.replied.first), vm.replied.second == 1}
 		return nil
-	})
+	}, named("name", name))
 	return run, err
 }
 
@@ -393,8 +402,8 @@ func (vm *VM) SysRun(name string) (run RunHandle, err error) {
 func (vm *VM) ProposeRunCompletion(handle Handle, value Given, policy RetryPolicy) error {
 	var lent room
 	defer lent.free()
-	given, under := lent.given(value), policyOf(policy)
-	return vm.told(func(it *C.palqytun_replied) { C.pq_propose(vm.handle, C.uint32_t(handle), given, under, it) }, nil)
+	given, under := lent.given(value), lent.policy(policy)
+	return vm.told(func(it *C.palqytun_replied) { C.pq_propose(vm.handle, C.uint32_t(handle), given, under, it) }, nil, lent.of...)
 }
 
 // ProposeRetryableFailure says that a try of a run failed after this many milliseconds, and may be made again. The policy says whether the
@@ -402,10 +411,10 @@ func (vm *VM) ProposeRunCompletion(handle Handle, value Given, policy RetryPolic
 func (vm *VM) ProposeRetryableFailure(handle Handle, tookMillis uint64, of HandlerError, policy RetryPolicy) error {
 	var lent room
 	defer lent.free()
-	given, under := lent.error(of), policyOf(policy)
+	given, under := lent.error(of), lent.policy(policy)
 	return vm.handIn(func(it *C.palqytun_replied) {
 		C.pq_propose_retryable(vm.handle, C.uint32_t(handle), C.uint64_t(tookMillis), given, under, it)
-	})
+	}, lent.of...)
 }
 
 // SysWriteOutput is the handler's result.
@@ -413,7 +422,7 @@ func (vm *VM) SysWriteOutput(value Given, unstable bool) error {
 	var lent room
 	defer lent.free()
 	given := lent.given(value)
-	return vm.told(func(it *C.palqytun_replied) { C.pq_write_output(vm.handle, given, C.bool(unstable), it) }, nil)
+	return vm.told(func(it *C.palqytun_replied) { C.pq_write_output(vm.handle, given, C.bool(unstable), it) }, nil, lent.of...)
 }
 
 // SysEnd ends the handler; its last call.
@@ -423,25 +432,25 @@ func (vm *VM) SysEnd() error {
 
 // ---- Replies
 
-// told makes a typed call and reads its reply, while no other call is made.
-func (vm *VM) told(call func(it *C.palqytun_replied), read func() error) error {
+// told makes a typed call and reads its reply, while no other call is made. An error is about one of the arguments, if one is wrong.
+func (vm *VM) told(call func(it *C.palqytun_replied), read func() error, of ...argument) error {
 	vm.guard.Lock()
 	defer vm.guard.Unlock()
-	if err := vm.made(call); err != nil || read == nil {
+	if err := vm.made(call, of...); err != nil || read == nil {
 		return err
 	}
 	return read()
 }
 
 // handIn makes a call that hands in an error. A VM that fails by this call fails by that error.
-func (vm *VM) handIn(call func(it *C.palqytun_replied)) error {
+func (vm *VM) handIn(call func(it *C.palqytun_replied), of ...argument) error {
 	vm.guard.Lock()
 	defer vm.guard.Unlock()
 	if vm.hasFailed() {
-		return vm.made(call)
+		return vm.made(call, of...)
 	}
 	vm.failedByHandedIn = true
-	err := vm.made(call)
+	err := vm.made(call, of...)
 	vm.failedByHandedIn = vm.hasFailed()
 	return err
 }
@@ -452,7 +461,7 @@ func (vm *VM) hasFailed() bool {
 	return Status(vm.replied.status) == StatusRefused && vm.replied.kind == C.PALQYTUN_ERROR
 }
 
-func (vm *VM) made(call func(it *C.palqytun_replied)) error {
+func (vm *VM) made(call func(it *C.palqytun_replied), of ...argument) error {
 	call(&vm.replied)
 	switch Status(vm.replied.status) {
 	case StatusDone:
@@ -460,7 +469,7 @@ func (vm *VM) made(call func(it *C.palqytun_replied)) error {
 	case StatusRefused:
 		return vm.refusal()
 	}
-	return Status(vm.replied.status)
+	return refused(Status(vm.replied.status), of)
 }
 
 func (vm *VM) refusal() error {
@@ -473,7 +482,8 @@ func (vm *VM) refusal() error {
 		}
 		texts[i] = text
 	}
-	found := &Error{Code: uint16(it.number), Message: texts[0], Stacktrace: texts[1], kind: uint32(it.kind), handedIn: vm.failedByHandedIn}
+	found := &Error{Code: uint16(it.number), Message: texts[0], Stacktrace: texts[1], kind: uint32(it.kind)}
+	found.handedIn = vm.failedByHandedIn && it.kind == C.PALQYTUN_ERROR
 	if it.first == 1 {
 		found.Related = &Related{Index: uint32(it.second), Message: MessageType(it.third), Name: texts[2]}
 	}
@@ -488,11 +498,11 @@ func (vm *VM) flag(call func(it *C.palqytun_replied)) (is bool, err error) {
 	return is, err
 }
 
-func (vm *VM) one(call func(it *C.palqytun_replied)) (handle Handle, err error) {
+func (vm *VM) one(call func(it *C.palqytun_replied), of ...argument) (handle Handle, err error) {
 	err = vm.told(call, func() error {
 		handle = Handle(vm.replied.first)
 		return nil
-	})
+	}, of...)
 	return handle, err
 }
 

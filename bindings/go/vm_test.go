@@ -3,6 +3,7 @@ package palqytun
 import (
 	"bytes"
 	"errors"
+	"fmt"
 	"log"
 	"os"
 	"runtime"
@@ -133,6 +134,82 @@ func TestWhatNamesNoCase(t *testing.T) {
 	}
 }
 
+// says wants an error with this text.
+func says(t *testing.T, err error, text string) {
+	t.Helper()
+	if err == nil || err.Error() != text {
+		t.Errorf("%v, not %v", err, text)
+	}
+}
+
+func TestAnArgumentThatIsRefusedIsNamed(t *testing.T) {
+	vm := begun()
+	defer vm.Close()
+	bad, of := "k\xc3\xffy", Text("\xe2\x82")
+	_, err := vm.SysStateGet("key", bad)
+	says(t, err, "BadText: name must be UTF-8: at byte 1 stands 0xc3")
+	says(t, vm.SysStateSet(bad, nil, "", false), "BadText: key must be UTF-8: at byte 1 stands 0xc3")
+	_, err = vm.CreateSignalHandle(bad)
+	says(t, err, "BadText: name must be UTF-8: at byte 1 stands 0xc3")
+	_, err = vm.SysCall(Target{Service: "S", Handler: "h", Headers: []Pair{{"a", "b"}, {"a", bad}}}, nil, "", false)
+	says(t, err, "BadText: a value of Target.Headers must be UTF-8: at byte 1 stands 0xc3")
+	_, err = vm.SysSend(Target{Service: "S", Handler: "h", Key: of}, nil, 0, "", false)
+	says(t, err, "BadText: Target.Key must be UTF-8: at byte 0 stands 0xe2")
+	says(t, vm.SysWriteOutput(Given{Failure: &Failure{Message: bad}}, false), "BadText: Failure.Message must be UTF-8: at byte 1 stands 0xc3")
+	says(t, vm.NotifyError(HandlerError{Stacktrace: bad}, nil), "BadText: HandlerError.Stacktrace must be UTF-8: at byte 1 stands 0xc3")
+	_, err = vm.SysAttachInvocation(IdempotencyID{Service: "S", Handler: "h", IdempotencyKey: "i", Scope: of})
+	says(t, err, "BadText: IdempotencyID.Scope must be UTF-8: at byte 0 stands 0xe2")
+	says(t, vm.SysCancelInvocation(bad), "BadText: invocationID must be UTF-8: at byte 1 stands 0xc3")
+	_, err = FrameOf(bad)
+	says(t, err, "BadText: line must be UTF-8: at byte 1 stands 0xc3")
+	_, err = NamedSignal(bad, must(ValueFrame(nil)))
+	says(t, err, "BadText: name must be UTF-8: at byte 1 stands 0xc3")
+
+	_, err = New(ContentType(7), Options{SignalDelivery: 7})
+	says(t, err, "BadNumber: Options.SignalDelivery must be from 0 to 1, not 7")
+	says(t, vm.NotifyError(HandlerError{Code: 418, Behavior: 9}, nil), "BadNumber: HandlerError.Behavior must be from 0 to 2, not 9")
+	says(t, vm.NotifyError(HandlerError{}, &RelatedCommand{Kind: 9}), "BadNumber: RelatedCommand.Kind must be from 0 to 3, not 9")
+	says(t, vm.NotifyError(HandlerError{}, &RelatedCommand{Kind: RelatedNext, Type: 19}), "BadNumber: RelatedCommand.Type must be from 0 to 18, not 19")
+	run := must(vm.SysRun("charge"))
+	under := RetryPolicy{Kind: RetryExponential, Numerator: 2}
+	err = vm.ProposeRetryableFailure(run.Handle, 1, HandlerError{}, under)
+	says(t, err, "BadNumber: RetryPolicy.Denominator must be from 1 to 4294967295, not 0")
+	err = vm.ProposeRunCompletion(run.Handle, Given{}, RetryPolicy{Kind: 4})
+	says(t, err, "BadNumber: RetryPolicy.Kind must be from 0 to 3, not 4")
+	journal := must(NewJournal())
+	defer journal.Close()
+	for _, version := range []int{-1, 4, 9, 1<<32 + 7} {
+		_, err = journal.Store(version, nil)
+		says(t, err, fmt.Sprintf("BadNumber: version must be from 5 to 8, not %d", version))
+	}
+
+	_, err = vm.DoAwait(nil)
+	says(t, err, "BadTree: future must be a Handle or what FirstCompleted and the others make, not nil")
+	_, err = vm.DoAwait(AllCompleted(run.Handle, FirstCompleted(nil)))
+	says(t, err, "BadTree: a child of a child of future must be a Handle or what FirstCompleted and the others make, not nil")
+	for it, found := range map[InvocationTarget]string{nil: "<nil>", &WorkflowID{}: "*palqytun.WorkflowID"} {
+		_, err = vm.SysGetInvocationOutput(it)
+		says(t, err, "BadPointer: target must be an InvocationID, a WorkflowID or an IdempotencyID, not "+found)
+	}
+	if index := must(vm.LastCommandIndex()); index != 1 {
+		t.Error(index)
+	}
+}
+
+func TestTheTextsOfErrors(t *testing.T) {
+	_, err := New("text/plain", Options{})
+	says(t, err, "415 UnsupportedMediaType: BadContentType (the content type must be application/vnd.restate.invocation.vN with N from 5 to 8)")
+	vm, own := begun(), begun()
+	defer vm.Close()
+	defer own.Close()
+	must(0, vm.SysEnd())
+	_, err = vm.SysSleep("", 1)
+	says(t, err, `598 Closed: ClosedError (command 1: SleepCommand "")`)
+	must(0, own.NotifyError(HandlerError{Code: 570, Message: "no tea"}, nil))
+	says(t, own.SysEnd(), "570 no tea")
+	says(t, &Error{Code: CodeInternal}, "500 Internal: no memory was found")
+}
+
 func TestErrorsHaveAllTheirFields(t *testing.T) {
 	vm := must(New(ContentType(7), Options{}))
 	defer vm.Close()
@@ -189,6 +266,15 @@ func TestAHandlersErrorIsNoneOfTheVMsOwn(t *testing.T) {
 	}
 	wants(t, &Error{Code: CodeInternal, kind: 23}, ErrNoMemory) // PALQYTUN_OUT_OF_MEMORY, since a test of Go has no names of C
 	wants(t, StatusNoMemory, ErrNoMemory)
+}
+
+// A call that hands an error in and finds no memory isn't refused by that error.
+func TestACallThatHandsInFindsNoMemory(t *testing.T) {
+	vm := begun()
+	defer vm.Close()
+	vm.failedByHandedIn = true
+	vm.replied.kind, vm.replied.number = 23, CodeInternal // PALQYTUN_OUT_OF_MEMORY
+	wants(t, vm.refusal(), ErrNoMemory)
 }
 
 var handedIn = []HandlerError{

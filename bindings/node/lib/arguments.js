@@ -35,6 +35,14 @@ function whole(name, value, most) {
 const code = (name, value) => whole(name, value, 65535);
 const u32 = (name, value) => whole(name, value, 4294967295);
 
+/** The version of an attempt's messages. */
+function version(name, value) {
+  if (typeof value !== 'number') throw wanted(name, 'a number', value);
+  const { MINIMUM_VERSION: least, MAXIMUM_VERSION: most } = NUMBERS;
+  if (!Number.isInteger(value) || value < least || value > most) throw new RangeError(`${name} must be a whole number from ${least} to ${most}, not ${value}`);
+  return value;
+}
+
 /** A time or a seed: a whole number, or a bigint for what a number hasn't whole. */
 function u64(name, value) {
   if (typeof value === 'number' && Number.isSafeInteger(value) && value >= 0) return BigInt(value);
@@ -119,7 +127,9 @@ function error(name, it) {
 function command(it) {
   if (it === undefined) return { kind: NUMBERS.RELATED_TO_NONE, index: 0, type: 0, name: undefined };
   if (it === 'last') return { kind: NUMBERS.RELATED_TO_LAST, index: 0, type: 0, name: undefined };
+  if (typeof it === 'string') throw new RangeError(`related must be 'last' or an object, not ${it.slice(0, 100)}`);
   object('related', it);
+  if (it.type === undefined) throw wanted('related.type', 'a string', it.type);
   const made = { index: 0, type: one('related.type', it.type, abi.CommandType), name: optional('related.name', it.name) };
   if (it.index === undefined) return { ...made, kind: NUMBERS.RELATED_TO_NEXT };
   return { ...made, kind: NUMBERS.RELATED_TO_SPECIFIC, index: u32('related.index', it.index) };
@@ -132,12 +142,22 @@ const POLICIES = {
   exponential: NUMBERS.POLICY_EXPONENTIAL,
 };
 
+/** A numerator and a denominator. */
+function factor(name, it) {
+  if (!Array.isArray(it) || it.length !== 2) throw wanted(name, 'a pair of numbers', it);
+  return it.map((of, at) => u32(`the ${['numerator', 'denominator'][at]} of ${name}`, of));
+}
+
 function policy(it = { kind: 'infinite' }) {
   object('policy', it);
   const may = (name, read, none) => (it[name] === undefined ? none : read(`policy.${name}`, it[name]));
-  const [numerator, denominator] = may('factor', (name, factor) => factor.map((of) => u32(name, of)), [0, 0]);
+  const kind = one('policy.kind', it.kind, POLICIES);
+  const grows = kind === NUMBERS.POLICY_EXPONENTIAL;
+  if (grows && it.factor === undefined) throw wanted('policy.factor', 'a pair of numbers', it.factor);
+  const [numerator, denominator] = may('factor', factor, [0, 0]);
+  if (grows && denominator === 0) throw new RangeError('the denominator of policy.factor must be from 1 to 4294967295, not 0');
   return {
-    kind: one('policy.kind', it.kind, POLICIES),
+    kind,
     initial_millis: may('initialMillis', u64, 0n),
     numerator,
     denominator,
@@ -169,4 +189,4 @@ function options(it = {}) {
   return made;
 }
 
-module.exports = { bytes, command, error, flag, invocation, optional, options, pairs, policy, target, text, u32, u64, value, wanted };
+module.exports = { bytes, command, error, flag, invocation, object, optional, options, pairs, policy, target, text, u32, u64, value, version, wanted };

@@ -22,10 +22,23 @@ class StatusError extends Error {
   }
 }
 
+/** The codes of the VM's own errors, and their names. */
+const Code = Object.freeze(Object.fromEntries(Object.entries(NUMBERS).flatMap(([name, it]) => (name.startsWith('CODE_') ? [[name.slice(5), it]] : []))));
+const NAMES = Object.fromEntries(Object.entries(Code).map(([name, it]) => [it, name]));
+const CONTENT_TYPES = `the content type must be application/vnd.restate.invocation.vN with N from ${NUMBERS.MINIMUM_VERSION} to ${NUMBERS.MAXIMUM_VERSION}`;
+
+/** What an error says: its code, with its name if the error is the VM's own, its text, what is allowed, and the command that it relates to. */
+function described(code, text, related, isOwn) {
+  const named = isOwn && code in NAMES && NAMES[code] !== text ? `${code} ${NAMES[code]}:` : `${code}`;
+  const said = isOwn && code === NUMBERS.CODE_INTERNAL && text === '' ? STATUSES[NUMBERS.NO_MEMORY][1] : text;
+  const allowed = isOwn && code === NUMBERS.CODE_UNSUPPORTED_MEDIA_TYPE ? ` (${CONTENT_TYPES})` : '';
+  return `${named} ${said}${allowed}${related ? ` (command ${related.index}: ${related.type} "${related.name}")` : ''}`;
+}
+
 /** The VM refused a call. */
 class VMError extends Error {
-  constructor(code, text, stacktrace, related) {
-    super(`${code} ${text}${related ? ` (command ${related.index}: ${related.type} "${related.name}")` : ''}`);
+  constructor(code, text, stacktrace, related, isOwn) {
+    super(described(code, text, related, isOwn));
     this.name = new.target.name;
     this.code = code;
     this.text = text;
@@ -59,7 +72,7 @@ function classOf(kind, code, isHandedIn) {
 function refusal(kind, code, text, stacktrace, related, isHandedIn) {
   const known = related && { index: related.index, type: caseOf(MessageType, related.type), name: related.name };
   const made = classOf(kind, code, isHandedIn);
-  return new made(code, text, stacktrace, known);
+  return new made(code, text, stacktrace, known, !isHandedIn);
 }
 
-module.exports = { Closed, JournalMismatch, LoadError, StatusError, Suspended, VMError, caseOf, refusal };
+module.exports = { Closed, Code, JournalMismatch, LoadError, StatusError, Suspended, VMError, caseOf, refusal };

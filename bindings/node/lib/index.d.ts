@@ -279,6 +279,18 @@ export namespace frames {
   function isAwake(suspension: Uint8Array, notifications: Uint8Array): boolean;
 }
 
+/** The codes of the VM's own errors. The code of one that was handed in may be any. */
+export const Code: {
+  readonly BAD_REQUEST: 400;
+  readonly UNSUPPORTED_MEDIA_TYPE: 415;
+  readonly INTERNAL: 500;
+  readonly JOURNAL_MISMATCH: 570;
+  readonly PROTOCOL_VIOLATION: 571;
+  readonly UNSUPPORTED_FEATURE: 573;
+  readonly CLOSED: 598;
+  readonly SUSPENDED: 599;
+};
+
 /** The VM refused a call. It has failed, or is suspended or closed, and raises the same from each later call. An error that was handed in, by
  * `notifyError` or `proposeRetryableFailure`, is of this class alone, with any code; the classes below are the VM's own errors. */
 export class VMError extends Error {

@@ -2,7 +2,7 @@
 
 const { NUMBERS, SUPPORTED_VERSIONS } = require('./abi');
 const { addon } = require('./addon');
-const { Closed, JournalMismatch, LoadError, StatusError, Suspended, VMError } = require('./errors');
+const { Closed, Code, JournalMismatch, LoadError, StatusError, Suspended, VMError } = require('./errors');
 const frames = require('./frames');
 const { Future, allCompleted, allSucceededOrFirstFailed, firstCompleted, firstSucceededOrAllFailed, unknown } = require('./future');
 const { Journal } = require('./journal');
@@ -11,6 +11,7 @@ const { VM } = require('./vm');
 module.exports = {
   CANCEL_HANDLE: NUMBERS.CANCEL_HANDLE,
   Closed,
+  Code,
   Future,
   Journal,
   JournalMismatch,

@@ -3,6 +3,7 @@ import palqytun from './index.js';
 export const {
   CANCEL_HANDLE,
   Closed,
+  Code,
   Future,
   Journal,
   JournalMismatch,

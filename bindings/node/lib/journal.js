@@ -49,7 +49,7 @@ class Journal {
   }
 
   store(version, output) {
-    const stored = this.#addon.journal_store(this.#handle, lent.u32('version', version), lent.bytes('output', output));
+    const stored = this.#addon.journal_store(this.#handle, lent.version('version', version), lent.bytes('output', output));
     done(stored.status);
     const rows = Array.from({ length: stored.rows }, (_, at) => {
       return rowOf(this.#addon.journal_row(this.#handle, at), written(this.#addon.journal_frame(this.#handle, at)));

@@ -11,6 +11,7 @@ const NAMED = { name: '', unstable: false };
 
 /** The name and the flag of a call. */
 function named(it = NAMED) {
+  lent.object('how', it);
   return [it.name === undefined ? '' : lent.text('name', it.name), lent.flag('unstable', it.unstable)];
 }
 
@@ -217,7 +218,8 @@ class VM {
     return { invocationId, result, deadline };
   }
 
-  sysSend(target, input, how = {}) {
+  sysSend(target, input, how = NAMED) {
+    lent.object('how', how);
     const at = how.atMillis === undefined ? 0n : lent.u64('atMillis', how.atMillis);
     return this.#one(this.#addon.send(this.#session, lent.target(target), lent.bytes('input', input), at, ...named(how)));
   }

@@ -4,7 +4,7 @@
 const assert = require('node:assert');
 const { test } = require('node:test');
 const { Worker } = require('node:worker_threads');
-const { CANCEL_HANDLE, Closed, Journal, JournalMismatch, StatusError, Suspended, VM, VMError, allCompleted, firstCompleted, frames } = require('..');
+const { CANCEL_HANDLE, Closed, Code, Journal, JournalMismatch, StatusError, Suspended, VM, VMError, allCompleted, firstCompleted, frames } = require('..');
 const { begun, fed } = require('./common');
 
 const status = (name) => (error) => error instanceof StatusError && error.status === name;
@@ -44,6 +44,13 @@ test('arguments of the wrong type are named', () => {
     [() => vm.sysAttachInvocation({}), 'target must have an invocationId, a workflow or a service'],
     [() => vm.notifyInput(null), 'data must be a Uint8Array, not null'],
     [() => new VM('x', { wait: 'never' }), /VM has no option wait; its options are implicitCancellation, /],
+    [() => vm.sysSleep(1, null), 'how must be an object, not null'],
+    [() => vm.sysSend({ service: 'S', handler: 'h' }, Buffer.of(1), 7), 'how must be an object, not number'],
+    [() => vm.notifyError({ code: 500, message: '' }, { index: 3 }), 'related.type must be a string, not undefined'],
+    [() => vm.proposeRunCompletion(17, Buffer.of(1), { kind: 'exponential', factor: 3 }), 'policy.factor must be a pair of numbers, not number'],
+    [() => vm.proposeRunCompletion(17, Buffer.of(1), { kind: 'exponential', factor: [3] }), 'policy.factor must be a pair of numbers, not an array'],
+    [() => vm.proposeRunCompletion(17, Buffer.of(1), { kind: 'exponential' }), 'policy.factor must be a pair of numbers, not undefined'],
+    [() => new Journal().store('7', Buffer.of(1)), 'version must be a number, not string'],
   ]) assert.throws(call, { name: 'TypeError', message });
   for (const [call, message] of [
     [() => vm.sysSleep(-1), /wakeUpMillis must be a whole number/],
@@ -53,6 +60,11 @@ test('arguments of the wrong type are named', () => {
     [() => vm.sysWriteOutput({ code: 65536, message: '' }), /value.code must be a whole number from 0 to 65535/],
     [() => vm.createSignalHandle('\ud800'), /name has half of a surrogate pair/],
     [() => new VM('x', { journalReplay: 'never' }), /journalReplay must be one of enabled, disabled, not never/],
+    [() => vm.notifyError({ code: 500, message: '' }, 'first'), "related must be 'last' or an object, not first"],
+    [() => vm.proposeRunCompletion(17, Buffer.of(1), { kind: 'exponential', factor: [3, 0] }), 'the denominator of policy.factor must be from 1 to 4294967295, not 0'],
+    [() => vm.proposeRunCompletion(17, Buffer.of(1), { kind: 'exponential', factor: [-3, 2] }), /the numerator of policy.factor must be a whole number from 0 to 4294967295, not -3/],
+    [() => new Journal().store(4, Buffer.of(1)), 'version must be a whole number from 5 to 8, not 4'],
+    [() => new Journal().store(9, Buffer.of(1)), 'version must be a whole number from 5 to 8, not 9'],
   ]) assert.throws(call, { name: 'RangeError', message });
   assert.strictEqual(vm.lastCommandIndex(), 0);
 });
@@ -65,13 +77,20 @@ test('a handle of another VM stands for nothing', () => {
   assert.deepStrictEqual(other.doAwait(handle), { kind: 'waitingExternalProgress', waitingInput: true, waitingRunProposal: false });
 });
 
-test('what names no case', () => {
-  const vm = begun();
-  const run = vm.sysRun('charge');
-  const policy = { kind: 'exponential', initialMillis: 1, factor: [3, 0] };
-  assert.throws(() => vm.proposeRetryableFailure(run.handle, 1, { code: 503, message: 'later' }, policy), status('BAD_NUMBER'));
-  assert.strictEqual(vm.doAwait(allCompleted()).kind, 'anyCompleted');
-  assert.strictEqual(vm.state(), 'processing');
+test('a tree without children is awaited', () => {
+  assert.strictEqual(begun().doAwait(allCompleted()).kind, 'anyCompleted');
+});
+
+test('what errors say', () => {
+  const says = 'the content type must be application/vnd.restate.invocation.vN with N from 5 to 8';
+  assert.throws(() => new VM('text/plain'), { name: 'VMError', code: 415, message: `415 UNSUPPORTED_MEDIA_TYPE: BadContentType (${says})` });
+  const [ended, suspended, own] = [begun(), begun(), begun()];
+  ended.sysEnd();
+  assert.throws(() => ended.sysSleep(1), { message: '598 CLOSED: ClosedError (command 1: sleepCommand "")' });
+  suspended.notifyInputClosed();
+  assert.throws(() => suspended.doAwait(suspended.sysSleep(1)), { message: '599 SUSPENDED' });
+  own.notifyError({ code: Code.JOURNAL_MISMATCH, message: 'no tea' });
+  assert.throws(() => own.sysEnd(), { message: '570 no tea' });
 });
 
 test('errors have all their fields', () => {
@@ -152,7 +171,7 @@ test('a journal, and what its rows ask for', () => {
   assert.deepStrictEqual([effect.type, effect.id, effect.text(0)], ['runCommand', 2, 'a']);
   journal.undo();
   assert.strictEqual(journal.entries, 3);
-  assert.throws(() => journal.store(4, Buffer.of()), status('BAD_NUMBER'));
+  assert.throws(() => journal.store(4, Buffer.of()), RangeError);
 });
 
 test('frames', () => {

@@ -46,8 +46,38 @@ class TestMisuse < Minitest::Test
     refused(ArgumentError, /value.code must be from 0 to 65535, not 65536/) { vm.sys_write_output(Failure.new(code: 65_536, message: "")) }
     refused(ArgumentError, "name isn't valid UTF-8") { vm.create_signal_handle("\xff") }
     refused(ArgumentError, /VM has no option wait; its options are implicit_cancellation, /) { VM.new("x", wait: :never) }
+    refused(TypeError, "related.type must be a Symbol, not NilClass") do
+      vm.notify_error(HandlerError.new(code: 500, message: ""), related: RelatedCommand.new(index: 3))
+    end
     refused(ArgumentError, "journal_replay must be one of :enabled, :disabled, not :never") { VM.new("x", journal_replay: :never) }
     assert_equal 0, vm.last_command_index
+  end
+
+  def test_a_factor_and_a_version_are_named
+    vm = begun
+    { 3 => "policy.factor must be a pair of Integers, not Integer", [3] => "policy.factor must be a pair of Integers, not Array",
+      nil => "policy.factor must be a pair of Integers, not NilClass", [3, "2"] => "the denominator of policy.factor must be an Integer, not String" }.each do |it, said|
+      refused(TypeError, said) { vm.propose_run_completion(17, "", policy: RetryPolicy.new(kind: :exponential, factor: it)) }
+    end
+    refused(ArgumentError, "the denominator of policy.factor must be from 1 to 4294967295, not 0") do
+      vm.propose_run_completion(17, "", policy: RetryPolicy.new(kind: :exponential, factor: [3, 0]))
+    end
+    [4, 9, -1].each { |it| refused(ArgumentError, "version must be from 5 to 8, not #{it}") { Journal.new.store(it, "") } }
+    assert_equal 0, vm.last_command_index
+  end
+
+  def test_what_errors_say
+    error = assert_raises(VMError) { VM.new("text/plain") }
+    allowed = "the content type must be application/vnd.restate.invocation.vN with N from 5 to 8"
+    assert_equal "415 UNSUPPORTED_MEDIA_TYPE: BadContentType (#{allowed})", error.message
+    ended, suspended, own = begun, begun, begun
+    ended.sys_end
+    refused(Closed, '598 CLOSED: ClosedError (command 1: sleep_command "")') { ended.sys_sleep(1) }
+    suspended.notify_input_closed
+    refused(Suspended, "599 SUSPENDED") { suspended.do_await(suspended.sys_sleep(1)) }
+    own.notify_error(HandlerError.new(code: 570, message: "no tea"))
+    refused(VMError, "570 no tea") { own.sys_end }
+    assert_equal "500 INTERNAL: no memory was found", VMError.of(ABI::OUT_OF_MEMORY, false, 500, "", "", nil).message
   end
 
   def test_threads_share_a_vm
@@ -87,11 +117,8 @@ class TestMisuse < Minitest::Test
     assert_equal Waiting.new(true, false), other.do_await(handle)
   end
 
-  def test_what_names_no_case
+  def test_a_tree_without_children_is_awaited
     vm = begun
-    run = vm.sys_run("charge")
-    policy = RetryPolicy.new(kind: :exponential, initial_millis: 1, factor: [3, 0])
-    status(:bad_number) { vm.propose_retryable_failure(run.handle, 1, HandlerError.new(code: 503, message: "later"), policy: policy) }
     assert_equal true, vm.do_await(Future.all_completed)
     assert_equal :processing, vm.state
   end
@@ -179,7 +206,7 @@ class TestMisuse < Minitest::Test
     assert_equal [:run_command, 2, "a"], [effect.type, effect.id, effect.text(0)]
     journal.undo
     assert_equal 3, journal.entries
-    status(:bad_number) { journal.store(4, "") }
+    refused(ArgumentError, "version must be from 5 to 8, not 4") { journal.store(4, "") }
   end
 
   def test_frames

@@ -15,9 +15,38 @@ pub enum Error {
     /// The call wasn't made, and this is why: no memory was found, an argument can't be read, an entry can't stand in a journal, or bytes
     /// aren't frames.
     Status(Status),
+    /// The call wasn't made, since an argument is out of its bounds.
+    Argument(ArgumentError),
     /// There is no shared object that can be used.
     Load(LoadError),
 }
+
+/// Which argument is out of its bounds, and what is allowed. [`Display`](fmt::Display) says both.
+#[derive(Clone, Debug, PartialEq, Eq)]
+pub struct ArgumentError {
+    /// The name of the argument, and of the field in it.
+    pub name: &'static str,
+    why: String,
+}
+
+impl ArgumentError {
+    /// Refuses a number that isn't from `least` to `most`.
+    pub(crate) fn within(name: &'static str, value: u32, least: u32, most: u32) -> Result<()> {
+        if (least..=most).contains(&value) {
+            return Ok(());
+        }
+        let why = format!("must be from {} to {}, not {}", least, most, value);
+        Err(Error::Argument(ArgumentError { name, why }))
+    }
+}
+
+impl fmt::Display for ArgumentError {
+    fn fmt(&self, f: &mut fmt::Formatter<'_>) -> fmt::Result {
+        write!(f, "{} {}", self.name, self.why)
+    }
+}
+
+impl std::error::Error for ArgumentError {}
 
 /// An error that the VM returned. For one that was handed in, by [`Vm::notify_error`](crate::Vm::notify_error) or
 /// [`Vm::propose_run_completion`](crate::Vm::propose_run_completion), each of [`Error::is_suspended`], [`Error::is_closed`],
@@ -100,12 +129,48 @@ impl Error {
     }
 }
 
+/// The name of a code of the VM's own errors.
+fn name_of(code: u16) -> Option<&'static str> {
+    Some(match u32::from(code) {
+        sys::CODE_BAD_REQUEST => "BadRequest",
+        sys::CODE_UNSUPPORTED_MEDIA_TYPE => "UnsupportedMediaType",
+        sys::CODE_INTERNAL => "Internal",
+        sys::CODE_JOURNAL_MISMATCH => "JournalMismatch",
+        sys::CODE_PROTOCOL_VIOLATION => "ProtocolViolation",
+        sys::CODE_UNSUPPORTED_FEATURE => "UnsupportedFeature",
+        sys::CODE_CLOSED => "Closed",
+        sys::CODE_SUSPENDED => "Suspended",
+        _ => return None,
+    })
+}
+
+/// The code, its name if the error is the VM's own, what it says, what is allowed, and the command that it relates to.
 impl fmt::Display for VmError {
     fn fmt(&self, f: &mut fmt::Formatter<'_>) -> fmt::Result {
-        write!(f, "{} {}", self.code, self.message)?;
+        write!(f, "{} ", self.code)?;
+        let is_said = |name: &&str| name.eq_ignore_ascii_case(&self.message.replace('_', ""));
+        if let Some(name) = name_of(self.code).filter(|it| !self.is_handed_in && !is_said(it)) {
+            write!(f, "{}: ", name)?;
+        }
+        let has_no_memory = u32::from(self.code) == sys::CODE_INTERNAL && self.message.is_empty() && !self.is_handed_in;
+        f.write_str(if has_no_memory { Status::NoMemory.text() } else { &self.message })?;
+        if u32::from(self.code) == sys::CODE_UNSUPPORTED_MEDIA_TYPE && !self.is_handed_in {
+            let (least, most) = (sys::MINIMUM_VERSION, sys::MAXIMUM_VERSION);
+            let form = "the content type must be application/vnd.restate.invocation.vN";
+            write!(f, " ({} with N from {} to {})", form, least, most)?;
+        }
         match &self.related {
-            Some(it) => write!(f, " (command {}: {:?} \"{}\")", it.index, it.message, it.name),
+            Some(it) => write!(f, " ({})", it),
             None => Ok(()),
+        }
+    }
+}
+
+impl fmt::Display for Related {
+    fn fmt(&self, f: &mut fmt::Formatter<'_>) -> fmt::Result {
+        match self.message {
+            Some(message) => write!(f, "command {}: {:?} {:?}", self.index, message, self.name),
+            None => write!(f, "command {}: {:?}", self.index, self.name),
         }
     }
 }
@@ -115,6 +180,7 @@ impl fmt::Display for Error {
         match self {
             Error::Vm(it) => it.fmt(f),
             Error::Status(it) => write!(f, "{:?}: {}", it, it.text()),
+            Error::Argument(it) => it.fmt(f),
             Error::Load(it) => it.fmt(f),
         }
     }

@@ -1,6 +1,6 @@
 //! A stored journal, as its only writer knows it, without its entries.
 
-use crate::error::{Error, Result};
+use crate::error::{ArgumentError, Error, Result};
 use crate::frames::Message;
 use crate::library::{library, Library};
 use crate::sys::{self, Handle, MessageType};
@@ -123,7 +123,12 @@ impl Journal {
 
     /// What is stored of what an attempt of this version wrote since the last store, as [`Vm::take_output`](crate::Vm::take_output) gave it:
     /// its commands, and the completions that its proposals are.
+    ///
+    /// # Errors
+    ///
+    /// [`Error::Argument`] if no VM has this version.
     pub fn store(&mut self, version: u32, output: &[u8]) -> Result<Stored> {
+        ArgumentError::within("version", version, sys::MINIMUM_VERSION, sys::MAXIMUM_VERSION)?;
         let (at, len) = (output.as_ptr(), output.len());
         // SAFETY: the pointer is valid for the length.
         let stored = unsafe { (self.library.functions.journal_store)(self.handle, version, at, len) };

@@ -12,7 +12,7 @@ pub mod sys;
 mod values;
 mod vm;
 
-pub use error::{Error, Related, Result, VmError};
+pub use error::{ArgumentError, Error, Related, Result, VmError};
 pub use future::UnresolvedFuture;
 pub use journal::{Journal, Row, Stored};
 pub use library::{library, Library, LoadError};

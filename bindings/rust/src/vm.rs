@@ -1,6 +1,6 @@
 //! The invocation VM: a method for each of its calls, under the call's own name.
 
-use crate::error::{Error, Related, Result, VmError};
+use crate::error::{ArgumentError, Error, Related, Result, VmError};
 use crate::future::UnresolvedFuture;
 use crate::lent::{self, bytes, optional, text};
 use crate::library::{library, Library};
@@ -35,7 +35,8 @@ use std::ptr;
 ///
 /// # Errors
 ///
-/// Each method fails by [`Error::Vm`] if the VM refuses the call, and by [`Error::Status`] if the call can't be made; then nothing was done.
+/// Each method fails by [`Error::Vm`] if the VM refuses the call, and by [`Error::Status`] or [`Error::Argument`] if the call can't be made; then
+/// nothing was done.
 #[derive(Debug)]
 pub struct Vm {
     library: &'static Library,
@@ -354,12 +355,19 @@ impl Vm {
     }
 
     /// Gives the result of a run that an await asked to execute.
+    ///
+    /// # Errors
+    ///
+    /// [`Error::Argument`] if the policy has a factor whose denominator is 0.
     pub fn propose_run_completion(
         &mut self,
         handle: NotificationHandle,
         result: &RunResult<'_>,
         policy: &RetryPolicy,
     ) -> Result<()> {
+        if let RetryPolicy::Exponential { factor: (_, denominator), .. } = policy {
+            ArgumentError::within("the denominator of factor", *denominator, 1, u32::MAX)?;
+        }
         let policy = lent::policy(policy);
         match result {
             RunResult::Terminal(value) => {
@@ -436,7 +444,7 @@ impl Vm {
             None
         };
         let (message, stacktrace) = (self.text(0)?, self.text(1)?);
-        let (code, is_handed_in) = (replied.number as u16, self.failed_by_handed_in);
+        let (code, is_handed_in) = (replied.number as u16, self.failed_by_handed_in && replied.kind == sys::ERROR);
         Ok(VmError { code, message, stacktrace, related, kind: replied.kind, is_handed_in })
     }
 

@@ -87,7 +87,8 @@ fn what_names_no_case_is_refused() {
         pauses: false,
     };
     let result = RunResult::RetryableFailure { attempt_duration_millis: 20, error: LATER };
-    assert_eq!(vm.propose_run_completion(run.handle, &result, &policy), Err(Error::Status(Status::BadNumber)));
+    let error = vm.propose_run_completion(run.handle, &result, &policy).unwrap_err();
+    assert_eq!(error.to_string(), "the denominator of factor must be from 1 to 4294967295, not 0");
     assert_eq!(vm.state(), Ok(State::Processing));
 }
 
@@ -105,7 +106,10 @@ fn bytes_that_are_no_frames() {
     assert_eq!(frames::is_awake(&frames::frame_of("End").unwrap(), &[]), Err(Error::Status(Status::NotASuspension)));
     assert_eq!(Error::Status(Status::NotAFrame).to_string(), "NotAFrame: it isn't one whole frame");
     let mut journal = Journal::new().unwrap();
-    assert_eq!(journal.store(4, b""), Err(Error::Status(Status::BadNumber)));
+    for version in [4, 9] {
+        let said = format!("version must be from 5 to 8, not {}", version);
+        assert_eq!(journal.store(version, b"").unwrap_err().to_string(), said);
+    }
     assert_eq!(journal.entry(b"x"), Err(Error::Status(Status::BadJournal)));
 }
 
@@ -134,6 +138,7 @@ fn an_error_has_all_its_fields() {
     let target = Target { service: "Greeter", handler: "greet", ..Target::default() };
     let error = vm.sys_call(&target, b"Ada", "call", PayloadOptions::STABLE).unwrap_err();
     assert!(error.is_journal_mismatch());
+    assert_eq!(error.to_string(), r#"570 JournalMismatch: CommandTypeMismatchError (command 1: CallCommand "call")"#);
     let related = error.vm().unwrap().related.clone().unwrap();
     assert_eq!((related.index, related.name.as_str()), (1, "call"));
     assert_eq!(vm.sys_end(), Err(error));
@@ -147,6 +152,19 @@ fn an_error_of_the_handlers_own() {
     let error = vm.sys_end().unwrap_err();
     let found = error.vm().unwrap();
     assert_eq!((found.code, found.message.as_str(), found.stacktrace.as_str()), (418, "no tea", "at 1"));
+}
+
+#[test]
+fn what_errors_say() {
+    let error = Vm::new("text/plain", &Options::default()).unwrap_err();
+    let allowed = "the content type must be application/vnd.restate.invocation.vN with N from 5 to 8";
+    assert_eq!(error.to_string(), format!("415 UnsupportedMediaType: BadContentType ({})", allowed));
+    let (mut ended, mut own) = (begun(), begun());
+    ended.sys_end().unwrap();
+    let error = ended.sys_sleep("", 1).unwrap_err();
+    assert_eq!(error.to_string(), r#"598 Closed: ClosedError (command 1: SleepCommand "")"#);
+    own.notify_error(&HandlerError { code: 570, message: "no tea", ..LATER }, None).unwrap();
+    assert_eq!(own.sys_end().unwrap_err().to_string(), "570 no tea");
 }
 
 #[test]

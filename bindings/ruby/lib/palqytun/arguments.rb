@@ -26,15 +26,18 @@ module Palqytun
     # A String, whatever its encoding.
     def bytes(name, value) = value.is_a?(String) ? value : wanted(name, "a String", value)
 
-    def whole(name, value, most)
+    def whole(name, value, most, least = 0)
       wanted(name, "an Integer", value) unless value.is_a?(Integer)
-      raise ArgumentError, "#{name} must be from 0 to #{most}, not #{value}" unless value.between?(0, most)
+      raise ArgumentError, "#{name} must be from #{least} to #{most}, not #{value}" unless value.between?(least, most)
       value
     end
 
     def u16(name, value) = whole(name, value, U16)
     def u32(name, value) = whole(name, value, U32)
     def u64(name, value) = whole(name, value, U64)
+
+    # The version of an attempt's messages.
+    def version(name, value) = whole(name, value, ABI::MAXIMUM_VERSION, ABI::MINIMUM_VERSION)
 
     # The number of a case, that of the first one for nil.
     def one(name, value, cases)
@@ -94,17 +97,27 @@ module Palqytun
       return { kind: ABI::RELATED_TO_NONE, index: 0, type: 0, name: nil } if it.nil?
       return { kind: ABI::RELATED_TO_LAST, index: 0, type: 0, name: nil } if it == :last
       wanted("related", ":last or a RelatedCommand", it) unless it.is_a?(RelatedCommand)
+      wanted("related.type", "a Symbol", it.type) if it.type.nil?
       made = { type: one("related.type", it.type, ABI::COMMAND_TYPE_CASES), name: optional("related.name", it.name) }
       return { **made, kind: ABI::RELATED_TO_NEXT, index: 0 } if it.index.nil?
       { **made, kind: ABI::RELATED_TO_SPECIFIC, index: u32("related.index", it.index) }
     end
 
+    # The numerator and the denominator of a policy's factor. Only one that grows has to have it.
+    def factor(kind, value)
+      grows = kind == ABI::POLICY_EXPONENTIAL
+      return [0, 0] if value.nil? && !grows
+      wanted("policy.factor", "a pair of Integers", value) unless value.is_a?(Array) && value.size == 2
+      numerator, denominator = value
+      [u32("the numerator of policy.factor", numerator), whole("the denominator of policy.factor", denominator, U32, grows ? 1 : 0)]
+    end
+
     def policy(it)
       wanted("policy", "a RetryPolicy", it) unless it.is_a?(RetryPolicy)
-      numerator, denominator = it.factor || [0, 0]
+      kind = one("policy.kind", it.kind, RetryPolicy::KINDS)
+      numerator, denominator = factor(kind, it.factor)
       {
-        kind: one("policy.kind", it.kind, RetryPolicy::KINDS), initial_millis: u64("policy.initial_millis", it.initial_millis || 0),
-        numerator: u32("policy.factor", numerator), denominator: u32("policy.factor", denominator),
+        kind: kind, initial_millis: u64("policy.initial_millis", it.initial_millis || 0), numerator: numerator, denominator: denominator,
         has_interval: !it.interval_millis.nil?, interval_millis: u64("policy.interval_millis", it.interval_millis || 0),
         has_attempts: !it.max_attempts.nil?, attempts: u32("policy.max_attempts", it.max_attempts || 0),
         has_duration: !it.max_duration_millis.nil?, duration_millis: u64("policy.max_duration_millis", it.max_duration_millis || 0),

@@ -32,16 +32,26 @@ module Palqytun
   class VMError < Error
     attr_reader :code, :text, :stacktrace, :related
 
-    def initialize(code, text, stacktrace, related)
+    CODES = %i[CODE_BAD_REQUEST CODE_UNSUPPORTED_MEDIA_TYPE CODE_INTERNAL CODE_JOURNAL_MISMATCH CODE_PROTOCOL_VIOLATION CODE_UNSUPPORTED_FEATURE
+               CODE_CLOSED CODE_SUSPENDED].to_h { |it| [ABI.const_get(it), it.to_s.delete_prefix("CODE_")] }.freeze
+    CONTENT_TYPES = "the content type must be application/vnd.restate.invocation.vN with N from #{ABI::MINIMUM_VERSION} to #{ABI::MAXIMUM_VERSION}".freeze
+    private_constant :CODES, :CONTENT_TYPES
+
+    # An error of the VM's own says the name of its code too, and what is allowed.
+    def initialize(code, text, stacktrace, related, own: false)
+      name = own ? CODES[code] : nil
+      named = name.nil? || name == text ? code : "#{code} #{name}:"
+      said = own && code == ABI::CODE_INTERNAL && text.empty? ? ABI::STATUSES[ABI::NO_MEMORY].last : text
+      allowed = " (#{CONTENT_TYPES})" if own && code == ABI::CODE_UNSUPPORTED_MEDIA_TYPE
       more = related && " (command #{related.index}: #{related.type} #{related.name.inspect})"
-      super("#{code} #{text}#{more}")
+      super("#{named} #{said}#{allowed}#{more}")
       @code, @text, @stacktrace, @related = code, text, stacktrace, related
     end
 
     # The code of an error that was handed in may be any, and says nothing of the VM; no such one is of a suspension's kind.
     def self.of(kind, handed_in, code, *rest)
       made = kind == ABI::SUSPENDED ? Suspended : CLASSES.fetch(handed_in ? nil : code, VMError)
-      made.new(code, *rest)
+      made.new(code, *rest, own: !handed_in)
     end
   end
 

@@ -49,7 +49,7 @@ module Palqytun
     # What is stored of what an attempt of this version wrote since the last store, as VM#take_output gave it.
     def store(version, output)
       @guard.synchronize do
-        told = row(@ext.pq_journal_store(@handle, A.u32("version", version), A.bytes("output", output)))
+        told = row(@ext.pq_journal_store(@handle, A.version("version", version), A.bytes("output", output)))
         rows = Array.new(told[:rows]) { |at| row_of(@ext.pq_journal_row(@handle, at), L.written(@ext.pq_journal_frame(@handle, at))) }
         Stored.new(rows, L.written(@ext.pq_journal_answer(@handle)))
       end

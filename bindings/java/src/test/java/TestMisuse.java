@@ -32,15 +32,19 @@ public final class TestMisuse {
 
     private static void argumentsAreNamed() {
         VM vm = Common.begun();
-        Common.refused(NullPointerException.class, "value is null, and not a byte[]", () -> vm.sysStateSet("key", null));
-        Common.refused(NullPointerException.class, "key is null, and not a String", () -> vm.sysStateGet(null));
-        Common.refused(NullPointerException.class, "value is null, and not a Result", () -> vm.sysWriteOutput(null));
-        Common.refused(NullPointerException.class, "target is null, and not an InvocationTarget", () -> vm.sysAttachInvocation(null));
-        Common.refused(NullPointerException.class, "target.service is null, and not a String", () -> vm.sysCall(Target.of(null, "h"), EMPTY));
-        Common.refused(NullPointerException.class, "a child is null", () -> Future.allCompleted(Future.of(17), null));
-        Common.refused(IllegalArgumentException.class, "value.code is from 0 to 65535, and not 65536", () -> vm.sysWriteOutput(Value.failure(65_536, "")));
+        Common.refused(NullPointerException.class, "value must be a byte[], not null", () -> vm.sysStateSet("key", null));
+        Common.refused(NullPointerException.class, "key must be a String, not null", () -> vm.sysStateGet(null));
+        Common.refused(NullPointerException.class, "value must be a Result, not null", () -> vm.sysWriteOutput(null));
+        Common.refused(NullPointerException.class, "target must be an InvocationTarget, not null", () -> vm.sysAttachInvocation(null));
+        Common.refused(NullPointerException.class, "target.service must be a String, not null", () -> vm.sysCall(Target.of(null, "h"), EMPTY));
+        Common.refused(NullPointerException.class, "each child must be a Future, not null", () -> Future.allCompleted(Future.of(17), null));
+        Common.refused(IllegalArgumentException.class, "value.code must be from 0 to 65535, not 65536", () -> vm.sysWriteOutput(Value.failure(65_536, "")));
         Common.refused(IllegalArgumentException.class, "name has half of a surrogate pair, and so no UTF-8", () -> vm.createSignalHandle("\ud800"));
         Common.refused(IllegalArgumentException.class, "name has half of a surrogate pair, and so no UTF-8", () -> vm.createSignalHandle("\udc00x"));
+        Common.refused(NullPointerException.class, "future must be a Future, not null", () -> vm.doAwait((Future) null));
+        Common.refused(NullPointerException.class, "entries must be a List, not null", () -> new Journal(null));
+        Options options = Options.DEFAULTS.with((JournalReplay) null);
+        Common.refused(NullPointerException.class, "options.journalReplay must be a JournalReplay, not null", () -> new VM(Palqytun.contentType(7), options));
         Common.equal(0L, vm.lastCommandIndex());
         vm.createSignalHandle("\ud83d\ude00");
     }
@@ -48,7 +52,22 @@ public final class TestMisuse {
     private static void contentTypes() {
         VMException error = Common.thrown(VMException.class, () -> new VM("application/json"));
         Common.equal(415, error.code());
+        String allowed = "the content type must be application/vnd.restate.invocation.vN with N from 5 to 8";
+        Common.equal("415 UNSUPPORTED_MEDIA_TYPE: BadContentType (" + allowed + ")", error.getMessage());
         Common.equal(415, Common.thrown(VMException.class, () -> new VM(null)).code());
+    }
+
+    private static void whatErrorsSay() {
+        VM ended = Common.begun();
+        ended.sysEnd();
+        Common.refused(VMException.Closed.class, "598 CLOSED: ClosedError (command 1: SLEEP_COMMAND \"\")", () -> ended.sysSleep(1));
+        VM suspended = Common.begun();
+        int slept = suspended.sysSleep(1);
+        suspended.notifyInputClosed();
+        Common.refused(VMException.Suspended.class, "599 SUSPENDED", () -> suspended.doAwait(slept));
+        VM own = Common.begun();
+        own.notifyError(HandlerError.of(570, "no tea"));
+        Common.refused(VMException.class, "570 no tea", own::sysEnd);
     }
 
     private static void threadsShareAVm() throws InterruptedException {
@@ -124,7 +143,8 @@ public final class TestMisuse {
         VM vm = Common.begun();
         VM.Run run = vm.sysRun("charge");
         RetryPolicy policy = RetryPolicy.exponential(1, 3, 0);
-        status(Status.BAD_NUMBER, () -> vm.proposeRetryableFailure(run.handle(), 1, HandlerError.of(503, "later"), policy));
+        String said = "policy.denominator must be from 1 to 4294967295, not 0";
+        Common.refused(IllegalArgumentException.class, said, () -> vm.proposeRetryableFailure(run.handle(), 1, HandlerError.of(503, "later"), policy));
         Common.equal(new Awaited.Awake(), vm.doAwait(Future.allCompleted()));
         Common.equal(State.PROCESSING, vm.state());
     }
@@ -224,7 +244,8 @@ public final class TestMisuse {
         Common.equal(List.of(MessageType.RUN_COMMAND, 2, "a"), List.of(effect.type(), effect.id(), effect.text(0)));
         journal.undo();
         Common.equal(3L, journal.entries());
-        status(Status.BAD_NUMBER, () -> journal.store(4, EMPTY));
+        Common.refused(IllegalArgumentException.class, "version must be from 5 to 8, not 4", () -> journal.store(4, EMPTY));
+        Common.refused(IllegalArgumentException.class, "version must be from 5 to 8, not -1", () -> journal.store(-1, EMPTY));
     }
 
     private static void frames() {
@@ -241,6 +262,7 @@ public final class TestMisuse {
         Common.test("what was closed", TestMisuse::whatWasClosed);
         Common.test("arguments are named", TestMisuse::argumentsAreNamed);
         Common.test("content types", TestMisuse::contentTypes);
+        Common.test("what errors say", TestMisuse::whatErrorsSay);
         Common.test("threads share a VM", TestMisuse::threadsShareAVm);
         Common.test("threads close a VM", TestMisuse::threadsCloseAVm);
         Common.test("large copies", TestMisuse::largeCopies);

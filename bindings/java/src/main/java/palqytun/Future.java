@@ -2,7 +2,6 @@ package palqytun;
 
 import java.nio.ByteBuffer;
 import java.nio.ByteOrder;
-import java.util.Objects;
 
 /** A tree over handles: {@code Future.firstCompleted(Future.of(handle), Future.allCompleted(..))}. */
 public final class Future {
@@ -14,7 +13,7 @@ public final class Future {
     private Future(int kind, Future[] children, int number) {
         int length = NODE;
         for (Future it : children) {
-            length += Objects.requireNonNull(it, "a child is null").nodes.capacity();
+            length += Given.present("each child", "a Future", it).nodes.capacity();
         }
         nodes = ByteBuffer.allocate(length).order(ByteOrder.nativeOrder());
         for (Future it : children) {

@@ -12,13 +12,18 @@ final class Given {
 
     private Given() {}
 
+    /** An argument that isn't null. */
+    static <T> T present(String name, String what, T it) {
+        return Objects.requireNonNull(it, () -> name + " must be " + what + ", not null");
+    }
+
     static byte[] bytes(String name, byte[] value) {
-        return Objects.requireNonNull(value, () -> name + " is null, and not a byte[]");
+        return present(name, "a byte[]", value);
     }
 
     /** A text in UTF-8. */
     static byte[] text(String name, String value) {
-        Objects.requireNonNull(value, () -> name + " is null, and not a String");
+        present(name, "a String", value);
         for (int at = 0; at < value.length(); at++) {
             if (!Character.isSurrogate(value.charAt(at))) {
                 continue;
@@ -40,19 +45,28 @@ final class Given {
         return Integer.toUnsignedLong(value);
     }
 
-    static Long code(String name, int value) {
-        if (value < 0 || value > MOST_CODE) {
-            throw new IllegalArgumentException(name + " is from 0 to " + MOST_CODE + ", and not " + value);
+    private static Long within(String name, int value, int least, int most) {
+        if (value < least || value > most) {
+            throw new IllegalArgumentException(name + " must be from " + least + " to " + most + ", not " + value);
         }
         return (long) value;
     }
 
+    static Long code(String name, int value) {
+        return within(name, value, 0, MOST_CODE);
+    }
+
+    /** The version of an attempt's messages. */
+    static Long version(String name, int value) {
+        return within(name, value, Abi.MINIMUM_VERSION, Abi.MAXIMUM_VERSION);
+    }
+
     static byte[][] pairs(String name, List<Pair> value) {
-        Objects.requireNonNull(value, () -> name + " is null, and not a List");
+        present(name, "a List", value);
         byte[][] made = new byte[2 * value.size()][];
         int at = 0;
         for (Pair it : value) {
-            Objects.requireNonNull(it, () -> "a pair of " + name + " is null");
+            present("each of " + name, "a Pair", it);
             made[at++] = text("a key of " + name, it.key());
             made[at++] = text("a value of " + name, it.value());
         }
@@ -60,15 +74,19 @@ final class Given {
     }
 
     static Object[] options(Options it) {
-        Objects.requireNonNull(it, "options is null");
+        present("options", "an Options", it);
         return new Object[] {
-            u32(it.implicitCancellation().number()), u32(it.nonDeterministicChecks().number()), u32(it.awaitingOnPolicy().number()),
-            u32(it.journalMismatchRetryBehavior().number()), u32(it.journalReplay().number()), u32(it.signalDelivery().number()), it.fallbackRandomSeed()
+            u32(present("options.implicitCancellation", "an ImplicitCancellation", it.implicitCancellation()).number()),
+            u32(present("options.nonDeterministicChecks", "a NonDeterministicChecks", it.nonDeterministicChecks()).number()),
+            u32(present("options.awaitingOnPolicy", "an AwaitingOnPolicy", it.awaitingOnPolicy()).number()),
+            u32(present("options.journalMismatchRetryBehavior", "a JournalMismatchRetryBehavior", it.journalMismatchRetryBehavior()).number()),
+            u32(present("options.journalReplay", "a JournalReplay", it.journalReplay()).number()),
+            u32(present("options.signalDelivery", "a SignalDelivery", it.signalDelivery()).number()), it.fallbackRandomSeed()
         };
     }
 
     static Object[] target(Target it) {
-        Objects.requireNonNull(it, "target is null");
+        present("target", "a Target", it);
         return new Object[] {
             text("target.service", it.service()), text("target.handler", it.handler()), optional("target.key", it.key()),
             optional("target.idempotencyKey", it.idempotencyKey()), optional("target.scope", it.scope()), optional("target.limitKey", it.limitKey()),
@@ -84,14 +102,14 @@ final class Given {
             byte[] message = text(name + ".message", failure.message());
             return new Object[] {true, code(name + ".code", failure.code()), message, pairs(name + ".metadata", failure.metadata())};
         }
-        throw new NullPointerException(name + " is null, and not a Result");
+        throw new NullPointerException(name + " must be a Result, not null");
     }
 
     static Object[] error(HandlerError it) {
-        Objects.requireNonNull(it, "error is null");
+        present("error", "a HandlerError", it);
         Long delay = it.nextRetryDelayMillis();
         return new Object[] {
-            code("error.code", it.code()), u32(Objects.requireNonNull(it.behavior(), "error.behavior is null").number()),
+            code("error.code", it.code()), u32(present("error.behavior", "an ErrorBehavior", it.behavior()).number()),
             text("error.message", it.message()), text("error.stacktrace", it.stacktrace()), delay != null, delay == null ? 0L : delay
         };
     }
@@ -106,12 +124,12 @@ final class Given {
         if (it instanceof RelatedCommand.Specific specific) {
             return new Object[] {(long) Abi.RELATED_TO_SPECIFIC, u32(specific.index()), type(specific.type()), optional("related.name", specific.name())};
         }
-        Objects.requireNonNull(it, "related is null, and not a RelatedCommand");
+        present("related", "a RelatedCommand", it);
         return NO_COMMAND;
     }
 
     private static Long type(CommandType it) {
-        return u32(Objects.requireNonNull(it, "related.type is null").number());
+        return u32(present("related.type", "a CommandType", it).number());
     }
 
     static Object[] invocation(InvocationTarget it) {
@@ -129,13 +147,16 @@ final class Given {
                 optional("target.scope", idempotency.scope())
             };
         }
-        throw new NullPointerException("target is null, and not an InvocationTarget");
+        throw new NullPointerException("target must be an InvocationTarget, not null");
     }
 
     static Object[] policy(RetryPolicy it) {
-        Objects.requireNonNull(it, "policy is null, and not a RetryPolicy");
+        present("policy", "a RetryPolicy", it);
+        if (present("policy.kind", "a RetryPolicy.Kind", it.kind()) == RetryPolicy.Kind.EXPONENTIAL && it.denominator() == 0) {
+            throw new IllegalArgumentException("policy.denominator must be from 1 to 4294967295, not 0");
+        }
         return new Object[] {
-            u32(Objects.requireNonNull(it.kind(), "policy.kind is null").number), it.initialMillis(), u32(it.numerator()), u32(it.denominator()),
+            u32(it.kind().number), it.initialMillis(), u32(it.numerator()), u32(it.denominator()),
             it.intervalMillis() != null, it.intervalMillis() == null ? 0L : it.intervalMillis(),
             it.maxAttempts() != null, it.maxAttempts() == null ? 0L : u32(it.maxAttempts()),
             it.maxDurationMillis() != null, it.maxDurationMillis() == null ? 0L : it.maxDurationMillis(),

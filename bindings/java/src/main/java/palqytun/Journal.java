@@ -35,6 +35,7 @@ public final class Journal implements AutoCloseable {
 
     /** A journal of these entries, each one whole frame, the first one an Input; they are kept. */
     public Journal(List<byte[]> entries) {
+        Given.present("entries", "a List", entries);
         Library.need();
         handle = new Handle(this, Library.journal_open(), Library::journal_close);
         for (byte[] it : entries) {
@@ -68,7 +69,7 @@ public final class Journal implements AutoCloseable {
 
     /** What is stored of what an attempt of this version wrote since the last store, as {@link VM#takeOutput} gave it. */
     public synchronized Stored store(int version, byte[] output) {
-        long count = done(Calls.journal_store(handle.at(), Given.u32(version), Given.bytes("output", output)))[COUNT];
+        long count = done(Calls.journal_store(handle.at(), Given.version("version", version), Given.bytes("output", output)))[COUNT];
         List<Row> rows = new ArrayList<>();
         for (long at = 0; at < count; at++) {
             rows.add(row(Calls.journal_row(handle.at(), at), Library.written(Calls.journal_frame(handle.at(), at))));

@@ -133,7 +133,7 @@ public final class VM implements AutoCloseable {
 
     /** The same for a future. */
     public synchronized Awaited doAwait(Future future) {
-        return awaited(done(Calls.await_tree(at(), future.packed())));
+        return awaited(done(Calls.await_tree(at(), Given.present("future", "a Future", future).packed())));
     }
 
     private static Awaited awaited(long[] it) {

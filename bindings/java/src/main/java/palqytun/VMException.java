@@ -10,17 +10,42 @@ import java.util.Optional;
  */
 public class VMException extends PalqytunException {
     private static final long serialVersionUID = 1L;
+    private static final String CONTENT_TYPES =
+            " (the content type must be application/vnd.restate.invocation.vN with N from " + Abi.MINIMUM_VERSION + " to " + Abi.MAXIMUM_VERSION + ")";
     private final int code;
     private final String text;
     private final String stacktrace;
     private final transient Related related;
 
-    VMException(int code, String text, String stacktrace, Related related) {
-        super(code + " " + text + (related == null ? "" : " (" + related + ")"), null);
+    VMException(int code, String text, String stacktrace, Related related, boolean isOwn) {
+        super(described(code, text, isOwn) + (related == null ? "" : " (" + related + ")"), null);
         this.code = code;
         this.text = text;
         this.stacktrace = stacktrace;
         this.related = related;
+    }
+
+    /** What an error says: its code, with its name if the error is the VM's own, its text, and what is allowed. */
+    private static String described(int code, String text, boolean isOwn) {
+        String name = isOwn ? nameOf(code) : "";
+        String said = isOwn && code == Abi.CODE_INTERNAL && text.isEmpty() ? Status.NO_MEMORY.text() : text;
+        String allowed = isOwn && code == Abi.CODE_UNSUPPORTED_MEDIA_TYPE ? CONTENT_TYPES : "";
+        return code + " " + (name.isEmpty() || name.equals(text) ? "" : name + ": ") + said + allowed;
+    }
+
+    /** The name of a code of the VM's own errors. */
+    private static String nameOf(int code) {
+        return switch (code) {
+            case Abi.CODE_BAD_REQUEST -> "BAD_REQUEST";
+            case Abi.CODE_UNSUPPORTED_MEDIA_TYPE -> "UNSUPPORTED_MEDIA_TYPE";
+            case Abi.CODE_INTERNAL -> "INTERNAL";
+            case Abi.CODE_JOURNAL_MISMATCH -> "JOURNAL_MISMATCH";
+            case Abi.CODE_PROTOCOL_VIOLATION -> "PROTOCOL_VIOLATION";
+            case Abi.CODE_UNSUPPORTED_FEATURE -> "UNSUPPORTED_FEATURE";
+            case Abi.CODE_CLOSED -> "CLOSED";
+            case Abi.CODE_SUSPENDED -> "SUSPENDED";
+            default -> "";
+        };
     }
 
     /** The code of an error that was handed in may be any, and says nothing of the VM; no such one is of a suspension's kind. */
@@ -29,12 +54,12 @@ public class VMException extends PalqytunException {
             return new Suspended(code, text, stacktrace, related);
         }
         if (isHandedIn) {
-            return new VMException(code, text, stacktrace, related);
+            return new VMException(code, text, stacktrace, related, false);
         }
         return switch (code) {
             case Abi.CODE_CLOSED -> new Closed(code, text, stacktrace, related);
             case Abi.CODE_JOURNAL_MISMATCH -> new JournalMismatch(code, text, stacktrace, related);
-            default -> new VMException(code, text, stacktrace, related);
+            default -> new VMException(code, text, stacktrace, related, true);
         };
     }
 
@@ -69,7 +94,7 @@ public class VMException extends PalqytunException {
         private static final long serialVersionUID = 1L;
 
         Suspended(int code, String text, String stacktrace, Related related) {
-            super(code, text, stacktrace, related);
+            super(code, text, stacktrace, related, true);
         }
     }
 
@@ -78,7 +103,7 @@ public class VMException extends PalqytunException {
         private static final long serialVersionUID = 1L;
 
         Closed(int code, String text, String stacktrace, Related related) {
-            super(code, text, stacktrace, related);
+            super(code, text, stacktrace, related, true);
         }
     }
 
@@ -87,7 +112,7 @@ public class VMException extends PalqytunException {
         private static final long serialVersionUID = 1L;
 
         JournalMismatch(int code, String text, String stacktrace, Related related) {
-            super(code, text, stacktrace, related);
+            super(code, text, stacktrace, related, true);
         }
     }
 }
