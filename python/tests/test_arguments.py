@@ -5,9 +5,10 @@ import unittest
 import palqytun
 from attempt import CONTENT_TYPE, begun
 from methods import parameters
-from palqytun import VM, BadLine, Failure, IdempotencyId, InvocationId, Retryable, WorkflowId
+from palqytun import VM, AnyOf, BadLine, Failure, IdempotencyId, InvocationId, Retryable, WorkflowId
 from palqytun import first_completed, retry_exponential, retry_fixed
 from palqytun._words import text
+from palqytun.frames import Message, difference, frame_of
 
 HALF = "file-\udcff"
 
@@ -90,6 +91,12 @@ WRONG_TYPES = [
     (lambda vm: retry_fixed("x"), "interval must be an int, not str"),
     (lambda vm: retry_fixed(5, pause=1), "pause must be a bool, not int"),
     (lambda vm: retry_exponential(5, 1.5), "numerator must be an int, not float"),
+    (lambda vm: AnyOf().add("17"), "handle must be an int, not str"),
+    (lambda vm: AnyOf().add([17]), "handle must be an int, not list"),
+    (lambda vm: frame_of(5), "line must be a str, not int"),
+    (lambda vm: frame_of(b"End"), "line must be a str, not bytes"),
+    (lambda vm: Message(frame_of("End")).part("0"), "at must be an int, not str"),
+    (lambda vm: difference(frame_of("End"), frame_of("End"), 1), "ignores_payloads must be a bool, not int"),
     (lambda vm: VM(7), "content_type must be a str, not int"),
     (lambda vm: VM(CONTENT_TYPE, cancel=False), "cancel must be a str, not bool"),
     (lambda vm: VM(CONTENT_TYPE, seed="7"), "seed must be an int, not str"),
@@ -116,6 +123,10 @@ WRONG_VALUES = [
     (lambda vm: vm.sys_write_output(Failure(500, HALF)), "value.message is no UTF-8: at 5 stands '\\udcff', half of a surrogate pair"),
     (lambda vm: vm.line(f'run "{HALF}"'), "line is no UTF-8: at 10 stands '\\udcff', half of a surrogate pair"),
     (lambda vm: vm.call("what"), "the VM can't read this line: what"),
+    (lambda vm: AnyOf().add(-1), "handle must be from 0 to 4294967295, not -1"),
+    (lambda vm: frame_of("what"), "the line has no meaning, and docs/FRAMES.md says which have one: 'what'"),
+    (lambda vm: frame_of(HALF), "line is no UTF-8: at 5 stands '\\udcff', half of a surrogate pair"),
+    (lambda vm: Message(frame_of("End")).part(-1), "at must be from 0 to 18446744073709551615, not -1"),
 ]
 
 
@@ -130,6 +141,16 @@ WRONG_CALLS = [
     (lambda vm: vm.sys_state_set(**{"key": "k", "value": b"", "": 1}), "VM.sys_state_set() got an unexpected keyword argument ''"),
     (lambda vm: vm.sys_call("s", "h", value=b"", hedaers=()), "VM.sys_call() got an unexpected keyword argument 'hedaers'"),
 ]
+
+
+class Whole:
+    """A whole number that is no `int`."""
+
+    def __init__(self, number: int) -> None:
+        self.number = number
+
+    def __index__(self) -> int:
+        return self.number
 
 
 class Arguments(unittest.TestCase):
@@ -170,6 +191,31 @@ class Arguments(unittest.TestCase):
     def assert_untouched(self, vm: VM) -> None:
         """The VM that was asked goes on as if it hadn't been: no handle was handed out, no command made, nothing written."""
         self.assertEqual((vm.state(), vm.last_command_index(), vm.take_output(), vm.sys_sleep(1)), ("Processing", 0, b"", 17))
+
+    def test_numbers_of_another_class(self) -> None:
+        """As an array's: what is whole is taken for the number that it is."""
+        with begun() as vm:
+            policy = retry_exponential(Whole(5), Whole(3), Whole(2), longest=Whole(9), attempts=Whole(4), duration=Whole(7))
+            self.assertEqual(policy, retry_exponential(5, 3, 2, longest=9, attempts=4, duration=7))
+            run = vm.sys_run("charge")
+            vm.do_await(run.handle)
+            with self.assertRaisesRegex(palqytun.VMError, "^418 no tea$"):
+                vm.propose_run_completion(Whole(run.handle), Retryable(Whole(418), "no tea", Whole(1)), policy=policy)
+
+    def test_what_errors_say(self) -> None:
+        """The name of the code of the VM's own errors, and what is allowed."""
+        with self.assertRaises(palqytun.VMError) as raised:
+            VM("text/plain")
+        allowed = "the content type must be application/vnd.restate.invocation.vN with N from 5 to 8"
+        self.assertEqual(str(raised.exception), f"415 UNSUPPORTED_MEDIA_TYPE: BadContentType ({allowed})")
+        with begun() as vm, begun() as own:
+            vm.sys_end()
+            with self.assertRaisesRegex(palqytun.Closed, "^598 CLOSED: ClosedError$") as closed:
+                vm.sys_sleep(1)
+            own.notify_error(570, "no tea")
+            with self.assertRaisesRegex(palqytun.VMError, "^570 no tea$") as handed_in:
+                own.sys_end()
+        self.assertEqual((closed.exception.is_own, handed_in.exception.is_own), (True, False))
 
     def test_a_bad_value_is_a_value_error(self) -> None:
         self.assertTrue(issubclass(BadLine, ValueError))

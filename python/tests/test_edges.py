@@ -16,7 +16,7 @@ from collections.abc import Callable
 
 import palqytun
 from attempt import begun, cancel_signal, completion, fed, input_frame, sleep_frame, start
-from palqytun import VM, VOID, Awakeable, BadLine, Cancelled, ExecuteRun, Failure, Fault, Future, Input, InvocationId, Journal, JournalFault
+from palqytun import VM, VOID, Awakeable, BadLine, Cancelled, Closed, ExecuteRun, Failure, Fault, Future, Input, InvocationId, Journal, JournalFault
 from palqytun import JournalMismatch, Related, Retryable, RetryPolicy, Run, Suspended, VMError, Waiting, WorkflowId, all_completed, first_completed
 from palqytun import CANCEL_HANDLE, SUPPORTED_VERSIONS, content_type, retry_fixed, retry_never, seed_of_start
 from palqytun.errors import BadFrame, error_of
@@ -80,6 +80,62 @@ class OwnErrors(unittest.TestCase):
                 vm.do_await(run.handle)
                 self.check(lambda: vm.propose_run_completion(run.handle, Retryable(code, text)), code)
                 self.check(lambda: vm.do_await(run.handle), code)
+
+    def test_that_an_ended_vm_takes(self) -> None:
+        """It has ended, which it says before the error is handed in, and has not failed."""
+        for code, text in self.OWN:
+            with self.subTest(code=code, text=text):
+                vm = begun()
+                vm.sys_end()
+                with self.assertRaises(Closed):
+                    vm.is_ready_to_execute()
+                vm.notify_error(code, text)
+                vm.notify_error(418, "no tea")  # it keeps its first error
+                for call in (lambda: vm.sys_sleep(1000), vm.is_ready_to_execute, vm.sys_end):
+                    self.check(call, code)
+
+    def test_that_a_suspended_vm_takes(self) -> None:
+        for code, text in self.OWN:
+            with self.subTest(code=code, text=text):
+                vm = begun()
+                vm.notify_input_closed()
+                with self.assertRaises(Suspended):
+                    vm.do_await(vm.sys_sleep(1000))
+                with self.assertRaises(VMError):
+                    vm.is_ready_to_execute()
+                vm.notify_error(code, text)
+                self.check(vm.sys_end, code)
+
+    def test_that_was_not_taken(self) -> None:
+        """An error that the VM didn't fail by, with the code and the text of the VM's own that comes later."""
+        vm = begun()
+        self.assertRaises(BadLine, vm.notify_error, 598, "ClosedError", related="none")
+        run = vm.sys_run("charge")
+        vm.do_await(run.handle)
+        vm.propose_run_completion(run.handle, Retryable(598, "ClosedError"), policy=retry_never())
+        vm.sys_end()
+        self.assertRaises(Closed, vm.sys_sleep, 1000)
+        self.assertRaises(Closed, vm.sys_sleep, 1000)
+
+    def test_a_proposal_after_the_end(self) -> None:
+        """It is nobody's error: the VM has ended, and takes no result of a run."""
+        for code, text in self.OWN:
+            with self.subTest(code=code, text=text):
+                vm = begun()
+                run = vm.sys_run("charge")
+                vm.do_await(run.handle)
+                vm.sys_end()
+                vm.propose_run_completion(run.handle, Retryable(code, text))
+                self.assertRaises(Closed, vm.sys_sleep, 1000)
+                self.assertRaises(Closed, vm.sys_sleep, 1000)
+
+    def test_a_proposal_that_nobody_waits_for(self) -> None:
+        vm = begun()
+        with self.assertRaises(VMError) as raised:
+            vm.propose_run_completion(17, Retryable(418, "no tea"))
+        self.assertEqual(raised.exception.code, 500)
+        vm.notify_error(598, "ClosedError")  # it keeps its first error
+        self.check(vm.sys_end, 500)
 
     def test_the_vm_has_its_own_still(self) -> None:
         vm = begun()

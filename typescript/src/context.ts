@@ -4,7 +4,7 @@ import { JournalMismatch, StatusError, VMError } from 'palqytun';
 import type { Failure, Handle, Input, Pair, RetryPolicy, Target, Value, VM } from 'palqytun';
 import { Call, Durable, Leaf, idOf, select } from './durable';
 import type { Scope, Waiter } from './durable';
-import { AttemptEnds, BadValue, ContinuedAsNew, OutsideHandler, TerminalError, TimedOut, said } from './errors';
+import { AttemptEnds, BadValue, ContinuedAsNew, OutsideHandler, TerminalError, TimedOut, said, shown } from './errors';
 import type { Trace } from './hash';
 import type { Fields, Level, Log } from './log';
 import { Random } from './random';
@@ -329,7 +329,7 @@ export class Context implements Scope {
 
   /** Ends after this number of milliseconds, across crashes. */
   sleep(milliseconds: number): Durable<null> {
-    if (typeof milliseconds !== 'number' || !(milliseconds < 1e15)) throw new TypeError(`ctx.sleep takes a number of milliseconds, and not ${String(milliseconds)}`);
+    if (typeof milliseconds !== 'number' || !(milliseconds < 1e15)) throw new TypeError(`ctx.sleep takes a number of milliseconds below 10^15, not ${shown(milliseconds)}`);
     return this.leaf((vm) => vm.sysSleep(Math.max(0, Math.ceil(Date.now() + milliseconds))), nothing);
   }
 
@@ -340,12 +340,12 @@ export class Context implements Scope {
    * again.
    */
   run<T>(name: string, does: (run: Run) => T | PromiseLike<T>, options: RunOptions<T> = {}): Durable<T> {
-    if (typeof does !== 'function') throw new TypeError(`ctx.run(${JSON.stringify(name)}, ..) takes a function, and not ${typeof does}`);
-    if (typeof name !== 'string' || name.startsWith(OWN)) throw new TypeError(`a run's name is a text that doesn't begin with ${OWN}, and not ${String(name).slice(0, 100)}`);
+    if (typeof does !== 'function') throw new TypeError(`ctx.run(${JSON.stringify(name)}, ..) takes a function, not ${typeof does}`);
+    if (typeof name !== 'string' || name.startsWith(OWN)) throw new TypeError(`a run's name must be a string that doesn't begin with ${OWN}, not ${shown(name)}`);
     if (options.retry !== undefined) checkRetry(`the retry of the run ${name}`, options.retry);
     for (const it of ['timeout', 'heartbeat'] as const) {
       const time = options[it];
-      if (time !== undefined && !(time > 0)) throw new RangeError(`the ${it} of the run ${name} is a number of milliseconds above 0, and not ${time}`);
+      if (time !== undefined && !(time > 0)) throw new RangeError(`the ${it} of the run ${name} must be a number of milliseconds above 0, not ${shown(time)}`);
     }
     const handle = this.#asks((vm) => vm.sysRun(name).handle);
     if (handle !== undefined) {
@@ -476,7 +476,7 @@ export class Context implements Scope {
   send<I, O>(callee: Callee<I, O>, argument?: I, options: SendOptions = {}): Durable<string> {
     const [target, input] = [this.#target(callee as Callee<never, unknown>, options), this.codec.encode(argument)];
     const { delay } = options;
-    if (delay !== undefined && !(delay >= 0 && delay < 1e15)) throw new RangeError(`a delay is a number of milliseconds from 0, and not ${delay}`);
+    if (delay !== undefined && !(delay >= 0 && delay < 1e15)) throw new RangeError(`delay must be a number of milliseconds from 0 to below 10^15, not ${shown(delay)}`);
     return this.leaf((vm) => vm.sysSend(target, input, delay ? { atMillis: Math.ceil(Date.now() + delay) } : {}), idOf);
   }
 
@@ -521,7 +521,7 @@ export class Context implements Scope {
 
 function parts(path: string): [string, string] {
   const [service, name, ...more] = path.split('/');
-  if (!service || !name || more.length > 0) throw new TypeError(`a handler is named as Service/handler, and not ${path.slice(0, 200)}`);
+  if (!service || !name || more.length > 0) throw new TypeError(`a handler is named as Service/handler, not ${shown(path)}`);
   return [service, name];
 }
 

@@ -3,7 +3,7 @@
 export type Pair = readonly [name: string, value: string];
 
 /**
- * Ends the handler with a failure; nothing is tried again. A failed call, promise or signal raises it. `code` is a whole number of 16 bits, and
+ * Ends the handler with a failure; nothing is tried again. A failed call, promise or signal raises it. `code` is a whole number from 0 to 65535, and
  * `metadata` has texts by their names.
  */
 export class TerminalError extends Error {
@@ -13,7 +13,7 @@ export class TerminalError extends Error {
   constructor(message: string, code = 500, metadata: Readonly<Record<string, string>> | readonly Pair[] = []) {
     super(wellFormed(typeof message === 'string' ? message : said(message)));
     this.name = new.target.name;
-    if (!Number.isInteger(code) || code < 0 || code > 0xffff) throw new RangeError(`a failure's code is a whole number of 16 bits, and not ${String(code)}`);
+    if (!Number.isInteger(code) || code < 0 || code > 0xffff) throw new RangeError(`a failure's code must be a whole number from 0 to 65535, not ${shown(code)}`);
     this.code = code;
     const pairs = Array.isArray(metadata) ? (metadata as readonly Pair[]) : Object.entries(metadata);
     this.metadata = pairs.map(([name, value]) => [wellFormed(String(name)), wellFormed(String(value))] as const);
@@ -84,6 +84,13 @@ export function storable(text: string): string {
 
 function short(text: string, most: number): string {
   return text.length <= most ? text : `${text.slice(0, most / 2)} .. ${text.slice(-most / 2)}`;
+}
+
+/** An argument in the error that refuses it: a string in quotes, a number as it is, and of other values the type. */
+export function shown(value: unknown): string {
+  if (typeof value === 'string') return JSON.stringify(value.slice(0, 200));
+  if (typeof value === 'number' || typeof value === 'bigint' || typeof value === 'boolean') return String(value);
+  return value === null ? 'null' : Array.isArray(value) ? 'an array' : typeof value;
 }
 
 /** What something that was thrown says. It is text for each value, also for one whose own text can't be made. */

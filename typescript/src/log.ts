@@ -1,6 +1,6 @@
 /** The log of a worker, as text or as JSON, a line each. What is logged during an attempt has its invocation, handler, attempt and trace. */
 
-import { said } from './errors';
+import { said, shown } from './errors';
 import { within } from './within';
 
 export type Level = 'debug' | 'info' | 'warning' | 'error';
@@ -20,8 +20,8 @@ export class Log {
   readonly #write: (line: string) => void;
 
   constructor({ format = 'text', level = 'info', write = (line) => process.stderr.write(`${line}\n`) }: LogOptions = {}) {
-    if (format !== 'text' && format !== 'json') throw new TypeError(`the log's format is text or json, and not ${String(format)}`);
-    if (!LEVELS.includes(level)) throw new TypeError(`the log's level is ${LEVELS.join(', ')}, and not ${String(level)}`);
+    if (format !== 'text' && format !== 'json') throw new TypeError(`the log's format must be text or json, not ${shown(format)}`);
+    if (!LEVELS.includes(level)) throw new TypeError(`the log's level must be one of ${LEVELS.join(', ')}, not ${shown(level)}`);
     this.#format = format;
     this.#least = LEVELS.indexOf(level);
     this.#write = write;

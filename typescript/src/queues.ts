@@ -3,7 +3,7 @@
  * language. A queue is fair between keys: a claim takes one invocation of each key in turn, so one with thousands keeps no other out.
  */
 
-import { TerminalError } from './errors';
+import { TerminalError, shown } from './errors';
 import { checkName } from './values';
 
 export interface QueueOptions {
@@ -31,14 +31,14 @@ export class Queue {
 
   /** Throws a `RangeError` for a limit that is none. */
   constructor(readonly name: string, { concurrency, perWorker, perKey, rate }: QueueOptions = {}) {
-    if (typeof name !== 'string' || name === '') throw new TypeError('a queue has a name, which is a text');
+    if (typeof name !== 'string' || name === '') throw new TypeError(`a queue's name must be a string that isn't empty, not ${shown(name)}`);
     checkName('the name of the queue', name);
     [this.concurrency, this.perWorker, this.perKey, this.rate] = [concurrency, perWorker, perKey, rate];
     for (const it of COUNTS) {
       const count = this[it];
-      if (count !== undefined && !(Number.isInteger(count) && count >= 1)) throw new RangeError(`the queue ${name} has the ${it} ${count}, and it is a whole number from 1 on`);
+      if (count !== undefined && !(Number.isInteger(count) && count >= 1)) throw new RangeError(`the ${it} of the queue ${name} must be a whole number from 1, not ${shown(count)}`);
     }
-    if (rate !== undefined && !isRate(rate)) throw new RangeError(`the queue ${name} has the rate ${JSON.stringify(rate)}, and it is a pair: a count from 1 on, and milliseconds above 0`);
+    if (rate !== undefined && !isRate(rate)) throw new RangeError(`the rate of the queue ${name} must be a pair, a count from 1 and milliseconds above 0, not ${JSON.stringify(rate)}`);
   }
 
   /** What is limited, as all workers read it; a rate's time is in seconds. @internal */

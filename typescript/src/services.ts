@@ -2,6 +2,7 @@
 
 import { createHash } from 'node:crypto';
 import type { ObjectContext, ServiceContext, SharedObjectContext, SharedWorkflowContext, WorkflowContext } from './context';
+import { shown } from './errors';
 import { Queue } from './queues';
 import type { Parse } from './values';
 
@@ -100,12 +101,12 @@ const TIMES = ['initial', 'longest', 'duration'] as const;
 export function checkRetry(what: string, retry: Retry): void {
   for (const name of TIMES) {
     const time = retry[name];
-    if (time !== undefined && !(time >= 0 && time < Infinity)) throw new RangeError(`${what}: ${name} is a number of milliseconds from 0, and not ${time}`);
+    if (time !== undefined && !(time >= 0 && time < Infinity)) throw new RangeError(`${what}: ${name} must be a number of milliseconds from 0, not ${shown(time)}`);
   }
   const { attempts, factor, jitter } = retry;
-  if (jitter !== undefined && !(jitter >= 0 && jitter <= 1)) throw new RangeError(`${what}: jitter is a part of a delay, from 0 to 1, and not ${jitter}`);
-  if (attempts !== undefined && !(Number.isInteger(attempts) && attempts >= 1)) throw new RangeError(`${what}: attempts is a whole number from 1, and not ${attempts}`);
-  if (factor !== undefined && !(factor >= 0 && factor <= 1e6)) throw new RangeError(`${what}: factor is a number from 0 to 1,000,000, and not ${factor}`);
+  if (jitter !== undefined && !(jitter >= 0 && jitter <= 1)) throw new RangeError(`${what}: jitter must be from 0 to 1, a part of the delay, not ${shown(jitter)}`);
+  if (attempts !== undefined && !(Number.isInteger(attempts) && attempts >= 1)) throw new RangeError(`${what}: attempts must be a whole number from 1, not ${shown(attempts)}`);
+  if (factor !== undefined && !(factor >= 0 && factor <= 1e6)) throw new RangeError(`${what}: factor must be a number from 0 to 1,000,000, not ${shown(factor)}`);
 }
 
 /** The delay in milliseconds after this number of failures. */
@@ -131,18 +132,18 @@ const LIMITS = ['timeout', 'queueTimeout', 'attemptTimeout'] as const;
 /** The limits of a handler. Throws a `RangeError` for one that has no meaning. */
 function limitsOf(path: string, it: Omit<HandlerOptions<never>, 'takes' | 'retry'>): Pick<AnyHandler, 'limit' | 'queue' | (typeof LIMITS)[number]> {
   const { limit, queue, timeout, queueTimeout, attemptTimeout } = it;
-  if (limit !== undefined && !(Number.isInteger(limit) && limit >= 1)) throw new RangeError(`${path} has the limit ${limit}, and it is a whole number from 1 on`);
-  if (queue !== undefined && !(queue instanceof Queue)) throw new TypeError(`${path} has a queue that is no Queue`);
+  if (limit !== undefined && !(Number.isInteger(limit) && limit >= 1)) throw new RangeError(`the limit of ${path} must be a whole number from 1, not ${shown(limit)}`);
+  if (queue !== undefined && !(queue instanceof Queue)) throw new TypeError(`the queue of ${path} must be a Queue, not ${shown(queue)}`);
   if (limit !== undefined && queue !== undefined) throw new RangeError(`${path} has a limit and a queue: give the queue the concurrency ${limit}`);
   for (const name of LIMITS) {
     const time = it[name];
-    if (time !== undefined && !(time > 0 && time < Infinity)) throw new RangeError(`${path} has the ${name} ${time}, and it is a number of milliseconds above 0`);
+    if (time !== undefined && !(time > 0 && time < Infinity)) throw new RangeError(`the ${name} of ${path} must be a number of milliseconds above 0, not ${shown(time)}`);
   }
   return { limit, queue, timeout, queueTimeout, attemptTimeout };
 }
 
 function made<C, I, O>(kind: Made<C, I, O>['kind'], run: Run<C, I, O>, options: HandlerOptions<I>): Made<C, I, O> {
-  if (typeof run !== 'function') throw new TypeError(`a handler is a function, and not ${typeof run}`);
+  if (typeof run !== 'function') throw new TypeError(`a handler must be a function, not ${typeof run}`);
   return { kind, run, ...options };
 }
 
@@ -162,13 +163,13 @@ export function main<I, O>(run: Run<WorkflowContext, I, O>, options: HandlerOpti
 }
 
 function served<G>(name: string, keyed: boolean, workflow: boolean, given: Record<string, Given<never>>): Service<G> {
-  if (typeof name !== 'string' || name === '') throw new TypeError('a service has a name, which is a text');
+  if (typeof name !== 'string' || name === '') throw new TypeError(`a service's name must be a string that isn't empty, not ${shown(name)}`);
   const handlers = new Map<string, AnyHandler>();
   for (const [own, it] of Object.entries(given)) {
     const how = typeof it === 'function' ? made('handler', it as Run<never, never, unknown>, {}) : it;
-    if (how === null || typeof how !== 'object' || typeof how.run !== 'function') throw new TypeError(`${name}/${own} is no function`);
-    if (how.kind === 'main' && !workflow) throw new TypeError(`${name}/${own} is a main, which a workflow has alone`);
-    if (how.kind === 'shared' && (!keyed || workflow)) throw new TypeError(`${name}/${own} is shared, which the handlers of an object are alone`);
+    if (how === null || typeof how !== 'object' || typeof how.run !== 'function') throw new TypeError(`${name}/${own} must be a function, or what handler, shared or main makes of one, not ${shown(it)}`);
+    if (how.kind === 'main' && !workflow) throw new TypeError(`${name}/${own} is a main: only a workflow may have one`);
+    if (how.kind === 'shared' && (!keyed || workflow)) throw new TypeError(`${name}/${own} is shared: only a handler of an object may be shared`);
     const retry = how.retry ?? ATTEMPTS;
     checkRetry(`the retry of ${name}/${own}`, retry);
     const exclusive = workflow ? how.kind === 'main' : keyed && how.kind !== 'shared';
@@ -193,7 +194,7 @@ export function object<G extends Record<string, Given<ObjectContext>>>(name: str
 export function workflow<G extends Record<string, Given<SharedWorkflowContext> | Given<WorkflowContext>>>(name: string, handlers: G): Service<G> {
   const found = served<G>(name, true, true, handlers as Record<string, Given<never>>);
   const mains = [...found[ABOUT].handlers.values()].filter((it) => it.exclusive);
-  if (mains.length !== 1) throw new TypeError(`the workflow ${name} has ${mains.length} handlers that are main, and it has one: main(async (ctx, argument) => ..)`);
+  if (mains.length !== 1) throw new TypeError(`the workflow ${name} must have one handler that is main, not ${mains.length}: main(async (ctx, argument) => ..)`);
   return found;
 }
 

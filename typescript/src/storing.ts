@@ -1,6 +1,6 @@
 /** The transactions of an attempt: what it wrote is stored with its effects, what came for it is put into its journal, and it stops. */
 
-import { frames } from 'palqytun';
+import { Code, frames } from 'palqytun';
 import type { Journal, Row } from 'palqytun';
 import { deliver, leaves } from './delivery';
 import { perform } from './effects';
@@ -205,7 +205,7 @@ async function fail(to: Statements, claim: Claim, it: Growth, error: Uint8Array)
   const found = outcome(over || behavior === 'pause' ? 'paused' : 'ready');
   const wait = delayOf(claim.retry, claim.byRun ? counters.retries : counters.failures);
   const delay = jittered(said.second > 0 ? Number(said.number) : wait, claim.failedRun?.jitter ?? claim.retry.jitter) / 1000;
-  const [text, how] = [storable(`${said.id} ${said.text(0)}\n${said.text(1)}`.trimEnd()), found.status === 'paused' ? 'paused' : 'failed'];
+  const [text, how] = [storable(`${named(said.id)} ${said.text(0)}\n${said.text(1)}`.trimEnd()), found.status === 'paused' ? 'paused' : 'failed'];
   await writes(to, claim, it.before, 'fail', {
     status: found.status, due: to.now + delay, error: text, how,
     retries: counters.retries, failing_since: counters.failingSince, failures: counters.failures, failed_since: counters.failedSince,
@@ -215,6 +215,12 @@ async function fail(to: Statements, claim: Claim, it: Growth, error: Uint8Array)
   to.isDue(to.now + delay);
   to.say('ready');
   return found;
+}
+
+/** The code of an error, with its name if the error is the VM's own: a handler's own has the code 500. */
+function named(code: number): string {
+  const name = Object.entries(Code).find(([, it]) => it === code)?.[0];
+  return name === undefined || code === Code.INTERNAL ? `${code}` : `${code} ${name}:`;
 }
 
 function failed(said: InstanceType<typeof frames.Message>): Uint8Array {

@@ -6,7 +6,7 @@ import type { Host } from './attempt';
 import { look } from './claiming';
 import type { Claimer, Look } from './claiming';
 import { StatementFailed } from './database';
-import { said, storable } from './errors';
+import { said, shown, storable } from './errors';
 import { Log } from './log';
 import type { LogOptions } from './log';
 import { Meter } from './metrics';
@@ -61,11 +61,11 @@ const NUMBERS = ['limit', 'idle', 'lease', 'poll', 'grace', 'stuck', 'effects', 
 const MAY_BE_NOTHING = new Set<string>(['idle', 'grace', 'stuck']);
 
 function checked(options: WorkerOptions): void {
-  if (typeof options.url !== 'string' || !/^postgres(ql)?:\/\//.test(options.url)) throw new TypeError(`url is that of a PostgreSQL database, as postgresql://.., and not ${String(options.url)}`);
+  if (typeof options.url !== 'string' || !/^postgres(ql)?:\/\//.test(options.url)) throw new TypeError(`url must be that of a PostgreSQL database, as postgresql://.., not ${shown(options.url)}`);
   for (const name of NUMBERS) {
     const given = options[name];
     const least = MAY_BE_NOTHING.has(name) ? 0 : 1;
-    if (given !== undefined && !(typeof given === 'number' && given >= least && given < Infinity)) throw new RangeError(`${name} is a number from ${least}, and not ${String(given)}`);
+    if (given !== undefined && !(typeof given === 'number' && given >= least && given < Infinity)) throw new RangeError(`${name} must be a number from ${least}, not ${shown(given)}`);
   }
 }
 

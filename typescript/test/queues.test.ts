@@ -206,8 +206,8 @@ test('limits that have no meaning are refused', async () => {
   }
   const does = async (): Promise<null> => null;
   assert.throws(() => service('S', { both: handler(does, { limit: 1, queue: few }) }), /S\/both has a limit and a queue: give the queue the concurrency 1/);
-  assert.throws(() => service('S', { none: handler(does, { limit: 0 }) }), /S\/none has the limit 0/);
-  assert.throws(() => service('S', { late: handler(does, { timeout: 0 }) }), /S\/late has the timeout 0, and it is a number of milliseconds above 0/);
+  assert.throws(() => service('S', { none: handler(does, { limit: 0 }) }), /the limit of S\/none must be a whole number from 1, not 0/);
+  assert.throws(() => service('S', { late: handler(does, { timeout: 0 }) }), /the timeout of S\/late must be a number of milliseconds above 0, not 0/);
   const second = service('Second', { third: handler(does, { queue: new Queue('few') }) });
   await assert.rejects(async () => Testing.begin([shop, second]), /there are two queues with the name few: \{"rate":\[2,100\]\} and \{\}/);
 });

@@ -5,6 +5,8 @@ import { test } from 'node:test';
 import { blake2b, idOfCall, seedOf, traceOf } from '../hash';
 import { Random } from '../random';
 import { BadValue, TerminalError, said } from '../errors';
+import { Queue } from '../queues';
+import { handler, main, object, service, shared, workflow } from '../services';
 import { checkName, checkPayload, decoded, encoded } from '../values';
 
 const text = (data: Uint8Array): string => Buffer.concat([data]).toString();
@@ -46,6 +48,21 @@ test('values are JSON, and no bytes stand for null', () => {
   assert.equal(text(encoded(new Date(0))), '"1970-01-01T00:00:00.000Z"');
   assert.deepEqual(decoded(bytes('{"a":[1,"é"]}')), { a: [1, 'é'] });
   assert.equal(decoded(bytes('')), null);
+});
+
+test('what has no meaning is refused with what is allowed', () => {
+  const does = (): number => 1;
+  for (const [made, message] of [
+    [() => service('', {}), "a service's name must be a string that isn't empty, not \"\""],
+    [() => service('S', { a: 5 as never }), 'S/a must be a function, or what handler, shared or main makes of one, not 5'],
+    [() => service('S', { a: shared(does) as never }), 'S/a is shared: only a handler of an object may be shared'],
+    [() => object('O', { a: main(does) as never }), 'O/a is a main: only a workflow may have one'],
+    [() => workflow('W', { a: does }), 'the workflow W must have one handler that is main, not 0: main(async (ctx, argument) => ..)'],
+    [() => service('S', { a: handler(does, { queue: {} as never }) }), 'the queue of S/a must be a Queue, not object'],
+    [() => service('S', { a: handler(does, { limit: '7' as never }) }), 'the limit of S/a must be a whole number from 1, not "7"'],
+    [() => service('S', { a: handler(does, { retry: { attempts: 0 } }) }), 'the retry of S/a: attempts must be a whole number from 1, not 0'],
+    [() => new Queue('q', { rate: [0, 1] }), 'the rate of the queue q must be a pair, a count from 1 and milliseconds above 0, not [0,1]'],
+  ] as const) assert.throws(made, { message }); // prettier-ignore
 });
 
 test('what JSON has not is refused by name', () => {
@@ -106,6 +123,6 @@ test('whatever is thrown has a text', () => {
   assert.match(said(proxy), /has no text/);
   assert.equal(said(new Error('a\0b')), 'Error: a\\0b');
   assert(said(new Error('x'.repeat(5_000_000))).length < 5_000);
-  assert.throws(() => new TerminalError('x', 70_000), /16 bits/);
+  assert.throws(() => new TerminalError('x', 70_000), /^RangeError: a failure's code must be a whole number from 0 to 65535, not 70000$/);
   assert.equal(new TerminalError('\ud800').message, '\\ud800');
 });

@@ -239,8 +239,7 @@ fn a_failure_that_is_the_result_of_a_run_is_not_handed_in() {
     let mut vm = begun();
     let run = vm.sys_run("charge").unwrap();
     vm.do_await(run.handle).unwrap();
-    let failed =
-        RunResult::RetryableFailure { attempt_duration_millis: 1, error: HandlerError { code: 598, ..LATER } };
+    let failed = RunResult::RetryableFailure { attempt_duration_millis: 1, error: HandlerError { code: 598, ..LATER } };
     vm.propose_run_completion(run.handle, &failed, &RetryPolicy::None).unwrap();
     vm.sys_end().unwrap();
     let ended = vm.is_ready_to_execute().unwrap_err();

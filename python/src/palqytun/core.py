@@ -158,6 +158,11 @@ _OPTIONS = {
 _STATES: tuple[State, ...] = ("WaitingPreFlight", "Replaying", "Processing", "Closed")
 
 
+def _has_failed(replied: Replied) -> bool:
+    """Whether the VM that replied this has failed: only then an error that it returns is of this kind."""
+    return replied.status == _abi.REFUSED and replied.kind == _abi.ERROR
+
+
 @hastened(_STATES)
 class VM:
     """One VM, for one attempt of an invocation. It may stand in a `with`, whose end frees it.
@@ -198,7 +203,7 @@ class VM:
         TypeError: VM has no option wait; its options are cancel, checks, awaiting, mismatch, replay, delivery, seed
         >>> VM("text/plain")
         Traceback (most recent call last):
-        palqytun.errors.VMError: 415 BadContentType
+        palqytun.errors.VMError: 415 UNSUPPORTED_MEDIA_TYPE: BadContentType (the content type must be application/vnd.restate.invocation.vN with N from 5 to 8)
         """
         for name in unknown:
             raise TypeError(f"VM has no option {name}; its options are {', '.join(_OPTIONS)}, seed")
@@ -213,8 +218,7 @@ class VM:
         self._session = session
         self._parts = Parts(self._calls["part"], session)
         self._is_begun, self._invocation_id = False, ""
-        self._has_failed = False  # by an error that wasn't handed in
-        self._own: tuple[int, int] | None = None  # the code and the hash of the text, which may be long, of the error that was handed in
+        self._handed_in: int | None = None  # the code of the error that was handed in, if the VM has failed by it
         self.version = f"V{self._made(self._calls['make'](self._session, asked, words)).first}"
 
     def __enter__(self) -> Self:
@@ -294,22 +298,30 @@ class VM:
         if replied.status:
             raise RuntimeError(f"the call was not made: status {replied.status}")
 
-    def _hand_in(self, error: _abi.Error) -> None:
-        """An error of the handler's own fails the VM, if it hasn't failed: from now on this error isn't told by its code."""
-        if not self._has_failed:
-            self._own = error.code, hash(error.message)
+    def _hand_in(self, error: _abi.Error, name: str, *given: object) -> None:
+        """Makes a call that hands in this error. If the VM fails by it, each later call is refused by it; a VM that had failed keeps its first error.
+        It may also fail by an error of its own: the version has no such behaviour, nobody waits for the run, or there is no memory."""
+        had_failed = _has_failed(self._calls["is_ready"](self._session))
+        replied: Replied = self._calls[name](self._session, *given)
+        if not had_failed:
+            after = replied if replied.status == _abi.REFUSED else self._calls["is_ready"](self._session)
+            is_by_it = _has_failed(after) and after.number == error.code and bool(self._parts.data(0)) == bool(error.message)
+            self._handed_in = error.code if is_by_it else None
+        self._made(replied)
 
     def _refusal(self, code: int, said: str, is_first: bool, stacktrace: str = "", related: Related | None = None) -> Exception:
-        """What a call is refused by: this error. A suspension fails no VM."""
-        if self._own == (code, hash(said.encode())):
+        """What a call is refused by: this error. One that was handed in is none of the VM's own, whatever its code."""
+        if self._handed_in == code:
             return VMError(code, said, None, stacktrace, related)
-        self._has_failed |= code != Code.SUSPENDED
         if code == Code.INTERNAL and not said:
             return MemoryError("the VM found no memory")
         return error_of(code, said, self._hint(code, said, is_first), stacktrace, related)
 
     def _hint(self, code: int, said: str, is_first: bool) -> str | None:
-        """What to call instead of a call that came before the handler's first, or of a first one that came twice."""
+        """What to call instead of a call that came before the handler's first, or of a first one that came twice; or what is allowed."""
+        if code == Code.UNSUPPORTED_MEDIA_TYPE:
+            least, most = SUPPORTED_VERSIONS[0], SUPPORTED_VERSIONS[-1]
+            return f"the content type must be application/vnd.restate.invocation.vN with N from {least} to {most}"
         if self._is_begun:
             return "sys_input was called before" if is_first and said in ("UnexpectedStateError", "CommandTypeMismatchError") else None
         if said == "UnexpectedStateError":
@@ -359,9 +371,8 @@ class VM:
         Traceback (most recent call last):
         palqytun.errors.VMError: 418 no tea
         """
-        error = lent_error("", code, message, stacktrace, behaviour, delay)
-        self._hand_in(error)
-        self._made(self._calls["report_error"](self._session, error, lent_command(related)))
+        error, command = lent_error("", code, message, stacktrace, behaviour, delay), lent_command(related)
+        self._hand_in(error, "report_error", error, command)
 
     def take_output(self) -> bytes:
         """Takes all bytes that wait to be sent: whole frames.
@@ -486,7 +497,7 @@ class VM:
 
         >>> vm.ephemeral_state_get("visits")
         Traceback (most recent call last):
-        palqytun.errors.VMError: 573 UnsupportedFeatureForNegotiatedVersion
+        palqytun.errors.VMError: 573 UNSUPPORTED_FEATURE: UnsupportedFeatureForNegotiatedVersion
         """
         return self._made(self._calls["ephemeral_state_get"](self._session, utf8("key", key))).first
 
@@ -638,8 +649,7 @@ class VM:
         under, of = lent_policy(policy), integer("handle", handle, HANDLE)
         if isinstance(result, Retryable):
             after, error = integer("result.duration", result.duration), lent_retryable("result", result)
-            self._hand_in(error)
-            self._made(self._calls["propose_retryable"](self._session, of, after, error, under))
+            self._hand_in(error, "propose_retryable", of, after, error, under)
         else:
             self._made(self._copying("propose", result)(self._session, of, lent_value("result", result), under))
 
@@ -683,7 +693,7 @@ class VM:
         >>> vm.sys_end()
         >>> vm.sys_sleep(1000)
         Traceback (most recent call last):
-        palqytun.errors.Closed: 598 ClosedError
+        palqytun.errors.Closed: 598 CLOSED: ClosedError
         """
         self._made(self._calls["end"](self._session))
 

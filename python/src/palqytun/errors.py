@@ -3,12 +3,13 @@
 from __future__ import annotations
 
 import enum
+import functools
 from dataclasses import dataclass
 
 from palqytun import _abi
 
 _ERRORS = ["BadFrame", "BadLine", "Cancelled", "Closed", "JournalFault", "JournalMismatch", "Suspended", "VMError"]
-__all__ = [*_ERRORS, "Code", "Fault", "Related", "error_of"]
+__all__ = [*_ERRORS, "Code", "Fault", "Related", "error_of", "in_words"]
 
 
 class Code(enum.IntEnum):
@@ -40,6 +41,21 @@ class Code(enum.IntEnum):
     """The invocation is suspended."""
 
 
+_NAMES = {it.value: it.name for it in Code if it is not Code.CANCELLED}
+
+
+def in_words(code: int, text: str, is_own: bool = True) -> str:
+    """An error in words: its code, with its name if the error is the VM's own, and its text.
+
+    >>> in_words(570, "CommandTypeMismatchError"), in_words(599, "SUSPENDED"), in_words(418, "no tea")
+    ('570 JOURNAL_MISMATCH: CommandTypeMismatchError', '599 SUSPENDED', '418 no tea')
+    >>> in_words(570, "no tea", is_own=False)
+    '570 no tea'
+    """
+    name = _NAMES.get(code, text) if is_own else text
+    return f"{code} {text}" if name == text else f"{code} {name}: {text}"
+
+
 @dataclass(frozen=True)
 class Related:
     """The command that an error relates to: its index in the journal, the Input being 0; the type of its message (docs/WIRE.md); and its name."""
@@ -53,22 +69,27 @@ class VMError(Exception):
     """An error that the VM returned: its `code`, its `text`, its `stacktrace`, which is empty if there is none, and the command to which it is
     `related`, or `None`. The VM has failed, and returns the same from each later call. By lines of text only code and text are known.
 
-    `hint` says what to do in its place, if the call came out of order; else it is `None`.
+    `hint` says what to do in its place, if the call came out of order, or what is allowed; else it is `None`. `is_own` is whether the error is the
+    VM's own, and none that was handed in. Only then its code is a `Code`, whose name stands in the message.
 
     >>> VMError(500, "no seat", related=Related(3, 26, "seat")).related.name
     'seat'
     """
 
-    def __init__(self, code: int, text: str, hint: str | None = None, stacktrace: str = "", related: Related | None = None) -> None:
-        super().__init__(f"{code} {text}" + (f" ({hint})" if hint else ""))
+    def __init__(
+        self, code: int, text: str, hint: str | None = None, stacktrace: str = "", related: Related | None = None, *, is_own: bool = False
+    ) -> None:
+        super().__init__(in_words(code, text, is_own) + (f" ({hint})" if hint else ""))
         self.code = code
         self.text = text
         self.hint = hint
         self.stacktrace = stacktrace
         self.related = related
+        self.is_own = is_own
 
     def __reduce__(self) -> tuple[object, ...]:
-        return type(self), (self.code, self.text, self.hint, self.stacktrace, self.related)
+        made = functools.partial(type(self), is_own=self.is_own)
+        return made, (self.code, self.text, self.hint, self.stacktrace, self.related)
 
 
 class JournalMismatch(VMError):
@@ -140,9 +161,9 @@ _CLASSES: dict[int, type[VMError]] = {
 
 
 def error_of(code: int, text: str, hint: str | None = None, stacktrace: str = "", related: Related | None = None) -> VMError:
-    """The error of this code, by its class.
+    """The VM's own error of this code, by its class.
 
     >>> error_of(598, "ClosedError")
-    Closed('598 ClosedError')
+    Closed('598 CLOSED: ClosedError')
     """
-    return _CLASSES.get(code, VMError)(code, text, hint, stacktrace, related)
+    return _CLASSES.get(code, VMError)(code, text, hint, stacktrace, related, is_own=True)

@@ -19,7 +19,7 @@ from collections.abc import Iterable
 from typing import cast
 
 from palqytun import _abi, _library
-from palqytun._words import COUNT, encoded, integer, octets, utf8
+from palqytun._words import COUNT, integer, octets, truth, utf8
 from palqytun.errors import BadFrame, BadLine
 from palqytun.values import Data
 
@@ -69,9 +69,13 @@ def frame_of(line: str) -> bytes:
     '0012000000000000001400000000000003e8000000010000000000000000'
     >>> frame_of("Sleep soundly")
     Traceback (most recent call last):
-    palqytun.errors.BadLine: the line has no meaning
+    palqytun.errors.BadLine: the line has no meaning, and docs/FRAMES.md says which have one: 'Sleep soundly'
     """
-    return _written("line_frame", encoded("line", line))
+    given = utf8("line", line)
+    try:
+        return _written("line_frame", given)
+    except BadLine as error:
+        raise BadLine(f"{error}, and docs/FRAMES.md says which have one: {line[:200]!r}") from None
 
 
 def _notification(kind: int, id: int, name: bytes, frame: Data) -> bytes:
@@ -141,7 +145,7 @@ class Message:
         b'v'
         """
         try:
-            return _written("frame_part", self._frame, at)
+            return _written("frame_part", self._frame, integer("at", at))
         except _NoPart:
             return None
 
@@ -205,6 +209,7 @@ def difference(recorded: Data, asked: Data, ignores_payloads: bool = False) -> s
     True
     """
     try:
-        return _written("difference", octets("recorded", recorded), octets("asked", asked), ignores_payloads).decode("ascii")
+        given = octets("recorded", recorded), octets("asked", asked), truth("ignores_payloads", ignores_payloads)
+        return _written("difference", *given).decode("ascii")
     except _NoPart:
         return None

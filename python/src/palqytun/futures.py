@@ -129,10 +129,10 @@ class AnyOf:
 
     def add(self, handle: int) -> None:
         """One handle more; nothing if it is there."""
+        handle = integer("handle", handle, HANDLE)
         if handle not in self._places:
-            node = (0, handle_of("handle", handle))
             self._places[handle] = len(self._places)
-            self._row.extend(node)
+            self._row.extend((0, handle))
 
     def discard(self, handle: int) -> None:
         """One handle less; nothing if it isn't there."""

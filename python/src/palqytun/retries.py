@@ -3,6 +3,7 @@
 from __future__ import annotations
 
 from dataclasses import dataclass
+from operator import index
 
 from palqytun._words import COUNT, flag, number, whole
 
@@ -32,6 +33,11 @@ def _limits(attempts: int | None, duration: int | None, pause: bool) -> str:
     return most + flag("pause", pause)
 
 
+def _bound(most: int | None) -> tuple[bool, int]:
+    """Whether there is a bound, and which."""
+    return most is not None, 0 if most is None else index(most)
+
+
 def _numbers(
     kind: int,
     growth: tuple[int, int, int] = (0, 0, 0),
@@ -40,8 +46,9 @@ def _numbers(
     duration: int | None = None,
     pause: bool = False,
 ) -> Numbers:
-    bounds = interval is not None, interval or 0, attempts is not None, attempts or 0, duration is not None, duration or 0
-    return (kind, *growth, *bounds, pause)
+    initial, numerator, denominator = growth
+    bounds = *_bound(interval), *_bound(attempts), *_bound(duration)
+    return (kind, index(initial), index(numerator), index(denominator), *bounds, pause)
 
 
 def retry_forever() -> RetryPolicy:

@@ -207,7 +207,7 @@ class Failures(support.OnADatabase):
         await runtime.until(id, "paused")
         [note] = await self.notes(id)
         self.assertEqual(note.event, "paused")
-        said = "570 CommandTypeMismatchError: command 1 is recorded as Sleep, and the code makes Run 'other'"
+        said = "570 JOURNAL_MISMATCH: CommandTypeMismatchError: command 1 is recorded as Sleep, and the code makes Run 'other'"
         self.assertIn(f": {said} (", note.getMessage())
         self.assertTrue(note.where.endswith(line("replay meets a sleep here")), note.where)
         [row] = await runtime.engine.transact(lambda db: db.rows("SELECT error FROM invocations WHERE id=?", (id,)))
@@ -216,8 +216,8 @@ class Failures(support.OnADatabase):
     @with_worker
     async def test_what_differs_between_attempts_is_named(self, runtime):
         for handler, said in (
-            ("counts", "570 CommandMismatchError: command 1, Call Fails/works, is recorded with parameter b'1', and the code gives b'2'"),
-            ("returns_sooner", "570 CommandTypeMismatchError: command 1 is recorded as Sleep, and the code makes Output"),
+            ("counts", "570 JOURNAL_MISMATCH: CommandMismatchError: command 1, Call Fails/works, is recorded with parameter b'1', and the code gives b'2'"),
+            ("returns_sooner", "570 JOURNAL_MISMATCH: CommandTypeMismatchError: command 1 is recorded as Sleep, and the code makes Output"),
         ):
             tries.clear()
             id = await runtime.send(f"Fails/{handler}", 1)

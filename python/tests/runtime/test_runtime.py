@@ -75,7 +75,7 @@ class Handlers(support.OnADatabase):
     async def test_a_changed_handler_is_refused(self, runtime):
         id = await runtime.send("S/changed")
         await runtime.time_passes(id)
-        assert (await runtime.until(id, "paused"))[1].startswith("570 CommandTypeMismatchError")
+        assert (await runtime.until(id, "paused"))[1].startswith("570 JOURNAL_MISMATCH: CommandTypeMismatchError")
 
     @with_runtime
     async def test_awakeables_and_signals(self, runtime):
@@ -199,7 +199,7 @@ class Handlers(support.OnADatabase):
 
     @with_runtime
     async def test_odd_texts_and_values(self, runtime):
-        for what, said in (("name", "no meaning"), ("raise", "caf"), ("result", "not JSON"), ("code", "16 bits")):
+        for what, said in (("name", "no meaning"), ("raise", "caf"), ("result", "not JSON"), ("code", "from 0 to 65535")):
             assert said in (await runtime.until(await runtime.send("S/odd", what), "paused"))[1]
         assert (await runtime.call("S/odd", "terminal"))[:2] == (418, "caf\\udce9")
         assert await runtime.call("S/odd", "text") == "é\0\n𝄞"

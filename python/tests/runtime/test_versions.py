@@ -208,7 +208,7 @@ class Versions(support.OnADatabase):
             db.done(lambda to: to.change("UPDATE invocations SET version=4"))
         [found] = checked(self.url, made(OLD))
         self.assertEqual((found.outcome, found.command), (ReplayOutcome.UNSUPPORTED_VERSION, -1))
-        self.assertEqual(found.difference, "the journal has protocol version 4, which this package doesn't support (415 UNSUPPORTED_MEDIA_TYPE)")
+        self.assertEqual(found.difference, "the journal has protocol version 4, and this package supports 5 to 8: 415 UNSUPPORTED_MEDIA_TYPE")
 
     def test_the_command(self):
         async def go():

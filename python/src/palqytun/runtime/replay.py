@@ -12,6 +12,8 @@ from dataclasses import dataclass
 from itertools import groupby
 from typing import Any
 
+from palqytun.errors import Code, in_words
+
 from .. import core
 from . import journal, parting, sealing
 from .codec import BadValue, decoded, encoded
@@ -111,7 +113,8 @@ def replayed(app: App, it: Stored) -> Replayed:
     try:
         made = core.VM(f"application/vnd.restate.invocation.v{row.version}", awaiting="never")
     except core.VMError as refused:
-        text = f"the journal has protocol version {row.version}, which this package doesn't support ({refused.code} {refused.text})"
+        least, most = core.SUPPORTED_VERSIONS[0], core.SUPPORTED_VERSIONS[-1]
+        text = f"the journal has protocol version {row.version}, and this package supports {least} to {most}: {in_words(refused.code, refused.text)}"
         return Replayed(-1, text, outcome=ReplayOutcome.UNSUPPORTED_VERSION)
     with made as vm:
         vm.notify_input(it.start)
@@ -123,7 +126,7 @@ def replayed(app: App, it: Stored) -> Replayed:
         raised = _replayed(app, vm, context, handler, input.value)
         is_left = vm.state() == "Replaying"
         said = [one for one in journal.messages_in(vm.take_output()) if isinstance(one, Failed)]
-        wrong = f"{said[0].code} {said[0].message}" if said else raised
+        wrong = in_words(said[0].code, said[0].message, is_own=said[0].code != Code.INTERNAL) if said else raised
         return _found(vm.last_command_index(), wrong, context, is_left)
 
 
@@ -194,8 +197,11 @@ def difference(app: App, it: Stored) -> str | None:
     return _in_words(it, replayed(app, it))[0]
 
 
+_MISMATCH = f"{Code.JOURNAL_MISMATCH.value} "
+
+
 def _in_words(it: Stored, found: Replayed) -> tuple[str | None, Difference | None]:
-    if found.error is None or found.command < 0 or found.context is None or not found.error.startswith("570"):
+    if found.error is None or found.command < 0 or found.context is None or not found.error.startswith(_MISMATCH):
         return found.error, None
     call = found.context.refused_call
     detail = parted(it, found.command, call) if call else None

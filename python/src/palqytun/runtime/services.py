@@ -37,7 +37,7 @@ def to_text_headers(headers: dict[str, str] | None) -> tuple[tuple[str, str], ..
 class TerminalError(Exception):
     """Ends the handler with a failure; nothing is tried again. A failed call, promise or signal raises it.
 
-    `message` is text, or an error whose text is taken. `code` is a whole number of 16 bits, and `metadata` has texts by their names, as a
+    `message` is text, or an error whose text is taken. `code` is a whole number from 0 to 65535, and `metadata` has texts by their names, as a
     mapping or as pairs."""
 
     def __init__(self, message: object, code: int = 500, metadata: Mapping[str, str] | Iterable[tuple[str, str]] = ()):
@@ -52,7 +52,7 @@ def _code(code: object) -> int:
     except TypeError:
         raise TypeError(f"a failure's code is a whole number, and not {code!r}") from None
     if not 0 <= number <= 0xFFFF:
-        raise ValueError(f"a failure's code is of 16 bits, not {number}")
+        raise ValueError(f"a failure's code must be from 0 to 65535, not {number}")
     return number
 
 

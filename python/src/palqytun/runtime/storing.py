@@ -7,6 +7,8 @@ from collections.abc import Awaitable, Callable, Sequence
 from dataclasses import dataclass
 from typing import Any
 
+from palqytun.errors import Code, in_words
+
 from . import continuing, inbox, invocations, journal, notes
 from .database import Asked, Database, Each
 from .effects import Performer
@@ -120,7 +122,7 @@ async def _fail(db: Database, app: App, out: Outcome, claim: Claim, growth: Grow
     delay = retry.delay(counted.retries if claim.by_run else counted.failures) if error.delay is None else error.delay / 1000
     delay = (retry if claim.retry is None else claim.retry).jittered(delay)
     why = error.message if claim.parted is None else f"{error.message}: {claim.parted}"
-    text = storable(f"{error.code} {why}\n{error.stacktrace}".rstrip())
+    text = storable(f"{in_words(error.code, why, is_own=error.code != Code.INTERNAL)}\n{error.stacktrace}".rstrip())  # the handlers' own have this code
     how = "paused" if out.status == "paused" else "failed"
     await growth.write(db, status=out.status, due=now + delay, error=text, stopped=now, how=how, deaths=0, **vars(counted))
     out.is_due(time.time() + delay)
