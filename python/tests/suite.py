@@ -1,8 +1,9 @@
-"""Runs the tests of a folder: suite.py [--only DATABASE | --but DATABASE] [--files NAME,..] [--share N/OF] [--stalls CHANCE] FOLDER. A line for each, with its
-seconds, and those of a processor; then what failed and why, the slowest, and what was skipped. The last line is 'N passed, M failed, K skipped'. With --only
-just the tests on this database are run, sqlite or postgres, and with --but all others, also those on none. With --files just those of these files are run.
-With --share they are divided, so that all shares side by side are all tests. With --stalls each iteration of an event loop begins late by this chance
-(stalls.py), which shows tests that go by chance."""
+"""Runs the tests of a folder: suite.py [--only DATABASE | --but DATABASE] [--files NAME,..] [--share N/OF [--taken NEW]] [--stalls CHANCE] FOLDER. A line for
+each, with its seconds, and those of a processor; then what failed and why, the slowest, and what was skipped. The last line is 'N passed, M failed, K skipped'.
+With --only just the tests on this database are run, sqlite or postgres, and with --but all others, also those on none. With --files just those of these files
+are run. With --share they are divided, so that all shares side by side are all tests. With --taken too each share takes the next test that none has taken, by
+files in NEW, a folder that all shares of one run have and no other run; so they end at about one time. With --stalls each iteration of an event loop begins
+late by this chance (stalls.py), which shows tests that go by chance."""
 
 from __future__ import annotations
 
@@ -13,7 +14,7 @@ import sys
 import time
 import unittest
 from collections import Counter
-from collections.abc import Iterator
+from collections.abc import Iterable, Iterator
 from types import TracebackType
 
 import stalls
@@ -99,13 +100,43 @@ def share(text: str) -> tuple[int, int]:
     return found
 
 
-def of_share(tests: list[unittest.TestCase], number: int, of: int) -> list[unittest.TestCase]:
-    """The tests of a share. A class is of one share, since what it sets up is for all its tests; it goes to the share that has the fewest tests so far."""
-    counts, places = [0] * of, dict[type, int]()
-    for kind, count in Counter(map(type, tests)).items():
-        places[kind] = counts.index(min(counts))
-        counts[places[kind]] += count
-    return [it for it in tests if places[type(it)] == number - 1]
+def units(tests: Iterable[unittest.TestCase]) -> list[list[unittest.TestCase]]:
+    """What isn't divided: a test, or the tests of a class that sets something up for all of them."""
+    found = dict[str, list[unittest.TestCase]]()
+    for it in tests:
+        kind = type(it)
+        is_whole = kind.setUpClass.__func__ is not unittest.TestCase.setUpClass.__func__  # type: ignore[attr-defined]
+        found.setdefault(f"{kind.__module__}.{kind.__qualname__}" if is_whole else it.id(), []).append(it)
+    return list(found.values())
+
+
+def take(folder: pathlib.Path, at: int) -> bool:
+    """Whether nobody has taken the unit of this number before."""
+    try:
+        (folder / f"{at}").touch(exist_ok=False)
+    except FileExistsError:
+        return False
+    return True
+
+
+class Share(unittest.TestSuite):
+    """The tests of a share. If there is a folder in which units are taken, its first one is its own, so that each share has one, and then it takes what
+    is left."""
+
+    _cleanup = False  # the suite's own list is empty
+
+    def __init__(self, tests: Iterable[unittest.TestCase], number: int, of: int, taken: pathlib.Path | None) -> None:
+        super().__init__()
+        self._units, self._number, self._of, self._taken = units(tests), number, of, taken
+
+    def __iter__(self) -> Iterator[unittest.TestCase]:
+        for at, unit in enumerate(self._units):
+            if self._taken is None or at < self._of:
+                is_own = at % self._of == self._number - 1
+            else:
+                is_own = take(self._taken, at)
+            if is_own:
+                yield from unit
 
 
 def main() -> int:
@@ -116,6 +147,7 @@ def main() -> int:
     which.add_argument("--but", choices=DATABASES, help="all tests but those on this database")
     parser.add_argument("--files", type=lambda it: it.split(","), default=[], metavar="NAME,..", help="only the tests of these files")
     parser.add_argument("--share", type=share, default=(1, 1), metavar="N/OF", help="only the tests of this share, as of 2/3")
+    parser.add_argument("--taken", type=pathlib.Path, metavar="NEW", help="the folder in which the shares of this run take tests")
     parser.add_argument("--stalls", type=float, default=0.0, metavar="CHANCE", help="event loops go on late, by this chance at each iteration")
     options = parser.parse_args()
     if not options.folder.is_dir():
@@ -123,13 +155,17 @@ def main() -> int:
     folder = options.folder.resolve()
     if unknown := [it for it in options.files if not (folder / f"{it}.py").is_file()]:
         parser.error(f"{folder.name} has no file {unknown[0]}.py")
+    if options.taken is not None:
+        options.taken.mkdir(parents=True, exist_ok=True)
+        if not take(options.taken, options.share[0] - 1):
+            parser.error(f"{options.taken} is of another run: its share {options.share[0]} has taken its tests")
     sys.path.insert(0, str(folder.parent))
     if options.stalls:
         stalls.begin(options.stalls)
     patterns = [f"{it}.py" for it in options.files] or ["test*.py"]
     found = unittest.TestSuite(unittest.TestLoader().discover(str(folder), it) for it in patterns)
     result = Result()
-    unittest.TestSuite(of_share(list(tests_of(found, options)), *options.share)).run(result)
+    Share(tests_of(found, options), *options.share, options.taken).run(result)
     result.say()
     return 1 if result.counts["failed"] else 0
 

@@ -9,7 +9,7 @@ from pathlib import Path
 from .environment import free_memory, processors
 
 SECONDS = 2.0  # between two looks: a job that was begun is seen by the next
-IDLE = 0.75  # of a processor, that has nothing to do
+IDLE = 0.5  # of a processor, that has nothing to do
 
 
 def idle_seconds() -> float:

@@ -13,7 +13,7 @@ from pathlib import Path
 
 from .environment import TOP, cores, environment, start_anew
 from .jobs import Job, Runner, never, total, with_needed
-from .parts import OUT, PARTS, all_jobs
+from .parts import OUT, PARTS, TAKEN, all_jobs
 from .show import Show, minutes, times
 from .spare import Spare
 
@@ -58,6 +58,7 @@ def run(options: argparse.Namespace) -> int:
     """Runs the parts, and returns the status."""
     jobs, begun = wanted(options.parts), time.monotonic()
     print(f"{len(jobs)} jobs on {options.jobs} cores; nothing is proved; logs: {OUT}/logs", flush=True)
+    shutil.rmtree(TAKEN, ignore_errors=True)
     show = Show(jobs, options.no_skips)
     spare = Spare(MEMORY) if options.jobs == cores(MEMORY) else never
     runner = Runner(jobs, options.jobs, Path(OUT, "logs"), show, environment(TOP / OUT / "bin"), spare)

@@ -6,6 +6,7 @@ import tempfile
 from collections.abc import Iterator
 from pathlib import Path
 
+from . import edited
 from .commands import run
 from .crates import Crate, Crates
 from .entry import CRATE, named, write_entry
@@ -55,10 +56,17 @@ def _compile_library(kit: Kit, crates: Crates, lowered: Path | None, made: Path,
         run(["ar", "rcs", made, room / "lowered.o", room / "between.o"], f"making {made.name}")
 
 
+def _with_edited(crates: Crates, folder: Path) -> tuple[Crates, list[Crate]]:
+    """All crates with the copies of those that are edited, which are written into a folder; and all programs of both."""
+    more = edited.write_edited(crates, edited.edits(), folder)
+    programs = [crates[it] for it in crates.programs()]
+    return crates.beside(more), [*programs, *(it for it in more if it.is_program)]
+
+
 def _stamp_of_all(kit: Kit, crates: Crates, made: Path) -> Stamp:
     """What the module of all programs and the library is made of."""
     tops = [*(crates[it] for it in crates.programs()), crates["ffi"]]
-    return Stamp(TOP, made, _parts(kit, [*crates.below(uses_of(tops)), *tops], HEADERS[-1]))
+    return Stamp(TOP, made, _parts(kit, [*crates.below(uses_of(tops)), *tops], HEADERS[-1], *edited.files()))
 
 
 def _found(kit: Kit, crates: Crates, lowered: Path | None) -> Path | None:
@@ -69,16 +77,18 @@ def _found(kit: Kit, crates: Crates, lowered: Path | None) -> Path | None:
 
 
 def lower(made: Path, progress: Progress) -> bool:
-    """Lowers all programs and the library to one module: most of what that takes is for the crates that they share. Returns whether it was done."""
+    """Lowers all programs, that with edits too, and the library to one module: most of what that takes is for the crates that they share. Returns
+    whether it was done."""
     crates, its_kit = Crates(TOP), kit()
     made.parent.mkdir(parents=True, exist_ok=True)
     stamp = _stamp_of_all(its_kit, crates, made)
     if stamp.is_current():
         return False
     stamp.forget()
-    programs, ffi = [crates[it] for it in crates.programs()], crates["ffi"]
+    ffi = crates["ffi"]
     with tempfile.TemporaryDirectory(prefix="unproved-") as made_in:
         room = Path(made_in)
+        crates, programs = _with_edited(crates, room)
         write_entry(ffi.folder, read_exports(ffi.sources()), room / "entry")
         tops = [*programs, Crate(CRATE, ffi.uses, room / "entry")]
         write_programs(tops, room / ALL)
@@ -112,16 +122,22 @@ def build_library(made: Path, progress: Progress, lowered: Path | None = None) -
 def build_program(name: str, made: Path, progress: Progress, level: int = 2) -> bool:
     """Makes a program of the repository, which LLVM optimises by this level. Returns whether its sources were compiled."""
     crates, its_kit = Crates(TOP), kit()
-    if name not in crates.programs():
+    is_edited = name == edited.name_of(edited.PROGRAM)
+    original = edited.PROGRAM if is_edited else name
+    if original not in crates.programs():
         raise Refused(f"there is no program {name}: they are {', '.join(crates.programs())}")
-    crate = crates[name]
+    crate = crates[original]
     made.parent.mkdir(parents=True, exist_ok=True)
-    stamp = Stamp(TOP, made, [*_parts(its_kit, [*crates.below(crate.uses), crate]), f"level {level}"])
+    more = edited.files() if is_edited else []
+    stamp = Stamp(TOP, made, [*_parts(its_kit, [*crates.below(crate.uses), crate], *more), f"level {level}"])
     if stamp.is_current():
         return False
     stamp.forget()
     with tempfile.TemporaryDirectory(prefix="unproved-") as room:
         compiled = Path(room, f"{name}.o")
+        if is_edited:
+            crates, _ = _with_edited(crates, Path(room))
+            crate = crates[name]
         progress.step(f"{name} is lowered to LLVM: a minute or two")
         module = module_of(crates, its_kit, name, crate.folder, crate.uses)
         progress.step(f"LLVM compiles {name}: about a minute")
@@ -132,24 +148,24 @@ def build_program(name: str, made: Path, progress: Progress, level: int = 2) -> 
 
 
 def build_programs(folder: Path, progress: Progress, lowered: Path | None = None) -> bool:
-    """Makes all programs of the repository in a folder, for tests: they are lowered once, and LLVM doesn't optimise them. They are of the module
-    that `lower` has made, or of their own. Returns whether it was compiled."""
+    """Makes all programs of the repository in a folder, and that with edits, for tests: they are lowered once, and LLVM doesn't optimise them. They are of
+    the module that `lower` has made, or of their own. Returns whether it was compiled."""
     crates, its_kit = Crates(TOP), kit()
     found = _found(its_kit, crates, lowered)
-    programs = [crates[it] for it in crates.programs()]
-    uses = uses_of(programs)
+    those = [crates[it] for it in crates.programs()]
     folder.mkdir(parents=True, exist_ok=True)
     compiled = folder / f"{ALL}.o"
-    stamp = Stamp(TOP, compiled, _parts(its_kit, [*crates.below(uses), *programs]))
+    stamp = Stamp(TOP, compiled, _parts(its_kit, [*crates.below(uses_of(those)), *those], *edited.files()))
     is_current = stamp.is_current()
     with tempfile.TemporaryDirectory(prefix="unproved-") as made_in:
         room = Path(made_in)
+        crates, programs = _with_edited(crates, room)
         if not is_current:
             stamp.forget()
             if found is None:
                 write_programs(programs, room / ALL)
                 progress.step("the programs are lowered to LLVM: a minute or two")
-                module = module_of(crates, its_kit, ALL, room / ALL, uses)
+                module = module_of(crates, its_kit, ALL, room / ALL, uses_of(programs))
             else:
                 module = found.read_text(encoding="utf-8")
             progress.step("LLVM compiles them: half a minute")

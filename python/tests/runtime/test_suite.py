@@ -124,16 +124,36 @@ class Counts(support.InAFolder, unittest.TestCase):
         self.assertEqual(self.counted("unittest.SkipTest('')", "--files", "test_more")[1].splitlines()[-1], "1 passed, 0 failed, 0 skipped")
         self.assertEqual(self.counted("unittest.SkipTest('')", "--files", "test_more,test_none")[0], 2)
 
+    def ran(self, *options):
+        """The tests that ran by their names, and how many of each kind there were."""
+        lines = self.counted("unittest.SkipTest('no server')", *options)[1].splitlines()
+        return sorted(line.rpartition("  ")[2] for line in lines if re.match(r"\w+ +[\d.]+ s ", line)), lines[-1]
+
     def test_shares(self):
-        """Each test is of one share, and a class isn't divided."""
-        (self.folder / "test_more.py").write_text("import unittest\nclass More(unittest.TestCase):\n    def test_more(self):\n        pass\n")
-        said = [self.counted("unittest.SkipTest('no server')", "--share", f"{it}/3")[1].splitlines() for it in (1, 2, 3)]
-        whole = self.counted("unittest.SkipTest('no server')")[1].splitlines()
-        ran = [[line.rpartition("  ")[2] for line in lines if re.match(r"\w+ +[\d.]+ s ", line)] for lines in (*said, whole)]
-        self.assertEqual(sorted(it for one in ran[:3] for it in one), sorted(ran[3]))
-        self.assertEqual(sorted(len(it) for it in ran[:3]), [0, 1, 3])
-        self.assertEqual([lines[-1] for lines in (*said, whole)].count("1 passed, 0 failed, 0 skipped"), 1)
+        """Each test is of one share, and a class that sets something up isn't divided."""
+        whole = "import unittest\nclass Whole(unittest.TestCase):\n    @classmethod\n    def setUpClass(cls):\n        pass\n"
+        (self.folder / "test_more.py").write_text(whole + "".join(f"    def test_{it}(self):\n        pass\n" for it in range(4)))
+        those, said = self.ran()
+        self.assertEqual((len(those), said), (7, "5 passed, 1 failed, 2 skipped"))
+        for taken in ((), ("--taken", self.folder / "new/taken")):
+            shares = [self.ran("--share", f"{it}/3", *taken) for it in (1, 2, 3)]
+            self.assertEqual(sorted(it for ran, _ in shares for it in ran), those)
+            self.assertEqual([len({it for it in ran if "Whole" in it}) for ran, _ in shares].count(4), 1)
+            self.assertTrue(all(ran for ran, _ in shares))
         self.assertEqual(self.counted("", "--share", "4/3")[0], 2)
+
+    def test_a_share_takes_what_the_others_have_left(self):
+        """Those that others take meanwhile it leaves."""
+        body = "import pathlib, unittest\nclass Many(unittest.TestCase):\n"
+        for it in range(6):
+            body += f"    def test_{it}(self):\n        pathlib.Path({str(self.folder / 'taken/4')!r}).touch()\n"
+        (self.folder / "test_it.py").write_text(body)
+        words = [sys.executable, PYTHON / "tests" / "suite.py", "--taken", self.folder / "taken", "--share"]
+        said = [subprocess.run([*words, it, self.folder], capture_output=True, text=True) for it in ("2/3", "1/3", "2/3")]
+        found = [re.findall(r"test_\d(?= )", it.stdout) for it in said]
+        self.assertEqual(found, [["test_1", "test_3", "test_5"], ["test_0"], []])
+        self.assertEqual([it.returncode for it in said], [0, 0, 2])
+        self.assertIn("taken is of another run: its share 2 has taken its tests", said[2].stderr)
 
     def test_a_module_that_cannot_be_loaded(self):
         (self.folder / "test_other.py").write_text("import nothing_of_this_name\n")

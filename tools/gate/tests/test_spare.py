@@ -19,8 +19,8 @@ class Looks(unittest.TestCase):
             return spare.Spare(7)()
 
     def test_a_processor_that_is_idle(self) -> None:
-        self.assertTrue(self.said(4.0))
-        self.assertFalse(self.said(2.0))
+        self.assertTrue(self.said(2.0))
+        self.assertFalse(self.said(1.5))
 
     def test_too_soon(self) -> None:
         self.assertFalse(self.said(1.0, seconds=1))

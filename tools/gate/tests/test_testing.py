@@ -4,7 +4,7 @@ from __future__ import annotations
 
 import unittest
 
-from tools.gate.parts import PARTS, SECONDS, all_jobs
+from tools.gate.parts import PARTS, SECONDS, TAKEN, all_jobs
 from tools.gate.testing import wanted
 
 
@@ -22,6 +22,18 @@ class Wanted(unittest.TestCase):
 
     def test_a_part_comes_with_what_it_needs(self) -> None:
         self.assertEqual([it.name for it in wanted(["header"])], ["programs/lowered", "library", "header"])
+
+    def test_shares_of_a_pass_take_tests_in_one_folder(self) -> None:
+        """Each share is there, and they differ in nothing else. Those of another pass, or of another folder of tests, take theirs elsewhere (tools/runtime)."""
+        found: dict[tuple[str, ...], list[str]] = {}
+        for it in all_jobs():
+            if "--taken" in it.words:
+                at = it.words.index("--share") + 1
+                self.assertEqual(it.words[it.words.index("--taken") + 1], TAKEN)
+                found.setdefault((*it.words[:at], *it.words[at + 1 :]), []).append(it.words[at])
+        self.assertTrue(found)
+        for shares in found.values():
+            self.assertEqual(shares, [f"{it}/{len(shares)}" for it in range(1, len(shares) + 1)])
 
     def test_what_a_job_only_comes_after_is_left_out_with_its_part(self) -> None:
         alone = {it.name: it for it in wanted(["tutorial"])}
