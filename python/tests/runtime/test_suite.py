@@ -15,6 +15,7 @@ import support  # isort: skip
 import needs
 import postgres
 from palqytun.runtime.database.plain import Plain
+from palqytun.runtime.database.schema import TABLES
 from support import PYTHON
 
 TESTS = """\
@@ -98,6 +99,22 @@ class Temporary(support.InAFolder, unittest.TestCase):
         words = [sys.executable, "-c", KILLED.format(tests=str(PYTHON / "tests"))]
         done = subprocess.run(words, capture_output=True, text=True, env={**os.environ, "PYTHONPATH": str(PYTHON / "src")})
         self.assertEqual((done.stdout, done.stderr, done.returncode), ("Z\n7\n", "", 0))
+
+
+class Emptied(support.OnADatabase, unittest.TestCase):
+    kind = "postgres"
+
+    def test_no_table_has_a_row(self):
+        """Neither one with a few rows nor one that has grown. Only the latter gets a new file."""
+        with Plain(self.url) as db:
+            db.change("INSERT INTO workers(id, lease) SELECT 'worker_' || it, 0 FROM generate_series(1, 3) AS it")
+            db.change("INSERT INTO limits(path) SELECT 'S/handler_' || it FROM generate_series(1, 5000) AS it")
+            files = "SELECT pg_relation_filenode('workers'), pg_relation_filenode('limits')"
+            [before] = db.rows(files)
+            support.emptied("postgres", self.folder)
+            [after] = db.rows(files)
+            self.assertEqual([it for it in TABLES if db.rows(f"SELECT 1 FROM {it} LIMIT 1")], [])
+        self.assertEqual([one == other for one, other in zip(before, after)], [True, False])
 
 
 class Counts(support.InAFolder, unittest.TestCase):
