@@ -105,7 +105,7 @@ def units(tests: Iterable[unittest.TestCase]) -> list[list[unittest.TestCase]]:
     found = dict[str, list[unittest.TestCase]]()
     for it in tests:
         kind = type(it)
-        is_whole = kind.setUpClass.__func__ is not unittest.TestCase.setUpClass.__func__  # type: ignore[attr-defined]
+        is_whole = any("setUpClass" in vars(one) for one in kind.__mro__ if one is not unittest.TestCase)
         found.setdefault(f"{kind.__module__}.{kind.__qualname__}" if is_whole else it.id(), []).append(it)
     return list(found.values())
 

@@ -16,7 +16,7 @@ PROGRAM = "vmengine"
 FOLDER = TOP / "tools/engine_simulation/wrong"
 """The program that is edited, and the files of its edits: faults, each of which the simulation of engines has to find."""
 CHANGE = re.compile(r"^<<<<\n(.*?)^====\n(.*?)^>>>>\n", re.M | re.S)
-PLACE = re.compile(r"crates/(\w+)/src/(.+)")
+PLACE = re.compile(r"crates/(\w+)/src/.+")
 
 
 @dataclass(frozen=True)
@@ -78,14 +78,19 @@ def copied(crates: Crates, those: Iterable[Edit]) -> list[Crate]:
 def write_edited(crates: Crates, those: list[Edit], folder: Path) -> list[Crate]:
     """Writes the copies with all edits into a folder, and returns them. A path that begins with the name of a crate that is copied leads to its copy."""
     originals = copied(crates, those)
-    texts = {f"crates/{it.name}/src/{file.relative_to(it.folder / 'src')}": file.read_text(encoding="utf-8") for it in originals for file in it.sources()}
-    for it in those:
-        it.apply(texts)
+    texts = {_place(it, file): file.read_text(encoding="utf-8") for it in originals for file in it.sources()}
+    for edit in those:
+        edit.apply(texts)
     names = {it.name: name_of(it.name) for it in originals}
     path = re.compile(rf"(?<![\w:])({'|'.join(names)})::")
-    for name, text in texts.items():
-        crate, file = PLACE.fullmatch(name).groups()  # type: ignore[union-attr]
-        place = folder / names[crate] / "src" / file
-        place.parent.mkdir(parents=True, exist_ok=True)
-        place.write_text(path.sub(lambda it: f"{names[it[1]]}::", text), encoding="utf-8")
+    for it in originals:
+        for file in it.sources():
+            place = folder / names[it.name] / file.relative_to(it.folder)
+            place.parent.mkdir(parents=True, exist_ok=True)
+            place.write_text(path.sub(lambda found: f"{names[found[1]]}::", texts[_place(it, file)]), encoding="utf-8")
     return [Crate(names[it.name], tuple(names.get(one, one) for one in it.uses), folder / names[it.name]) for it in originals]
+
+
+def _place(crate: Crate, file: Path) -> str:
+    """The name by which an edit has a file of a crate."""
+    return f"crates/{crate.name}/{file.relative_to(crate.folder)}"
