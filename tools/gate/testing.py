@@ -15,7 +15,7 @@ from .environment import TOP, cores, environment, start_anew
 from .jobs import Job, Runner, never, total, with_needed
 from .parts import OUT, PARTS, TAKEN, all_jobs
 from .show import Show, minutes, times
-from .spare import Spare
+from .spare import Spare, idle_seconds
 
 MEMORY = 1_500_000  # kilobytes that a job takes at most
 
@@ -56,7 +56,7 @@ def listed() -> None:
 
 def run(options: argparse.Namespace) -> int:
     """Runs the parts, and returns the status."""
-    jobs, begun = wanted(options.parts), time.monotonic()
+    jobs, begun, idle = wanted(options.parts), time.monotonic(), idle_seconds()
     print(f"{len(jobs)} jobs on {options.jobs} cores; nothing is proved; logs: {OUT}/logs", flush=True)
     shutil.rmtree(TAKEN, ignore_errors=True)
     show = Show(jobs, options.no_skips)
@@ -67,6 +67,7 @@ def run(options: argparse.Namespace) -> int:
     Path(OUT, "times").write_text(times(done.values()), encoding="utf-8")
     found = total(done, options.no_skips)
     print(f"./test took {minutes(time.monotonic() - begun)}, and {minutes(sum(it.used for it in done.values()))} of a core")
+    print(f"this host's processors had nothing to do for {minutes(idle_seconds() - idle)} together")
     print(found)
     return 1 if found.failed else 0
 
