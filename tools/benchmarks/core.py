@@ -26,6 +26,7 @@ LIBRARY = building.TOP / "bindings/out/libpalqytun.so"
 SIZES = (5, 100, 10_000)
 SETTINGS = (Setting(cancels=True), Setting(cancels=False))
 WAYS = ("instructions", "heap", "time")
+BESIDE_HEAP = ("allocations", "copies")  # what the same runs count
 
 
 def numbers(text: str) -> list[int]:
@@ -71,7 +72,7 @@ def way(name: str, runs: int) -> Callable[[list[Player], Point], Row]:
 
 def shown(way: str) -> list[tables.Measure]:
     """The tables that a way of measuring gives."""
-    return [it for it in tables.MEASURES if it.name == way or (way, it.name) == ("heap", "allocations")]
+    return [it for it in tables.MEASURES if it.name == way or (way == "heap" and it.name in BESIDE_HEAP)]
 
 
 def remark(options: argparse.Namespace, name: str, commit: str, load: float) -> str:

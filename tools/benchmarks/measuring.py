@@ -76,7 +76,7 @@ class Row:
 def read_fields(said: str) -> dict[str, int]:
     """The numbers that a player prints."""
     found = {name: int(number) for name, number in FIELD.findall(said)}
-    if not {"awake", "taken", "ns", "peak", "allocations"} <= set(found):
+    if not {"awake", "taken", "ns", "peak", "allocations", "copied"} <= set(found):
         raise Refused(f"a player printed {said[:200]!r}, not what c/typed.c says")
     return found
 
@@ -123,14 +123,15 @@ def instructions(players: list[Player], point: Point) -> Row:
 
 
 def heap(preloaded: Path) -> Callable[[list[Player], Point], Row]:
-    """The heap's high-water mark in bytes, and the allocations for an entry."""
+    """The heap's high-water mark in bytes, and the allocations and the bytes that are copied for an entry."""
 
     def measure(players: list[Player], point: Point) -> Row:
         row, done = Row(point), []
         for it in players:
             fields, _ = play(it, point, ROUNDS_OF_HEAP, LD_PRELOAD=str(preloaded))
             done.append(fields)
-            row.figures[it.side] = {"peak": fields["peak"], "allocations": fields["allocations"] / point.size}
+            each = {name: fields[name] / point.size for name in ("allocations", "copied")}
+            row.figures[it.side] = {"peak": fields["peak"], **each}
         same_work(point, done)
         return row
 

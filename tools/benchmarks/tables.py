@@ -91,5 +91,6 @@ MEASURES: tuple[Measure, ...] = (
     Measure("instructions", "instructions", "Instructions", "Instructions for an entry, as callgrind counts them."),
     Measure("heap", "peak", "Heap", "The most bytes that the heap had more than before the VM was made."),
     Measure("allocations", "allocations", "Allocations", "Allocations for an entry, counted in the same runs as the heap."),
+    Measure("copies", "copied", "Copies", "Bytes that memcpy and memmove copy for an entry, counted in the same runs as the heap."),
     Measure("time", "ns", "Time", "Nanoseconds for an entry, the least of alternating runs. Other work disturbs runs of more than some milliseconds, as those of many megabytes."),
 )

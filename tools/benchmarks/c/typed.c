@@ -4,10 +4,11 @@
 
    The last word says whether a cancel signal ends awaits, which is the default of both libraries. A case is played as often as a word says. Prints
 
-       awake=.. sent=.. taken=.. fed=.. ns=.. peak=.. allocations=..
+       awake=.. sent=.. taken=.. fed=.. ns=.. peak=.. allocations=.. copied=..
 
    of one round: awaits that ended awake, bytes of output, bytes of results, bytes fed; the nanoseconds of the fastest round; and with heap.c
-   loaded before, the most bytes that the heap had more than before, and how many allocations were made, in the last round.
+   loaded before, the most bytes that the heap had more than before, how many allocations were made, and how many bytes memcpy and memmove
+   copied, in the last round.
 
    What is measured stands in `measured`, so that callgrind can count it alone: the VM is made, each call, each copy in and out, and the end of
    the VM. The frames that are fed are made before. original/src/cases.rs makes the same calls in the same order. Exit status: 0; 1: something
@@ -541,8 +542,8 @@ static void report(void (*play)(given *), given *g, long rounds)
         uint64_t took = nanoseconds() - from;
         least = took < least ? took : least;
     }
-    printf("awake=%" PRIu64 " sent=%" PRIu64 " taken=%" PRIu64 " fed=%zu ns=%" PRIu64 " peak=%" PRIu64 " allocations=%" PRIu64 "\n", awake, sent, taken,
-        g->first.len + g->rest.len, least, counted("heap_peak"), counted("heap_count"));
+    printf("awake=%" PRIu64 " sent=%" PRIu64 " taken=%" PRIu64 " fed=%zu ns=%" PRIu64 " peak=%" PRIu64 " allocations=%" PRIu64 " copied=%" PRIu64 "\n", awake,
+        sent, taken, g->first.len + g->rest.len, least, counted("heap_peak"), counted("heap_count"), counted("heap_copied"));
 }
 
 static void make_fillers(void)

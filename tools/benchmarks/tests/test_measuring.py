@@ -11,7 +11,7 @@ from tools.benchmarks.cases import Case
 from tools.benchmarks.measuring import Player, Point, Setting
 from tools.kit.errors import Refused
 
-SAID = "awake={awake} sent=150 taken=7 fed=187 ns={ns} peak=80 allocations=30"
+SAID = "awake={awake} sent=150 taken=7 fed=187 ns={ns} peak=80 allocations=30 copied=70"
 CALLGRIND = """==7== Events    : Ir
 ==7== Collected : 69368320
 ==7==
@@ -70,7 +70,7 @@ class Running(unittest.TestCase):
 
     def test_heap(self) -> None:
         row = measuring.heap(Path(""))([self.says("original"), self.says("here")], point())
-        self.assertEqual((row.of("here", "peak"), row.of("here", "allocations"), row.ratio("peak")), (80, 3, 1))
+        self.assertEqual((row.of("here", "peak"), row.of("here", "allocations"), row.of("here", "copied"), row.ratio("peak")), (80, 3, 7, 1))
 
     def test_time(self) -> None:
         self.enterContext(mock.patch.object(measuring, "MOST_ROUNDS", 20))

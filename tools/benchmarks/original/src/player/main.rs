@@ -52,8 +52,8 @@ fn report(play: fn(&mut Player), player: &mut Player, rounds: u32) {
         measured(play, player);
         least = least.min(from.elapsed().as_nanos());
     }
-    let (peak, allocations) = (counted(c"heap_peak"), counted(c"heap_count"));
-    println!("{player} ns={least} peak={peak} allocations={allocations}");
+    let (peak, allocations, copied) = (counted(c"heap_peak"), counted(c"heap_count"), counted(c"heap_copied"));
+    println!("{player} ns={least} peak={peak} allocations={allocations} copied={copied}");
 }
 
 fn run(words: &[String]) -> Result<(), String> {
