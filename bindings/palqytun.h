@@ -401,11 +401,14 @@ enum {
     /* number: the code; first: 1 if it relates to a command; second: its index; third: the type of its message (docs/WIRE.md).
        Parts: 0 the text, 1 the stack trace, 2 the command's name. */
     PALQYTUN_ERROR = 21,
-    /* Errors by which no VM has failed, with the numbers and parts of an error. So no error that a handler reports is of these kinds.
+    /* Errors by which no VM has failed, with the numbers and parts of an error. So no error that a handler reports is of these kinds. Of a
+       VM that has failed each error is a PALQYTUN_ERROR.
        An await's: the invocation is suspended. */
     PALQYTUN_SUSPENDED = 22,
     /* A call that changes nothing found no memory, and may be made again: palqytun_head or palqytun_output. */
-    PALQYTUN_OUT_OF_MEMORY = 23
+    PALQYTUN_OUT_OF_MEMORY = 23,
+    /* palqytun_is_ready's: the handler has ended, or the invocation is suspended. */
+    PALQYTUN_CLOSED = 24
 };
 
 /* The state of a VM: before the known entries are there, in replay, in processing, or closed. */
@@ -436,8 +439,8 @@ palqytun_told palqytun_part(palqytun_vm *vm, size_t at, uint8_t *out, size_t out
    that says why there is none. */
 palqytun_replied palqytun_make(palqytun_vm *vm, palqytun_optional content_type, const palqytun_options *options);
 
-/* About the attempt: whether the handler may be run (a flag), the head of the response, that no more input comes, the bytes that wait to be
-   sent, the state, and the index of the last command. */
+/* About the attempt: whether the handler may be run (a flag, or PALQYTUN_CLOSED), the head of the response, that no more input comes, the bytes
+   that wait to be sent, the state, and the index of the last command. */
 palqytun_replied palqytun_is_ready(palqytun_vm *vm);
 palqytun_replied palqytun_head(palqytun_vm *vm);
 palqytun_replied palqytun_close_input(palqytun_vm *vm);

@@ -207,11 +207,15 @@ static int suspend(palqytun_vm *vm)
     if (ended == 0)
         ended = show(vm, "await", palqytun_await(vm, 17));
     if (ended == 0)
+        ended = show(vm, "is_ready", palqytun_is_ready(vm));
+    if (ended == 0)
         ended = begin_again(vm);
     if (ended == 0)
         ended = show(vm, "report_error", palqytun_report_error(vm, &error, NULL));
     if (ended == 0)
         ended = show(vm, "await", palqytun_await(vm, 1));
+    if (ended == 0)
+        ended = show(vm, "is_ready", palqytun_is_ready(vm));
     return ended;
 }
 
@@ -228,7 +232,11 @@ static int finish(palqytun_vm *vm)
     if (ended == 0)
         ended = show(vm, "state", palqytun_state(vm));
     if (ended == 0)
+        ended = show(vm, "is_ready", palqytun_is_ready(vm));
+    if (ended == 0)
         ended = show(vm, "sleep", palqytun_sleep(vm, bytes(""), 1));
+    if (ended == 0)
+        ended = show(vm, "is_ready", palqytun_is_ready(vm));
     return ended;
 }
 

@@ -86,7 +86,7 @@ func (e *Error) Is(target error) bool {
 	case ErrJournalMismatch:
 		return e.has(CodeJournalMismatch)
 	case ErrNoMemory:
-		return e.kind == C.PALQYTUN_OUT_OF_MEMORY && e.has(CodeInternal)
+		return e.kind == C.PALQYTUN_OUT_OF_MEMORY
 	}
 	return false
 }

@@ -242,6 +242,11 @@ func TestSuspensionAndEnd(t *testing.T) {
 	must(0, vm.NotifyInputClosed())
 	_, err := vm.DoAwait(FirstCompleted(slept, CancelHandle))
 	wants(t, err, ErrSuspended)
+	_, err = vm.IsReadyToExecute()
+	wants(t, err, ErrClosed)
+	if errors.Is(err, ErrSuspended) || errors.Is(err, ErrNoMemory) {
+		t.Error(err)
+	}
 	other := begun()
 	defer other.Close()
 	must(0, other.SysWriteOutput(Given{Success: []byte("done")}, false))

@@ -108,6 +108,7 @@ test('a suspension and an end', () => {
   const slept = vm.sysSleep(2n ** 63n);
   vm.notifyInputClosed();
   assert.throws(() => vm.doAwait(firstCompleted(slept)), Suspended);
+  assert.throws(() => vm.isReadyToExecute(), Closed);
   const other = begun();
   other.sysWriteOutput(Buffer.from('done'));
   other.sysEnd();

@@ -139,6 +139,7 @@ class TestMisuse < Minitest::Test
     slept = vm.sys_sleep(2**63)
     vm.notify_input_closed
     assert_raises(Suspended) { vm.do_await(Future.first_completed(slept, CANCEL_HANDLE)) }
+    assert_raises(Closed) { vm.ready_to_execute? }
     other = begun
     other.sys_write_output("done")
     other.sys_end

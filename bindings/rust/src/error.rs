@@ -119,8 +119,7 @@ impl Error {
     /// Whether no memory was found: by the library, or by a call of the VM that changes nothing and may be made again. Once a VM has failed
     /// since it found no memory, its error has code 500 and no message, as one that a handler reports may have: for this it is false.
     pub fn is_no_memory(&self) -> bool {
-        let is_refused = self.has_kind(sys::OUT_OF_MEMORY) && self.has_code(sys::CODE_INTERNAL);
-        is_refused || *self == Error::Status(Status::NoMemory)
+        self.has_kind(sys::OUT_OF_MEMORY) || *self == Error::Status(Status::NoMemory)
     }
 
     /// The error of a status that isn't done. A number that no status has can't come from a library of this interface.

@@ -116,6 +116,7 @@ pub const INVOCATION_ID: u32 = 20;
 pub const ERROR: u32 = 21;
 pub const SUSPENDED: u32 = 22;
 pub const OUT_OF_MEMORY: u32 = 23;
+pub const CLOSED: u32 = 24;
 pub const STATE_WAITING_PRE_FLIGHT: u32 = 0;
 pub const STATE_REPLAYING: u32 = 1;
 pub const STATE_PROCESSING: u32 = 2;

@@ -173,6 +173,8 @@ fn a_suspension() {
     let slept = vm.sys_sleep("nap", 1000).unwrap();
     vm.notify_input_closed().unwrap();
     assert!(vm.do_await(slept).unwrap_err().is_suspended());
+    let closed = vm.is_ready_to_execute().unwrap_err();
+    assert!(closed.is_closed() && !closed.is_suspended() && !closed.is_no_memory());
 }
 
 #[test]

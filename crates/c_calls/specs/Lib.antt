@@ -7,4 +7,5 @@ pub mod Invocations
 pub mod Policies
 pub mod Reports
 pub mod Calls
+pub mod Refusals
 pub mod Making

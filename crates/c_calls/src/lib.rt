@@ -6,6 +6,7 @@ pub mod callees;
 pub mod given;
 pub mod invocations;
 pub mod journal;
+pub mod laws;
 pub mod making;
 pub mod nodes;
 pub mod policies;

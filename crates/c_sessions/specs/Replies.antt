@@ -51,6 +51,7 @@ kind_code kind.InvocationId = 20
 kind_code kind.Error = 21
 kind_code kind.Suspended = 22
 kind_code kind.OutOfMemory = 23
+kind_code kind.Closed = 24
 
 abbrev pub flag_code : Bool → ℕ
 flag_code true = 1
@@ -124,10 +125,14 @@ error_numbers code is_related index ty = record {
   len = 0;
 }
 
--- What an error is by which no VM has failed: by its code an await's, that the invocation is
--- suspended; any other one is of a call that changes nothing, and found no memory.
+-- What an error is by which no VM has failed, by its code: an await's, that the invocation is
+-- suspended; a query's, that the VM is closed; any other one is of a call that changes nothing, and
+-- found no memory.
 abbrev pub unfailed_kind : ℕ → ℕ
-unfailed_kind code = if code == 599 then kind_code kind.Suspended else kind_code kind.OutOfMemory
+unfailed_kind code =
+    if code == 599 then kind_code kind.Suspended
+    else if code == 598 then kind_code kind.Closed
+    else kind_code kind.OutOfMemory
 
 -- The numbers of a reply by whether the VM has failed then: if it has, an error is that one.
 abbrev pub numbers_by : Bool → Replied → Replied

@@ -53,6 +53,8 @@ pub enum Kind {
     Suspended,
     /// Another error by which no VM has failed: a call found no memory.
     OutOfMemory,
+    /// The error of a query by which no VM has failed: the handler has ended, or the invocation is suspended.
+    Closed,
 }
 
 impl Kind {
@@ -85,6 +87,7 @@ impl Kind {
             Kind::Error => 21,
             Kind::Suspended => 22,
             Kind::OutOfMemory => 23,
+            Kind::Closed => 24,
         }
     }
 }

@@ -5,6 +5,7 @@ pub mod calls;
 mod held;
 mod kept;
 mod kind;
+pub mod laws;
 mod parts;
 mod replied;
 mod session;

@@ -229,10 +229,10 @@ pub(crate) fn tell(reply: &Reply) -> Replied
 fn unfailed_kind(code: u64) -> u32
     ensures { result ≡ unfailed_kind code }
 {
-    if code == 599 {
-        Kind::Suspended.code()
-    } else {
-        Kind::OutOfMemory.code()
+    match code {
+        599 => Kind::Suspended.code(),
+        598 => Kind::Closed.code(),
+        _ => Kind::OutOfMemory.code(),
     }
 }
 

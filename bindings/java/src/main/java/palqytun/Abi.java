@@ -109,6 +109,7 @@ final class Abi {
     static final int ERROR = 21;
     static final int SUSPENDED = 22;
     static final int OUT_OF_MEMORY = 23;
+    static final int CLOSED = 24;
     static final int STATE_WAITING_PRE_FLIGHT = 0;
     static final int STATE_REPLAYING = 1;
     static final int STATE_PROCESSING = 2;
