@@ -1,5 +1,5 @@
 -- What is so of an invocation before and after each of its changes is so over all events.
-use Rattle.std.proofs.Common.{◌≡◌, ◌⊎◌, inl, inr, ℕ, Bool, true, false, [], ◌∷◌, length, Option, Some, None, refl, sym, ap, ◌∙◌, subst}
+use Rattle.std.proofs.Common.{◌≡◌, ◌⊎◌, inl, inr, ℕ, Bool, true, false, List, [], ◌∷◌, length, Option, Some, None, refl, sym, ap, ◌∙◌, subst}
 use Rattle.std.specs.Prelude.{is_some, slice_get}
 use Rattle.std.specs.Option.{option_and_then, option_map}
 use Rattle.std.proofs.lemmas.Bool.{cases_eq}
@@ -21,6 +21,7 @@ use Rattle.engines.specs.declared.types.Begun.{Begun}
 use Rattle.engines.specs.declared.types.Happening.{Happening}
 use Rattle.engines.specs.declared.types.Happening.TheVariants as happening
 use Rattle.engines.specs.declared.types.Order.{Order}
+use Rattle.engines.specs.Beginnings.{IsWholeInput, entry_of_input}
 use Rattle.engines.specs.Engines.{AddsCallee, BeginsIf, ChangesAt, ChangesOne, DeliversIf, DeliversTo, DeliversUnless, DoesEffect, EndsWith, FindsOrMakes, GoesIn, HappeningDoes, MemberGoes, NoneAt, OrdersOf, PerformsIf, SendsToPlace, StoresIn, StoresInMember, StoresUnless, brought_at, brought_in, brought_of, new_member, order_of, stopped_in, whole_round}
 use Rattle.engines.specs.Lookups.{brought_for, handler_named, id_of_place, may_begin, place_of, same_as}
 use Rattle.engines.specs.Members.{Acts, Delivers, GoesBy, MemberView, StoresNextEntry, stopped, with_signal}
@@ -36,7 +37,7 @@ with_rounds it m = record it { member = Some m }
 pub record Holds {H : Type 0} (P : Invocation H → Invocation H → Type 0) (May : MemberView H → ℕ → Type 0) : Type 0 where
   pub same : (it : Invocation H) → P it it
   pub next : (a b c : Invocation H) → P a b → P b c → P a c
-  pub goes : (it : Invocation H) (m m' : MemberView H) → it.member ≡ Some m → m'.course.journal ≡ m.course.journal → m'.waiting ≡ m.waiting → P it (with_rounds it m')
+  pub goes : (it : Invocation H) (m m' : MemberView H) → it.member ≡ Some m → m'.course.journal ≡ m.course.journal → m'.waiting ≡ m.waiting → m'.next ≡ m.next → P it (with_rounds it m')
   pub gets : (it : Invocation H) (m : MemberView H) (s : Sent) → it.member ≡ Some m → P it (with_rounds it (with_signal s.signal s.brings m))
   pub comes : (it : Invocation H) (m m' : MemberView H) (at : ℕ) (w : Waiting) (b : Brought) (f : Meaning) → it.member ≡ Some m → is_some it.ended ≡ false → slice_get m.waiting at ≡ Some w → May m at → Delivers at b f m m' → P it (with_rounds it m')
   pub stores : (it : Invocation H) (m m' : MemberView H) (asks : Option Effect) (f : Meaning) → it.member ≡ Some m → is_some it.ended ≡ false → StoresNextEntry f m m' asks → P it (with_rounds it m')
@@ -47,11 +48,19 @@ pub record Holds {H : Type 0} (P : Invocation H → Invocation H → Type 0) (Ma
 abbrev pub MayCome : {H : Type 0} → (MemberView H → ℕ → Type 0) → Engine H → ℕ → ℕ → Type 0
 MayCome {H} May e place at = (it : Invocation H) (m : MemberView H) → slice_get e.invocations.items place ≡ Some it → it.member ≡ Some m → May m at
 
+-- Its journal is its input, which can be read back, and nothing waits.
+pub record IsNew {H : Type 0} (m : MemberView H) : Type 0 where
+  pub parameter : List ℕ
+  pub whole : IsWholeInput parameter
+  pub journal : m.course.journal ≡ entry_of_input parameter ∷ []
+  pub waiting : m.waiting ≡ []
+  pub next : m.next ≡ 0
+
 -- it was made as the one at this place, and it is so since
 pub record WasMade {H : Type 0} (P : Invocation H → Invocation H → Type 0) (i : ℕ) (it : Invocation H) : Type 0 where
   pub made : Invocation H
   pub named : made.id ≡ id_of_place i
-  pub quiet : (m : MemberView H) → made.member ≡ Some m → m.waiting ≡ []
+  pub began : (m : MemberView H) → made.member ≡ Some m → IsNew m
   pub since : P made it
 
 -- Each invocation that was there is there, and it is so of it. Any other was made since.
@@ -72,14 +81,18 @@ brought_is {H} e place at it m b was there h = by (slice_get m.waiting at) (sym 
     by None g = absurd (none_some b g)
     by (Some w) g = (w, refl)
 
-acts_keep : {H : Type 0} (f : Meaning) (e : Event) (m m' : MemberView H) → Acts f e m m' → (m'.course.journal ≡ m.course.journal) × (m'.waiting ≡ m.waiting)
-acts_keep f (event.Arrive x) m m' h = (ap (λ (z : MemberView _). z.course.journal) h, ap (λ (z : MemberView _). z.waiting) h)
-acts_keep f (event.Store n) m m' h = (ap (λ (z : MemberView _). z.course.journal) h, ap (λ (z : MemberView _). z.waiting) h)
-acts_keep f (event.Piece n) m m' h = (own_leaves f (event.Piece n) m.course.live m.course m'.course tt h.1, ap (λ (z : MemberView _). z.waiting) h.0)
-acts_keep f event.Close m m' h = (own_leaves f event.Close m.course.live m.course m'.course tt h.1, ap (λ (z : MemberView _). z.waiting) h.0)
-acts_keep f event.Step m m' h = (own_leaves f event.Step m.course.live m.course m'.course tt h.1, ap (λ (z : MemberView _). z.waiting) h.0)
-acts_keep f (event.Steps n) m m' h = (own_leaves f (event.Steps n) m.course.live m.course m'.course tt h.1, ap (λ (z : MemberView _). z.waiting) h.0)
-acts_keep f (event.RunResult handle exit policy) m m' h = (own_leaves f (event.RunResult handle exit policy) m.course.live m.course m'.course tt h.1, ap (λ (z : MemberView _). z.waiting) h.0)
+-- its stored entries, its inbox and what is next stay
+abbrev Stays : {H : Type 0} → MemberView H → MemberView H → Type 0
+Stays m m' = (m'.course.journal ≡ m.course.journal) × (m'.waiting ≡ m.waiting) × (m'.next ≡ m.next)
+
+acts_keep : {H : Type 0} (f : Meaning) (e : Event) (m m' : MemberView H) → Acts f e m m' → Stays m m'
+acts_keep f (event.Arrive x) m m' h = (ap (λ (z : MemberView _). z.course.journal) h, ap (λ (z : MemberView _). z.waiting) h, ap (λ (z : MemberView _). z.next) h)
+acts_keep f (event.Store n) m m' h = (ap (λ (z : MemberView _). z.course.journal) h, ap (λ (z : MemberView _). z.waiting) h, ap (λ (z : MemberView _). z.next) h)
+acts_keep f (event.Piece n) m m' h = (own_leaves f (event.Piece n) m.course.live m.course m'.course tt h.1, ap (λ (z : MemberView _). z.waiting) h.0, ap (λ (z : MemberView _). z.next) h.0)
+acts_keep f event.Close m m' h = (own_leaves f event.Close m.course.live m.course m'.course tt h.1, ap (λ (z : MemberView _). z.waiting) h.0, ap (λ (z : MemberView _). z.next) h.0)
+acts_keep f event.Step m m' h = (own_leaves f event.Step m.course.live m.course m'.course tt h.1, ap (λ (z : MemberView _). z.waiting) h.0, ap (λ (z : MemberView _). z.next) h.0)
+acts_keep f (event.Steps n) m m' h = (own_leaves f (event.Steps n) m.course.live m.course m'.course tt h.1, ap (λ (z : MemberView _). z.waiting) h.0, ap (λ (z : MemberView _). z.next) h.0)
+acts_keep f (event.RunResult handle exit policy) m m' h = (own_leaves f (event.RunResult handle exit policy) m.course.live m.course m'.course tt h.1, ap (λ (z : MemberView _). z.waiting) h.0, ap (λ (z : MemberView _). z.next) h.0)
 
 module _ {H : Type 0} (P : Invocation H → Invocation H → Type 0) (May : MemberView H → ℕ → Type 0) (holds : Holds P May) where
   -- ---- one invocation
@@ -87,12 +100,12 @@ module _ {H : Type 0} (P : Invocation H → Invocation H → Type 0) (May : Memb
   is_same : (a b : Invocation H) → b ≡ a → P a b
   is_same a b e = subst (P a) (sym e) (holds.same a)
 
-  member_goes : (R : MemberView H → MemberView H → Type 0) (a b : Invocation H) → ((m m' : MemberView H) → R m m' → (m'.course.journal ≡ m.course.journal) × (m'.waiting ≡ m.waiting)) → MemberGoes R a b → P a b
+  member_goes : (R : MemberView H → MemberView H → Type 0) (a b : Invocation H) → ((m m' : MemberView H) → R m m' → Stays m m') → MemberGoes R a b → P a b
   member_goes R a b f d = by a.member refl d
     where
       by : (o : Option (MemberView H)) → a.member ≡ o → GoesIn R o a b → P a b
       by None was same = is_same a b same
-      by (Some m) was (m', is, does) = let k = f m m' does in subst (P a) (sym is) (holds.goes a m m' was k.0 k.1)
+      by (Some m) was (m', is, does) = let k = f m m' does in subst (P a) (sym is) (holds.goes a m m' was k.0 k.1 k.2)
 
   sent_to : (s : Sent) (a b : Invocation H) → MemberGoes (λ x y. y ≡ with_signal s.signal s.brings x) a b → P a b
   sent_to s a b d = by a.member refl d
@@ -130,7 +143,7 @@ module _ {H : Type 0} (P : Invocation H → Invocation H → Type 0) (May : Memb
     where
       by : (o : Option (MemberView H)) → it.member ≡ o → P it (record it { member = option_map stopped it.member })
       by None was = is_same it (record it { member = option_map stopped it.member }) (ap (λ o. record it { member = option_map stopped o }) was ∙ sym (ap (λ o. record it { member = o }) was))
-      by (Some m) was = subst (P it) (sym (ap (λ o. record it { member = option_map stopped o }) was)) (holds.goes it m (stopped m) was refl refl)
+      by (Some m) was = subst (P it) (sym (ap (λ o. record it { member = option_map stopped o }) was)) (holds.goes it m (stopped m) was refl refl refl)
 
   -- ---- all invocations
 
@@ -149,7 +162,7 @@ module _ {H : Type 0} (P : Invocation H → Invocation H → Type 0) (May : Memb
   made_then mid new i it g is (Some x) there f =
       let w : WasMade P i x = f x refl in
       let (y, after, b) = g.each i x there in
-      record { made = w.made; named = w.named; quiet = w.quiet; since = subst (P w.made) (some_in (slice_get new.invocations.items i) y it after is) (holds.next w.made x y w.since b) }
+      record { made = w.made; named = w.named; began = w.began; since = subst (P w.made) (some_in (slice_get new.invocations.items i) y it after is) (holds.next w.made x y w.since b) }
 
   pub hold_then : (old mid new : Engine H) → AllHold P old mid → AllHold P mid new → AllHold P old new
   hold_then old mid new f g = record {
@@ -182,7 +195,7 @@ module _ {H : Type 0} (P : Invocation H → Invocation H → Type 0) (May : Memb
             ];
           }
 
-  goes_at : (place : ℕ) (R : MemberView H → MemberView H → Type 0) (old new : Engine H) → ((m m' : MemberView H) → R m m' → (m'.course.journal ≡ m.course.journal) × (m'.waiting ≡ m.waiting)) → ChangesAt place (MemberGoes R) old new → AllHold P old new
+  goes_at : (place : ℕ) (R : MemberView H → MemberView H → Type 0) (old new : Engine H) → ((m m' : MemberView H) → R m m' → Stays m m') → ChangesAt place (MemberGoes R) old new → AllHold P old new
   goes_at place R old new f d = changes place (MemberGoes R) old new (λ a b was h. member_goes R a b f h) d
 
   found : (o : Option ℕ) (target : ℕ) (order : Order) (begun : Option Begun) (place : Option ℕ) (old new : Engine H) → FindsOrMakes o target order begun place old new → AllHold P old new
@@ -198,7 +211,8 @@ module _ {H : Type 0} (P : Invocation H → Invocation H → Type 0) (May : Memb
       by i it none (inr new) = record {
         made = m.made;
         named = ap (λ (z : Invocation H). z.id) m.as_asked ∙ ap id_of_place (sym new.0);
-        quiet = λ x is. ap (λ (z : MemberView H). z.waiting) (some_in m.made.member x (new_member old m.of.code (id_of_place (length old.invocations.items)) order) is (ap (λ (z : Invocation H). z.member) m.as_asked));
+        began = λ x is. subst IsNew (sym (some_in m.made.member x (new_member old m.of.code (id_of_place (length old.invocations.items)) order) is (ap (λ (z : Invocation H). z.member) m.as_asked)))
+            (record { parameter = order.parameter; whole = m.whole; journal = refl; waiting = refl; next = refl });
         since = is_same m.made it (sym new.1);
       }
 
@@ -224,7 +238,7 @@ module _ {H : Type 0} (P : Invocation H → Invocation H → Type 0) (May : Memb
 
   begins : (may : Bool) (place : ℕ) (old new : Engine H) → BeginsIf may place old new → AllHold P old new
   begins false place old new d = no_change old new d
-  begins true place old new d = goes_at place (GoesBy (BeginsRound whole_round)) old new (λ m m' h. (ap (λ (c : CourseView _). c.journal) h.1.same, ap (λ (z : MemberView _). z.waiting) h.0)) d
+  begins true place old new d = goes_at place (GoesBy (BeginsRound whole_round)) old new (λ m m' h. (ap (λ (c : CourseView _). c.journal) h.1.same, ap (λ (z : MemberView _). z.waiting) h.0, ap (λ (z : MemberView _). z.next) h.0)) d
 
   delivered : (meaning : H → Meaning) (place at : ℕ) (o : Option Brought) (old new : Engine H) → MayCome May old place at → brought_at old place at ≡ o → DeliversIf meaning place at o old new → AllHold P old new
   delivered meaning place at None old new may is d = no_change old new d
@@ -249,7 +263,7 @@ module _ {H : Type 0} (P : Invocation H → Invocation H → Type 0) (May : Memb
   event_holds meaning (happening.Act place e) old new may d = goes_at place (λ (m : MemberView H). Acts (meaning m.course.handler) e m) old new (λ m m' k. acts_keep (meaning m.course.handler) e m m' k) d
   event_holds meaning (happening.Deliver place at) old new may d = delivered meaning place at (brought_at old place at) old new may refl d
   event_holds meaning (happening.Store place) old new may d = hold_then old d.mid new (changes place (StoresIn meaning d.asks) old d.mid (λ a b was h. stores_one meaning d.asks a b h) d.stores) (performs place d.asks d.mid new d.performs)
-  event_holds meaning (happening.Stop place) old new may d = goes_at place (λ a b. b ≡ stopped a) old new (λ m m' is. (ap (λ (z : MemberView H). z.course.journal) is, ap (λ (z : MemberView H). z.waiting) is)) d
+  event_holds meaning (happening.Stop place) old new may d = goes_at place (λ a b. b ≡ stopped a) old new (λ m m' is. (ap (λ (z : MemberView H). z.course.journal) is, ap (λ (z : MemberView H). z.waiting) is, ap (λ (z : MemberView H). z.next) is)) d
   event_holds meaning happening.StopAll old new may d = record {
     targets = ap (λ (e : Engine H). e.targets) d.0;
     each = λ i it was. (stopped_in it, ap (λ l. slice_get l i) d.1 ∙ slice_get-map stopped_in old.invocations.items i ∙ ap (option_map stopped_in) was, stops it);

@@ -78,7 +78,7 @@ asked_stays : {H : Type 0} → Holds (StaysAskedFor {H = H}) Any
 asked_stays {H} = record {
   same = λ it all. all;
   next = λ a b c f g all. g (f all);
-  goes = λ it m m' was journal waits. rounds_stay it m m' was (same_stay m.waiting m'.waiting m.course.journal m'.course.journal waits journal);
+  goes = λ it m m' was journal waits ids. rounds_stay it m m' was (same_stay m.waiting m'.waiting m.course.journal m'.course.journal waits journal);
   gets = λ it m s was. rounds_stay it m _ was (signal_stay m.waiting s.signal s.brings m.course.journal);
   comes = λ it m m' at w b f was going there may d. rounds_stay it m m' was (came_stay m m' at b f d);
   stores = λ it m m' asks f was going d. rounds_stay it m m' was (stored_stay m m' asks f d);
@@ -98,7 +98,7 @@ nothing_waits ws journal none w id among waits = absurd (subst (IsOneOf w) none 
 pub inboxes_asked : {H : Type 0} (meaning : H → Meaning) (es : List Happening) (old new : Engine H) → old.invocations.items ≡ [] → AllHappen meaning es old new → InboxesAreAskedFor new
 inboxes_asked {H} meaning es old new none d by it m was is w id among waits =
     let made = (all_asked meaning es old new d).fresh by it (ap (λ l. slice_get l by) none) was in
-    made.since (λ x has. nothing_waits x.waiting x.course.journal (made.quiet x has)) m is w id among waits
+    made.since (λ x has. nothing_waits x.waiting x.course.journal (made.began x has).waiting) m is w id among waits
 
 is_itself : (id : ℕ) → (id == id) ≡ true
 is_itself id = grind (arith, nat_tests)

@@ -2,6 +2,9 @@ pub mod Granting
 pub mod Unseen
 pub mod Inboxes
 pub mod Causing
+pub mod Carriers
+pub mod Stores
+pub mod Completing
 pub mod Counting
 pub mod Events
 pub mod Naming

@@ -1,11 +1,10 @@
 -- Signals come once: what an event does to those that have come, that wait and that were sent.
 use Rattle.std.proofs.Common.{◌≡◌, ◌⊎◌, inl, inr, ℕ, ◌+◌, ◌<◌, ◌≤◌, Bool, true, false, List, [], ◌∷◌, ◌++◌, length, map, Option, Some, None, refl, sym, ap, ◌∙◌, subst, arith, append-nil}
 use Rattle.std.specs.Prelude.{◌&&◌, if◌then◌else◌, is_some, nat_le, slice_get, slice_index_or, slice_set}
-use Rattle.std.specs.List.{AllByRecursion, remove, sum_by}
+use Rattle.std.specs.List.{remove, sum_by}
 use Rattle.std.specs.Option.{option_map}
 use Rattle.std.specs.Cmp.Lexicographic.{same_text}
 use Rattle.std.proofs.lemmas.Bool.{cases_eq}
-use Rattle.std.proofs.lemmas.List.{append_cancel_left}
 use Rattle.std.proofs.lemmas.List.Quantifiers.{position-Some}
 use Rattle.std.proofs.lemmas.List.Sums.{sum_by-cons, sum_by-remove, sum_by-set, sum_by_push}
 use Rattle.std.proofs.lemmas.Option.{get_or_from_slice_get, slice_get-map, slice_get_within}
@@ -19,7 +18,7 @@ use Rattle.journal_protocol.specs.Version.{Version}
 use Rattle.journal_entries.specs.Entries.{note_in}
 use Rattle.journal_entries.specs.declared.storing.Written.{Written}
 use Rattle.journal_entries.specs.declared.storing.Written.TheVariants.{Command, Proposal}
-use Rattle.journal_entries.specs.Storing.{stored_as, written_among}
+use Rattle.journal_entries.specs.Storing.{stored_as}
 use Rattle.vm_model.specs.Calls.{Meaning}
 use Rattle.engine_effects.specs.Effects.{completing_result}
 use Rattle.engine_effects.specs.declared.effect.Effect.{Effect}
@@ -36,7 +35,7 @@ use Rattle.world_rounds.specs.declared.types.Event.{Event}
 use Rattle.world_rounds.specs.declared.types.Event.TheVariants as event
 use Rattle.world_rounds.specs.Course.{BeginsRound, CourseView, HappensTo}
 use Rattle.world_rounds.specs.Rounds.{Now}
-use Rattle.world_rounds.proofs.Settled.{IsItem, are_items, command_unread, completion_read}
+use Rattle.world_rounds.proofs.Settled.{IsItem, command_unread, completion_read}
 use Rattle.engines.specs.declared.engine.Engine.{Engine}
 use Rattle.engines.specs.declared.engine.Invocation.{Invocation}
 use Rattle.engines.specs.declared.types.Begun.{Begun}
@@ -54,6 +53,7 @@ use Rattle.engines.proofs.Growing.{some_in}
 use Rattle.engines.proofs.Keeping.{brought_is}
 use Rattle.engines.proofs.Storing.{input_note, input_quiet, own_leaves}
 use Rattle.engine_fences.proofs.Places.{SameIds, after_at, before_at, others_at, place_stays}
+use Rattle.engine_fences.proofs.Stores.{store_so}
 use Rattle.engine_fences.proofs.Counting.{come_in, comes_by, count_of, count_to, passes, passes_by, sends_by, sent_from, sent_in, sent_to_id, signals_for, wait_in, signal_waits}
 
 -- ---- sums
@@ -151,20 +151,8 @@ item_apart : (version : Version) (w : Written) → IsItem version w → IsApart 
 item_apart version (Command raw) item = subst IsApart (sym (command_unread raw item.0 item.1)) (λ test. refl)
 item_apart version (Proposal p) item = subst IsApart (sym (completion_read p item.0)) (λ test. refl)
 
-one_apart : (version : Version) (ws : List Written) (x : List ℕ) → AllByRecursion (IsItem version) ws → map stored_as ws ≡ x ∷ [] → IsApart (note_in x)
-one_apart version [] x all e = absurd (cc)
-one_apart version (w ∷ ws) x all e =
-    let is : stored_as w ≡ x = cc in
-    subst (λ y. IsApart (note_in y)) is (item_apart version w all.0)
-
 pub store_apart : {H : Type 0} (m : Meaning) (live : Option Now) (old new : CourseView H) (x : List ℕ) → HappensTo m (event.Store 1) live old new → new.journal ≡ old.journal ++ x ∷ [] → IsApart (note_in x)
-store_apart m None old new x same more =
-    let none : [] ≡ x ∷ [] = append_cancel_left old.journal [] (x ∷ []) (append-nil old.journal ∙ sym (ap (λ (v : CourseView _). v.journal) same) ∙ more) in
-    absurd (cc)
-store_apart m (Some now) old new x (is, (next, (journal, waiting, unstored, stores, becomes, whole, proposed), seen)) more =
-    one_apart now.version (written_among stores.seen) x (are_items now.version stores.seen stores.readable)
-    (append_cancel_left now.journal (map stored_as (written_among stores.seen)) (x ∷ [])
-    (sym stores.stored ∙ sym (ap (λ (v : CourseView _). v.journal) seen ∙ ap (λ (n : Now). n.journal) becomes) ∙ more ∙ ap (λ j. j ++ x ∷ []) is))
+store_apart m live old new x happens more = store_so IsApart item_apart m live old new x happens more
 
 -- ---- what an event does to all signals
 

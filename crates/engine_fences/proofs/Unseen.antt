@@ -11,8 +11,10 @@ use Rattle.engines.proofs.Replaying.{all_replay}
 use Rattle.engine_fences.specs.declared.fences.Asked.{Asked}
 use Rattle.engine_fences.specs.declared.fences.FencedEngine.{FencedEngine}
 use Rattle.engine_fences.specs.Causes.{InboxesHaveCauses}
+use Rattle.engine_fences.specs.Completions.{CompletionsAreAskedFor}
 use Rattle.engine_fences.specs.Fences.{AllFenced, FencedIf, grants}
 use Rattle.engine_fences.specs.Signals.{NoneFromNowhere}
+use Rattle.engine_fences.proofs.Completing.{completions_asked}
 use Rattle.engine_fences.proofs.Inboxes.{inboxes_caused}
 use Rattle.engine_fences.proofs.Signalling.{none_from_nowhere}
 
@@ -50,6 +52,11 @@ pub fenced_inboxes : {H : Type 0} (meaning : H → Meaning) (es : List Asked) (o
 fenced_inboxes meaning es old new none h =
     let g = are_granted meaning es old new h in
     inboxes_caused meaning g.events old.engine new.engine none g.happen
+
+pub fenced_completions : {H : Type 0} (meaning : H → Meaning) (es : List Asked) (old new : FencedEngine H) → old.engine.invocations.items ≡ [] → AllFenced meaning es old new → CompletionsAreAskedFor new.engine
+fenced_completions meaning es old new none h =
+    let g = are_granted meaning es old new h in
+    completions_asked meaning g.events old.engine new.engine none g.happen
 
 -- and all attempts go on to replay and queue
 pub fenced_replay : {H : Type 0} (meaning : H → Meaning) (es : List Asked) (old new : FencedEngine H) → AllFenced meaning es old new → AllReplay old.engine → AllReplay new.engine

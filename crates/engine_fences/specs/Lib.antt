@@ -1,4 +1,5 @@
 pub mod Causes
+pub mod Completions
 pub mod Fences
 pub mod KeyStates
 pub mod KeyTurns

@@ -5,6 +5,7 @@ ghost use Rattle.engines.specs.Faults.{IsMemoryOrFull, IsNoArrival};
 ghost use Rattle.engines.specs.Replaying.{AllReplay};
 ghost use Rattle.world_rounds.specs.Rounds.{ReplaysAndQueues};
 ghost use Rattle.engine_fences.specs.Causes.{InboxesHaveCauses};
+ghost use Rattle.engine_fences.specs.Completions.{CompletionsAreAskedFor};
 ghost use Rattle.engine_fences.specs.Signals.{NoneFromNowhere};
 ghost use Rattle.engine_fences.specs.Fences.{AllFenced, FencedDoes, NamesEpoch, grants};
 
@@ -130,6 +131,8 @@ pub fn play_fenced<'a, H: Handler + Drop>(
     ensures signals { IfOk result (λ f. NoneFromNowhere f.engine) }
     // All that waits can come, or it is a sleep whose time hasn't come, or the result of an invocation that hasn't ended.
     ensures inboxes { IfOk result (λ f. InboxesHaveCauses f.engine) }
+    // Each completion in a journal is of an id that a stored command before it carries, and of this command's kind.
+    ensures completions { IfOk result (λ f. CompletionsAreAskedFor f.engine) }
     // No arrival has a fault.
     ensures err { IfErr result IsNoArrival }
     // If recorded commands are replayed and signals queue, out of memory and a full journal are the only faults.

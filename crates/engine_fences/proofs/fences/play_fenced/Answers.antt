@@ -8,8 +8,9 @@ use Rattle.world_rounds.specs.Rounds.{ReplaysAndQueues}
 use Rattle.engine_fences.specs.declared.fences.FencedEngine.{FencedEngine}
 use Rattle.engine_fences.specs.Fences.{AllFenced}
 use Rattle.engine_fences.specs.Causes.{InboxesHaveCauses}
+use Rattle.engine_fences.specs.Completions.{CompletionsAreAskedFor}
 use Rattle.engine_fences.specs.Signals.{NoneFromNowhere}
-use Rattle.engine_fences.proofs.Unseen.{fenced_inboxes, fenced_kept, fenced_signals}
+use Rattle.engine_fences.proofs.Unseen.{fenced_completions, fenced_inboxes, fenced_kept, fenced_signals}
 use Rattle.engine_fences.proofs.fences.play_fenced.Goals as goal
 
 pub returns-clause-kept : goal.returns-clause-kept
@@ -20,6 +21,9 @@ returns-clause-signals g c = if_ok_then c.run_fenced.result (AllFenced (λ h. g.
 
 pub returns-clause-inboxes : goal.returns-clause-inboxes
 returns-clause-inboxes g c = if_ok_then c.run_fenced.result (AllFenced (λ h. g.H.Handler.meaning h) c.args.events.now c.of.result) (λ (f : FencedEngine _). InboxesHaveCauses f.engine) (λ f d. fenced_inboxes (λ h. g.H.Handler.meaning h) c.args.events.now c.of.result f (ap (λ (e : Engine _). e.invocations.items) c.of.ensures ∙ c.new-engine.ensures.none) d) c.run_fenced.ensures.does
+
+pub returns-clause-completions : goal.returns-clause-completions
+returns-clause-completions g c = if_ok_then c.run_fenced.result (AllFenced (λ h. g.H.Handler.meaning h) c.args.events.now c.of.result) (λ (f : FencedEngine _). CompletionsAreAskedFor f.engine) (λ f d. fenced_completions (λ h. g.H.Handler.meaning h) c.args.events.now c.of.result f (ap (λ (e : Engine _). e.invocations.items) c.of.ensures ∙ c.new-engine.ensures.none) d) c.run_fenced.ensures.does
 
 pub returns-clause-replaying : goal.returns-clause-replaying
 returns-clause-replaying g c = premise_then (AllReplay c.of.result.engine) (ReplaysAndQueues c.args.options) c.run_fenced.result
