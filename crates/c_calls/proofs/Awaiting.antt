@@ -1,5 +1,5 @@
 -- The error of an await by which a VM hasn't failed is that of a suspension.
-use Rattle.std.proofs.Common.{◌≡◌, ◌⊎◌, ℕ, Bool, true, false, inl, inr, List, [], ◌∷◌, Option, Some, None, Result, Ok, Err, refl, sym, ap, subst, ◌∙◌}
+use Rattle.std.proofs.Common.{◌≡◌, ℕ, Bool, true, false, inl, inr, List, [], ◌∷◌, Option, Some, None, Result, Ok, Err, refl, sym, ap, subst, ◌∙◌}
 use Rattle.std.specs.Prelude.{if◌then◌else◌, MatchBool, find, length}
 use Rattle.std.specs.List.{list_any}
 use Rattle.std.specs.Option.{option_and_then}
@@ -10,12 +10,12 @@ use Rattle.await_trees.specs.declared.tree.UnresolvedFuture.TheVariants.{Single}
 use Rattle.await_trees.specs.declared.handle.NotificationHandle.{NotificationHandle}
 use Rattle.journal_protocol.specs.Error.{Error}
 use Rattle.vm_machine.specs.Ephemerals.{answers_ready}
-use Rattle.vm_machine.specs.Outcomes.{CalledAt, CalledBy, Done, DoesBy, Failed, Outcome, called, flattened, settled}
+use Rattle.vm_machine.specs.Outcomes.{CalledAt, CalledBy, Done, DoesBy, Failed, Outcome, flattened, settled}
 use Rattle.vm_machine.specs.Commands.{commanded}
 use Rattle.vm_machine.specs.declared.machine.Machine.{Machine}
 use Rattle.vm_types.specs.declared.types.AwaitResponse.{AwaitResponse}
 use Rattle.vm_asks.specs.Asks.{cancel_invocation_command}
-use Rattle.vm_awaits.specs.Awaits.{Awaits, AwaitsAt, AwaitsBy, Behind, EndsBy, Gathers, ReadsId, Tries, TriesOrCancels, has_woken, is_cancelled, next_id_known, or_cancelled, pending_in_replay, pending_on, result_at, waits_by, waits_on, with_used}
+use Rattle.vm_awaits.specs.Awaits.{Awaits, AwaitsAt, AwaitsBy, Behind, EndsBy, Gathers, ReadsId, Tries, has_woken, is_cancelled, next_id_known, or_cancelled, pending_in_replay, pending_on, result_at, waits_by, waits_on, with_used}
 use Rattle.vm_runs.specs.Pending.{is_executing_in, may_execute}
 use Rattle.vm_runs.specs.declared.pending.PendingRun.{PendingRun}
 use Rattle.vm_types.specs.Options.{ends_awaits}
@@ -23,10 +23,9 @@ use Rattle.vm_parts.specs.Ephemerals.{any_in_flight}
 use Rattle.vm_parts.specs.Tracked.{id_of_result, invocation_ids, unresolved_handles}
 use Rattle.vm_machine.specs.Phases.{is_replaying, is_running}
 use Rattle.vm_awaits.specs.Cancels.{AwaitsWhole, Cancels, FinishesIf, Onward, SendsCancel, sends_cancels}
-use Rattle.vm_types.specs.declared.reply.Reply.{Reply}
 use Rattle.vm_types.specs.declared.reply.Reply.TheVariants as reply
 use Rattle.vm_calls.specs.Called.{RepliesWith}
-use Rattle.invocation_vm.specs.Calls.{CallsAnyAwait, CallsAwaitBy, CallsFlatAwait}
+use Rattle.invocation_vm.specs.Calls.{CallsAwaitBy, CallsFlatAwait}
 use Rattle.invocation_vm.specs.Views.{View}
 use Rattle.c_sessions.specs.declared.kind.Kind.TheVariants as kind
 use Rattle.c_values.specs.declared.status.Status.TheVariants as status

@@ -14,7 +14,7 @@ use Rattle.vm_types.specs.declared.reply.Reply.{Reply}
 use Rattle.vm_types.specs.declared.reply.Reply.TheVariants as reply
 use Rattle.vm_calls.specs.Called.{Answers, FeedsVm, RepliesWith, reply_of, reply_or_memory}
 use Rattle.invocation_vm.specs.Calls.{CallsAllFor, result_by}
-use Rattle.invocation_vm.specs.Views.{Calls, CallsBy, Leaves, StarvesAmong, View, left_by}
+use Rattle.invocation_vm.specs.Views.{Calls, CallsBy, StarvesAmong, View, left_by}
 
 some_none : {A : Type 0} {x : A} {o : Option A} → o ≡ Some x → o ≡ None → ⊥
 some_none e h = cc

@@ -1,5 +1,5 @@
 -- Of which kind the errors of a call are, by what it does.
-use Rattle.std.proofs.Common.{◌≡◌, ◌⊎◌, ℕ, true, false, List, Option, Some, None, Result, Ok, Err, inl, inr, refl, sym, ap, subst, ◌∙◌, arith}
+use Rattle.std.proofs.Common.{◌≡◌, ◌⊎◌, ℕ, false, List, Option, Some, None, Result, Ok, Err, inl, inr, refl, sym, ap, subst, ◌∙◌, arith}
 use Rattle.std.specs.Prelude.{is_some, Bool}
 use Rattle.std.specs.declared.alloc.AllocError.{AllocError}
 use Rattle.journal_protocol.specs.Error.{Error}
@@ -12,8 +12,7 @@ use Rattle.vm_types.specs.declared.reply.Reply.TheVariants as reply
 use Rattle.vm_calls.specs.Called.{TellsReady, reply_or_memory}
 use Rattle.invocation_vm.specs.Seen.{seen}
 use Rattle.invocation_vm.specs.Views.{View}
-use Rattle.invocation_vm.specs.declared.core_vm.CoreVM.{CoreVM}
-use Rattle.c_sessions.specs.Calls.{IsCalled, outcome_told}
+use Rattle.c_sessions.specs.Calls.{outcome_told}
 use Rattle.c_sessions.specs.Replies.{kept_told, kind_code, numbers_by, summary, unfailed_kind}
 use Rattle.c_sessions.specs.declared.kind.Kind.{Kind}
 use Rattle.c_sessions.specs.declared.kind.Kind.TheVariants as kind
