@@ -148,10 +148,14 @@ export function patchesIn(entries: readonly Uint8Array[]): Map<number, string> {
   return found;
 }
 
-/** Whose signal completes an awakeable, and its number; undefined if this names none. */
+/** Whose signal completes an awakeable, and its number; undefined if this names none. No other text names the same. */
 export function awakeableOf(id: string): { invocation: string; signal: number } | undefined {
   if (!id.startsWith('sign_1')) return undefined;
-  const data = Buffer.from(id.slice('sign_1'.length), 'base64url');
-  if (data.length < 4) return undefined;
-  return { invocation: data.subarray(0, -4).toString('utf8'), signal: data.subarray(-4).readUInt32BE(0) };
+  const text = id.slice('sign_1'.length);
+  const data = Buffer.from(text, 'base64url');
+  if (data.length < 4 || data.toString('base64url') !== text) return undefined;
+  const named = data.subarray(0, -4);
+  const invocation = named.toString('utf8');
+  if (Buffer.compare(Buffer.from(invocation, 'utf8'), named) !== 0) return undefined; // it is no text
+  return { invocation, signal: data.subarray(-4).readUInt32BE(0) };
 }

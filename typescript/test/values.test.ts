@@ -5,6 +5,7 @@ import { test } from 'node:test';
 import { blake2b, idOfCall, seedOf, traceOf } from '../hash';
 import { Random } from '../random';
 import { BadValue, TerminalError, said } from '../errors';
+import { awakeableOf } from '../frames';
 import { Queue } from '../queues';
 import { handler, main, object, service, shared, workflow } from '../services';
 import { checkName, checkPayload, decoded, encoded } from '../values';
@@ -28,6 +29,13 @@ test('ids, seeds and traces are those of Python', () => {
 // Of palqytun.runtime: `effects.child_of("inv_1", 2)`, `invocations.seed_of("inv_1")`; the trace is that of its docstring.
 const ID_OF_CALL = 'inv_64b2e30b1cac51a8eba340ff';
 const SEED_OF = 55151051881685878n;
+
+test('an awakeable has one id', () => {
+  const named = Buffer.concat([Buffer.from('inv_1x'), Buffer.from([0, 0, 0, 17])]).toString('base64url');
+  assert.deepEqual(awakeableOf(`sign_1${named}`), { invocation: 'inv_1x', signal: 17 });
+  const wrong = ['', 'sign_1', 'sign_1AAAA', named, `sign_2${named}`, `sign_1${named}=`, `sign_1${named.slice(0, 5)}!${named.slice(5)}`, `sign_1${named}\n`];
+  for (const it of [...wrong, `sign_1${Buffer.from([255, 0, 0, 0, 17]).toString('base64url')}`]) assert.equal(awakeableOf(it), undefined, it);
+});
 
 test('random numbers follow from the seed', () => {
   const [one, again, other] = [new Random(7n), new Random(7n), new Random(8n)];

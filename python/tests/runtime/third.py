@@ -48,6 +48,17 @@ def split(stream: bytes) -> list[bytes]:
     return found
 
 
+def awakeable(id: str) -> tuple[str, int] | None:
+    """Whose signal completes an awakeable, and its number; none if this isn't the one text that names them."""
+    try:
+        data = base64.urlsafe_b64decode((text := id.removeprefix("sign_1")) + "=" * (-len(text) % 4))
+        if id != "sign_1" + base64.urlsafe_b64encode(data).decode().rstrip("="):
+            return None
+        return data[:-4].decode(), struct.unpack(">I", data[-4:])[0]
+    except (ValueError, struct.error):
+        return None
+
+
 class Fenced(Exception):
     """The lease is another's."""
 
@@ -278,8 +289,8 @@ class Attempt:
             case 19 | 20:
                 return self._call(it)
             case 21:
-                data = base64.urlsafe_b64decode((text := it.text(0).removeprefix("sign_1")) + "=" * (-len(text) % 4))
-                self.worker.deliver(data[:-4].decode(), signal(struct.unpack(">I", data[-4:])[0], frame))
+                if (named := awakeable(it.text(0))) is not None:
+                    self.worker.deliver(named[0], signal(named[1], frame))
             case 22:
                 self.worker.deliver(it.text(0), named_signal(it.text(1), frame) if it.kind == 2 else signal(it.id, frame))
             case 23 | 24 | 25:
