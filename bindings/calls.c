@@ -140,6 +140,29 @@ palqytun_row palqytun_journal_row(palqytun_journal *journal, size_t at)
     return made;
 }
 
+palqytun_effect palqytun_journal_effect(palqytun_journal *journal, size_t at)
+{
+    uint32_t status = PALQYTUN_DONE;
+    palqytun_held *held = handle_take(&status, journal, A_JOURNAL);
+    if (status != PALQYTUN_DONE)
+        return (palqytun_effect){.status = status};
+    palqytun_effect made = proved_journal_effect(held, at);
+    handle_give(held);
+    return made;
+}
+
+palqytun_told palqytun_journal_effect_part(palqytun_journal *journal, size_t at, size_t place, uint8_t *out, size_t out_len)
+{
+    uint32_t status = PALQYTUN_DONE;
+    out = lend_room(&status, out, out_len);
+    palqytun_held *held = handle_take(&status, journal, A_JOURNAL);
+    if (status != PALQYTUN_DONE)
+        return (palqytun_told){.status = status};
+    palqytun_told made = proved_journal_effect_part(held, at, place, out, out_len);
+    handle_give(held);
+    return made;
+}
+
 palqytun_told palqytun_journal_frame(palqytun_journal *journal, size_t at, uint8_t *out, size_t out_len)
 {
     uint32_t status = PALQYTUN_DONE;

@@ -394,6 +394,22 @@ uint32_t palqytun_flat_journal_frame(palqytun_journal *journal, size_t at, uint8
     return made.status;
 }
 
+uint32_t palqytun_flat_journal_effect(palqytun_journal *journal, size_t at, palqytun_effect *returned)
+{
+    palqytun_effect made = palqytun_journal_effect(journal, at);
+    if (returned != NULL)
+        *returned = made;
+    return made.status;
+}
+
+uint32_t palqytun_flat_journal_effect_part(palqytun_journal *journal, size_t at, size_t place, uint8_t *out, size_t out_len, palqytun_told *returned)
+{
+    palqytun_told made = palqytun_journal_effect_part(journal, at, place, out, out_len);
+    if (returned != NULL)
+        *returned = made;
+    return made.status;
+}
+
 uint32_t palqytun_flat_journal_answer(palqytun_journal *journal, uint8_t *out, size_t out_len, palqytun_told *returned)
 {
     palqytun_told made = palqytun_journal_answer(journal, out, out_len);

@@ -18,11 +18,13 @@ static const uint8_t sleep[] = {
 static const uint8_t slept[] = {
     0x00, 0x1e, 0x00, 0x00, 0x00, 0x00, 0x00, 0x00, 0x00, 0x06, 0x00, 0x00, 0x00, 0x00, 0x01, 0x00,
 };
-/* What an attempt wrote: Run name="a" result_completion_id=2, and ProposeRunCompletion id=2 value="x" */
+/* What an attempt wrote: Run name="a" result_completion_id=2, ProposeRunCompletion id=2 value="x", and
+   Sleep wake_up_time=2000 result_completion_id=3 */
 static const uint8_t output[] = {
     0x00, 0x1a, 0x00, 0x00, 0x00, 0x00, 0x00, 0x00, 0x00, 0x0d, 0x00, 0x00, 0x00, 0x00, 0x00, 0x00, 0x00, 0x01, 0x61, 0x00,
     0x00, 0x00, 0x02, 0x00, 0x05, 0x00, 0x00, 0x00, 0x00, 0x00, 0x00, 0x00, 0x0e, 0x00, 0x00, 0x00, 0x02, 0x00, 0x00, 0x00,
-    0x00, 0x00, 0x00, 0x00, 0x00, 0x01, 0x78,
+    0x00, 0x00, 0x00, 0x00, 0x00, 0x01, 0x78, 0x00, 0x12, 0x00, 0x00, 0x00, 0x00, 0x00, 0x00, 0x00, 0x14, 0x00, 0x00, 0x00,
+    0x00, 0x00, 0x00, 0x07, 0xd0, 0x00, 0x00, 0x00, 0x03, 0x00, 0x00, 0x00, 0x00, 0x00, 0x00, 0x00, 0x00,
 };
 
 /* Says how a call ended. Exit status 1: no memory was found. */
@@ -54,7 +56,20 @@ static int load(palqytun_journal *journal)
     return 0;
 }
 
-/* Stores what the attempt wrote, and prints the rows that a transaction would write, and what the attempt is fed after it. */
+/* Prints what a row asks for, which the transaction that writes the row would do. 0, or the exit status. */
+static int show_effect(palqytun_journal *journal, size_t at)
+{
+    palqytun_effect asked = palqytun_journal_effect(journal, at);
+    if (asked.status != PALQYTUN_DONE)
+        return failed(asked.status);
+    if (asked.kind == PALQYTUN_EFFECT_WAIT)
+        printf("wait until %" PRIu64 " for %" PRIu32 "\n", asked.time, asked.completes);
+    else if (asked.kind != PALQYTUN_EFFECT_NOTHING)
+        return 2;
+    return 0;
+}
+
+/* Stores what the attempt wrote, and prints the rows that a transaction would write, what they ask for, and what the attempt is fed after it. */
 static int store(palqytun_journal *journal)
 {
     palqytun_stored stored = palqytun_journal_store(journal, 7, output, sizeof output);
@@ -68,6 +83,9 @@ static int store(palqytun_journal *journal)
             return failed(row.status != PALQYTUN_DONE ? row.status : told.status);
         printf("row type %" PRIu32 " completes %d %" PRIu32 " ", row.type, row.is_completion, row.completes);
         show_bytes(out, told.len);
+        int bad = show_effect(journal, at);
+        if (bad)
+            return bad;
     }
     palqytun_told told = palqytun_journal_answer(journal, out, sizeof out);
     if (told.status != PALQYTUN_DONE || told.len != stored.feed || palqytun_journal_row(journal, stored.rows).status != PALQYTUN_NO_ROW)

@@ -563,6 +563,42 @@ typedef struct {
     size_t feed;
 } palqytun_stored;
 
+/* What a row asks of a runtime, which performs it in the transaction that stores the row. */
+enum {
+    /* Nothing: an input, a run, a completion, a read that the attempt itself completes, or an awakeable whose id names none. */
+    PALQYTUN_EFFECT_NOTHING = 0,
+    /* An invocation is to begin, or one that began with the same idempotency key is attached to. */
+    PALQYTUN_EFFECT_BEGIN = 1,
+    /* A completion id is to be completed at a time. */
+    PALQYTUN_EFFECT_WAIT = 2,
+    /* A signal goes to another invocation: one that was sent, or an awakeable's result. */
+    PALQYTUN_EFFECT_SEND = 3,
+    /* The invocation's result. */
+    PALQYTUN_EFFECT_RESULT = 4,
+    /* What the command says whose type the row has: on the state or a promise of the invocation's key, or on another invocation's result. */
+    PALQYTUN_EFFECT_COMMAND = 5
+};
+
+/* What a row asks for: a PALQYTUN_EFFECT_ as its kind, and its numbers. All but the status is 0 if it isn't PALQYTUN_DONE.
+
+   is_awaited     whether somebody waits for the result of the invocation that begins
+   completes      the completion id that is completed by what comes of it: by the result of the invocation that begins, if it is awaited, by
+                  the time, or by what the command reads
+   id_completes   the completion id that is completed by the id of the invocation that begins
+   target         by what the command names another invocation: a PALQYTUN_TARGET_
+   time           when the invocation begins, or what is waited for, in milliseconds since the Unix epoch; one with 0 begins at once
+   headers        how many headers the invocation begins with */
+typedef struct {
+    uint32_t status;
+    uint32_t kind;
+    bool is_awaited;
+    uint32_t completes;
+    uint32_t id_completes;
+    uint32_t target;
+    uint64_t time;
+    size_t headers;
+} palqytun_effect;
+
 /* Makes a journal without entries, and writes its handle to journal. It is the caller's, who ends it by palqytun_journal_close.
    PALQYTUN_NO_MEMORY: there is none, and the handle is NULL. */
 uint32_t palqytun_journal_open(palqytun_journal **journal);
@@ -589,6 +625,20 @@ palqytun_stored palqytun_journal_store(palqytun_journal *journal, uint32_t versi
    PALQYTUN_NO_MEMORY takes nothing back. */
 palqytun_row palqytun_journal_row(palqytun_journal *journal, size_t at);
 palqytun_told palqytun_journal_frame(palqytun_journal *journal, size_t at, uint8_t *out, size_t out_len);
+
+/* What a row of the last store asks for. PALQYTUN_NOT_A_FRAME: its message can't be read. PALQYTUN_NO_MEMORY takes nothing back. */
+palqytun_effect palqytun_journal_effect(palqytun_journal *journal, size_t at);
+
+/* Writes a part of what a row of the last store asks for, a text or bytes, to the front of out, and returns how long it is. PALQYTUN_NO_PART: it
+   has none there. PALQYTUN_NOT_A_FRAME: its message can't be read. PALQYTUN_NO_ROOM: len is the length that it needs. PALQYTUN_NO_MEMORY takes
+   nothing back. The parts by their places:
+
+   PALQYTUN_EFFECT_BEGIN      0 the parameter, 1 the service, 2 the handler, 3 the key, 4 the idempotency key; from 8 on the headers: a name,
+                              its value, the next name ..
+   PALQYTUN_EFFECT_SEND       0 the id of the invocation, 1 the frame of the notification that comes to it
+   PALQYTUN_EFFECT_RESULT     1 the frame of a notification of completion 0 that has the result
+   PALQYTUN_EFFECT_COMMAND    those of the command's frame (palqytun_frame_part) */
+palqytun_told palqytun_journal_effect_part(palqytun_journal *journal, size_t at, size_t place, uint8_t *out, size_t out_len);
 
 /* What is to be fed of the last store, at the front of out: whole frames. PALQYTUN_NO_ROOM: len is the length that they need. */
 palqytun_told palqytun_journal_answer(palqytun_journal *journal, uint8_t *out, size_t out_len);

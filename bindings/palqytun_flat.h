@@ -61,6 +61,8 @@ uint32_t palqytun_flat_journal_arrive(palqytun_journal *journal, const uint8_t *
 uint32_t palqytun_flat_journal_store(palqytun_journal *journal, uint32_t version, const uint8_t *output, size_t output_len, palqytun_stored *returned);
 uint32_t palqytun_flat_journal_row(palqytun_journal *journal, size_t at, palqytun_row *returned);
 uint32_t palqytun_flat_journal_frame(palqytun_journal *journal, size_t at, uint8_t *out, size_t out_len, palqytun_told *returned);
+uint32_t palqytun_flat_journal_effect(palqytun_journal *journal, size_t at, palqytun_effect *returned);
+uint32_t palqytun_flat_journal_effect_part(palqytun_journal *journal, size_t at, size_t place, uint8_t *out, size_t out_len, palqytun_told *returned);
 uint32_t palqytun_flat_journal_answer(palqytun_journal *journal, uint8_t *out, size_t out_len, palqytun_told *returned);
 uint32_t palqytun_flat_frame_line(const uint8_t *frame, size_t frame_len, uint8_t *out, size_t out_len, palqytun_told *returned);
 uint32_t palqytun_flat_line_frame(const uint8_t *line, size_t line_len, uint8_t *out, size_t out_len, palqytun_told *returned);

@@ -19,6 +19,8 @@ palqytun_row proved_journal_entry(palqytun_held *journal, const uint8_t *entry, 
 palqytun_row proved_journal_arrive(palqytun_held *journal, const uint8_t *entry, size_t entry_len);
 palqytun_stored proved_journal_store(palqytun_held *journal, uint32_t version, const uint8_t *output, size_t output_len);
 palqytun_row proved_journal_row(palqytun_held *journal, size_t at);
+palqytun_effect proved_journal_effect(palqytun_held *journal, size_t at);
+palqytun_told proved_journal_effect_part(palqytun_held *journal, size_t at, size_t place, uint8_t *out, size_t out_len);
 palqytun_told proved_journal_frame(palqytun_held *journal, size_t at, uint8_t *out, size_t out_len);
 palqytun_told proved_journal_answer(palqytun_held *journal, uint8_t *out, size_t out_len);
 uint32_t proved_journal_keep(palqytun_held *journal);

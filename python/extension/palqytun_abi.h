@@ -131,6 +131,12 @@ enum {
     PALQYTUN_BAD_JOURNAL = 17,
     PALQYTUN_NO_JOURNAL = 22,
     PALQYTUN_NO_ROW = 23,
+    PALQYTUN_EFFECT_NOTHING = 0,
+    PALQYTUN_EFFECT_BEGIN = 1,
+    PALQYTUN_EFFECT_WAIT = 2,
+    PALQYTUN_EFFECT_SEND = 3,
+    PALQYTUN_EFFECT_RESULT = 4,
+    PALQYTUN_EFFECT_COMMAND = 5,
     PALQYTUN_NOT_A_FRAME = 18,
     PALQYTUN_BAD_LINE = 19,
     PALQYTUN_NO_RESULT = 20,
@@ -297,6 +303,17 @@ typedef struct {
 
 typedef struct {
     uint32_t status;
+    uint32_t kind;
+    bool is_awaited;
+    uint32_t completes;
+    uint32_t id_completes;
+    uint32_t target;
+    uint64_t time;
+    size_t headers;
+} palqytun_effect;
+
+typedef struct {
+    uint32_t status;
     bool is_awake;
 } palqytun_judged;
 
@@ -369,6 +386,8 @@ uint32_t pq_journal_arrive(uintptr_t journal, const uint8_t *entry, size_t entry
 uint32_t pq_journal_store(uintptr_t journal, uint32_t version, const uint8_t *output, size_t output_len, palqytun_stored *returned);
 uint32_t pq_journal_row(uintptr_t journal, size_t at, palqytun_row *returned);
 uint32_t pq_journal_frame(uintptr_t journal, size_t at, uint8_t *out, size_t out_len, palqytun_told *returned);
+uint32_t pq_journal_effect(uintptr_t journal, size_t at, palqytun_effect *returned);
+uint32_t pq_journal_effect_part(uintptr_t journal, size_t at, size_t place, uint8_t *out, size_t out_len, palqytun_told *returned);
 uint32_t pq_journal_answer(uintptr_t journal, uint8_t *out, size_t out_len, palqytun_told *returned);
 uint32_t pq_journal_keep(uintptr_t journal);
 uint32_t pq_journal_undo(uintptr_t journal);

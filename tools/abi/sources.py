@@ -28,6 +28,7 @@ STRUCTS = {
     "GivenPolicy": "palqytun_policy",
     "Row": "palqytun_row",
     "Stored": "palqytun_stored",
+    "EffectRow": "palqytun_effect",
     "Judged": "palqytun_judged",
     "FrameRow": "palqytun_frame_row",
 }
@@ -113,6 +114,7 @@ TABLES = (
     Table("c_calls/src/policies.rt", _of_match("RetryPolicy"), "POLICY_"),
     Table("c_calls/src/invocations.rt", rf"(?P<number>\d+) => match \w+\(.*\n\s*Ok\(\w+\) => Ok\(InvocationTarget::(?P<name>\w+)", "TARGET_"),
     Table("c_frames/src/numbers.rt", _of_code("InvocationTarget"), "TARGET_"),
+    Table("c_journals/src/effect.rt", _of_code("EffectKind"), "EFFECT_"),
     Table("c_frames/src/numbers.rt", _of_code("ErrorBehavior"), "BEHAVIOR_"),
     Table("journal_errors/src/types.rt", _of_code("MessageType"), "MESSAGE_"),
 )

@@ -655,6 +655,33 @@ CALL(journal_frame)
     return give_bytes(&lent, &out);
 }
 
+CALL(journal_effect)
+{
+    BEGIN(2);
+    uintptr_t journal = read_handle(&lent, ARG(0));
+    size_t at = read_size(&lent, ARG(1));
+    palqytun_effect returned = {0};
+    if (is_read(&lent))
+        pq_journal_effect(journal, at, &returned);
+    static const char *const names[] = {"status", "kind", "is_awaited", "completes", "id_completes", "target", "time", "headers"};
+    const uint64_t values[] = {returned.status, returned.kind, returned.is_awaited, returned.completes, returned.id_completes, returned.target, returned.time, returned.headers};
+    return give_row(&lent, names, values, 8);
+}
+
+CALL(journal_effect_part)
+{
+    BEGIN(3);
+    uintptr_t journal = read_handle(&lent, ARG(0));
+    size_t at = read_size(&lent, ARG(1));
+    size_t place = read_size(&lent, ARG(2));
+    struct out out = {0};
+    do
+        if (is_read(&lent))
+            pq_journal_effect_part(journal, at, place, out_at(&out), out_len(&out), &out.told);
+    while (is_short(&out));
+    return give_bytes(&lent, &out);
+}
+
 CALL(journal_answer)
 {
     BEGIN(1);
@@ -852,6 +879,8 @@ const struct made CALLS[] = {
     MAKES(journal_store)
     MAKES(journal_row)
     MAKES(journal_frame)
+    MAKES(journal_effect)
+    MAKES(journal_effect_part)
     MAKES(journal_answer)
     MAKES(journal_keep)
     MAKES(journal_undo)

@@ -132,6 +132,12 @@ pub const JOURNAL_FULL: u32 = 16;
 pub const BAD_JOURNAL: u32 = 17;
 pub const NO_JOURNAL: u32 = 22;
 pub const NO_ROW: u32 = 23;
+pub const EFFECT_NOTHING: u32 = 0;
+pub const EFFECT_BEGIN: u32 = 1;
+pub const EFFECT_WAIT: u32 = 2;
+pub const EFFECT_SEND: u32 = 3;
+pub const EFFECT_RESULT: u32 = 4;
+pub const EFFECT_COMMAND: u32 = 5;
 pub const NOT_A_FRAME: u32 = 18;
 pub const BAD_LINE: u32 = 19;
 pub const NO_RESULT: u32 = 20;
@@ -756,6 +762,19 @@ pub struct Stored {
 
 #[derive(Clone, Copy, Debug)]
 #[repr(C)]
+pub struct Effect {
+    pub status: u32,
+    pub kind: u32,
+    pub is_awaited: bool,
+    pub completes: u32,
+    pub id_completes: u32,
+    pub target: u32,
+    pub time: u64,
+    pub headers: usize,
+}
+
+#[derive(Clone, Copy, Debug)]
+#[repr(C)]
 pub struct Judged {
     pub status: u32,
     pub is_awake: bool,
@@ -858,6 +877,8 @@ functions! {
     journal_store = "palqytun_journal_store\0": (Handle, u32, *const u8, usize) -> Stored;
     journal_row = "palqytun_journal_row\0": (Handle, usize) -> Row;
     journal_frame = "palqytun_journal_frame\0": (Handle, usize, *mut u8, usize) -> Told;
+    journal_effect = "palqytun_journal_effect\0": (Handle, usize) -> Effect;
+    journal_effect_part = "palqytun_journal_effect_part\0": (Handle, usize, usize, *mut u8, usize) -> Told;
     journal_answer = "palqytun_journal_answer\0": (Handle, *mut u8, usize) -> Told;
     journal_keep = "palqytun_journal_keep\0": (Handle) -> u32;
     journal_undo = "palqytun_journal_undo\0": (Handle) -> u32;

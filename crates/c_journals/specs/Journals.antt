@@ -1,5 +1,5 @@
 -- What a call from C does to the journal that it is given.
-use Rattle.std.specs.Prelude.{◌≡◌, ◌≢◌, ◌++◌, ℕ, Bool, true, false, List, [], length, map, slice_get, Option, Some, None}
+use Rattle.std.specs.Prelude.{◌≡◌, ◌≢◌, ◌++◌, ◌⊎◌, ℕ, Bool, true, false, List, [], length, map, slice_get, Option, Some, None}
 use Rattle.journal_protocol.specs.Version.{Version}
 use Rattle.journal_entries.specs.Frames.{Rest, frames_of}
 use Rattle.journal_entries.specs.declared.fault.JournalFault.{JournalFault}
@@ -12,7 +12,10 @@ use Rattle.c_journals.specs.declared.journal.HeldJournal.{HeldJournal}
 use Rattle.c_journals.specs.declared.row.Row.{Row}
 use Rattle.c_values.specs.declared.status.Status.{Status}
 use Rattle.c_values.specs.declared.status.Status.TheVariants as status
-use Rattle.c_values.specs.Written.{BytesWritten}
+use Rattle.c_values.specs.Written.{BytesWritten, NoneWritten, WrittenOrWhy}
+use Rattle.c_journals.specs.declared.effect.EffectRow.{EffectRow}
+use Rattle.c_journals.specs.Effects.{effect_row, no_effect}
+use Rattle.c_journals.specs.EffectParts.{effect_part}
 use Rattle.c_journals.specs.Rows.{row_in, no_row}
 use Rattle.c_journals.specs.Statuses.{IsFaultOf, fault_status}
 
@@ -149,6 +152,18 @@ RowWritten (Some entry) named len before after = BytesWritten entry named len be
 RowWritten None status.NoRow len before after = (len ≡ 0) × (after ≡ before)
 RowWritten None named len before after = ⊥
 
+-- what the row at a place asks for, if there is one, or it is out of memory
+abbrev pub EffectFound : Option (List ℕ) → EffectRow → Type 0
+EffectFound (Some entry) row = (row ≡ effect_row entry) ⊎ (row ≡ no_effect status.NoMemory)
+EffectFound None row = row ≡ no_effect status.NoRow
+
+-- a part of what a row asks for is written, if there is a row and it has the part
+abbrev pub EffectWritten : Option (List ℕ) → ℕ → Status → ℕ → List ℕ → List ℕ → Type 0
+EffectWritten (Some entry) place named len before after =
+    WrittenOrWhy named (effect_part entry place) len before after
+EffectWritten None place named len before after =
+    (named ≡ status.NoRow) × NoneWritten len before after
+
 -- ---- the journal that C holds, if there is one
 
 -- a journal was made, and it is empty; or no memory was found, and there is none
@@ -206,6 +221,18 @@ UndoAnswered named old new = ⊥
 abbrev pub RowAnswered : ℕ → Status → Row → Option HeldJournal → Type 0
 RowAnswered at named row (Some j) = RowFound (slice_get j.rows.items at) named row
 RowAnswered at named row None = (named ≡ status.NoJournal) × (row ≡ no_row status.NoJournal)
+
+-- What a row of the last store asks for is read.
+abbrev pub EffectAnswered : ℕ → EffectRow → Option HeldJournal → Type 0
+EffectAnswered at row (Some j) = EffectFound (slice_get j.rows.items at) row
+EffectAnswered at row None = row ≡ no_effect status.NoJournal
+
+-- A part of what a row of the last store asks for is read.
+abbrev pub PartAnswered : ℕ → ℕ → Status → ℕ → List ℕ → List ℕ → Option HeldJournal → Type 0
+PartAnswered at place named len before after (Some j) =
+    EffectWritten (slice_get j.rows.items at) place named len before after
+PartAnswered at place named len before after None =
+    (named ≡ status.NoJournal) × NoneWritten len before after
 
 -- The bytes of a row of the last store are read.
 abbrev pub FrameAnswered : ℕ → Status → ℕ → List ℕ → List ℕ → Option HeldJournal → Type 0

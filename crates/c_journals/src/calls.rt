@@ -2,10 +2,11 @@
 ghost use Rattle.std.specs.Prelude.{◌≡◌, ◌≤◌, None};
 ghost use Rattle.journal_entries.specs.Arrivals.{arrival_fault};
 ghost use Rattle.journal_entries.specs.Given.{given_fault};
-ghost use Rattle.c_journals.specs.Journals.{CommitAnswered, EntryAnswered, FeedAnswered, FrameAnswered, HasEntries, IsNewJournal, OutputAnswered, OutputStored, RowAnswered, UndoAnswered};
+ghost use Rattle.c_journals.specs.Journals.{CommitAnswered, EffectAnswered, EntryAnswered, FeedAnswered, FrameAnswered, HasEntries, IsNewJournal, OutputAnswered, OutputStored, PartAnswered, RowAnswered, UndoAnswered};
 ghost use Rattle.c_journals.specs.Statuses.{version_named};
 ghost use Rattle.c_values.specs.Statuses.{status_by};
 
+use crate::effect::{EffectRow, no_effect};
 use crate::held::{Journal, give, take};
 use crate::journal::HeldJournal;
 use crate::row::{Row, Stored, answer_store, no_row};
@@ -167,6 +168,44 @@ pub fn row(alloc: Global, held: &mut Journal, at: usize) -> Row
             row
         }
         None => no_row(Status::NoJournal),
+    }
+}
+
+/// What a row of the last store asks for.
+pub fn effect(alloc: Global, held: &mut Journal, at: usize) -> EffectRow
+    ensures kept { held.new.value ≡ held.old.value }
+    ensures read { EffectAnswered at result held.old.value }
+{
+    match take(alloc, held) {
+        Some(journal) => {
+            let row = journal.effect(alloc, at);
+            give(alloc, held, journal);
+            row
+        }
+        None => no_effect(Status::NoJournal),
+    }
+}
+
+/// Writes a part of what a row of the last store asks for to the front of `out`, if there is room for it, and says how long it is.
+pub fn read_effect(
+    alloc: Global,
+    held: &mut Journal,
+    at: usize,
+    place: usize,
+    out: &mut [u8],
+) -> Told
+    ensures kept { held.new.value ≡ held.old.value }
+    ensures known { result.status ≤ 24 }
+    ensures read { PartAnswered at place (status_by result.status) result.len out.old out.new
+        held.old.value }
+{
+    match take(alloc, held) {
+        Some(journal) => {
+            let told = journal.read_effect(alloc, at, place, out);
+            give(alloc, held, journal);
+            told
+        }
+        None => tell(Status::NoJournal, 0),
     }
 }
 

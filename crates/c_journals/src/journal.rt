@@ -4,16 +4,18 @@ ghost use Rattle.journal_entries.specs.Arrivals.{arrival_fault};
 ghost use Rattle.journal_entries.specs.Given.{given_fault};
 ghost use Rattle.journal_store.specs.Journals.{Enters, IsFault, IsSameKept};
 ghost use Rattle.journal_store.specs.Stored.{IsStoringFault};
-ghost use Rattle.c_journals.specs.Journals.{EntryDone, FeedAnswered, FrameAnswered, IsEmptyJournal, IsUndone, KeepsAll, OutputDone, RowAnswered, SameRows, StoresAll};
+ghost use Rattle.c_journals.specs.Journals.{EffectAnswered, EntryDone, FeedAnswered, FrameAnswered, IsEmptyJournal, IsUndone, KeepsAll, OutputDone, PartAnswered, RowAnswered, SameRows, StoresAll};
 ghost use Rattle.c_journals.specs.Rows.{row_in};
 ghost use Rattle.c_values.specs.Statuses.{status_by};
 ghost use Rattle.c_values.specs.declared.status.Status.TheVariants.{Done};
 
+use crate::effect::{EffectRow, effect_row, no_effect};
+use crate::effect_part::write_effect;
 use crate::fault::fault_status;
 use crate::rest::ends_whole;
 use crate::row::{Row, Stored, answer_store, entry_row, no_row, row_in};
 use bytes::{Bytes, BytesMut};
-use c_values::{Status, write};
+use c_values::{Status, Told, tell, write};
 use journal_entries::JournalFault;
 use journal_protocol::{Decoder, Version};
 use journal_store::{StoredJournal, store_from};
@@ -211,6 +213,31 @@ impl HeldJournal {
                 Ok(row) => row,
                 Err(_) => no_row(Status::NoMemory),
             },
+        }
+    }
+
+    /// What a row of the last store asks for.
+    pub fn effect(&self, alloc: Global, at: usize) -> EffectRow
+        ensures { EffectAnswered at result (Some self.now) }
+    {
+        match self.rows.get(at) {
+            None => no_effect(Status::NoRow),
+            Some(entry) => match effect_row(alloc, entry) {
+                Ok(row) => row,
+                Err(_) => no_effect(Status::NoMemory),
+            },
+        }
+    }
+
+    /// Writes a part of what a row of the last store asks for to the front of `out`, if there is room for it; and how long it is.
+    pub fn read_effect(&self, alloc: Global, at: usize, place: usize, out: &mut [u8]) -> Told
+        ensures read { PartAnswered at place (status_by result.status) result.len out.old out.new
+            (Some self.now) }
+        ensures known { result.status ≤ 24 }
+    {
+        match self.rows.get(at) {
+            None => tell(Status::NoRow, 0),
+            Some(entry) => write_effect(alloc, entry, place, out),
         }
     }
 

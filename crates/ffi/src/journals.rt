@@ -2,11 +2,11 @@
 ghost use Rattle.std.specs.Prelude.{◌≡◌, ◌≤◌, None};
 ghost use Rattle.journal_entries.specs.Arrivals.{arrival_fault};
 ghost use Rattle.journal_entries.specs.Given.{given_fault};
-ghost use Rattle.c_journals.specs.Journals.{HasEntries, EntryAnswered, FeedAnswered, FrameAnswered, IsNewJournal, CommitAnswered, OutputAnswered, RowAnswered, UndoAnswered};
+ghost use Rattle.c_journals.specs.Journals.{EffectAnswered, HasEntries, EntryAnswered, FeedAnswered, FrameAnswered, IsNewJournal, CommitAnswered, OutputAnswered, PartAnswered, RowAnswered, UndoAnswered};
 ghost use Rattle.c_journals.specs.Statuses.{version_named};
 ghost use Rattle.c_values.specs.Statuses.{status_by};
 
-use c_journals::{Journal, Row, Stored, calls};
+use c_journals::{EffectRow, Journal, Row, Stored, calls};
 use c_values::Told;
 use std::alloc::Global;
 
@@ -77,6 +77,36 @@ pub extern "C" fn proved_journal_row(alloc: Global, journal: &mut Journal, at: u
     ensures read { RowAnswered at (status_by result.status) result journal.old.value }
 {
     calls::row(alloc, journal, at)
+}
+
+/// What a row of the last store asks for.
+#[unsafe(no_mangle)]
+pub extern "C" fn proved_journal_effect(
+    alloc: Global,
+    journal: &mut Journal,
+    at: usize,
+) -> EffectRow
+    ensures kept { journal.new.value ≡ journal.old.value }
+    ensures read { EffectAnswered at result journal.old.value }
+{
+    calls::effect(alloc, journal, at)
+}
+
+/// Writes a part of what a row of the last store asks for to the front of `out`, if there is room for it, and says how long it is.
+#[unsafe(no_mangle)]
+pub extern "C" fn proved_journal_effect_part(
+    alloc: Global,
+    journal: &mut Journal,
+    at: usize,
+    place: usize,
+    out: &mut [u8],
+) -> Told
+    ensures kept { journal.new.value ≡ journal.old.value }
+    ensures known { result.status ≤ 24 }
+    ensures read { PartAnswered at place (status_by result.status) result.len out.old out.new
+        journal.old.value }
+{
+    calls::read_effect(alloc, journal, at, place, out)
 }
 
 /// Writes a row of the last store to the front of `out`, if there is room for it, and says how long it is.

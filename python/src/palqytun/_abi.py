@@ -147,6 +147,13 @@ BAD_JOURNAL: Final = 17
 NO_JOURNAL: Final = 22
 NO_ROW: Final = 23
 
+EFFECT_NOTHING: Final = 0
+EFFECT_BEGIN: Final = 1
+EFFECT_WAIT: Final = 2
+EFFECT_SEND: Final = 3
+EFFECT_RESULT: Final = 4
+EFFECT_COMMAND: Final = 5
+
 NOT_A_FRAME: Final = 18
 BAD_LINE: Final = 19
 NO_RESULT: Final = 20
@@ -375,6 +382,27 @@ class Stored(Protocol):
     def rows(self) -> int: ...
     @property
     def feed(self) -> int: ...
+
+
+class Effect(Protocol):
+    """palqytun_effect."""
+
+    @property
+    def status(self) -> int: ...
+    @property
+    def kind(self) -> int: ...
+    @property
+    def is_awaited(self) -> bool: ...
+    @property
+    def completes(self) -> int: ...
+    @property
+    def id_completes(self) -> int: ...
+    @property
+    def target(self) -> int: ...
+    @property
+    def time(self) -> int: ...
+    @property
+    def headers(self) -> int: ...
 
 
 class Judged(Protocol):

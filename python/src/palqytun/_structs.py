@@ -296,6 +296,29 @@ class Stored(ctypes.Structure):
     feed: int
 
 
+class Effect(ctypes.Structure):
+    """palqytun_effect."""
+
+    _fields_ = [
+        ("status", ctypes.c_uint32),
+        ("kind", ctypes.c_uint32),
+        ("is_awaited", ctypes.c_bool),
+        ("completes", ctypes.c_uint32),
+        ("id_completes", ctypes.c_uint32),
+        ("target", ctypes.c_uint32),
+        ("time", ctypes.c_uint64),
+        ("headers", ctypes.c_size_t),
+    ]
+    status: int
+    kind: int
+    is_awaited: bool
+    completes: int
+    id_completes: int
+    target: int
+    time: int
+    headers: int
+
+
 class Judged(ctypes.Structure):
     """palqytun_judged."""
 
@@ -385,6 +408,8 @@ FUNCTIONS: dict[str, tuple[list[Any], Any]] = {
     "journal_store": ([ctypes.c_void_p, ctypes.c_uint32, ctypes.c_char_p, ctypes.c_size_t], Stored),
     "journal_row": ([ctypes.c_void_p, ctypes.c_size_t], Row),
     "journal_frame": ([ctypes.c_void_p, ctypes.c_size_t, ctypes.c_char_p, ctypes.c_size_t], Told),
+    "journal_effect": ([ctypes.c_void_p, ctypes.c_size_t], Effect),
+    "journal_effect_part": ([ctypes.c_void_p, ctypes.c_size_t, ctypes.c_size_t, ctypes.c_char_p, ctypes.c_size_t], Told),
     "journal_answer": ([ctypes.c_void_p, ctypes.c_char_p, ctypes.c_size_t], Told),
     "journal_keep": ([ctypes.c_void_p], ctypes.c_uint32),
     "journal_undo": ([ctypes.c_void_p], ctypes.c_uint32),

@@ -3,12 +3,14 @@
 from __future__ import annotations
 
 from collections.abc import Iterable
+from functools import partial
 from types import TracebackType
 from typing import NamedTuple, Self
 
 from palqytun import _abi, _library
 from palqytun._words import integer, octets
-from palqytun.errors import BadLine, Fault, JournalFault
+from palqytun.effects import Asking, Effect, effect_of
+from palqytun.errors import BadFrame, BadLine, Fault, JournalFault
 from palqytun.values import Data
 
 __all__ = ["Journal", "Row", "Stored"]
@@ -16,14 +18,17 @@ __all__ = ["Journal", "Row", "Stored"]
 DEFAULT_VERSION = 7
 """The version of a VM that is made without one."""
 _VERSIONS = 5, 8
+_SILENT = (_abi.MESSAGE_RUN_COMMAND, _abi.MESSAGE_NOTIFICATION)  # rows of these types ask for nothing
 
 
 class Row(NamedTuple):
-    """An entry to be appended: the type of its message (docs/WIRE.md), the completion id that it completes, and its bytes."""
+    """An entry to be appended: the type of its message (docs/WIRE.md), the completion id that it completes, and its bytes. `effect` is what a row that
+    was stored asks of the runtime, which performs it in the same transaction."""
 
     type: int
     completes: int | None
     frame: bytes
+    effect: Effect | None = None
 
 
 class Stored(NamedTuple):
@@ -54,7 +59,7 @@ class Journal:
     Traceback (most recent call last):
     palqytun.errors.JournalFault: SECOND_COMPLETION: the completion id was completed before
 
-    What may not be appended is a `JournalFault`, which says why; what came since the last `keep` is then taken back.
+    What may not be appended is a `JournalFault`, which says why; what came since the last `keep` is then taken back, in a `store` also by a `BadFrame`.
     """
 
     def __init__(self, entries: Iterable[Data] = ()) -> None:
@@ -91,6 +96,8 @@ class Journal:
     def _check(self, status: int) -> None:
         if status == _abi.NO_MEMORY:
             raise MemoryError("the journal found no memory")
+        if status == _abi.NOT_A_FRAME:
+            raise BadFrame(_abi.TEXTS[status])
         if status in (_abi.NO_JOURNAL, _abi.BUSY, _abi.BAD_HANDLE):
             raise RuntimeError(_library.why(status))
         if status == _abi.BAD_VERSION:
@@ -123,7 +130,8 @@ class Journal:
 
     def store(self, output: Data, version: int = DEFAULT_VERSION) -> Stored:
         """What is stored of what an attempt wrote since the last `store`, as `VM.take_output` gave it: its commands, and the completions
-        that its proposals are. `version` is that of the VM.
+        that its proposals are. `version` is that of the VM. A command whose message can't be read is a `BadFrame`, and what came since the
+        last `keep` is taken back.
 
         >>> run = bytes.fromhex("001a000000000000000d00000000000000016100000002")
         >>> proposal = bytes.fromhex("0005000000000000000e0000000200000000000000000178")
@@ -132,23 +140,51 @@ class Journal:
         [(26, None), (30, 2)]
         >>> stored.feed.hex()
         '0006000000000000000400000002'
+
+        Each row has its effect:
+
+        >>> from palqytun.frames import frame_of
+        >>> [row.effect for row in journal.store(frame_of('ClearState key="color"')).rows]
+        [Change(name='color', value=None)]
         """
         output = octets("output", output)
         told: _abi.Stored = self._calls["journal_store"](self._handle, integer("version", version, _VERSIONS[1], _VERSIONS[0]), output)
         if told.status:
             self._check(told.status)
-        return Stored([self._row(at) for at in range(told.rows)], self._written("journal_answer") if told.feed else b"")
+        try:
+            rows = [self._row(at) for at in range(told.rows)]
+        except BadFrame:
+            self.undo()
+            raise
+        return Stored(rows, self._written("journal_answer") if told.feed else b"")
 
     def _row(self, at: int) -> Row:
         row: _abi.Row = self._calls["journal_row"](self._handle, at)
         if row.status:
             self._check(row.status)
-        return Row(row.type, row.completes if row.is_completion else None, self._written("journal_frame", at))
+        frame = self._written("journal_frame", at)
+        effect = None if row.type in _SILENT else self._effect(at, row.type, frame)
+        return Row(row.type, row.completes if row.is_completion else None, frame, effect)
+
+    def _effect(self, at: int, type: int, frame: bytes) -> Effect | None:
+        """What a row of the last store asks for."""
+        said: _abi.Effect = self._calls["journal_effect"](self._handle, at)
+        if said.status:
+            self._check(said.status)
+        return effect_of(Asking(type, frame, said, partial(self._part, at)))
+
+    def _part(self, at: int, place: int) -> bytes | None:
+        """A part of what a row of the last store asks for, if it has one there."""
+        part = self._calls["journal_effect_part"](self._handle, at, place)
+        return None if part == _abi.NO_PART else self._made(part)
 
     def _written(self, name: str, *arguments: int) -> bytes:
         """What a call writes."""
-        written = self._calls[name](self._handle, *arguments)
-        if not isinstance(written, bytes):
+        return self._made(self._calls[name](self._handle, *arguments))
+
+    def _made(self, written: bytes | int) -> bytes:
+        """What a call has written, which returned that or its status."""
+        if isinstance(written, int):
             self._check(written)
             raise RuntimeError(_library.why(written))
         return written

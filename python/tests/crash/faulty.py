@@ -14,6 +14,7 @@ from typing import Any
 
 import crash_app
 from palqytun import frames
+from palqytun.effects import Change
 from palqytun.runtime import App, appending, claiming, committer, effects, inbox, invocations, journal, lease, storing
 from palqytun.runtime.database import Database
 from palqytun.runtime.database.postgres import Postgres
@@ -214,11 +215,11 @@ def states_first() -> None:
     """A change of the state is committed before its command."""
     change = effects.Performer._change
 
-    async def wrong(self: effects.Performer, it: journal.Change) -> None:
+    async def wrong(self: effects.Performer, it: Change) -> None:
         await change(self, it)
         await _between(self.db)
 
-    effects._PERFORMED[journal.Change] = wrong
+    effects._PERFORMED[Change] = wrong
 
 
 def late(before: Callable[[], None] = lambda: None) -> None:

@@ -126,6 +126,12 @@ module Palqytun
     BAD_JOURNAL = 17
     NO_JOURNAL = 22
     NO_ROW = 23
+    EFFECT_NOTHING = 0
+    EFFECT_BEGIN = 1
+    EFFECT_WAIT = 2
+    EFFECT_SEND = 3
+    EFFECT_RESULT = 4
+    EFFECT_COMMAND = 5
     NOT_A_FRAME = 18
     BAD_LINE = 19
     NO_RESULT = 20

@@ -1,4 +1,7 @@
-"""What a stored command does, in the transaction that stores it; so it is done once."""
+"""What a stored row asks for is done, in the transaction that stores it; so it is done once.
+
+What each row asks for is said by the core (`palqytun.effects`), or is an attribute, which is the runtime's own. No frame is read here.
+"""
 
 from __future__ import annotations
 
@@ -9,10 +12,12 @@ import time
 from collections.abc import Sequence
 from typing import Any
 
+from palqytun.effects import Attach, Begin, Change, Effect, Promise, Read, Send, Wait
+
 from . import announced, inbox, invocations, journal, refused, sealing
 from .database import Database, Each
 from .invocations import New
-from .journal import Attach, Attribute, Call, Change, Command, CompleteAwakeable, Promise, Read, Result, SendSignal, Sleep
+from .journal import Attribute, Result
 from .lease import KEPT, WAITING, Growth
 from .outcome import Outcome
 from .services import App, TerminalError
@@ -51,89 +56,90 @@ def child_of(invocation: str, completion: int) -> str:
     return "inv_" + hashlib.blake2b(f"{invocation}/{completion}".encode(), digest_size=12).hexdigest()
 
 
+Asked = Effect | Attribute
+
+
 class Performer:
-    """Does what the commands of one attempt ask for, in one transaction."""
+    """Does what the rows of one attempt ask for, in one transaction."""
 
     def __init__(self, db: Database, app: App, out: Outcome, growth: Growth, service: str, key: str, trace: Trace):
         self.db, self.app, self.out, self.growth, self.service, self.key, self.trace = db, app, out, growth, service, key, trace
         self.own = growth.lease.invocation
         self.clears = False  # some command clears a name of the state
 
-    def needs_fence(self, it: Command) -> bool:
-        """Whether the invocation's row has to be kept before this command is performed. On a server the changes of rows that are alike come after the
+    def needs_fence(self, it: Asked) -> bool:
+        """Whether the invocation's row has to be kept before this is done. On a server the changes of rows that are alike come after the
         fence of the last statement, whenever they are asked for; so what makes nothing else needs no fence before."""
-        if self.db.is_remote and (isinstance(it, (Sleep, Change, CompleteAwakeable)) or (isinstance(it, Call) and self._is_new(it))):
+        if self.db.is_remote and (isinstance(it, (Wait, Change)) or _is_direct(it) or (isinstance(it, Begin) and self._is_new(it))):
             return False
         return type(it) in _PERFORMED
 
-    def _is_new(self, it: Call) -> bool:
+    def _is_new(self, it: Begin) -> bool:
         """Whether a call makes an invocation of this app without a look at what is there."""
         target = announced.own(self.app, it.service, it.handler)
         return target is not None and it.idempotency_key is None and not target.is_main
 
-    async def perform(self, commands: Sequence[Command]) -> None:
-        """Does what these commands ask for, in their order."""
-        self.clears = any(isinstance(it, Change) and (it.key is None or it.value is None) for it in commands)
-        for it in commands:
+    async def perform(self, asked: Sequence[Asked]) -> None:
+        """Does what is asked for, in its order."""
+        self.clears = any(isinstance(it, Change) and it.value is None for it in asked)
+        for it in asked:
             method = _PERFORMED.get(type(it))
             if method is not None:
                 await method(self, it)
 
-    async def _sleep(self, it: Sleep) -> None:
-        due = self.db.now() + it.due / 1000 - time.time()  # the command has it by this worker's clock
-        self.db.each(_TIMER, (due, self.own, it.id))
-        self.out.is_due(it.due / 1000)
+    async def _wait(self, it: Wait) -> None:
+        due = self.db.now() + it.time / 1000 - time.time()  # the command has it by this worker's clock
+        self.db.each(_TIMER, (due, self.own, it.completes))
+        self.out.is_due(it.time / 1000)
 
-    async def _call(self, it: Call) -> None:
-        id = child_of(self.own, it.invocation_id)
+    async def _begin(self, it: Begin) -> None:
+        id = child_of(self.own, it.id_completes)
         argument = sealing.renewed(self.app.codec, it.parameter)
-        new = New(it.service, it.handler, it.key, argument, it.headers, it.idempotency_key, it.at / 1000, id, self.own, self.trace.header)
+        new = New(it.service, it.handler, it.key, argument, it.headers, it.idempotency_key, it.time / 1000, id, self.own, self.trace.header)
         try:
             id, is_new = await invocations.create(self.db, self.app, self.out, new)
         except TerminalError as error:
-            self.growth.complete(it.invocation_id, journal.invocation(id))
-            if it.id is not None:
-                self.growth.complete(it.id, journal.failure(error.code, error.message))
+            self.growth.complete(it.id_completes, journal.invocation(id))
+            if it.completes is not None:
+                self.growth.complete(it.completes, journal.failure(error.code, error.message))
             else:
                 await refused.keep(self.db, self.out, new, error)
             return
-        self.growth.complete(it.invocation_id, journal.invocation(id))
-        if it.id is not None and is_new:
-            invocations.wait(self.db, self.growth, id, it.id)
-        elif it.id is not None:
-            await invocations.attach(self.db, self.growth, id, it.id)
+        self.growth.complete(it.id_completes, journal.invocation(id))
+        if it.completes is not None and is_new:
+            invocations.wait(self.db, self.growth, id, it.completes)
+        elif it.completes is not None:
+            await invocations.attach(self.db, self.growth, id, it.completes)
 
     async def _change(self, it: Change) -> None:
         place = (self.service, self.key)
-        if it.key is None:
+        if it.name is None:
             self.db.each(_NO_STATE, place)
         elif it.value is None:
-            self.db.each(_NO_NAME, (*place, it.key))
+            self.db.each(_NO_NAME, (*place, it.name))
         else:
-            self.db.each(_NAME if self.clears else _NAMES, (*place, it.key, it.value))
+            self.db.each(_NAME if self.clears else _NAMES, (*place, it.name, it.value))
 
     async def _read(self, it: Read) -> None:
         place = (self.service, self.key)
-        if it.key is None:
+        if it.name is None:
             names = [name for name, in await self.db.rows("SELECT name FROM state WHERE service=? AND key=?", place)]
-            self.growth.complete(it.id, journal.keys(sorted(names, key=str.encode)))
+            self.growth.complete(it.completes, journal.keys(sorted(names, key=str.encode)))
         else:
-            found = await self.db.rows("SELECT value FROM state WHERE service=? AND key=? AND name=?", (*place, it.key))
-            self.growth.complete(it.id, journal.value(bytes(found[0][0])) if found else journal.void())
+            found = await self.db.rows("SELECT value FROM state WHERE service=? AND key=? AND name=?", (*place, it.name))
+            self.growth.complete(it.completes, journal.value(bytes(found[0][0])) if found else journal.void())
 
-    async def _complete_awakeable(self, it: CompleteAwakeable) -> None:
+    async def _send(self, it: Send) -> None:
         try:
-            target, number = awakeable_of(it.awakeable)
-        except TerminalError:
-            return  # it names nobody
-        inbox.put(self.db, self.out, target, journal.signal(number, it.result))
-
-    async def _send_signal(self, it: SendSignal) -> None:
-        frame = journal.named_signal(it.name, it.result) if it.name is not None else journal.signal(it.index or 0, it.result)
-        inbox.put(self.db, self.out, await invocations.newest(self.db, it.target), frame)
+            target = it.target.decode()
+        except UnicodeDecodeError:
+            return  # an awakeable's id that names nobody
+        if not it.is_awakeable:
+            target = await invocations.newest(self.db, target)
+        inbox.put(self.db, self.out, target, it.notification)
 
     async def _promise(self, it: Promise) -> None:
-        place = (self.service, self.key, it.key)
+        place = (self.service, self.key, it.name)
         where = "service=? AND key=? AND name=?"
         # The row is made and kept until the commit, so nobody completes it while another begins to wait.
         sql = "INSERT INTO promises(service, key, name) VALUES (?,?,?) ON CONFLICT(service, key, name) DO UPDATE SET name=excluded.name"
@@ -141,12 +147,12 @@ class Performer:
         [(found,)] = await self.db.rows(f"SELECT result FROM promises WHERE {where}", place)
         result = None if found is None else Result(bytes(found))
         if it.result is not None:
-            await self._complete_promise(it.id, it.result, result is not None, place)
-        elif result is not None or it.peek:
-            self.growth.complete(it.id, journal.void() if result is None else result)
+            await self._complete_promise(it.completes, Result(it.result), result is not None, place)
+        elif result is not None or it.peeks:
+            self.growth.complete(it.completes, journal.void() if result is None else result)
         else:
             sql = "INSERT INTO promise_waiters(service, key, name, waiter, completes) VALUES (?,?,?,?,?)"
-            self.db.put(sql, (*place, self.own, it.id))
+            self.db.put(sql, (*place, self.own, it.completes))
 
     async def _complete_promise(self, id: int, result: Result, was_completed: bool, place: tuple[str, str, str]) -> None:
         if was_completed:
@@ -161,14 +167,14 @@ class Performer:
 
     async def _attach(self, it: Attach) -> None:
         target = it.invocation or await self._named(it)
-        if not it.peek:
-            await invocations.attach(self.db, self.growth, target, it.id)
+        if not it.peeks:
+            await invocations.attach(self.db, self.growth, target, it.completes)
             return
         found = await self.db.rows("SELECT result FROM invocations WHERE id=?", (await invocations.newest(self.db, target or ""),))
         if not found:
-            self.growth.complete(it.id, journal.failure(404, "there is no such invocation"))
+            self.growth.complete(it.completes, journal.failure(404, "there is no such invocation"))
         else:
-            self.growth.complete(it.id, journal.void() if found[0][0] is None else Result(bytes(found[0][0])))
+            self.growth.complete(it.completes, journal.void() if found[0][0] is None else Result(bytes(found[0][0])))
 
     async def _attribute(self, it: Attribute) -> None:
         place = (self.own, it.name)
@@ -190,13 +196,17 @@ class Performer:
         return str(found[0][0]) if found else None
 
 
-_PERFORMED: dict[type[Command], Any] = {
-    Sleep: Performer._sleep,
-    Call: Performer._call,
+def _is_direct(it: Asked) -> bool:
+    """Whether it goes to the invocation that it names, whichever goes on in that one's place."""
+    return isinstance(it, Send) and it.is_awakeable
+
+
+_PERFORMED: dict[type[Asked], Any] = {
+    Wait: Performer._wait,
+    Begin: Performer._begin,
     Change: Performer._change,
     Read: Performer._read,
-    CompleteAwakeable: Performer._complete_awakeable,
-    SendSignal: Performer._send_signal,
+    Send: Performer._send,
     Promise: Performer._promise,
     Attach: Performer._attach,
     Attribute: Performer._attribute,

@@ -10,11 +10,13 @@ import secrets
 import time
 from typing import Any
 
+from palqytun.effects import Attach, Promise, Wait
+
 from . import announced, attributes, audit, invocations, journal
 from .database import Database
 from .effects import Performer
 from .invocations import Claimable
-from .journal import Attach, Begin, Call, Change, Command, Journal, Notification, Promise, Sleep
+from .journal import Begin, Call, Change, Command, Journal, Notification
 from .lease import INSERTED, Growth, Lease
 from .outcome import Outcome
 from .replay import Stored, replayed
@@ -61,7 +63,7 @@ class _Restart:
         self.db, self.id, self.own, self._all = db, id, own, frames
         self._journal = Journal(own["version"])
         self.entries: list[tuple[int | None, bytes]] = []  # of each, which completion id it completes
-        self.open: dict[int, Command] = {}  # by completion ids: commands whose completions are missing
+        self.open: dict[int, tuple[Command, bytes]] = {}  # by completion ids: commands whose completions are missing, with their frames
         self._called: dict[int, str] = {}  # by completion ids of calls: the invocation that was made
 
     def begin(self, step: int) -> None:
@@ -84,13 +86,13 @@ class _Restart:
         self._journal.entry(frame)
         if command is not None:
             self.entries.append((None, frame))
-            self.open.update(dict.fromkeys(command.carried(), command))
+            self.open.update(dict.fromkeys(command.carried(), (command, frame)))
             return
         [it] = journal.messages_in(frame)
         completes = int(it.id[1]) if isinstance(it, Notification) and it.id[0] == 0 else None
         self.entries.append((completes, frame))
         if isinstance(it, Notification) and completes is not None:
-            carrier = self.open.pop(completes, None)
+            carrier, _ = self.open.pop(completes, (None, b""))
             kind, said = journal.answer(it.result)
             if isinstance(carrier, Call) and carrier.id is not None and kind == "invocation":
                 self._called[carrier.id] = said
@@ -114,11 +116,13 @@ class _Restart:
         """Asks anew for what the commands before the step wait for. A run is executed by the attempt."""
         growth = Growth(Lease(self.id, 0, self._journal))
         performer = Performer(self.db, app, out, growth, self.own["service"], self.own["key"], Trace.of(self.id, self.own["trace"]))
-        for id, it in list(self.open.items()):
+        for id, (it, frame) in list(self.open.items()):
             if isinstance(it, Call) and id == it.id and id in self._called:
                 await invocations.attach(self.db, growth, self._called[id], id)
-            elif isinstance(it, (Sleep, Promise, Attach)):
-                await performer.perform([it])
+                continue
+            effect = journal.effect_of(frame)
+            if isinstance(effect, (Wait, Promise, Attach)):
+                await performer.perform([effect])
         self.entries += [(it.completes, it.frame) for it in growth.entries]
         self._journal.keep()
 

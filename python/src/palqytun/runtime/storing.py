@@ -7,13 +7,14 @@ from collections.abc import Awaitable, Callable, Sequence
 from dataclasses import dataclass
 from typing import Any
 
+from palqytun.effects import Output
 from palqytun.errors import Code, in_words
 
 from . import continuing, inbox, invocations, journal, notes
 from .database import Asked, Database, Each
 from .effects import Performer
 from .invocations import Claim
-from .journal import Failed, Output, Result, Suspension
+from .journal import Failed, Result, Suspension
 from .lease import GONE, PROGRESS, Growth, fence
 from .meter import Ended
 from .outcome import Outcome, Taker
@@ -61,9 +62,9 @@ async def store(
     if found:
         growth.fenced(found[0])
     performer = Performer(db, app, out, growth, claim.service, claim.key, claim.trace)
-    if not found and (isinstance(stored.end, Suspension) or any(map(performer.needs_fence, stored.commands))):
+    if not found and (isinstance(stored.end, Suspension) or any(map(performer.needs_fence, stored.effects))):
         await growth.fence(db)  # else the first statement that changes something is that of `write`, which fences
-    await performer.perform(stored.commands)
+    await performer.perform(stored.effects)
     for id in timers:
         db.each(_NO_TIMER, (claim.invocation, id))
     if stored.end is None:
@@ -74,7 +75,7 @@ async def store(
     elif isinstance(stored.end, Failed):
         await _fail(db, app, out, claim, growth, stored.end)
     else:
-        results = [it.result for it in stored.commands if isinstance(it, Output)]
+        results = [Result(it.result) for it in stored.effects if isinstance(it, Output)]
         result = results[0] if results else await _stored_output(db, claim.invocation)
         if claim.continues is not None:
             await continuing.go_on(db, app, out, claim, growth, result)
@@ -159,7 +160,7 @@ async def _counted(db: Database, claim: Claim, growth: Growth, now: float) -> _C
 async def _stored_output(db: Database, invocation: str) -> Result:
     """The Output that an earlier attempt stored."""
     stream = b"".join(bytes(row[0]) for row in await db.rows("SELECT frame FROM journal WHERE invocation=? ORDER BY at", (invocation,)))
-    return next(it.result for it, _ in journal.commands_in(stream) if isinstance(it, Output))
+    return next(it.result for it, _ in journal.commands_in(stream) if isinstance(it, journal.Output))
 
 
 async def _end(db: Database, out: Outcome, claim: Claim, growth: Growth, result: Result, waiters: list[Any] | None = None) -> None:

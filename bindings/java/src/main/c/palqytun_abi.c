@@ -65,6 +65,8 @@ static struct {
     uint32_t (*journal_store)(void *, uint32_t, const uint8_t *, size_t, palqytun_stored *);
     uint32_t (*journal_row)(void *, size_t, palqytun_row *);
     uint32_t (*journal_frame)(void *, size_t, uint8_t *, size_t, palqytun_told *);
+    uint32_t (*journal_effect)(void *, size_t, palqytun_effect *);
+    uint32_t (*journal_effect_part)(void *, size_t, size_t, uint8_t *, size_t, palqytun_told *);
     uint32_t (*journal_answer)(void *, uint8_t *, size_t, palqytun_told *);
     uint32_t (*journal_keep)(void *);
     uint32_t (*journal_undo)(void *);
@@ -194,6 +196,10 @@ static bool loads(void *object, const char **lacks)
         is_whole = false, *lacks = "palqytun_flat_journal_row";
     if ((*(void **)&it.journal_frame = dlsym(object, "palqytun_flat_journal_frame")) == NULL)
         is_whole = false, *lacks = "palqytun_flat_journal_frame";
+    if ((*(void **)&it.journal_effect = dlsym(object, "palqytun_flat_journal_effect")) == NULL)
+        is_whole = false, *lacks = "palqytun_flat_journal_effect";
+    if ((*(void **)&it.journal_effect_part = dlsym(object, "palqytun_flat_journal_effect_part")) == NULL)
+        is_whole = false, *lacks = "palqytun_flat_journal_effect_part";
     if ((*(void **)&it.journal_answer = dlsym(object, "palqytun_flat_journal_answer")) == NULL)
         is_whole = false, *lacks = "palqytun_flat_journal_answer";
     if ((*(void **)&it.journal_keep = dlsym(object, "palqytun_journal_keep")) == NULL)
@@ -544,6 +550,16 @@ uint32_t pq_journal_row(uintptr_t journal, size_t at, palqytun_row *returned)
 uint32_t pq_journal_frame(uintptr_t journal, size_t at, uint8_t *out, size_t out_len, palqytun_told *returned)
 {
     return it.journal_frame((void *)journal, at, out, out_len, returned);
+}
+
+uint32_t pq_journal_effect(uintptr_t journal, size_t at, palqytun_effect *returned)
+{
+    return it.journal_effect((void *)journal, at, returned);
+}
+
+uint32_t pq_journal_effect_part(uintptr_t journal, size_t at, size_t place, uint8_t *out, size_t out_len, palqytun_told *returned)
+{
+    return it.journal_effect_part((void *)journal, at, place, out, out_len, returned);
 }
 
 uint32_t pq_journal_answer(uintptr_t journal, uint8_t *out, size_t out_len, palqytun_told *returned)

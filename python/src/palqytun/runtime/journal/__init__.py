@@ -9,7 +9,8 @@ notifications, and judges whether a suspension is awake. What `frames` does besi
     entry(frame)             the next entry, at load
     start(begin)             the bytes that a new attempt is fed: its Start, and the whole journal
     arrive(notification)     the entry that is to be stored, or `BrokenRule` with the rule that it breaks
-    store(output, at)        the entries of what an attempt wrote, its commands as typed values, and the frames to feed back
+    store(output, at)        the entries of what an attempt wrote, what they ask of the runtime, and the frames to feed back
+    effect_of(command)       what a stored command asks of the runtime
     state(base)              the keyed state as the journal's commands leave it
     keep(), undo()           what was stored since is committed; or it wasn't, and is taken back
     is_awake(frame, entries) whether a suspension is awake by the notifications among some entries
@@ -69,7 +70,7 @@ from .frames import (
     value,
     void,
 )
-from .rules import BrokenRule, Entry, Journal, Stored
+from .rules import BrokenRule, Entry, Journal, Stored, effect_of
 
 __all__ = [
     "CANCEL",
@@ -108,6 +109,7 @@ __all__ = [
     "commands_in",
     "completion",
     "described",
+    "effect_of",
     "failure",
     "input_command",
     "invocation",

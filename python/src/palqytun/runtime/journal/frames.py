@@ -406,17 +406,18 @@ def timed(it: Message | None) -> int | None:
     return it.id if isinstance(it, Sleep) else None
 
 
-def asked_of(kind: int, frame: bytes) -> Message | None:
-    """What a frame that an attempt wrote asks of the runtime: nothing, if it is a step's. One that can't be read is a `ValueError`."""
-    if _is_attribute(kind, frame):
-        return _attribute(frame)
-    if kind in _STEPS:
-        return None
-    if kind == _SUSPENSION:
-        core.is_awake(frame, ())
-    if kind == _OUTPUT:
-        Said(frame)
-    return read(kind, frame)
+def end_of(stream: bytes) -> Suspension | End | Failed | None:
+    """How what an attempt wrote ends, if it does. What is no frame of an attempt is a `ValueError`, and so is an end that can't be read."""
+    end = None
+    for kind, frame in split(stream):
+        if kind in _COMMANDS or kind in _STEPS or kind == _NOTIFICATION:
+            continue
+        if kind == _SUSPENSION:
+            core.is_awake(frame, ())
+        it = read(kind, frame)
+        if isinstance(it, (Suspension, End, Failed)):
+            end = it
+    return end
 
 
 OWN = "palqytun."
@@ -444,6 +445,11 @@ def attribute(name: str, value: str | None) -> str:
     return ATTRIBUTE + json.dumps([name] if value is None else [name, value])
 
 
+def attribute_in(kind: int, frame: bytes) -> Attribute | None:
+    """What a command of this type sets, if it sets an attribute. One that can't be read is a `ValueError`."""
+    return _attribute(frame) if _is_attribute(kind, frame) else None
+
+
 def _attribute(frame: bytes) -> Attribute | None:
     it = read(_RUN, frame)
     assert isinstance(it, Run)
@@ -458,7 +464,7 @@ def attributes_in(frames: Iterable[bytes]) -> dict[str, str]:
     """The attributes that the commands of a stored journal leave."""
     found: dict[str, str] = {}
     for kind, frame in (it for part in frames for it in split(part)):
-        it = _attribute(frame) if _is_attribute(kind, frame) else None
+        it = attribute_in(kind, frame)
         if it is not None and it.value is not None:
             found[it.name] = it.value
         elif it is not None:

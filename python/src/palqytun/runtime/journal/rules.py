@@ -23,10 +23,11 @@ from typing import NamedTuple
 
 import palqytun
 from palqytun import Fault, JournalFault
+from palqytun.effects import Effect, Wait
 from palqytun.journals import DEFAULT_VERSION
 
 from . import frames
-from .frames import Begin, Change, Command, End, Failed, Suspension
+from .frames import Attribute, Begin, Change, End, Failed, Suspension
 
 
 class BrokenRule(Exception):
@@ -62,7 +63,7 @@ class Stored:
     """What the output of an attempt is to a journal."""
 
     entries: list[Entry] = field(default_factory=list)
-    commands: list[Command] = field(default_factory=list)  # those that ask something of the runtime
+    effects: list[Effect | Attribute] = field(default_factory=list)  # what the commands ask of the runtime, in their order
     feed: list[bytes] = field(default_factory=list)  # acknowledgements, to feed after the commit
     end: Suspension | End | Failed | None = None
 
@@ -92,6 +93,9 @@ class Journal:
         except JournalFault as error:
             self.undo()
             raise BrokenRule(_RULES[error.fault], f"{what}: {error}") from error
+        except ValueError as error:  # something can't be read
+            self.undo()
+            raise BrokenRule("IN-ORDER", f"{what}: {error}") from error
 
     def entry(self, frame: bytes) -> None:
         """The next entry of a journal that is being loaded, which ends by `keep`."""
@@ -124,22 +128,12 @@ class Journal:
         """The entries of what an attempt wrote; `at` is how many bytes it had written before."""
         if at != self.written:
             raise BrokenRule("IN-ORDER", f"byte {at} of the output comes after byte {self.written}")
-        # It is read before the core stores it: what can't be read is refused as a whole, and nothing of it is stored.
-        try:
-            asked = [frames.asked_of(kind, frame) for kind, frame in frames.split(output)]
-        except ValueError as error:
-            self.undo()
-            raise BrokenRule("IN-ORDER", f"an output: {error}") from error
         with self._ruled("an output"):
+            end = frames.end_of(output)
             made = self._core.store(output, self.version)
-        stored = Stored([self._placed(row) for row in made.rows], feed=[made.feed] if made.feed else [])
-        for it in asked:
-            if isinstance(it, Command):
-                stored.commands.append(it)
-                if (id := frames.timed(it)) is not None:
-                    self._timed.append(id)
-            elif isinstance(it, (Suspension, End, Failed)):
-                stored.end = it
+            effects = [it for row in made.rows if (it := _asked(row)) is not None]
+        stored = Stored([self._placed(row) for row in made.rows], effects, [made.feed] if made.feed else [], end)
+        self._timed += [it.completes for it in effects if isinstance(it, Wait)]
         self.written += len(output)
         return stored
 
@@ -184,3 +178,15 @@ class Journal:
     def _placed(self, row: palqytun.Row) -> Entry:
         self.entries += 1
         return Entry(self.entries - 1, row.completes, row.frame)
+
+
+def _asked(row: palqytun.Row) -> Effect | Attribute | None:
+    """What a stored row asks of the runtime: what the core says, or an attribute, which only the runtime knows."""
+    return row.effect if row.effect is not None else frames.attribute_in(row.type, row.frame)
+
+
+def effect_of(command: bytes) -> Effect | None:
+    """What the command that a frame is asks of a runtime, if it asks for something: what a journal says that has nothing else."""
+    with palqytun.Journal() as alone:
+        [row] = alone.store(command).rows
+        return row.effect

@@ -125,6 +125,12 @@ final class Abi {
     static final int BAD_JOURNAL = 17;
     static final int NO_JOURNAL = 22;
     static final int NO_ROW = 23;
+    static final int EFFECT_NOTHING = 0;
+    static final int EFFECT_BEGIN = 1;
+    static final int EFFECT_WAIT = 2;
+    static final int EFFECT_SEND = 3;
+    static final int EFFECT_RESULT = 4;
+    static final int EFFECT_COMMAND = 5;
     static final int NOT_A_FRAME = 18;
     static final int BAD_LINE = 19;
     static final int NO_RESULT = 20;

@@ -51,6 +51,8 @@ final class Calls {
     static native Object journal_store(Object... given);
     static native Object journal_row(Object... given);
     static native Object journal_frame(Object... given);
+    static native Object journal_effect(Object... given);
+    static native Object journal_effect_part(Object... given);
     static native Object journal_answer(Object... given);
     static native Object journal_keep(Object... given);
     static native Object journal_undo(Object... given);
