@@ -202,7 +202,7 @@ test('a rate and the clock of a test, and deaths change nothing', { timeout: LON
 
 test('limits that have no meaning are refused', async () => {
   for (const options of [{ concurrency: 0 }, { perKey: -1 }, { perWorker: 0.5 }, { rate: [0, 1] as const }, { rate: [1, 0] as const }]) {
-    assert.throws(() => new Queue('q', options), /^RangeError: the queue q has the /);
+    assert.throws(() => new Queue('q', options), /^RangeError: the \w+ of the queue q must be /);
   }
   const does = async (): Promise<null> => null;
   assert.throws(() => service('S', { both: handler(does, { limit: 1, queue: few }) }), /S\/both has a limit and a queue: give the queue the concurrency 1/);

@@ -51,7 +51,7 @@ test('databases that a worker refuses, each in one line', { timeout: LONG }, asy
     await assert.rejects(refused, (error: unknown) => error instanceof Unsuitable && wanted.test(error.message));
   }
   await connection.end();
-  assert.throws(() => new Worker({ url: 'sqlite', services: [] }), /url is that of a PostgreSQL database/);
+  assert.throws(() => new Worker({ url: 'sqlite', services: [] }), /url must be that of a PostgreSQL database/);
   assert.throws(() => new Worker({ url: URL, services: [], limit: 0 }), /limit must be a number from 1, not 0/);
   assert.throws(() => new Worker({ url: URL, services: [work, work] }), /two services with the name Grace/);
 });
