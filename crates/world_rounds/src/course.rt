@@ -9,7 +9,8 @@ ghost use Rattle.world_rounds.specs.Outside.{OutsideIn, StoresRuns};
 ghost use Rattle.vm_steps.specs.Record.{Record};
 ghost use Rattle.world_rounds.specs.Course.{AreRun, BeginsRound, EndsToldBy, FaultsIn, HappensTo};
 
-use crate::desk::{Desk, happen};
+use crate::desk::Desk;
+use crate::place::{Place, happen_at};
 use crate::round::{new_attempt, waiting_bytes};
 use crate::types::{Event, Round, Setting};
 use crate::world::World;
@@ -30,7 +31,7 @@ pub struct Course<'a, H: Handler> {
     /// How many entries the journal had before the first round.
     given: usize,
     desk: Desk,
-    attempt: Option<Attempt<&'a H>>,
+    attempt: Option<Place<Attempt<&'a H>>>,
 }
 
 impl<'a, H: Handler> Model for Course<'a, H> {
@@ -89,11 +90,11 @@ fn ends<H: Handler>(attempt: &Attempt<&H>)
     let _ = attempt.answers();
 }
 
-fn ends_of<H: Handler>(attempt: &Option<Attempt<&H>>)
+fn ends_of<H: Handler>(attempt: &Option<Place<Attempt<&H>>>)
     ensures { EndsToldBy (λ h. H.meaning h.now) attempt.now }
 {
     match attempt {
-        Some(attempt) => ends(attempt),
+        Some(attempt) => ends(attempt.as_ref()),
         None => {}
     }
 }
@@ -160,6 +161,9 @@ impl<'a, H: Handler> Course<'a, H> {
                 attempt: None,
             });
         };
+        let Ok(attempt) = Place::new(alloc, attempt) else {
+            return Err(JournalFault::Memory);
+        };
         let Desk { journal, .. } = desk;
         let Ok(waiting) = waiting_bytes(alloc, &setting, round, journal.as_slice()) else {
             return Err(JournalFault::Memory);
@@ -208,7 +212,7 @@ impl<'a, H: Handler> Course<'a, H> {
                 desk,
                 attempt: None,
             }),
-            Some(mut attempt) => match happen(&mut attempt, &mut desk, event) {
+            Some(mut attempt) => match happen_at(&mut attempt, &mut desk, event) {
                 Err(fault) => Err(fault),
                 Ok(()) => Ok(Course {
                     alloc,

@@ -7,6 +7,7 @@ mod course;
 mod desk;
 pub mod handed;
 mod laws;
+mod place;
 mod placed;
 mod played;
 mod replay;
