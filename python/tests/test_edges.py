@@ -101,7 +101,7 @@ class OwnErrors(unittest.TestCase):
                 vm.notify_input_closed()
                 with self.assertRaises(Suspended):
                     vm.do_await(vm.sys_sleep(1000))
-                with self.assertRaises(VMError):
+                with self.assertRaises(Closed):
                     vm.is_ready_to_execute()
                 vm.notify_error(code, text)
                 self.check(vm.sys_end, code)

@@ -65,6 +65,7 @@ public final class TestMisuse {
         int slept = suspended.sysSleep(1);
         suspended.notifyInputClosed();
         Common.refused(VMException.Suspended.class, "599 SUSPENDED", () -> suspended.doAwait(slept));
+        Common.refused(VMException.Closed.class, "598 CLOSED: ClosedError", suspended::isReadyToExecute);
         VM own = Common.begun();
         own.notifyError(HandlerError.of(570, "no tea"));
         Common.refused(VMException.class, "570 no tea", own::sysEnd);
