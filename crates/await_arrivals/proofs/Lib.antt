@@ -1,4 +1,5 @@
 pub mod Awaited
+pub mod Drops
 pub mod Entries
 pub mod Ids
 pub mod Inserts

@@ -1,5 +1,6 @@
 -- The log: notifications in order of arrival, without the results that were taken.
 use Rattle.std.specs.Prelude.{ℕ, suc, ◌≡◌, ◌<◌, nat_lt, Bool, true, cond, ◌&&◌, List, [], ◌∷◌, length, map, get_or, Option, Some, None}
+use Rattle.std.specs.List.{filter}
 use Rattle.std.specs.Option.{is_some}
 use Rattle.journal_protocol.specs.Notification.{Notification}
 use Rattle.journal_protocol.specs.NotificationId.{NotificationId}
@@ -19,6 +20,14 @@ given_by id (Some r) ns = record { id = id; result = r } ∷ ns
 abbrev pub not_taken : List Entry → List Notification
 not_taken [] = []
 not_taken (e ∷ es) = given_by e.id e.result (not_taken es)
+
+-- whether an entry still has its result
+abbrev pub has_its_result : Entry → Bool
+has_its_result e = is_some e.result
+
+-- the entries whose results were not taken
+abbrev pub with_results : List Entry → List Entry
+with_results = filter has_its_result
 
 -- no result was taken
 abbrev pub all_given : List Entry → Bool

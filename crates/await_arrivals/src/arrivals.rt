@@ -38,13 +38,35 @@ impl Arrivals {
         }
     }
 
+    /// Gives back the memory of what was taken. If memory is refused to that end, all stays where it lies.
+    fn give_back(&mut self)
+        ensures { self.new ≡ self.old }
+    {
+        let waiting = self.log.len() - self.seen;
+        if let Ok(()) = self.log.compact() {
+            self.seen = self.log.len() - waiting;
+        }
+    }
+
+    /// Puts a notification after those that wait, at the end of the log.
+    fn append(&mut self, notification: Notification) -> Result<(), AllocError>
+        ensures ok { OnOk result (self.new
+            ≡ record self.old { queued = self.old.queued ++ notification ∷ [] }) }
+        ensures err { OnErr result (self.new ≡ self.old) }
+    {
+        self.log.push(notification)
+    }
+
     /// Puts a notification after those that wait.
     pub fn enqueue(&mut self, notification: Notification) -> Result<(), AllocError>
         ensures ok { OnOk result (self.new
             ≡ record self.old { queued = self.old.queued ++ notification ∷ [] }) }
         ensures err { OnErr result (self.new ≡ self.old) }
     {
-        self.log.push(notification)
+        if self.log.is_sparse() {
+            self.give_back();
+        }
+        self.append(notification)
     }
 
     /// Uses the oldest notification that waits, if there is one; it takes no memory.
@@ -116,7 +138,11 @@ impl Arrivals {
         ensures left { self.new ≡ record self.old
             { delivered = without_oldest id.now self.old.delivered } }
     {
-        self.log.take_first(id, self.seen)
+        let found = self.log.take_first(id, self.seen);
+        if self.log.is_spent() {
+            self.give_back();
+        }
+        found
     }
 
     /// Takes the newest used result of an id, and drops the older ones that it replaced.
@@ -125,6 +151,10 @@ impl Arrivals {
         ensures left { self.new ≡ record self.old
             { delivered = without_all id.now self.old.delivered } }
     {
-        self.log.take_newest(id, self.seen)
+        let found = self.log.take_newest(id, self.seen);
+        if self.log.is_spent() {
+            self.give_back();
+        }
+        found
     }
 }

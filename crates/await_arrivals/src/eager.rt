@@ -34,11 +34,30 @@ impl EagerResults {
         }
     }
 
-    pub fn push(&mut self, read: Notification) -> Result<(), AllocError>
+    /// Gives back the memory of what was taken. If memory is refused to that end, all stays where it lies.
+    fn give_back(&mut self)
+        ensures { self.new ≡ self.old }
+    {
+        let _ = self.log.compact();
+    }
+
+    /// Puts a result at the end of the log.
+    fn append(&mut self, read: Notification) -> Result<(), AllocError>
         ensures ok { OnOk result (self.new ≡ self.old ++ read ∷ []) }
         ensures err { OnErr result (self.new ≡ self.old) }
     {
         self.log.push(read)
+    }
+
+    /// Puts a result after the others.
+    pub fn push(&mut self, read: Notification) -> Result<(), AllocError>
+        ensures ok { OnOk result (self.new ≡ self.old ++ read ∷ []) }
+        ensures err { OnErr result (self.new ≡ self.old) }
+    {
+        if self.log.is_sparse() {
+            self.give_back();
+        }
+        self.append(read)
     }
 
     pub fn has(&self, id: &NotificationId) -> bool
@@ -71,7 +90,11 @@ impl EagerResults {
         if all == 0 {
             return None;
         }
-        self.log.take_first(id, all)
+        let found = self.log.take_first(id, all);
+        if self.log.is_spent() {
+            self.give_back();
+        }
+        found
     }
 
     /// Takes the newest result of an id, and drops the older ones.
@@ -83,6 +106,10 @@ impl EagerResults {
         if all == 0 {
             return None;
         }
-        self.log.take_newest(id, all)
+        let found = self.log.take_newest(id, all);
+        if self.log.is_spent() {
+            self.give_back();
+        }
+        found
     }
 }

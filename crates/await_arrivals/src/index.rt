@@ -29,6 +29,16 @@ impl Index {
         }
     }
 
+    /// Forgets all ids, and keeps the memory for a few.
+    pub fn clear(&mut self)
+        ensures slots { (id : NotificationId) → slot_of self.new id ≡ None }
+        ensures held { held_for_ids self.new ≡ 0 }
+    {
+        self.completions.clear();
+        self.signals.clear();
+        self.names.clear();
+    }
+
     pub fn find(&self, id: &NotificationId) -> Option<usize>
         ensures { result ≡ slot_of self.now id.now }
     {

@@ -1,4 +1,4 @@
-//! The notifications of an attempt as a log that only grows at its end, each found by its id.
+//! The notifications of an attempt as a log that grows at its end and gives back what was taken, each found by its id.
 #![tactic(auto)]
 
 pub mod arrivals;

@@ -1,9 +1,9 @@
 //! The notifications that came, each found by its id.
-ghost use Rattle.std.specs.Prelude.{◌≡◌, ◌<◌, ℕ, List, [], ◌∷◌, ◌++◌, take, drop, length, Some, IsSome, OnOk, OnErr};
+ghost use Rattle.std.specs.Prelude.{◌≡◌, ◌<◌, ℕ, List, [], ◌∷◌, ◌++◌, take, drop, length, true, Some, IsSome, OnOk, OnErr, IfOk};
 ghost use Rattle.std.specs.Option.{option_copied};
 ghost use Rattle.await_arrivals.specs.Ids.{slot_of};
 ghost use Rattle.await_arrivals.specs.Results.{first, newest, results_of, has_result_among, without_oldest, without_all};
-ghost use Rattle.await_arrivals.specs.Entries.{not_taken, places, Tracked};
+ghost use Rattle.await_arrivals.specs.Entries.{not_taken, places, Tracked, with_results};
 
 use crate::index::Index;
 use crate::places::Places;
@@ -18,13 +18,18 @@ pub struct Entry {
     pub result: Option<NotificationResult>,
 }
 
-/// Notifications in order of arrival: a list that only grows at its end. Each id has a slot, which lists the places of
-/// its results.
+/// How many results are taken at least before entries are dropped.
+const FEW: usize = 8;
+
+/// Notifications in order of arrival: a list that grows at its end. Each id has a slot, which lists the places of its results. Entries whose
+/// results were taken are dropped together: once no other is left, or when one comes and there are 4 of them for each other.
 #[derive(Drop)]
 pub struct Log {
     entries: Vec<Entry>,
     index: Index,
     slots: Vec<Places>,
+    /// How many results were taken since entries were last dropped.
+    taken: usize,
 }
 
 impl Model for Log {
@@ -42,6 +47,7 @@ impl Model for Log {
 
 /// Adds the place of an entry that comes next to the slot of its id, or to a new one. All is as it was if memory is
 /// refused.
+#[inline(always)]
 fn add_place(
     index: &mut Index,
     slots: &mut Vec<Places>,
@@ -71,6 +77,42 @@ fn add_place(
     }
 }
 
+/// Whether all results were taken.
+fn none_left(entries: &[Entry]) -> bool
+    ensures { result ≡ true → with_results entries.now ≡ [] }
+{
+    for entry in entries {
+        if entry.result.is_some() {
+            return false;
+        }
+    }
+    true
+}
+
+/// The slots of these entries, by the places that they have once those without a result are dropped.
+fn track(alloc: Global, entries: &[Entry]) -> Result<(Index, Vec<Places>), AllocError>
+    ensures { IfOk result (λ t. Tracked (with_results entries.now) t.0 t.1.items) }
+{
+    let mut index = Index::new(alloc);
+    let mut slots = Vec::new(alloc);
+    let mut place = 0;
+    for entry in entries {
+        if entry.result.is_some() {
+            add_place(&mut index, &mut slots, place, entry)?;
+            place += 1;
+        }
+    }
+    Ok((index, slots))
+}
+
+/// Drops the entries without a result, and gives their memory back.
+fn drop_taken(entries: &mut Vec<Entry>)
+    ensures { entries.new.items ≡ with_results entries.old.items }
+{
+    entries.retain(|entry| entry.result.is_some());
+    entries.shrink_to(2 * FEW);
+}
+
 /// Takes the result out of an entry.
 fn give_up(entry: &mut Entry) -> Option<NotificationResult>
     ensures result { result ≡ entry.old.result }
@@ -87,6 +129,7 @@ impl Log {
             entries: Vec::new(alloc),
             index: Index::new(alloc),
             slots: Vec::new(alloc),
+            taken: 0,
         }
     }
 
@@ -169,6 +212,7 @@ impl Log {
         }
         let at = &mut self.slots[slot];
         at.advance();
+        self.taken = self.taken.saturating_add(1);
         let entry = &mut self.entries[place];
         give_up(entry)
     }
@@ -186,5 +230,47 @@ impl Log {
             found = Some(result);
         }
         found
+    }
+
+    /// Whether the entries whose results were taken are to be dropped before one comes: there are 4 of them for each other.
+    pub fn is_sparse(&self) -> bool {
+        self.taken >= FEW && self.entries.len().saturating_sub(self.taken) <= self.taken / 4
+    }
+
+    /// Whether all results were taken, so that all entries are to be dropped.
+    pub fn is_spent(&self) -> bool {
+        self.taken >= FEW && self.taken >= self.entries.len()
+    }
+
+    /// Drops all entries, and gives the memory of all but a few back.
+    fn clear(&mut self)
+        ensures { self.new ≡ [] }
+    {
+        self.index.clear();
+        self.slots.clear();
+        self.slots.shrink_to(2 * FEW);
+        self.entries.clear();
+        self.entries.shrink_to(2 * FEW);
+    }
+
+    /// Drops the entries whose results were taken, and gives their memory back. All stays as it was if the memory to find the others by
+    /// is refused.
+    #[inline(never)]
+    pub fn compact(&mut self) -> Result<(), AllocError>
+        ensures ok { OnOk result (self.new ≡ with_results self.old) }
+        ensures err { OnErr result (self.new ≡ self.old) }
+    {
+        let is_all = self.taken >= self.entries.len();
+        self.taken = 0;
+        if is_all && none_left(&self.entries) {
+            self.clear();
+            return Ok(());
+        }
+        let alloc = *self.entries.allocator();
+        let (index, slots) = track(alloc, &self.entries)?;
+        self.index = index;
+        self.slots = slots;
+        drop_taken(&mut self.entries);
+        Ok(())
     }
 }

@@ -3,7 +3,7 @@ use Rattle.std.proofs.Common.{◌≡◌, ◌≢◌, ℕ, zero, suc, ◌+◌, ◌
 use Rattle.std.specs.Prelude.{◌==◌}
 use Rattle.std.specs.Option.{is_some, option_or}
 use Rattle.std.proofs.Math.ListN.{set}
-use Rattle.std.specs.List.{AllWithin}
+use Rattle.std.specs.List.{AllWithin, filter}
 use Rattle.std.specs.List.Sorted.{IsPartitionPoint, IsNonDecreasingBy}
 use Rattle.std.specs.Ordering.{nat_cmp, is_lt, ordering_index}
 use Rattle.std.specs.declared.cmp.Ordering.TheVariants.{Less, Equal, Greater}
@@ -207,3 +207,34 @@ other_by m false o ms ns us vs ws before e = ap (λ z. m ∷ z) (before e)
 pub other_unmapped : (h : ℕ) (ms ns : List Mapping) → is_some (id_at h ms) ≡ false → unmapped h (ms ++ ns) ≡ unmapped h ms ++ unmapped h ns
 other_unmapped h [] ns e = refl
 other_unmapped h (m ∷ ms) ns e = other_by m (m.handle == h) (id_at h ms) ms ns (unmapped h (ms ++ ns)) (unmapped h ns) (unmapped h ms) (other_unmapped h ms ns) e
+
+-- ---- the places of forgotten handles are dropped
+
+-- whether a handle still stands for an id
+abbrev pub is_held : Held → Bool
+is_held x = is_some x.id
+
+above_kept_at : (y : ℕ) (x : Held) (xs ys : List Held) (b : Bool) → y < x.handle → MappingsAbove y ys → MappingsAbove y (cond b (x ∷ ys) ys)
+above_kept_at y x xs ys true l a = (l, a)
+above_kept_at y x xs ys false l a = a
+
+above_kept : (y : ℕ) (xs : List Held) → MappingsAbove y xs → MappingsAbove y (filter is_held xs)
+above_kept y [] a = a
+above_kept y (x ∷ xs) a = above_kept_at y x xs (filter is_held xs) (is_held x) a.0 (above_kept y xs a.1)
+
+ascend_kept_at : (x : Held) (ys : List Held) (b : Bool) → MappingsAbove x.handle ys → MappingsAscend ys → MappingsAscend (cond b (x ∷ ys) ys)
+ascend_kept_at x ys true above a = (above, a)
+ascend_kept_at x ys false above a = a
+
+pub ascend_kept : (xs : List Held) → MappingsAscend xs → MappingsAscend (filter is_held xs)
+ascend_kept [] a = a
+ascend_kept (x ∷ xs) a = ascend_kept_at x (filter is_held xs) (is_held x) (above_kept x.handle xs a.0) (ascend_kept xs a.1)
+
+live_kept_at : (h : ℕ) (o : Option NotificationId) (ys : List Held) (ms : List Mapping) → live_mappings ys ≡ ms
+    → live_mappings (cond (is_some o) ((let x : Held = record { handle = h; id = o } in x) ∷ ys) ys) ≡ mapping_if h o ms
+live_kept_at h None ys ms e = e
+live_kept_at h (Some id) ys ms e = ap (λ (ns : List Mapping). record { handle = h; id = id } ∷ ns) e
+
+pub live_kept : (xs : List Held) → live_mappings (filter is_held xs) ≡ live_mappings xs
+live_kept [] = refl
+live_kept (x ∷ xs) = live_kept_at x.handle x.id (filter is_held xs) (live_mappings xs) (live_kept xs)

@@ -16,12 +16,18 @@ pub struct Held {
     pub id: Option<NotificationId>,
 }
 
+/// How many handles are forgotten at least before their places are dropped.
+const FEW: usize = 8;
+
 /// Handles in the order in which they got their ids. As a counter hands them out they ascend, and are looked for at their distance from
-/// the last, and then by halving; from the first that doesn't ascend they are kept apart.
+/// the last, and then by halving; from the first that doesn't ascend they are kept apart. The places of the forgotten ones are dropped
+/// together, when one comes and there are 4 of them for each other.
 #[derive(Drop)]
 pub struct Handles {
     ascending: Vec<Held>,
     others: Vec<Mapping>,
+    /// How many were forgotten since places were last dropped.
+    forgotten: usize,
 }
 
 impl Model for Handles {
@@ -78,7 +84,10 @@ fn find_held(held: &[Held], handle: u32) -> Option<&NotificationId>
     requires { MappingsAscend held.now }
     ensures { option_copied result ≡ id_at handle (live_mappings held.now) }
 {
-    let place = place_of(held, handle)?;
+    if let Some(place) = place_from_last(held, handle) {
+        return held[place].id.as_ref();
+    }
+    let place = place_by_halving(held, handle)?;
     held[place].id.as_ref()
 }
 
@@ -129,6 +138,17 @@ fn forget(held: &mut Vec<Held>, handle: u32) -> bool
     }
 }
 
+/// Drops the places of forgotten handles, and gives their memory back.
+#[inline(never)]
+fn drop_forgotten(held: &mut Vec<Held>)
+    requires { MappingsAscend held.old.items }
+    ensures live { live_mappings held.new.items ≡ live_mappings held.old.items }
+    ensures ascend { MappingsAscend held.new.items }
+{
+    held.retain(|held| held.id.is_some());
+    held.shrink_to(2 * FEW);
+}
+
 fn unmap(mappings: &mut Vec<Mapping>, handle: u32)
     ensures { mappings.new.items ≡ unmapped handle mappings.old.items }
 {
@@ -147,11 +167,23 @@ impl Handles {
         Handles {
             ascending: Vec::new(alloc),
             others: Vec::new(alloc),
+            forgotten: 0,
         }
     }
 
-    /// Gives a handle its id.
-    pub fn push(&mut self, mapping: Mapping) -> Result<(), AllocError>
+    /// Gives back the memory of the handles that were forgotten, if there are 4 of them for each other.
+    fn give_back(&mut self)
+        ensures { self.new ≡ self.old }
+    {
+        let others = self.ascending.len().saturating_sub(self.forgotten);
+        if self.forgotten >= FEW && others <= self.forgotten / 4 {
+            self.forgotten = 0;
+            drop_forgotten(&mut self.ascending);
+        }
+    }
+
+    /// Gives a handle its id, after the others.
+    fn append(&mut self, mapping: Mapping) -> Result<(), AllocError>
         ensures ok { OnOk result (self.new ≡ self.old ++ mapping ∷ []) }
         ensures err { OnErr result (self.new ≡ self.old) }
     {
@@ -165,6 +197,15 @@ impl Handles {
             id: Some(id),
         })?;
         Ok(())
+    }
+
+    /// Gives a handle its id.
+    pub fn push(&mut self, mapping: Mapping) -> Result<(), AllocError>
+        ensures ok { OnOk result (self.new ≡ self.old ++ mapping ∷ []) }
+        ensures err { OnErr result (self.new ≡ self.old) }
+    {
+        self.give_back();
+        self.append(mapping)
     }
 
     /// The id that a handle stands for.
@@ -183,6 +224,8 @@ impl Handles {
     {
         if !forget(&mut self.ascending, handle) {
             unmap(&mut self.others, handle);
+            return;
         }
+        self.forgotten = self.forgotten.saturating_add(1);
     }
 }

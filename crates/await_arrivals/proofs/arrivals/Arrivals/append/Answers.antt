@@ -1,7 +1,7 @@
 use Rattle.std.proofs.Common.{ap, ◌∙◌, take, drop}
 use Rattle.await_arrivals.specs.Entries.{not_taken}
 use Rattle.await_arrivals.proofs.Moves.{grown_or_not, grown, where_ok, same_came}
-use Rattle.await_arrivals.proofs.arrivals.Arrivals.enqueue.Goals as goal
+use Rattle.await_arrivals.proofs.arrivals.Arrivals.append.Goals as goal
 
 pub invariant_of-self : goal.invariant_of-self
 invariant_of-self c =

@@ -4,7 +4,7 @@ use Rattle.std.proofs.lemmas.List.{nil_from_length}
 use Rattle.vm_parts.specs.declared.handles.Held.{Held}
 use Rattle.vm_parts.specs.Mappings.{MappingsAscend, AllUnder, live_mappings}
 use Rattle.vm_parts.proofs.Mapped.{ascend_push, live_push}
-use Rattle.vm_parts.proofs.handles.Handles.push.Goals as goal
+use Rattle.vm_parts.proofs.handles.Handles.append.Goals as goal
 
 pub invariant_of-self-2 : goal.invariant_of-self-2
 invariant_of-self-2 c =

@@ -1,7 +1,7 @@
 use Rattle.std.proofs.Common.{ap, ◌∙◌}
 use Rattle.await_arrivals.specs.Entries.{not_taken}
 use Rattle.await_arrivals.proofs.Moves.{entered, given_push, where_ok}
-use Rattle.await_arrivals.proofs.eager.EagerResults.push.Goals as goal
+use Rattle.await_arrivals.proofs.eager.EagerResults.append.Goals as goal
 
 pub returns-clause-ok : goal.returns-clause-ok
 returns-clause-ok c =
